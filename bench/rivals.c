@@ -169,9 +169,9 @@ jcobs_answer reported_decode_in_place(unsigned char *buffer, size_t len)
 /* The end of a frame, or MORE if none has begun. */
 static jcobs_answer end_reported(jcobs_decoder was, size_t room, size_t consumed)
 {
-    if (was.too_long || (was.lacking == 0 && was.written > room))
+    if (was.too_long || (was.missing == 0 && was.written > room))
         return (jcobs_answer){JCOBS_TOO_SMALL, consumed, room};
-    if (was.lacking > 0)
+    if (was.missing > 0)
         return (jcobs_answer){JCOBS_BROKEN, consumed, was.written < room ? was.written : room};
     return (jcobs_answer){was.written == 0 && !was.joint ? JCOBS_MORE : JCOBS_OK, consumed, was.written};
 }
@@ -180,17 +180,17 @@ static void take_reported(jcobs_decoder *decoder, unsigned char *buffer, size_t 
 {
     if (decoder->too_long)
         return;
-    if (decoder->lacking > 0 || decoder->joint) {
+    if (decoder->missing > 0 || decoder->joint) {
         if (decoder->written >= room) {
             decoder->too_long = 1;
             return;
         }
-        buffer[decoder->written++] = decoder->lacking > 0 ? byte : 0;
+        buffer[decoder->written++] = decoder->missing > 0 ? byte : 0;
     }
-    if (decoder->lacking > 0) {
-        decoder->lacking--;
+    if (decoder->missing > 0) {
+        decoder->missing--;
     } else {
-        decoder->lacking = (unsigned char)(byte - 1);
+        decoder->missing = (unsigned char)(byte - 1);
         decoder->joint = byte != 255;
     }
 }

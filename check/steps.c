@@ -119,7 +119,7 @@ static u8 *block_a, *block_b;
 /* The state of a decoder between two bytes of a stream. */
 typedef struct decoder_state {
     size_t written;   /* bytes of the open message in the buffer */
-    unsigned lacking; /* bytes missing in the open block */
+    unsigned missing; /* bytes missing in the open block */
     int joint;        /* whether a zero joins the next block to the open one: it isn't full */
     int too_long;     /* whether the open message was too long for the buffer */
 } decoder_state;
@@ -143,7 +143,7 @@ static decoder_effect decode_byte(decoder_state *state, size_t n, u8 byte)
         if (state->too_long) {
             effect.status = JCOBS_TOO_SMALL;
             effect.length = n;
-        } else if (state->lacking > 0) {
+        } else if (state->missing > 0) {
             effect.status = JCOBS_BROKEN;
             effect.length = state->written;
         } else if (state->joint || state->written > 0) {
@@ -154,7 +154,7 @@ static decoder_effect decode_byte(decoder_state *state, size_t n, u8 byte)
         return effect;
     }
     if (!state->too_long) {
-        int is_code = state->lacking == 0;
+        int is_code = state->missing == 0;
 
         effect.puts = !is_code || state->joint;
         effect.put = is_code ? 0 : byte;
@@ -163,7 +163,7 @@ static decoder_effect decode_byte(decoder_state *state, size_t n, u8 byte)
             state->too_long = 1;
         } else {
             state->written += effect.puts != 0;
-            state->lacking = is_code ? byte - 1u : state->lacking - 1;
+            state->missing = is_code ? byte - 1u : state->missing - 1;
             if (is_code)
                 state->joint = byte != 255;
         }
@@ -173,12 +173,12 @@ static decoder_effect decode_byte(decoder_state *state, size_t n, u8 byte)
 }
 
 /* The library's state for these numbers, and back. */
-static jcobs_decoder to_decoder(size_t written, unsigned lacking, unsigned joint, unsigned too_long)
+static jcobs_decoder to_decoder(size_t written, unsigned missing, unsigned joint, unsigned too_long)
 {
     jcobs_decoder decoder = JCOBS_DECODER_INIT;
 
     decoder.written = written;
-    decoder.lacking = (u8)lacking;
+    decoder.missing = (u8)missing;
     decoder.joint = (u8)joint;
     decoder.too_long = (u8)too_long;
     return decoder;
@@ -188,7 +188,7 @@ static int is_decoder(const jcobs_decoder *decoder, const decoder_state *state)
 {
     if (state->too_long)
         return decoder->too_long != 0;
-    return decoder->too_long == 0 && decoder->written == state->written && decoder->lacking == state->lacking &&
+    return decoder->too_long == 0 && decoder->written == state->written && decoder->missing == state->missing &&
            !decoder->joint == !state->joint;
 }
 
@@ -209,11 +209,11 @@ static jcobs_answer decode_one(int way, jcobs_decoder *decoder, u8 *buffer, size
 
 static void decoder_steps(void)
 {
-    unsigned lacking, byte;
+    unsigned missing, byte;
     size_t n, written;
     int joint, too_long, way;
 
-    for (lacking = 0; lacking < 255; lacking++)
+    for (missing = 0; missing < 255; missing++)
         for (joint = 0; joint < 2; joint++)
             for (too_long = 0; too_long < 2; too_long++)
                 for (n = 0; n <= 4; n++)
@@ -221,17 +221,17 @@ static void decoder_steps(void)
                         for (byte = 0; byte < 256; byte++)
                             for (way = 0; way < WAYS; way++, cases++) {
                                 jcobs_decoder decoder =
-                                    to_decoder(written, lacking, (unsigned)joint, (unsigned)too_long);
+                                    to_decoder(written, missing, (unsigned)joint, (unsigned)too_long);
                                 decoder_state state;
                                 decoder_effect effect;
                                 jcobs_answer answer;
                                 u8 *buffer = filled(block_a, n);
 
                                 state.written = written;
-                                state.lacking = lacking;
+                                state.missing = missing;
                                 state.joint = joint;
                                 state.too_long = too_long;
-                                CHECK(jcobs_decoder_is_idle(&decoder) == !(written || lacking || joint || too_long));
+                                CHECK(jcobs_decoder_is_idle(&decoder) == !(written || missing || joint || too_long));
                                 effect = decode_byte(&state, n, (u8)byte);
                                 answer = decode_one(way, &decoder, buffer, n, (u8)byte);
                                 CHECK(answer.status == effect.status && answer.consumed == 1);
@@ -520,7 +520,7 @@ typedef struct reading {
     int broken;    /* whether there are none, or bytes of the last block are missing */
     int longer; /* whether the last block is 1, after a full one: then the frame without it reads as the same message */
     size_t last;      /* where the last block begins */
-    unsigned lacking; /* how many bytes of the last block are missing */
+    unsigned missing; /* how many bytes of the last block are missing */
     int joint;        /* whether a zero would join another block to the last one */
 } reading;
 
@@ -542,8 +542,8 @@ static reading read_blocks(const u8 *bytes, size_t len, u8 *message)
         r.kept = r.length;
         memcpy(message + r.length, bytes + at + 1, here - 1);
         r.length += here - 1;
-        r.lacking = (unsigned)(code - here);
-        r.broken = r.lacking > 0;
+        r.missing = (unsigned)(code - here);
+        r.broken = r.missing > 0;
         if (!r.broken)
             r.kept = r.length;
         r.joint = code != 255;
@@ -627,7 +627,7 @@ static void check_stream(size_t len, size_t n, size_t cut, u8 sentinel)
 
                 if (i > start) {
                     state.written = r.length;
-                    state.lacking = r.lacking;
+                    state.missing = r.missing;
                     state.joint = r.joint;
                     state.too_long = r.length > n;
                 }

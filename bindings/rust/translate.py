@@ -47,7 +47,6 @@ MORE_DERIVES = {
     "FrameReader": ("Debug",),
     "ReadFault": ("Clone", "Copy"),
     "Next": ("Clone", "Copy"),
-    "UnbufferedDecoder": ("Clone",),
     "UnbufferedEncoder": ("Clone",),
 }
 # What the docs say otherwise here, where the decoders have the signatures of the crate `cobs`, and no reader sees a contract.
@@ -68,7 +67,7 @@ BY_TARGET = {"cobs_bytes::has_vectors": {"true": "crate::simd::HAS_VECTORS"}}
 CONST = {"max_encoding_overhead", "max_encoding_length", "UnbufferedDecoder::new", "UnbufferedEncoder::new"}
 # Calls for one byte, which are to be compiled into the caller's loop.
 INLINE = set(
-    "UnbufferedDecoder::feed DecoderState::feed EncoderState::push UnbufferedEncoder::progress"
+    "UnbufferedDecoder::feed_piece DecoderState::feed EncoderState::push UnbufferedEncoder::progress"
     " UnbufferedEncoder::from_progress cobs_abi::done cobs_abi::too_small cobs_abi::end_of cobs_abi::has_room cobs_abi::append"
     " cobs_abi::Encoder::at cobs_abi::Encoder::progress".split()
 )

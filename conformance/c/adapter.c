@@ -58,7 +58,7 @@ static int result_of(const char *call, char **words)
 int main(void)
 {
     static char line[MOST_LINE];
-    unsigned cases = 0, differ = 0, lacking = 0;
+    unsigned cases = 0, differ = 0, missing = 0;
 
     while (fgets(line, sizeof line, stdin)) {
         char *words[MOST_WORDS] = { 0 };
@@ -69,12 +69,12 @@ int main(void)
             continue;
         int same = result_of(words[2], words + 3);
         cases += same >= 0;
-        lacking += same < 0;
+        missing += same < 0;
         if (same == 0) {
             differ++;
             printf("%s differs\n", words[0]);
         }
     }
-    printf("%u cases, %u differ, %u of calls that it does not have\n", cases, differ, lacking);
+    printf("%u cases, %u differ, %u of calls that it does not have\n", cases, differ, missing);
     return differ != 0;
 }

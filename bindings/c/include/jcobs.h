@@ -182,7 +182,7 @@ enum jcobs_kind {
 /* The state of a streaming decoder. The members are for the library only. */
 typedef struct jcobs_decoder {
     size_t written;         /* bytes of the open message in the buffer */
-    unsigned char lacking;  /* bytes missing in the open block */
+    unsigned char missing;  /* bytes missing in the open block */
     unsigned char joint;    /* whether a zero joins the next block to the open one */
     unsigned char too_long; /* whether the open message was too long for the buffer */
 } jcobs_decoder;

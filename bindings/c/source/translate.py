@@ -21,7 +21,6 @@ HERE = Path(__file__).resolve().parent
 # Names of variables that a reader knows more of than variables.py finds, which numbers those of one name. Look at them again if
 # the module changes: a name that isn't there is an error, but not one that now means something else.
 NAMES = {
-    "jcobs_decoder_push": {"consumed2": "next"},
     "jcobs_encode_in_place": {"at": "start", "at2": "index", "at3": "next", "code2": "last"},
     "jcobs_encoder_feed": {"index2": "next"},
     "jcobs_encoder_push": {"n": "held", "left2": "room", "full2": "is_full", "code2": "open"},

@@ -46,7 +46,7 @@ static void test_constants(void)
     memset(&reset, 0xff, sizeof reset);
     jcobs_decoder_reset(&reset);
     expect(jcobs_decoder_is_idle(&decoder) == 1 && jcobs_decoder_is_idle(&reset) == 1, "a decoder begins idle");
-    expect(reset.written == 0 && reset.lacking == 0 && reset.joint == 0 && reset.too_long == 0, "reset makes zeros");
+    expect(reset.written == 0 && reset.missing == 0 && reset.joint == 0 && reset.too_long == 0, "reset makes zeros");
     memset(&begun, 0xff, sizeof begun);
     jcobs_encoder_reset(&begun);
     expect(is_answer(jcobs_encoder_finish(&begun, room, 1), JCOBS_OK, 0, 1) && room[0] == 1, "reset begins a message");

@@ -1,10 +1,9 @@
 //! The calls by the bodies that go byte by byte, for the feature `small`.
 
-use crate::dec::{DecodeError, DecodeReport, FrameKind, UnbufferedDecoder};
+use crate::dec::{DecodeError, DecodeReport, FrameKind};
 use crate::enc::{DestBufTooSmallError, UnbufferedEncoder};
 use crate::proved::cobs_abi::{
-    Answer, BROKEN, CANONICAL, Decoder, EMPTY, Encoder, LONGER, OK, TOO_SMALL, decode_each,
-    encode_each,
+    Answer, BROKEN, CANONICAL, EMPTY, Encoder, LONGER, OK, TOO_SMALL, encode_each,
 };
 use crate::proved::cobs_bytes::lanes::xor_bytes;
 use crate::proved::cobs_small::decode::jcobs_decode;
@@ -104,27 +103,4 @@ pub(crate) fn frame_kind(bytes: &[u8]) -> FrameKind {
         LONGER => FrameKind::Longer,
         _ => FrameKind::NotAFrame,
     }
-}
-
-/// Takes bytes of a stream, and returns how many; of a message that is too long, all through its zero.
-pub(crate) fn push_stream(
-    decoder: &mut UnbufferedDecoder,
-    dest: &mut [u8],
-    data: &[u8],
-) -> (usize, Result<Option<DecodeReport>, DecodeError>) {
-    let mut state = Decoder::at(decoder.phase());
-    let answer = decode_each(&mut state, dest, data, 0);
-    *decoder = UnbufferedDecoder::from_phase(state.phase());
-    let result = match decoded(answer) {
-        // There the length is said at the zero; here it is said at once, and until then.
-        Ok(None) if state.too_long != 0 && answer.consumed > 0 => {
-            Err(DecodeError::TargetBufTooSmall)
-        }
-        Ok(length) => Ok(length.map(|frame_size| DecodeReport {
-            parsed_size: answer.consumed,
-            frame_size,
-        })),
-        Err(error) => Err(error),
-    };
-    (answer.consumed, result)
 }

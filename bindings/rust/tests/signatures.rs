@@ -101,7 +101,7 @@ fn traits() {
         EncoderState::default().clone(),
         DecoderState::default(),
         CobsDecoderHeapless::<4>::default(),
-        UnbufferedDecoder::default().clone(),
+        UnbufferedDecoder::default(),
         UnbufferedEncoder::default().clone(),
     );
 }

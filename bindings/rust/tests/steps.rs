@@ -322,17 +322,17 @@ fn block(bytes: &[u8]) -> Vec<u8> {
 #[test]
 fn decoder_steps() {
     let mut fronts = vec![Vec::new()];
-    for lacking in 0..=253 {
+    for missing in 0..=253 {
         // The last block isn't full, has so many bytes missing, and some or none in the buffer.
-        for bytes in 0..=(253 - lacking).min(2) {
-            let code = (lacking + bytes + 1) as u8;
+        for bytes in 0..=(253 - missing).min(2) {
+            let code = (missing + bytes + 1) as u8;
             let begun = [&[code], &run(bytes)[..]].concat();
             fronts.push([&[1], &begun[..]].concat());
             fronts.push(begun);
         }
     }
-    for lacking in 0..=254 {
-        fronts.push([&[255], &run(254 - lacking)[..]].concat());
+    for missing in 0..=254 {
+        fronts.push([&[255], &run(254 - missing)[..]].concat());
     }
     for front in fronts {
         let room = read(&front).output.len();

@@ -62,7 +62,7 @@ export function decode(frame) {
 export class PlainDecoder {
   #buffer;
   #written = 0;
-  #lacking = 0;
+  #missing = 0;
   #joint = false;
   #isOpen = false;
   #isTooLong = false;
@@ -74,7 +74,7 @@ export class PlainDecoder {
   push(chunk, visit) {
     const buffer = this.#buffer;
     let written = this.#written;
-    let lacking = this.#lacking;
+    let missing = this.#missing;
     let zero = -1; // the next one
     for (let at = 0; at < chunk.length; ) {
       if (zero < at) zero = chunk.indexOf(0, at);
@@ -83,18 +83,18 @@ export class PlainDecoder {
         at++;
         if (!this.#isOpen) continue;
         if (this.#isTooLong) visit({ tooLong: true });
-        else if (lacking > 0) visit({ broken: written });
+        else if (missing > 0) visit({ broken: written });
         else visit({ message: buffer.slice(0, written) });
-        written = lacking = 0;
+        written = missing = 0;
         this.#isOpen = this.#isTooLong = this.#joint = false;
-      } else if (lacking > 0) {
-        const length = Math.min(lacking, zero - at);
+      } else if (missing > 0) {
+        const length = Math.min(missing, zero - at);
         const kept = Math.min(length, buffer.length - written);
         if (kept > SHORT) buffer.set(chunk.subarray(at, at + kept), written);
         else for (let k = 0; k < kept; k++) buffer[written + k] = chunk[at + k];
         if (kept < length) this.#isTooLong = true;
         written += kept;
-        lacking -= length;
+        missing -= length;
         at += length;
       } else {
         if (this.#joint) {
@@ -103,12 +103,12 @@ export class PlainDecoder {
         }
         this.#isOpen = true;
         this.#joint = chunk[at] < 255;
-        lacking = chunk[at] - 1;
+        missing = chunk[at] - 1;
         at++;
       }
     }
     this.#written = written;
-    this.#lacking = lacking;
+    this.#missing = missing;
   }
 }
 

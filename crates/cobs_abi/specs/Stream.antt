@@ -2,32 +2,33 @@
 use Rattle.std.specs.Prelude.{◌≡◌, ◌≢◌, ◌≤◌, ◌<◌, ◌+◌, ◌↔◌, ◌++◌, [], ℕ, List, length, drop, false}
 use Rattle.cobs.specs.Feed.{DecoderAfter, Idle}
 use Rattle.cobs.specs.FeedPiece.{TakesPiece}
+use Rattle.cobs.specs.Fields.Decoders.{phase_of}
 use Rattle.cobs.specs.Length.{encoded_len}
 use Rattle.cobs.specs.OpenBlock.{CobsEncoderAfter, end_of}
+use Rattle.cobs.specs.declared.UnbufferedDecoder.{UnbufferedDecoder}
 use Rattle.cobs_abi.specs.Answer.{piece_end_of}
 use Rattle.cobs_abi.specs.Encode.{Writes}
-use Rattle.cobs_abi.specs.State.{held, phase_in, reached_in}
+use Rattle.cobs_abi.specs.State.{held, reached_in}
 use Rattle.cobs_abi.specs.declared.answer.Answer.{Answer}
 use Rattle.cobs_abi.specs.declared.answer.TheConstants.{OK, MORE, TOO_SMALL, BROKEN}
-use Rattle.cobs_abi.specs.declared.decoder.Decoder.{Decoder}
 use Rattle.cobs_abi.specs.declared.encoder.Encoder.{Encoder}
 
 -- `jcobs_decoder_reset`: the decoder has taken nothing
-pub record IsFreshDecoder (decoder : Decoder) : Type 0 where
-  pub idle : phase_in decoder ≡ Idle
-  pub after : (buffer : List ℕ) → DecoderAfter buffer (phase_in decoder) []
+pub record IsFreshDecoder (decoder : UnbufferedDecoder) : Type 0 where
+  pub idle : phase_of decoder ≡ Idle
+  pub after : (buffer : List ℕ) → DecoderAfter buffer (phase_of decoder) []
 
 -- `jcobs_decoder_is_idle`
-pub record ReportsIdle (decoder : Decoder) (result : ℕ) : Type 0 where
-  pub idle : phase_in decoder ≡ Idle → result ≡ 1
-  pub open_piece : phase_in decoder ≢ Idle → result ≡ 0
+pub record ReportsIdle (decoder : UnbufferedDecoder) (result : ℕ) : Type 0 where
+  pub idle : phase_of decoder ≡ Idle → result ≡ 1
+  pub open_piece : phase_of decoder ≢ Idle → result ≡ 0
 
 -- `jcobs_decoder_push`, `jcobs_decoder_feed` of one byte, and `jcobs_decoder_push_with_sentinel` of bytes that are XORed
 -- with the sentinel: the decoder takes the bytes through the zero that ends the first piece, or all of them
-pub record DecodesNext (decoder : Decoder) (buffer bytes : List ℕ) (result : Answer) (decoder' : Decoder) (buffer' : List ℕ) : Type 0 where
-  pub takes : TakesPiece buffer (phase_in decoder) bytes (piece_end_of result) buffer' (phase_in decoder')
+pub record DecodesNext (decoder : UnbufferedDecoder) (buffer bytes : List ℕ) (result : Answer) (decoder' : UnbufferedDecoder) (buffer' : List ℕ) : Type 0 where
+  pub takes : TakesPiece buffer (phase_of decoder) bytes (piece_end_of result) buffer' (phase_of decoder')
   pub more : result.status ≡ MORE
-      → result ≡ record { status = MORE; consumed = length bytes; length = held (length buffer) (phase_in decoder') }
+      → result ≡ record { status = MORE; consumed = length bytes; length = held (length buffer) (phase_of decoder') }
   pub too_small : result.status ≡ TOO_SMALL → result.length ≡ length buffer
   -- in every state
   pub status : result.status ≤ BROKEN

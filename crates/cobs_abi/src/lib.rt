@@ -6,7 +6,6 @@
 
 mod answer;
 mod block;
-mod decoder;
 mod decoding;
 mod encoder;
 mod encoding;
@@ -16,8 +15,7 @@ mod source;
 mod text;
 
 pub use answer::{Answer, BROKEN, EMPTY, MORE, OK, TOO_SMALL, done, result_by, too_small};
-pub use decoder::{DECODER_START, Decoder};
-pub use decoding::{decode_byte, decode_each, piece_end, result_of};
+pub use decoding::{decode_byte, decode_each, result_of};
 pub use encoder::{ENCODER_START, Encoder, end_of};
 pub use encoding::{
     encode_byte, encode_each, encode_short, encode_within, finish, finish_terminated,

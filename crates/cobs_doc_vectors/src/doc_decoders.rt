@@ -139,6 +139,15 @@ fn piece_end_example(rt: HostRuntime) {
 }
 
 #[test]
+fn piece_end_reported_example(rt: HostRuntime) {
+    let mut decoder = UnbufferedDecoder::new();
+    let mut buffer = [0; 4];
+    assert_eq!(rt; decoder.push(&mut buffer, &[3, 7]), Ok(None));
+    let end = PieceEnd::reported(decoder.feed(&mut buffer, 0));
+    assert_eq!(rt; end, Some(PieceEnd::Broken(1)));
+}
+
+#[test]
 fn frame_decoder_example(rt: HostRuntime) {
     let mut decoder = CobsDecoderHeapless::<4>::new();
     let stream = [3, 7, 0, 2, 9, 0];
@@ -260,12 +269,23 @@ fn cobs_decoder_heapless_default_example(rt: HostRuntime) {
 }
 
 #[test]
+fn unbuffered_decoder_feed_each_example(rt: HostRuntime) {
+    let mut decoder = UnbufferedDecoder::new();
+    let mut buffer = [0; 4];
+    let frame = [2 ^ 10, 7 ^ 10, 1 ^ 10, 10];
+    assert_eq!(rt; decoder.feed_each(&mut buffer, &frame[..3], 10), None);
+    let end = decoder.feed_each(&mut buffer, &frame[3..], 10);
+    assert_eq!(rt; end, Some((PieceEnd::Message(2), 1)));
+    assert!(rt; buffer.starts_with(&[7, 0]));
+}
+
+#[test]
 fn decoder_phase_example(rt: HostRuntime) {
     let mut buffer = [0; 8];
     let mut decoder = UnbufferedDecoder::new();
     assert_eq!(rt; decoder.phase(), DecoderPhase::Idle);
     assert_eq!(rt; decoder.push(&mut buffer, &[4, 7, 8]), Ok(None));
-    assert!(rt; matches!(decoder.phase(), DecoderPhase::Within { lacking: 1, .. }));
+    assert!(rt; matches!(decoder.phase(), DecoderPhase::Within { missing: 1, .. }));
 }
 
 #[test]
@@ -300,6 +320,14 @@ fn unbuffered_decoder_from_phase_example(rt: HostRuntime) {
 #[test]
 fn unbuffered_decoder_phase_example(rt: HostRuntime) {
     assert_eq!(rt; UnbufferedDecoder::new().phase(), DecoderPhase::Idle);
+}
+
+#[test]
+fn unbuffered_decoder_is_idle_example(rt: HostRuntime) {
+    let mut decoder = UnbufferedDecoder::new();
+    assert!(rt; decoder.is_idle());
+    assert_eq!(rt; decoder.push(&mut [0; 4], &[2]), Ok(None));
+    assert!(rt; !decoder.is_idle());
 }
 
 #[test]

@@ -244,9 +244,9 @@ fn has_begun(phase: DecoderPhase) -> bool
         DecoderPhase::Idle => false,
         DecoderPhase::Within {
             is_full,
-            lacking,
+            missing,
             written,
-        } => !is_full || lacking != 0 || written != 0,
+        } => !is_full || missing != 0 || written != 0,
         DecoderPhase::TooLong => true,
     }
 }

@@ -5,9 +5,9 @@ ghost use Rattle.cobs_abi.specs.Decode.{Decodes};
 ghost use Rattle.cobs_small.specs.End.{result_for_end};
 
 use crate::decoder::jcobs_decoder_push;
-use cobs::PieceEnd;
-use cobs::laws::{law_1, law_9, law_10, law_12, law_14, law_17};
-use cobs_abi::{Answer, BROKEN, DECODER_START, EMPTY, MORE, TOO_SMALL, done, piece_end};
+use cobs::laws::{law_1, law_9, law_10, law_12, law_14};
+use cobs::{PieceEnd, UnbufferedDecoder};
+use cobs_abi::{Answer, BROKEN, EMPTY, MORE, TOO_SMALL, done};
 
 /// Returns how many bytes are in front of the first zero.
 pub(crate) fn len_to_zero(bytes: &[u8]) -> usize
@@ -50,15 +50,12 @@ pub extern "C" fn jcobs_decode(source: &[u8], message: &mut [u8]) -> Answer
     law_10();
     law_12();
     law_14();
-    law_17();
-    let mut decoder = DECODER_START;
+    let mut decoder = UnbufferedDecoder::new();
     let pushed = jcobs_decoder_push(&mut decoder, message, source);
     if pushed.status != MORE {
         return pushed;
     }
-    result_for_end(
-        source.len(),
-        message.len(),
-        piece_end(&decoder, message.len()),
-    )
+    // The source ends the piece, as a zero would.
+    let end = PieceEnd::reported(decoder.feed(message, 0));
+    result_for_end(source.len(), message.len(), end)
 }

@@ -3,19 +3,19 @@ ghost use Rattle.std.specs.Prelude.{[], ◌∷◌};
 ghost use Rattle.cobs_abi.specs.Stream.{DecodesNext, IsFreshDecoder, ReportsIdle};
 
 use cobs::UnbufferedDecoder;
-use cobs_abi::{Answer, Decoder, decode_byte, decode_each};
+use cobs_abi::{Answer, decode_byte, decode_each};
 
 /// Makes the decoder one that has taken nothing, even if its state is corrupt.
 #[unsafe(no_mangle)]
-pub extern "C" fn jcobs_decoder_reset(decoder: &mut Decoder)
+pub extern "C" fn jcobs_decoder_reset(decoder: &mut UnbufferedDecoder)
     ensures fresh { IsFreshDecoder decoder.new }
 {
-    *decoder = Decoder::at(UnbufferedDecoder::new().phase());
+    *decoder = UnbufferedDecoder::new();
 }
 
 /// Returns 1 if no piece is open, and 0 otherwise.
 #[unsafe(no_mangle)]
-pub extern "C" fn jcobs_decoder_is_idle(decoder: &Decoder) -> u32
+pub extern "C" fn jcobs_decoder_is_idle(decoder: &UnbufferedDecoder) -> u32
     ensures idle { ReportsIdle decoder.now result }
 {
     if decoder.is_idle() { 1 } else { 0 }
@@ -25,7 +25,7 @@ pub extern "C" fn jcobs_decoder_is_idle(decoder: &Decoder) -> u32
 /// buffer keeps its length, and the counts are within the bytes and the buffer.
 #[unsafe(no_mangle)]
 pub extern "C" fn jcobs_decoder_push(
-    decoder: &mut Decoder,
+    decoder: &mut UnbufferedDecoder,
     buffer: &mut [u8],
     bytes: &[u8],
 ) -> Answer
@@ -37,7 +37,11 @@ pub extern "C" fn jcobs_decoder_push(
 
 /// Takes one byte of the stream, as a push of that byte.
 #[unsafe(no_mangle)]
-pub extern "C" fn jcobs_decoder_feed(decoder: &mut Decoder, buffer: &mut [u8], byte: u8) -> Answer
+pub extern "C" fn jcobs_decoder_feed(
+    decoder: &mut UnbufferedDecoder,
+    buffer: &mut [u8],
+    byte: u8,
+) -> Answer
     ensures decodes { DecodesNext decoder.old buffer.old (byte ∷ []) result
         decoder.new buffer.new }
 {

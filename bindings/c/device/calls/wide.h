@@ -26,7 +26,7 @@ typedef struct wide_answer {
 
 typedef struct wide_decoder {
     wide written;
-    unsigned char lacking;
+    unsigned char missing;
     unsigned char joint;
     unsigned char too_long;
 } wide_decoder;
@@ -46,7 +46,7 @@ static inline jcobs_answer narrow(const wide_answer *answer)
 
 static inline wide_decoder load_decoder(const jcobs_decoder *decoder)
 {
-    wide_decoder state = {decoder->written, decoder->lacking, decoder->joint, decoder->too_long};
+    wide_decoder state = {decoder->written, decoder->missing, decoder->joint, decoder->too_long};
 
     return state;
 }
@@ -54,7 +54,7 @@ static inline wide_decoder load_decoder(const jcobs_decoder *decoder)
 static inline void store_decoder(jcobs_decoder *decoder, const wide_decoder *state)
 {
     decoder->written = (size_t)state->written;
-    decoder->lacking = state->lacking;
+    decoder->missing = state->missing;
     decoder->joint = state->joint;
     decoder->too_long = state->too_long;
 }

@@ -39,53 +39,45 @@ static jcobs_answer jcobs_answered(JCOBS_STATUS status, size_t consumed, size_t 
 jcobs_answer jcobs_decoder_feed(jcobs_decoder *decoder, void *buffer, size_t buffer_len, unsigned char byte)
 {
     unsigned char *const to = (unsigned char *)buffer;
-    unsigned char too_long;
-    size_t written, length;
+    size_t written;
+    unsigned char missing, joint, too_long;
+    int status;
 
-    too_long = decoder->too_long;
     if (byte == 0) {
-        if (too_long == 0) {
-            written = decoder->written;
-            if (decoder->lacking != 0) {
-                length = buffer_len < written ? buffer_len : written;
-                decoder->written = 0;
-                decoder->lacking = 0;
-                decoder->joint = 0;
-                decoder->too_long = 0;
-                return jcobs_answered(JCOBS_BROKEN, 1, length);
-            }
-            if (buffer_len >= written) {
-                if (written == 0 && decoder->joint == 0) {
-                    return jcobs_answered(JCOBS_MORE, 1, 0);
-                }
-                decoder->written = 0;
-                decoder->lacking = 0;
-                decoder->joint = 0;
-                decoder->too_long = 0;
-                return jcobs_answered(JCOBS_OK, 1, written);
-            }
-        }
+        written = decoder->written;
+        missing = decoder->missing;
+        joint = decoder->joint;
+        too_long = decoder->too_long;
         decoder->written = 0;
-        decoder->lacking = 0;
+        decoder->missing = 0;
         decoder->joint = 0;
         decoder->too_long = 0;
-        return jcobs_answered(JCOBS_TOO_SMALL, 1, buffer_len);
+        if (too_long != 0) {
+            return jcobs_answered(JCOBS_TOO_SMALL, 1, buffer_len);
+        }
+        if (missing != 0) {
+            return jcobs_answered(JCOBS_BROKEN, 1, buffer_len < written ? buffer_len : written);
+        }
+        if (buffer_len < written) {
+            return jcobs_answered(JCOBS_TOO_SMALL, 1, buffer_len);
+        }
+        status = written == 0 && joint == 0;
+        return jcobs_answered((unsigned int)status, 1, status ? 0 : written);
     }
-    if (too_long != 0) {
+    if (decoder->too_long != 0) {
         return jcobs_answered(JCOBS_MORE, 1, buffer_len);
     }
     written = decoder->written;
-    if (decoder->lacking == 0) {
+    if (decoder->missing == 0) {
         if (decoder->joint != 0) {
             if (buffer_len <= written) {
                 decoder->too_long = 1;
                 return jcobs_answered(JCOBS_MORE, 1, buffer_len);
             }
             to[written] = 0;
-            written++;
-            decoder->written = written;
+            decoder->written = written + 1;
         }
-        decoder->lacking = (unsigned char)(byte - 1);
+        decoder->missing = (unsigned char)(byte - 1);
         decoder->joint = (unsigned char)(byte != 255);
     } else {
         if (buffer_len <= written) {
@@ -93,14 +85,14 @@ jcobs_answer jcobs_decoder_feed(jcobs_decoder *decoder, void *buffer, size_t buf
             return jcobs_answered(JCOBS_MORE, 1, buffer_len);
         }
         to[written] = byte;
-        written++;
-        decoder->written = written;
-        decoder->lacking = (unsigned char)(decoder->lacking - 1);
+        decoder->written = written + 1;
+        decoder->missing = (unsigned char)(decoder->missing - 1);
     }
-    if (decoder->too_long == 0) {
-        return jcobs_answered(JCOBS_MORE, 1, buffer_len < written ? buffer_len : written);
+    if (decoder->too_long != 0) {
+        return jcobs_answered(JCOBS_MORE, 1, buffer_len);
     }
-    return jcobs_answered(JCOBS_MORE, 1, buffer_len);
+    written = decoder->written;
+    return jcobs_answered(JCOBS_MORE, 1, buffer_len < written ? buffer_len : written);
 }
 
 /* Returns 1 if no piece is open, and 0 otherwise.
@@ -108,7 +100,7 @@ jcobs_answer jcobs_decoder_feed(jcobs_decoder *decoder, void *buffer, size_t buf
  *     ensures idle { ReportsIdle decoder.now result } */
 unsigned int jcobs_decoder_is_idle(const jcobs_decoder *decoder)
 {
-    if (decoder->written != 0 || decoder->lacking != 0 || decoder->joint != 0) {
+    if (decoder->written != 0 || decoder->missing != 0 || decoder->joint != 0) {
         return 0;
     }
     return (unsigned int)(decoder->too_long == 0);
@@ -122,11 +114,11 @@ jcobs_answer jcobs_decoder_push(jcobs_decoder *decoder, void *buffer, size_t buf
 {
     unsigned char *const to = (unsigned char *)buffer;
     const unsigned char *const from = (const unsigned char *)bytes;
-    size_t written, consumed, next;
-    unsigned char lacking, joint, too_long, byte;
+    size_t written, consumed, consumed2;
+    unsigned char missing, joint, too_long, byte;
 
     written = decoder->written;
-    lacking = decoder->lacking;
+    missing = decoder->missing;
     joint = decoder->joint;
     too_long = decoder->too_long;
     consumed = 0;
@@ -135,36 +127,36 @@ jcobs_answer jcobs_decoder_push(jcobs_decoder *decoder, void *buffer, size_t buf
             byte = from[consumed];
             consumed++;
             if (byte == 0) {
-                if (lacking != 0) {
+                if (missing != 0) {
                     decoder->written = 0;
-                    decoder->lacking = 0;
+                    decoder->missing = 0;
                     decoder->joint = 0;
                     decoder->too_long = 0;
                     return jcobs_answered(JCOBS_BROKEN, consumed, buffer_len < written ? buffer_len : written);
                 }
                 if (buffer_len < written) {
                     decoder->written = 0;
-                    decoder->lacking = 0;
+                    decoder->missing = 0;
                     decoder->joint = 0;
                     decoder->too_long = 0;
                     return jcobs_answered(JCOBS_TOO_SMALL, consumed, buffer_len);
                 }
                 if (written != 0 || joint != 0) {
                     decoder->written = 0;
-                    decoder->lacking = 0;
+                    decoder->missing = 0;
                     decoder->joint = 0;
                     decoder->too_long = 0;
                     return jcobs_answered(JCOBS_OK, consumed, written);
                 }
             } else {
-                if (lacking != 0) {
+                if (missing != 0) {
                     if (buffer_len <= written) {
                         too_long = 1;
                         break;
                     }
                     to[written] = byte;
                     written++;
-                    lacking = (unsigned char)(lacking - 1);
+                    missing = (unsigned char)(missing - 1);
                     continue;
                 }
                 if (joint != 0) {
@@ -175,24 +167,24 @@ jcobs_answer jcobs_decoder_push(jcobs_decoder *decoder, void *buffer, size_t buf
                     to[written] = 0;
                     written++;
                 }
-                lacking = (unsigned char)(byte - 1);
+                missing = (unsigned char)(byte - 1);
                 joint = (unsigned char)(byte != 255);
             }
         }
     }
     while (consumed < len) {
-        next = consumed + 1;
+        consumed2 = consumed + 1;
         if (from[consumed] == 0) {
             decoder->written = 0;
-            decoder->lacking = 0;
+            decoder->missing = 0;
             decoder->joint = 0;
             decoder->too_long = 0;
-            return jcobs_answered(JCOBS_TOO_SMALL, next, buffer_len);
+            return jcobs_answered(JCOBS_TOO_SMALL, consumed2, buffer_len);
         }
-        consumed = next;
+        consumed = consumed2;
     }
     decoder->written = written;
-    decoder->lacking = lacking;
+    decoder->missing = missing;
     decoder->joint = joint;
     decoder->too_long = too_long;
     if (too_long == 0) {
@@ -207,7 +199,7 @@ jcobs_answer jcobs_decoder_push(jcobs_decoder *decoder, void *buffer, size_t buf
 void jcobs_decoder_reset(jcobs_decoder *decoder)
 {
     decoder->written = 0;
-    decoder->lacking = 0;
+    decoder->missing = 0;
     decoder->joint = 0;
     decoder->too_long = 0;
 }
@@ -691,10 +683,11 @@ jcobs_answer jcobs_decode(const void *source, size_t source_len, void *message, 
     jcobs_answer pushed;
     JCOBS_STATUS status;
     size_t written;
+    unsigned char joint;
     int is_empty;
 
     decoder.written = 0;
-    decoder.lacking = 0;
+    decoder.missing = 0;
     decoder.joint = 0;
     decoder.too_long = 0;
     pushed = jcobs_decoder_push(&decoder, message, message_len, source, source_len);
@@ -702,17 +695,18 @@ jcobs_answer jcobs_decode(const void *source, size_t source_len, void *message, 
     if (status != JCOBS_MORE) {
         return jcobs_answered(status, pushed.consumed, pushed.length);
     }
+    written = decoder.written;
+    joint = decoder.joint;
     if (decoder.too_long != 0) {
         return jcobs_answered(JCOBS_TOO_SMALL, source_len, message_len);
     }
-    written = decoder.written;
-    if (decoder.lacking != 0) {
+    if (decoder.missing != 0) {
         return jcobs_answered(JCOBS_BROKEN, source_len, written);
     }
     if (message_len < written) {
         return jcobs_answered(JCOBS_TOO_SMALL, source_len, message_len);
     }
-    is_empty = written == 0 && decoder.joint == 0;
+    is_empty = written == 0 && joint == 0;
     return jcobs_answered(is_empty ? JCOBS_EMPTY : JCOBS_OK, source_len, is_empty ? 0 : written);
 }
 

@@ -15,9 +15,9 @@ jcobs_answer plain_decoder_push(jcobs_decoder *decoder, void *buffer, size_t buf
         unsigned char byte = from[i];
 
         if (byte == 0) {
-            if (here.too_long || (here.lacking == 0 && here.written > buffer_len))
+            if (here.too_long || (here.missing == 0 && here.written > buffer_len))
                 answer.status = JCOBS_TOO_SMALL;
-            else if (here.lacking != 0)
+            else if (here.missing != 0)
                 answer.status = JCOBS_BROKEN;
             else if (here.written != 0 || here.joint)
                 answer.status = JCOBS_OK;
@@ -26,17 +26,17 @@ jcobs_answer plain_decoder_push(jcobs_decoder *decoder, void *buffer, size_t buf
                 break;
             }
         } else if (!here.too_long) {
-            if (here.lacking != 0 || here.joint) {
+            if (here.missing != 0 || here.joint) {
                 if (here.written >= buffer_len) {
                     here.too_long = 1;
                     continue;
                 }
-                to[here.written++] = here.lacking != 0 ? byte : 0;
+                to[here.written++] = here.missing != 0 ? byte : 0;
             }
-            if (here.lacking != 0) {
-                here.lacking--;
+            if (here.missing != 0) {
+                here.missing--;
             } else {
-                here.lacking = (unsigned char)(byte - 1);
+                here.missing = (unsigned char)(byte - 1);
                 here.joint = byte != 255;
             }
         }
@@ -44,7 +44,7 @@ jcobs_answer plain_decoder_push(jcobs_decoder *decoder, void *buffer, size_t buf
     answer.length = here.too_long || here.written > buffer_len ? buffer_len : here.written;
     if (answer.status != JCOBS_MORE) {
         here.written = 0;
-        here.lacking = 0;
+        here.missing = 0;
         here.joint = 0;
         here.too_long = 0;
     }

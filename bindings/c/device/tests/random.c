@@ -42,7 +42,7 @@ static int decodes(jcobs_decoder *decoder, size_t room, size_t len)
 {
     jcobs_decoder other = *decoder;
     unsigned char *to = mine + AROUND;
-    int is_idle = other.written == 0 && other.lacking == 0 && other.joint == 0 && other.too_long == 0;
+    int is_idle = other.written == 0 && other.missing == 0 && other.joint == 0 && other.too_long == 0;
     jcobs_answer answer;
 
     if (jcobs_decoder_is_idle(decoder) != (unsigned int)is_idle)
@@ -51,7 +51,7 @@ static int decodes(jcobs_decoder *decoder, size_t room, size_t len)
                                 : jcobs_decoder_push(decoder, room ? to : NULL, room, len ? bytes : NULL, len);
     if (!same(answer, plain_decoder_push(&other, theirs + AROUND, room, bytes, len)))
         return 0;
-    return decoder->written == other.written && decoder->lacking == other.lacking && decoder->joint == other.joint &&
+    return decoder->written == other.written && decoder->missing == other.missing && decoder->joint == other.joint &&
            decoder->too_long == other.too_long;
 }
 
@@ -189,7 +189,7 @@ static int decodes_for(jcobs_decoder *decoder, size_t room, size_t len, unsigned
     xor_bytes(bytes, len, sentinel);
     return same(jcobs_decoder_push_with_sentinel(decoder, mine + AROUND, room, len ? bytes : NULL, len, sentinel),
                 plain) &&
-           decoder->written == other.written && decoder->lacking == other.lacking;
+           decoder->written == other.written && decoder->missing == other.missing;
 }
 
 /* In place or not, by what plain C makes of the same bytes for 0 in place. */

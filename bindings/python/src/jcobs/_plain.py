@@ -208,7 +208,7 @@ class Outcome:
 class Decoder:
     """A streaming decoder with its buffer."""
 
-    __slots__ = ("_begun", "_buffer", "_calls", "_joint", "_lacking", "_sentinel", "_too_long", "_written")
+    __slots__ = ("_begun", "_buffer", "_calls", "_joint", "_missing", "_sentinel", "_too_long", "_written")
 
     def __init__(self, max_length: int, sentinel: int) -> None:
         self._buffer = bytearray(length_of(max_length, "max_length"))
@@ -217,32 +217,32 @@ class Decoder:
         self._clear()
 
     def _clear(self) -> None:
-        self._written = self._lacking = 0
+        self._written = self._missing = 0
         self._begun = self._joint = self._too_long = False
 
     def _take(self, piece: bytes) -> None:
         """Takes bytes of a piece, and writes what they decode to, as far as there is room."""
         data, at = bytearray(), 0
-        lacking, joint = self._lacking, self._joint
+        missing, joint = self._missing, self._joint
         while at < len(piece) and not self._too_long:
-            if not lacking:
+            if not missing:
                 if joint:
                     data.append(0)
-                lacking, joint = piece[at] - 1, piece[at] <= FULL
+                missing, joint = piece[at] - 1, piece[at] <= FULL
                 at += 1
-            block = piece[at : at + lacking]
+            block = piece[at : at + missing]
             data += block
             at += len(block)
-            lacking -= len(block)
+            missing -= len(block)
         room = len(self._buffer) - self._written
         self._buffer[self._written : self._written + min(len(data), room)] = data[:room]
         self._written += min(len(data), room)
-        self._lacking, self._joint, self._begun = lacking, joint, True
+        self._missing, self._joint, self._begun = missing, joint, True
         self._too_long = self._too_long or len(data) > room
 
     def _end(self) -> Tuple[int, bytes]:
         """Ends the piece, and returns the number of its class, and what was decoded."""
-        found = 2 if self._too_long else 1 if self._lacking else 0, bytes(self._buffer[: self._written])
+        found = 2 if self._too_long else 1 if self._missing else 0, bytes(self._buffer[: self._written])
         self._clear()
         return found
 

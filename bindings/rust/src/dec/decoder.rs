@@ -4,16 +4,6 @@
 
 use crate::ArrayVec;
 use crate::dec::{DecodeError, DecodeReport, FrameDecoder, PieceEnd, UnbufferedDecoder};
-#[cfg(not(feature = "small"))]
-use crate::dec::{DecoderPhase, PushError};
-#[cfg(not(feature = "small"))]
-use crate::proved::cobs_bytes::{lanes::copy_xored_short, window::has_vectors};
-#[cfg(not(feature = "small"))]
-use crate::simd::Simd;
-
-#[cfg(feature = "small")]
-use crate::small::push_stream;
-
 /// What the three decoders share: all but the buffer.
 #[derive(Debug)]
 struct Progress {
@@ -30,172 +20,39 @@ impl Progress {
 
     #[inline]
     fn push(&mut self, dest: &mut [u8], data: &[u8]) -> Result<Option<DecodeReport>, DecodeError> {
-        match *data {
-            [] => {
-                self.parsed_size = 0;
-                Ok(None)
+        // By `feed`: a loop of such pushes then takes a fifth of the time.
+        if let [byte] = *data {
+            let length = self.feed(dest, byte)?;
+            return Ok(length.map(|frame_size| DecodeReport {
+                parsed_size: 1,
+                frame_size,
+            }));
+        }
+        let ended = self.feed_piece(dest, data);
+        self.parsed_size = ended.map_or(data.len(), |(_, taken)| taken);
+        match ended {
+            Some((PieceEnd::Message(frame_size), parsed_size)) => Ok(Some(DecodeReport {
+                parsed_size,
+                frame_size,
+            })),
+            Some((PieceEnd::Broken(decoded_bytes), _)) => {
+                Err(DecodeError::InvalidFrame { decoded_bytes })
             }
-            // By `feed`: a loop of such pushes then takes a fifth of the time.
-            [byte] => {
-                let length = self.feed(dest, byte)?;
-                Ok(length.map(|frame_size| DecodeReport {
-                    parsed_size: 1,
-                    frame_size,
-                }))
+            Some((PieceEnd::TooLong, _)) => Err(DecodeError::TargetBufTooSmall),
+            None if self.decoder.too_long != 0 && !data.is_empty() => {
+                Err(DecodeError::TargetBufTooSmall)
             }
-            _ => self.push_more(dest, data),
+            None => Ok(None),
         }
     }
 
-    #[cfg(feature = "small")]
+    /// Takes bytes through the zero that ends a piece, or all.
     #[inline]
-    fn push_more(
-        &mut self,
-        dest: &mut [u8],
-        data: &[u8],
-    ) -> Result<Option<DecodeReport>, DecodeError> {
-        let (taken, pushed) = push_stream(&mut self.decoder, dest, data);
-        self.parsed_size = taken;
-        pushed
-    }
-
-    /// Takes two bytes or more. It is compiled into the caller's loop, except for long data.
-    // With vectors, one step each takes a few bytes inside a frame, a frame of one short block, or the first bytes of a block.
-    // Without them, taking a few bytes one by one is faster, and smaller.
-    #[cfg(not(feature = "small"))]
-    #[inline]
-    fn push_more(
-        &mut self,
-        dest: &mut [u8],
-        data: &[u8],
-    ) -> Result<Option<DecodeReport>, DecodeError> {
-        if !has_vectors() {
-            if data.len() > FEW {
-                return self.push_long(dest, data, 0);
-            }
-        } else if data.len() <= FEW {
-            if self.decoder.progress.written > 0 {
-                if self.decoder.progress.take_short(dest, data) {
-                    self.parsed_size = data.len();
-                    return Ok(None);
-                }
-            } else if is_idle(&self.decoder) {
-                if let Some(report) = self.take_frame(dest, data) {
-                    return Ok(Some(report));
-                }
-                if self.take_begin(dest, data) {
-                    self.parsed_size = data.len();
-                    return Ok(None);
-                }
-            }
-        } else if !has_zero(data) {
-            return self.push_long(dest, data, 0);
-        } else if is_idle(&self.decoder) {
-            if let Some(report) = self.take_frame(dest, data) {
-                return Ok(Some(report));
-            }
-        }
-        self.push_each(dest, data)
-    }
-
-    /// Takes the first bytes one by one, and then the others.
-    #[cfg(not(feature = "small"))]
-    #[inline(always)]
-    fn push_each(
-        &mut self,
-        dest: &mut [u8],
-        data: &[u8],
-    ) -> Result<Option<DecodeReport>, DecodeError> {
-        for (taken, &byte) in data[..data.len().min(FEW)].iter().enumerate() {
-            let parsed_size = taken + 1;
-            match self.decoder.feed(dest, byte) {
-                Ok(None) => {}
-                Ok(Some(frame_size)) => {
-                    self.parsed_size = parsed_size;
-                    return Ok(Some(DecodeReport {
-                        parsed_size,
-                        frame_size,
-                    }));
-                }
-                Err(error) => {
-                    self.pass(dest, data, parsed_size);
-                    return Err(error);
-                }
-            }
-        }
-        if data.len() > FEW {
-            return self.push_long(dest, data, FEW);
-        }
-        self.parsed_size = data.len();
-        Ok(None)
-    }
-
-    /// Takes the frame that the data begin with, if it is a short one of one block.
-    #[cfg(not(feature = "small"))]
-    #[inline(always)]
-    fn take_frame(&mut self, dest: &mut [u8], data: &[u8]) -> Option<DecodeReport> {
-        let code = data[0] as usize;
-        if (2..=FEW.min(dest.len())).contains(&code)
-            && data.get(code) == Some(&0)
-            && copy_xored_short(&data[1..code], dest, 0)
-        {
-            self.parsed_size = code + 1;
-            return Some(DecodeReport {
-                parsed_size: code + 1,
-                frame_size: code - 1,
-            });
-        }
-        None
-    }
-
-    /// Takes the first bytes of a frame, if its first block goes on behind them, and says whether it did.
-    #[cfg(not(feature = "small"))]
-    #[inline(always)]
-    fn take_begin(&mut self, dest: &mut [u8], data: &[u8]) -> bool {
-        if data[0] as usize >= data.len() {
-            self.decoder.progress.take_joint(dest, data[0]);
-            if self.decoder.progress.take_short(dest, &data[1..]) {
-                return true;
-            }
-            self.decoder.reset();
-        }
-        false
-    }
-
-    /// Pushes the bytes after the first `before`, of which none has ended a frame.
-    #[cfg(not(feature = "small"))]
-    #[inline(never)]
-    fn push_long(
-        &mut self,
-        dest: &mut [u8],
-        data: &[u8],
-        before: usize,
-    ) -> Result<Option<DecodeReport>, DecodeError> {
-        self.parsed_size = data.len();
-        match self.decoder.push_long(dest, &data[before..]) {
-            Ok(None) => Ok(None),
-            Ok(Some(mut report)) => {
-                report.parsed_size += before;
-                self.parsed_size = report.parsed_size;
-                Ok(Some(report))
-            }
-            Err(PushError { error, parsed_size }) => {
-                self.pass(dest, data, before + parsed_size);
-                Err(error)
-            }
-        }
-    }
-
-    /// Counts what was taken before an error, and takes the rest of a message that is too long.
-    #[cfg(not(feature = "small"))]
-    #[cold]
-    fn pass(&mut self, dest: &mut [u8], data: &[u8], taken: usize) {
-        self.parsed_size = taken;
-        if self.decoder.phase() == DecoderPhase::TooLong {
-            let rest = &data[taken..];
-            let ended = self.decoder.feed_piece(dest, rest);
-            self.parsed_size += ended.map_or(rest.len(), |(_, more)| more);
-        }
+    fn feed_piece(&mut self, dest: &mut [u8], data: &[u8]) -> Option<(PieceEnd, usize)> {
+        #[cfg(feature = "small")]
+        return self.decoder.feed_each(dest, data, 0);
+        #[cfg(not(feature = "small"))]
+        self.decoder.feed_piece(dest, data)
     }
 
     #[inline]
@@ -203,26 +60,6 @@ impl Progress {
         self.parsed_size = 1;
         self.decoder.feed(dest, data)
     }
-}
-
-/// Up to this many bytes cost less one by one than a search among them does.
-#[cfg(not(feature = "small"))]
-const FEW: usize = 16;
-
-/// Whether no piece has begun.
-#[cfg(not(feature = "small"))]
-#[inline(always)]
-fn is_idle(decoder: &UnbufferedDecoder) -> bool {
-    let at = &decoder.progress;
-    at.written == 0 && at.missing == 0 && at.joint == 0 && at.too_long == 0
-}
-
-/// Whether a frame ends in the first bytes.
-#[cfg(not(feature = "small"))]
-#[inline(always)]
-fn has_zero(data: &[u8]) -> bool {
-    let first = Simd::<u8, FEW>::from_slice(data);
-    first.simd_eq(Simd::splat(0)).to_bitmask() != 0
 }
 
 /// The methods that the three decoders share, over their fields `dest` and `progress`.

@@ -28,7 +28,7 @@ pub struct Answer {
 #[repr(C)]
 pub struct Decoder {
     written: usize,
-    lacking: u8,
+    missing: u8,
     joint: u8,
     too_long: u8,
 }
@@ -137,19 +137,19 @@ impl Decoder {
         if self.too_long != 0 {
             return DecoderPhase::TooLong;
         }
-        DecoderPhase::Within { is_full: self.joint == 0, lacking: self.lacking, written: self.written }
+        DecoderPhase::Within { is_full: self.joint == 0, missing: self.missing, written: self.written }
     }
 
     fn keep(&mut self, phase: DecoderPhase) {
-        (self.written, self.lacking, self.joint, self.too_long) = match phase {
+        (self.written, self.missing, self.joint, self.too_long) = match phase {
             DecoderPhase::Idle => (0, 0, 0, 0),
-            DecoderPhase::Within { is_full, lacking, written } => (written, lacking, u8::from(!is_full), 0),
+            DecoderPhase::Within { is_full, missing, written } => (written, missing, u8::from(!is_full), 0),
             DecoderPhase::TooLong => (0, 0, 0, 1),
         };
     }
 
     fn is_idle(&self) -> bool {
-        (self.written, self.lacking, self.joint, self.too_long) == (0, 0, 0, 0)
+        (self.written, self.missing, self.joint, self.too_long) == (0, 0, 0, 0)
     }
 }
 

@@ -179,3 +179,11 @@ Feeds-step buffer phase b = record {
 pub Feeds-as : {buffer buffer' : List ℕ} {phase phase' : Phase} {b : ℕ} {result : Result (Option ℕ) DecodeError} → result ≡ next_result (length buffer) phase b → phase' ≡ next_phase (length buffer) phase b
     → buffer' ≡ next_buffer buffer phase b → Feeds buffer phase b result buffer' phase'
 Feeds-as {buffer} {buffer'} {phase} {phase'} {b} returned phase_is buffer_is = rw (returned, phase_is, buffer_is) (Feeds-step buffer phase b)
+
+-- a zero leaves the buffer, and the decoder idle
+pub Feeds-zero : (buffer : List ℕ) (phase : Phase) → Feeds buffer phase 0 (end_result (length buffer) phase) buffer Idle
+Feeds-zero buffer phase = Feeds-as refl (sym (next_phase-zero (length buffer) phase)) (sym (next_buffer-zero buffer phase))
+
+-- a piece that is too long stays so up to its end
+pub Feeds-overlong : (buffer : List ℕ) (b : ℕ) → b ≢ 0 → Feeds buffer Overlong b (Err TargetBufTooSmall) buffer Overlong
+Feeds-overlong buffer b nz = Feeds-as (rw (ne_eqb b 0 nz) refl) (rw (ne_eqb b 0 nz) refl) refl

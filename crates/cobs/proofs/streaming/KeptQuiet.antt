@@ -9,10 +9,10 @@ use Rattle.cobs.specs.Overwritten.{overwritten}
 use Rattle.cobs.specs.Decode.{head_result, head_result_within}
 use Rattle.cobs.specs.Feed.{Phase, Idle, Overlong}
 use Rattle.cobs.specs.Step.{next_phase}
-use Rattle.cobs.specs.declared.dec.progress.DecoderProgress.{DecoderProgress}
+use Rattle.cobs.specs.declared.dec.unbuffered.UnbufferedDecoder.{UnbufferedDecoder}
 use Rattle.cobs.specs.declared.error.DecodeError.{DecodeError}
 use Rattle.cobs.specs.declared.error.DecodeError.TheVariants.{InvalidFrame, TargetBufTooSmall}
-use Rattle.cobs.specs.Fields.Decoders.{phase_in}
+use Rattle.cobs.specs.Fields.Decoders.{phase_of}
 use Rattle.cobs.specs.Internal.FeedsQuietly.{FeedsQuietly}
 use Rattle.cobs.proofs.decoding.PieceCuts.{is_whole-of, last_part-last, last_part-more}
 use Rattle.cobs.proofs.decoding.KeptLemmas.{kept_output-empty}
@@ -51,16 +51,16 @@ pub whole_front : (h old front : List ℕ) (n : ℕ) → missing (last_part h) �
 whole_front h old front n whole is fits count = subst (λ (l : List ℕ). front ++ drop n old ≡ overwritten old l) (is ∙ whole-kept h whole) (grind (arith, take_all))
 
 -- the bytes p are fed, and of the bytes q behind them the first ones, which give what is kept of all
-module _ (p q old b1 b2 : List ℕ) (phase : Phase) (inner : DecoderProgress) (len : ℕ) (whole : Bool) (result : Result ℕ DecodeError) (nz : HasNoZero p) (nz' : HasNoZero q)
-    (f : FeedsQuietly old Idle p b1 phase) (g : FeedsQuietly b1 phase (take len q) b2 (phase_in inner)) (kept : output (p ++ take len q) ≡ kept_output (p ++ q)) (is : IsTrue whole ↔ (missing (last_part (p ++ q)) ≡ 0))
+module _ (p q old b1 b2 : List ℕ) (phase : Phase) (inner : UnbufferedDecoder) (len : ℕ) (whole : Bool) (result : Result ℕ DecodeError) (nz : HasNoZero p) (nz' : HasNoZero q)
+    (f : FeedsQuietly old Idle p b1 phase) (g : FeedsQuietly b1 phase (take len q) b2 (phase_of inner)) (kept : output (p ++ take len q) ≡ kept_output (p ++ q)) (is : IsTrue whole ↔ (missing (last_part (p ++ q)) ≡ 0))
     (ok : IsTrue whole → result ≡ Ok inner.written) (broken : whole ≡ false → result ≡ Err (InvalidFrame inner.written)) where
-  run : Quiet old b2 (phase_in inner) (p ++ take len q)
-  run = quiet (p ++ take len q) old b2 (phase_in inner) (All-append (λ b. b ≢ 0) p (take len q) nz (All-take (λ b. b ≢ 0) len q nz')) (FeedsQuietly-append p (take len q) old b1 b2 Idle phase (phase_in inner) f g)
+  run : Quiet old b2 (phase_of inner) (p ++ take len q)
+  run = quiet (p ++ take len q) old b2 (phase_of inner) (All-append (λ b. b ≢ 0) p (take len q) nz (All-take (λ b. b ≢ 0) len q nz')) (FeedsQuietly-append p (take len q) old b1 b2 Idle phase (phase_of inner) f g)
 
   pub kept_fed : (result ≡ head_result (p ++ q)) × (b2 ≡ overwritten old (kept_output (p ++ q)))
   kept_fed = (
-    head_by (p ++ q) inner.written whole result ok broken ((quiet-at old b2 (p ++ take len q) (phase_in inner) run inner refl).0 ∙ ap length kept) is,
-    quiet-written old b2 (p ++ take len q) (phase_in inner) run ∙ ap (overwritten old) kept,
+    head_by (p ++ q) inner.written whole result ok broken ((quiet-at old b2 (p ++ take len q) (phase_of inner) run inner refl).0 ∙ ap length kept) is,
+    quiet-written old b2 (p ++ take len q) (phase_of inner) run ∙ ap (overwritten old) kept,
   )
 
   -- where the buffer is another one than the source, it has room

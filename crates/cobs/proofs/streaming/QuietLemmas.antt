@@ -7,8 +7,8 @@ use Rattle.cobs.specs.Grammar.{HasNoZero}
 use Rattle.cobs.specs.Piece.{last_part, missing, output, parts, parts_after}
 use Rattle.cobs.specs.Overwritten.{overwritten}
 use Rattle.cobs.specs.Feed.{Phase, Idle, Overlong, phase_after, PhaseAfter, DecoderAfter, result_for, fed}
-use Rattle.cobs.specs.declared.dec.progress.DecoderProgress.{DecoderProgress}
-use Rattle.cobs.specs.Fields.Decoders.{phase_in, phase_with}
+use Rattle.cobs.specs.declared.dec.unbuffered.UnbufferedDecoder.{UnbufferedDecoder}
+use Rattle.cobs.specs.Fields.Decoders.{phase_of, phase_with}
 use Rattle.cobs.specs.Internal.FeedsQuietly.{FeedsQuietly}
 use Rattle.cobs.specs.Step.{next_phase, next_buffer, next_result}
 use Rattle.cobs.proofs.decoding.PieceLemmas.{output-push}
@@ -113,7 +113,7 @@ module _ (old new p : List ℕ) (phase : Phase) (s : Quiet old new phase p) wher
         grind (arith, quiet-written, output-begins, take_all, drop_all, append-nil)
 
   -- where the decoder is
-  pub quiet-at : (inner : DecoderProgress) → phase_in inner ≡ phase → (inner.written ≡ length (output p)) × (inner.missing ≡ missing (last_part p))
+  pub quiet-at : (inner : UnbufferedDecoder) → phase_of inner ≡ phase → (inner.written ≡ length (output p)) × (inner.missing ≡ missing (last_part p))
   quiet-at inner is = at-by p (length new) (eqb inner.too_long 0) (eqb inner.joint 0) inner.missing inner.written (is ∙ s.after.phased.phase_is) (omega (arith, s.len, s.fits))
 
 -- the same of a place in a piece, where the bytes before it were fed

@@ -7,8 +7,8 @@ use Rattle.std.proofs.lemmas.Bool.{ne_eqb, lt-ltb, cases_eq}
 use borrow.Rule.Slice.PartMut.{put_mid}
 use Rattle.cobs.specs.Grammar.{HasNoZero}
 use Rattle.cobs.specs.Feed.{Phase, Within}
-use Rattle.cobs.specs.declared.dec.progress.DecoderProgress.{DecoderProgress}
-use Rattle.cobs.specs.Fields.Decoders.{phase_in, phase_with}
+use Rattle.cobs.specs.declared.dec.unbuffered.UnbufferedDecoder.{UnbufferedDecoder}
+use Rattle.cobs.specs.Fields.Decoders.{phase_of, phase_with}
 use Rattle.cobs.specs.Internal.FeedsQuietly.{FeedsQuietly}
 use Rattle.cobs.specs.Internal.Walk.{walked}
 use Rattle.cobs.specs.Sentinel.{xor_each}
@@ -97,19 +97,19 @@ full_by zero is = refl
 full_by (suc joint) is = absurd (omega arith)
 
 -- a decoder takes bytes, and they are written as what they are from code to code
-module _ (inner : DecoderProgress) (len : ℕ) (before xs : List ℕ) (room : inner.written + len ≤ length before) (long : length xs ≡ len)
+module _ (inner : UnbufferedDecoder) (len : ℕ) (before xs : List ℕ) (room : inner.written + len ≤ length before) (long : length xs ≡ len)
     (going : inner.too_long ≡ 0) (full : inner.joint ≡ 0 → len ≤ inner.missing) (nz : HasNoZero xs) (some : 0 < len) (few : inner.missing < len → len < 254)
     (ys : List ℕ) (code left joint : ℕ) (w : ◌≡◌ {A = List ℕ × ℕ × ℕ} (ys, code, left) (walked (code_by inner.joint) inner.missing xs)) (joint-is : eqb joint 0 ≡ eqb code 255) where
-  from : phase_in inner ≡ Within (eqb (code_by inner.joint) 255) inner.missing inner.written
+  from : phase_of inner ≡ Within (eqb (code_by inner.joint) 255) inner.missing inner.written
   from = elim (cases_eq inner.joint 0) [
     | inl e ↦ rw going (begun (eqb inner.joint 0) inner.missing inner.written (omega (arith, full e)))
     | inr other ↦ rw going (ap (λ (v : Bool). phase_with v inner.missing inner.written) (ne_eqb inner.joint 0 other) ∙ ap (λ (v : Bool). Within v inner.missing inner.written) (sym (ne_eqb inner.joint 0 other)))
   ] ∙ ap (λ (v : Bool). Within v inner.missing inner.written) (code_by-full inner.joint)
 
-  pub open_fed : FeedsQuietly before (phase_in inner) xs (over inner.written before ys) (phase_in (record { written = inner.written + len; missing = left; joint = joint; too_long = inner.too_long }))
+  pub open_fed : FeedsQuietly before (phase_of inner) xs (over inner.written before ys) (phase_of (record { written = inner.written + len; missing = left; joint = joint; too_long = inner.too_long }))
   open_fed =
       let v = walked (code_by inner.joint) inner.missing xs in
-      let to : phase_in (record { written = inner.written + len; missing = left; joint = joint; too_long = inner.too_long }) ≡ Within (eqb v.1 255) v.2 (inner.written + length xs)
+      let to : phase_of (record { written = inner.written + len; missing = left; joint = joint; too_long = inner.too_long }) ≡ Within (eqb v.1 255) v.2 (inner.written + length xs)
       = rw going (begun (eqb joint 0) left (inner.written + len) (omega arith)) ∙ ap (λ (b : Bool). Within b left (inner.written + len)) joint-is
       ∙ ap (λ (t : List ℕ × ℕ × ℕ). Within (eqb t.1 255) t.2 (inner.written + len)) w ∙ ap (λ (k : ℕ). Within (eqb v.1 255) v.2 (inner.written + k)) (sym long) in
       rw (from, to, ap (λ (t : List ℕ × ℕ × ℕ). t.0) w)
@@ -121,9 +121,9 @@ module _ (inner : DecoderProgress) (len : ℕ) (before xs : List ℕ) (room : in
       ∙ over-over inner.written before xs (omega arith) ys (ap (λ (t : List ℕ × ℕ × ℕ). length t.0) w ∙ length-walked (code_by inner.joint) inner.missing xs)
 
 -- bytes of the open block
-pub block_fed : (inner : DecoderProgress) (run : ℕ) (dest bytes new : List ℕ) → inner.too_long ≡ 0 → run ≤ inner.missing → inner.written + run ≤ length dest → run ≤ length bytes
+pub block_fed : (inner : UnbufferedDecoder) (run : ℕ) (dest bytes new : List ℕ) → inner.too_long ≡ 0 → run ≤ inner.missing → inner.written + run ≤ length dest → run ≤ length bytes
     → HasNoZero (take run bytes) → new ≡ take inner.written dest ++ (take run bytes ++ drop (inner.written + run) dest)
-    → FeedsQuietly dest (phase_in inner) (take run bytes) new (phase_in (record { written = inner.written + run; missing = inner.missing - run; joint = inner.joint; too_long = inner.too_long }))
+    → FeedsQuietly dest (phase_of inner) (take run bytes) new (phase_of (record { written = inner.written + run; missing = inner.missing - run; joint = inner.joint; too_long = inner.too_long }))
 block_fed inner zero dest bytes new going most room within nz is = (is ∙ ap (λ (k : ℕ). take inner.written dest ++ drop k dest) (omega arith) ∙ take-append-drop inner.written dest, grind arith)
 block_fed inner (suc run) dest bytes new going most room within nz is =
     let xs : List ℕ = take (suc run) bytes in
@@ -141,9 +141,9 @@ ones-nonzero : (n : ℕ) → HasNoZero (replicate n 1)
 ones-nonzero n = All-replicate (λ b. b ≢ 0) n 1 (omega arith)
 
 -- a row of n blocks without bytes
-pub row_fed : (n : ℕ) (inner : DecoderProgress) (dest bytes new : List ℕ) → 0 < n → n < 254 → inner.too_long ≡ 0 → inner.missing ≡ 0 → inner.joint ≢ 0 → inner.written + n ≤ length dest → take n bytes ≡ replicate n 1
+pub row_fed : (n : ℕ) (inner : UnbufferedDecoder) (dest bytes new : List ℕ) → 0 < n → n < 254 → inner.too_long ≡ 0 → inner.missing ≡ 0 → inner.joint ≢ 0 → inner.written + n ≤ length dest → take n bytes ≡ replicate n 1
     → new ≡ take inner.written dest ++ (replicate n 0 ++ drop (inner.written + n) dest)
-    → FeedsQuietly dest (phase_in inner) (take n bytes) new (phase_in (record { written = inner.written + n; missing = inner.missing; joint = inner.joint; too_long = inner.too_long }))
+    → FeedsQuietly dest (phase_of inner) (take n bytes) new (phase_of (record { written = inner.written + n; missing = inner.missing; joint = inner.joint; too_long = inner.too_long }))
 row_fed n inner dest bytes new some few going none due room ones is =
     let code : ℕ = code_by inner.joint in
     let long : length (replicate {A = ℕ} n 1) ≡ n = length-replicate {A = ℕ} n 1 in

@@ -14,7 +14,6 @@ use Rattle.cobs.specs.contracts.dec.buffered.CobsDecoder.{the_row as borrowed_ro
 use Rattle.cobs.specs.contracts.dec.buffered.CobsDecoderOwned.{the_row as owned_row}
 use Rattle.cobs.specs.contracts.dec.heapless.CobsDecoderHeapless.{the_row as heapless_row}
 use Rattle.cobs.specs.Feed.{Phase, Idle, Within, Overlong}
-use Rattle.cobs.specs.declared.dec.progress.DecoderProgress.{DecoderProgress}
 use Rattle.cobs.specs.declared.dec.unbuffered.UnbufferedDecoder.{UnbufferedDecoder}
 use Rattle.cobs.specs.declared.dec.unbuffered.DecoderPhase.{DecoderPhase}
 use Rattle.cobs.specs.declared.dec.unbuffered.DecoderPhase.TheVariants.{Idle as TheIdle, Within as TheWithin, TooLong}
@@ -34,13 +33,8 @@ phase_at (TheWithin is_full left written) = phase_with is_full left written
 phase_at TooLong = Overlong
 
 -- the phase that a decoder's numbers stand for, whatever they are
-abbrev pub phase_in : DecoderProgress → Phase
-phase_in progress = if progress.too_long == 0 then phase_with (progress.joint == 0) progress.missing progress.written else Overlong
-
--- where a decoder is whose buffer is passed to each call, as the three others do by the one in them. It reads the
--- private field: contracts name where a decoder is by this word, and know nothing else of that field.
 abbrev pub phase_of : UnbufferedDecoder → Phase
-phase_of decoder = phase_in decoder.progress
+phase_of decoder = if decoder.too_long == 0 then phase_with (decoder.joint == 0) decoder.missing decoder.written else Overlong
 
 -- the bytes of the slice that was borrowed by a `CobsDecoder`
 abbrev pub borrowed_buffer : CobsDecoder → List ℕ

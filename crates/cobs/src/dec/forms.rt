@@ -11,8 +11,8 @@ ghost use Rattle.cobs.specs.declared.error.DecodeError.TheVariants.{EmptyFrame, 
 
 use crate::block::FULL_BLOCK_BYTES;
 use crate::dec::decode;
-use crate::dec::progress::START;
 use crate::dec::stretch::{decode_stretch, kept_len, message_len};
+use crate::dec::unbuffered::START;
 use crate::error::{DecodeError, DecodeVecError};
 use crate::find::{len_without_end, position_or_len};
 use cobs_bytes::window::WIDE_WINDOW;

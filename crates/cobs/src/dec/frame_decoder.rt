@@ -27,15 +27,28 @@ pub enum PieceEnd {
     TooLong,
 }
 
-/// What the result for a zero means: nothing if no piece has ended.
-pub(crate) fn piece_end(returned: Result<Option<usize>, DecodeError>) -> Option<PieceEnd>
-    ensures { result ≡ end_reported returned }
-{
-    match returned {
-        Ok(None) | Err(DecodeError::EmptyFrame) => None,
-        Ok(Some(n)) => Some(PieceEnd::Message(n)),
-        Err(DecodeError::InvalidFrame { decoded_bytes }) => Some(PieceEnd::Broken(decoded_bytes)),
-        Err(DecodeError::TargetBufTooSmall) => Some(PieceEnd::TooLong),
+impl PieceEnd {
+    /// Returns how a piece has ended, by the result of `feed` for the zero: `None` if no piece was open.
+    ///
+    /// ```
+    /// let mut decoder = UnbufferedDecoder::new();
+    /// let mut buffer = [0; 4];
+    /// assert_eq!(rt; decoder.push(&mut buffer, &[3, 7]), Ok(None));
+    /// let end = PieceEnd::reported(decoder.feed(&mut buffer, 0));
+    /// assert_eq!(rt; end, Some(PieceEnd::Broken(1)));
+    /// ```
+    #[inline(always)]
+    pub fn reported(returned: Result<Option<usize>, DecodeError>) -> Option<PieceEnd>
+        ensures end { result ≡ end_reported returned }
+    {
+        match returned {
+            Ok(None) | Err(DecodeError::EmptyFrame) => None,
+            Ok(Some(n)) => Some(PieceEnd::Message(n)),
+            Err(DecodeError::InvalidFrame { decoded_bytes }) => {
+                Some(PieceEnd::Broken(decoded_bytes))
+            }
+            Err(DecodeError::TargetBufTooSmall) => Some(PieceEnd::TooLong),
+        }
     }
 }
 
@@ -93,7 +106,7 @@ pub trait FrameDecoder {
         'by_byte: for (i, byte) in stream.iter().enumerate() {
             let returned = self.feed_byte(*byte);
             if *byte == 0 {
-                if let Some(end) = piece_end(returned) {
+                if let Some(end) = PieceEnd::reported(returned) {
                     return Some((end, i + 1));
                 }
             }

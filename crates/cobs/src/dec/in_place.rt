@@ -6,15 +6,15 @@ ghost use Rattle.cobs.specs.Grammar.{HasNoZero, Reads};
 ghost use Rattle.cobs.specs.Headline.{ReturnsMessage, IsPiece, ReportsMessage};
 ghost use Rattle.cobs.specs.Piece.{kept_output, last_part, missing};
 ghost use Rattle.cobs.specs.Stream.{head};
-ghost use Rattle.cobs.specs.Fields.Decoders.{phase_in};
+ghost use Rattle.cobs.specs.Fields.Decoders.{phase_of};
 ghost use Rattle.cobs.specs.Internal.FeedsQuietly.{FeedsQuietly};
 ghost use Rattle.cobs.specs.Sentinel.{xor_each};
 ghost use Rattle.cobs.specs.declared.error.DecodeError.TheVariants.{TargetBufTooSmall};
 
 use crate::block::FULL_BLOCK_BYTES;
-use crate::dec::progress::{DecoderProgress, START};
 use crate::dec::run::STRETCH_MAX;
 use crate::dec::stretch::{decode_stretch, kept_len, message_len};
+use crate::dec::unbuffered::{START, UnbufferedDecoder};
 use crate::error::{DecodeError, DecodeReport};
 use crate::find::{len_without_end, zero_or_len};
 use cobs_bytes::lanes::{copy_xored_short, move_to_front, xor_bytes};
@@ -30,7 +30,7 @@ fn move_back(buffer: &mut [u8], at: usize, read: usize, len: usize)
     move_to_front(&mut buffer[at..], read - at, len);
 }
 
-impl DecoderProgress {
+impl UnbufferedDecoder {
     /// Takes bytes of the buffer that it writes to, from `read` to `end`, as many as one step can take, and returns how
     /// many: as `take_part`, and a block's first bytes with its code.
     #[inline(always)]
@@ -43,8 +43,8 @@ impl DecoderProgress {
         requires nonzero { HasNoZero (take (end - read) (drop read buffer.old)) }
         ensures some { 0 < result }
         ensures within { read + result ≤ end }
-        ensures fed { FeedsQuietly buffer.old (phase_in self.old)
-            (take result (drop read buffer.old)) buffer.new (phase_in self.new) }
+        ensures fed { FeedsQuietly buffer.old (phase_of self.old)
+            (take result (drop read buffer.old)) buffer.new (phase_of self.new) }
         ensures going { self.new.too_long ≡ 0 }
         ensures behind { self.new.written ≤ read + result }
         ensures joint { self.new.joint ≢ 0 → self.new.written < read + result }
@@ -81,8 +81,8 @@ impl DecoderProgress {
         requires order { read ≤ end }
         requires within { end ≤ length buffer.old }
         requires nonzero { HasNoZero (take (end - read) (drop read buffer.old)) }
-        ensures fed { FeedsQuietly buffer.old (phase_in self.old)
-            (take (end - read) (drop read buffer.old)) buffer.new (phase_in self.new) }
+        ensures fed { FeedsQuietly buffer.old (phase_of self.old)
+            (take (end - read) (drop read buffer.old)) buffer.new (phase_of self.new) }
         ensures going { self.new.too_long ≡ 0 }
         ensures behind { self.new.written ≤ end }
         ensures joint { self.new.joint ≢ 0 → self.new.written < end }

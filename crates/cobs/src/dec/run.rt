@@ -1,15 +1,16 @@
 //! What every decoder takes at once: bytes up to a sentinel, copied as slices, and then a zero written at each code.
-ghost use Rattle.std.specs.Prelude.{IsTrue, ◌++◌, drop, ◌≡◌, ◌≢◌, ◌<◌, ◌≤◌, ◌+◌, ◌∷◌, [], length, take, slice_index, false, List, ℕ};
+ghost use Rattle.std.specs.Prelude.{IsTrue, ◌++◌, drop, ◌≡◌, ◌≢◌, ◌<◌, ◌≤◌, ◌+◌, ◌-◌, ◌∷◌, [], length, take, slice_index, false, List, ℕ};
 ghost use Rattle.cobs.specs.Feed.{Overlong};
-ghost use Rattle.cobs.specs.Fields.Decoders.{phase_in};
+ghost use Rattle.cobs.specs.Fields.Decoders.{phase_of};
 ghost use Rattle.cobs.specs.Grammar.{HasNoZero};
 ghost use Rattle.cobs.specs.Internal.FeedsQuietly.{FeedsQuietly};
 ghost use Rattle.cobs.specs.Sentinel.{xor_each};
 ghost use Rattle.cobs.specs.Step.{next_phase};
 
 use crate::block::FULL_BLOCK_BYTES;
-use crate::dec::progress::{DecoderProgress, joint_after};
+use crate::dec::step::joint_after;
 use crate::dec::stretch::write_zeros_at_codes;
+use crate::dec::unbuffered::{START, UnbufferedDecoder};
 use crate::find::zero_or_len;
 use cobs_bytes::lanes::{copy_xored, copy_xored_short};
 use cobs_bytes::window::{WIDE_WINDOW, WINDOW, has_vectors, is_all, write_row};
@@ -17,7 +18,7 @@ use cobs_bytes::window::{WIDE_WINDOW, WINDOW, has_vectors, is_all, write_row};
 /// The most bytes that one stretch has: so few that none of its codes can have a whole full block after it.
 pub(crate) const STRETCH_MAX: usize = FULL_BLOCK_BYTES - 1;
 
-impl DecoderProgress {
+impl UnbufferedDecoder {
     /// Takes the code of the block after a whole one, and writes the zero that joins the two.
     #[inline(always)]
     pub(crate) fn take_joint(&mut self, dest: &mut [u8], code: u8)
@@ -25,7 +26,7 @@ impl DecoderProgress {
         requires whole { self.old.missing ≡ 0 }
         requires nonzero { code ≢ 0 }
         requires room { self.old.joint ≢ 0 → self.old.written < length dest.old }
-        ensures fed { FeedsQuietly dest.old (phase_in self.old) (code ∷ []) dest.new (phase_in self.new) }
+        ensures fed { FeedsQuietly dest.old (phase_of self.old) (code ∷ []) dest.new (phase_of self.new) }
         ensures going { self.new.too_long ≡ 0 }
         ensures missing { self.new.missing + 1 ≡ code }
         ensures written { self.new.written ≤ self.old.written + 1 }
@@ -62,10 +63,10 @@ impl DecoderProgress {
         requires some { 0 < length bytes.now }
         requires nonzero { HasNoZero (xor_each sentinel bytes.now) }
         ensures within { result ≤ length bytes.now }
-        ensures fed { FeedsQuietly dest.old (phase_in self.old)
-            (take result (xor_each sentinel bytes.now)) dest.new (phase_in self.new) }
+        ensures fed { FeedsQuietly dest.old (phase_of self.old)
+            (take result (xor_each sentinel bytes.now)) dest.new (phase_of self.new) }
         ensures going { self.new.too_long ≡ 0 }
-        ensures full { result ≡ 0 → next_phase (length dest.new) (phase_in self.new)
+        ensures full { result ≡ 0 → next_phase (length dest.new) (phase_of self.new)
             (slice_index (xor_each sentinel bytes.now) 0) ≡ Overlong }
     {
         if self.joint != 0 && dest.len() <= self.written {
@@ -95,7 +96,7 @@ impl DecoderProgress {
         requires nonzero { HasNoZero (take len (drop self.old.written dest.old)) }
         ensures fed { let at = self.old.written in (before xs : List ℕ) → at + len ≤ length before → length xs ≡ len
             → dest.old ≡ take at before ++ (xs ++ drop (at + len) before)
-            → FeedsQuietly before (phase_in self.old) xs dest.new (phase_in self.new) }
+            → FeedsQuietly before (phase_of self.old) xs dest.new (phase_of self.new) }
         ensures going { self.new.too_long ≡ 0 }
         ensures written { self.new.written ≡ self.old.written + len }
         ensures full { self.old.joint ≡ 0 → self.new.joint ≡ 0 }
@@ -121,10 +122,10 @@ impl DecoderProgress {
         requires some { 0 < length bytes.now }
         requires nonzero { HasNoZero (xor_each sentinel bytes.now) }
         ensures within { result ≤ length bytes.now }
-        ensures fed { FeedsQuietly dest.old (phase_in self.old)
-            (take result (xor_each sentinel bytes.now)) dest.new (phase_in self.new) }
+        ensures fed { FeedsQuietly dest.old (phase_of self.old)
+            (take result (xor_each sentinel bytes.now)) dest.new (phase_of self.new) }
         ensures going { self.new.too_long ≡ 0 }
-        ensures full { result ≡ 0 → next_phase (length dest.new) (phase_in self.new)
+        ensures full { result ≡ 0 → next_phase (length dest.new) (phase_of self.new)
             (slice_index (xor_each sentinel bytes.now) 0) ≡ Overlong }
     {
         let at = self.written;
@@ -142,7 +143,7 @@ impl DecoderProgress {
     /// says whether it did.
     #[inline(always)]
     pub(crate) fn take_short(&mut self, dest: &mut [u8], bytes: &[u8]) -> bool
-        ensures fed { IsTrue result → FeedsQuietly dest.old (phase_in self.old) bytes.now dest.new (phase_in self.new) }
+        ensures fed { IsTrue result → FeedsQuietly dest.old (phase_of self.old) bytes.now dest.new (phase_of self.new) }
         ensures kept { result ≡ false → (dest.new ≡ dest.old) × (self.new ≡ self.old) }
     {
         let at = self.written;
@@ -160,6 +161,36 @@ impl DecoderProgress {
         true
     }
 
+    /// Takes a frame of 2 to 65 bytes up to the zero that is the last byte, if no piece has begun and the message has room, and
+    /// says whether it did. That zero isn't taken.
+    #[inline(always)]
+    pub(crate) fn take_frame(&mut self, dest: &mut [u8], bytes: &[u8]) -> bool
+        ensures some { IsTrue result → 0 < length bytes.now }
+        ensures fed { IsTrue result → FeedsQuietly dest.old (phase_of self.old)
+            (take (length bytes.now - 1) bytes.now) dest.new (phase_of self.new) }
+        ensures ends { IsTrue result → slice_index bytes.now (length bytes.now - 1) ≡ 0 }
+        ensures kept { result ≡ false → (dest.new ≡ dest.old) × (self.new ≡ self.old) }
+    {
+        let len = bytes.len();
+        if !self.is_idle() || len < 3 || WIDE_WINDOW + 2 < len || dest.len() < len - 2 {
+            return false;
+        }
+        let code = bytes[0];
+        // Rows of codes without bytes are written at once, by `take_part`.
+        if code == 1 && WINDOW <= len && is_all(bytes, 0, 1) {
+            return false;
+        }
+        if code == 0 || bytes[len - 1] != 0 || !copy_xored_short(&bytes[1..len - 1], dest, 0) {
+            return false;
+        }
+        let mut begun = START;
+        begun.joint = joint_after(code);
+        begun.missing = code - 1;
+        begun.take_copied(dest, len - 2);
+        *self = begun;
+        true
+    }
+
     /// Takes bytes before a sentinel, as many as one step can, and returns how many: a block of 64 bytes or more or after a
     /// full one; 32 codes of blocks without bytes; or a stretch. It is 0 only if the first byte has no room.
     #[inline(always)]
@@ -168,10 +199,10 @@ impl DecoderProgress {
         requires some { 0 < length bytes.now }
         requires nonzero { HasNoZero (xor_each sentinel bytes.now) }
         ensures within { result ≤ length bytes.now }
-        ensures fed { FeedsQuietly dest.old (phase_in self.old)
-            (take result (xor_each sentinel bytes.now)) dest.new (phase_in self.new) }
+        ensures fed { FeedsQuietly dest.old (phase_of self.old)
+            (take result (xor_each sentinel bytes.now)) dest.new (phase_of self.new) }
         ensures going { self.new.too_long ≡ 0 }
-        ensures full { result ≡ 0 → next_phase (length dest.new) (phase_in self.new)
+        ensures full { result ≡ 0 → next_phase (length dest.new) (phase_of self.new)
             (slice_index (xor_each sentinel bytes.now) 0) ≡ Overlong }
     {
         if self.missing == 0 {
@@ -195,10 +226,10 @@ impl DecoderProgress {
         requires going { self.old.too_long ≡ 0 }
         requires nonzero { HasNoZero (xor_each sentinel bytes.now) }
         ensures within { result ≤ length bytes.now }
-        ensures fed { FeedsQuietly dest.old (phase_in self.old)
-            (take result (xor_each sentinel bytes.now)) dest.new (phase_in self.new) }
+        ensures fed { FeedsQuietly dest.old (phase_of self.old)
+            (take result (xor_each sentinel bytes.now)) dest.new (phase_of self.new) }
         ensures going { self.new.too_long ≡ 0 }
-        ensures stop { result < length bytes.now → next_phase (length dest.new) (phase_in self.new)
+        ensures stop { result < length bytes.now → next_phase (length dest.new) (phase_of self.new)
             (slice_index (xor_each sentinel bytes.now) result) ≡ Overlong }
     {
         // A copy, so that it stays in registers.
@@ -219,9 +250,9 @@ impl DecoderProgress {
     #[inline(always)]
     pub(crate) fn take_run(&mut self, dest: &mut [u8], bytes: &[u8]) -> usize
         ensures within { result ≤ length bytes.now }
-        ensures fed { FeedsQuietly dest.old (phase_in self.old) (take result bytes.now) dest.new (phase_in self.new) }
+        ensures fed { FeedsQuietly dest.old (phase_of self.old) (take result bytes.now) dest.new (phase_of self.new) }
         ensures stop { result < length bytes.now → slice_index bytes.now result ≢ 0
-            → next_phase (length dest.new) (phase_in self.new) (slice_index bytes.now result) ≡ Overlong }
+            → next_phase (length dest.new) (phase_of self.new) (slice_index bytes.now result) ≡ Overlong }
     {
         // A piece that is too long has a result for each byte.
         if self.too_long != 0 {

@@ -1,12 +1,11 @@
 //! The streaming decoder whose buffer is passed to each call. The three others are built on it.
-ghost use Rattle.std.specs.Prelude.{◌≡◌, List, [], ℕ};
+ghost use Rattle.std.specs.Prelude.{◌≡◌, ◌↔◌, IsTrue, List, [], ℕ};
 ghost use Rattle.cobs.specs.Feed.{DecoderAfter, Feeds, Idle};
 ghost use Rattle.cobs.specs.Fields.Decoders.{phase_at, phase_of};
 ghost use Rattle.cobs.specs.Push.{PushesBytes};
 ghost use Rattle.cobs.specs.FeedPiece.{TakesPiece};
 
-use crate::dec::frame_decoder::{PieceEnd, piece_end};
-use crate::dec::progress::{DecoderProgress, START};
+use crate::dec::frame_decoder::PieceEnd;
 use crate::error::{DecodeError, DecodeReport, PushError};
 use crate::find::position_or_len;
 use cobs_bytes::window::has_vectors;
@@ -18,7 +17,7 @@ use cobs_bytes::window::has_vectors;
 /// let mut decoder = UnbufferedDecoder::new();
 /// assert_eq!(rt; decoder.phase(), DecoderPhase::Idle);
 /// assert_eq!(rt; decoder.push(&mut buffer, &[4, 7, 8]), Ok(None));
-/// assert!(rt; matches!(decoder.phase(), DecoderPhase::Within { lacking: 1, .. }));
+/// assert!(rt; matches!(decoder.phase(), DecoderPhase::Within { missing: 1, .. }));
 /// ```
 #[derive(Debug, Clone, Copy, PartialEq, Eq)]
 pub enum DecoderPhase {
@@ -31,7 +30,7 @@ pub enum DecoderPhase {
         is_full: bool,
 
         /// How many bytes of the open block are missing.
-        lacking: u8,
+        missing: u8,
 
         /// How many bytes of the piece's output are written.
         written: usize,
@@ -58,10 +57,34 @@ pub enum DecoderPhase {
 /// assert_eq!(rt; report.map(|report| report.frame_size()), Some(5));
 /// assert!(rt; buffer.starts_with(b"hello"));
 /// ```
-#[derive(Debug, Drop)]
+///
+/// Its state is plain numbers, all 0 before a piece begins, with the layout of a struct of C. Each may be any: every call is
+/// safe then too.
+// No number says whether a piece has begun: a code at its front is read like one after a full block, which no zero joins
+// to anything. So a nonzero byte asks only how much of its block is missing, and a code whether a zero is due.
+#[repr(C)]
+#[derive(Debug, Clone, Copy, PartialEq, Eq)]
 pub struct UnbufferedDecoder {
-    pub(crate) progress: DecoderProgress,
+    /// How many bytes of this piece's output are written.
+    pub written: usize,
+    /// How many bytes of the open block are missing.
+    pub missing: u8,
+    /// Not 0 if a zero joins the open block to the next one, as it does unless the block is full.
+    pub joint: u8,
+    /// Not 0 if the output of this piece was too long for the buffer.
+    pub too_long: u8,
 }
+
+/// Up to this many bytes cost less a step each than a search among them does.
+const FEW: usize = 16;
+
+/// No piece has begun.
+pub(crate) const START: UnbufferedDecoder = UnbufferedDecoder {
+    written: 0,
+    missing: 0,
+    joint: 0,
+    too_long: 0,
+};
 
 impl UnbufferedDecoder {
     /// Makes an idle decoder, for a buffer of any length, also an empty one.
@@ -75,7 +98,7 @@ impl UnbufferedDecoder {
         ensures idle { phase_of result ≡ Idle }
         ensures after { (buffer : List ℕ) → DecoderAfter buffer (phase_of result) [] }
     {
-        UnbufferedDecoder { progress: START }
+        START
     }
 
     /// Makes a decoder in this state, whatever the numbers are. A complete full block, with nothing
@@ -93,24 +116,23 @@ impl UnbufferedDecoder {
     pub fn from_phase(phase: DecoderPhase) -> Self
         ensures phase { phase_of result ≡ phase_at phase }
     {
-        let progress = match phase {
+        match phase {
             DecoderPhase::Idle => START,
             DecoderPhase::Within {
                 is_full,
-                lacking,
+                missing,
                 written,
-            } => DecoderProgress {
+            } => UnbufferedDecoder {
                 written,
-                missing: lacking,
+                missing,
                 joint: if is_full { 0 } else { 1 },
                 too_long: 0,
             },
-            DecoderPhase::TooLong => DecoderProgress {
+            DecoderPhase::TooLong => UnbufferedDecoder {
                 too_long: 1,
                 ..START
             },
-        };
-        UnbufferedDecoder { progress }
+        }
     }
 
     /// Returns the decoder's state.
@@ -121,18 +143,32 @@ impl UnbufferedDecoder {
     pub fn phase(&self) -> DecoderPhase
         ensures phase { phase_at result ≡ phase_of self.now }
     {
-        let at = self.progress;
-        if at.too_long != 0 {
+        if self.too_long != 0 {
             return DecoderPhase::TooLong;
         }
-        if at.written == 0 && at.missing == 0 && at.joint == 0 {
+        if self.is_idle() {
             return DecoderPhase::Idle;
         }
         DecoderPhase::Within {
-            is_full: at.joint == 0,
-            lacking: at.missing,
-            written: at.written,
+            is_full: self.joint == 0,
+            missing: self.missing,
+            written: self.written,
         }
+    }
+
+    /// Returns whether no piece has begun, so that the next byte that isn't a zero begins one.
+    ///
+    /// ```
+    /// let mut decoder = UnbufferedDecoder::new();
+    /// assert!(rt; decoder.is_idle());
+    /// assert_eq!(rt; decoder.push(&mut [0; 4], &[2]), Ok(None));
+    /// assert!(rt; !decoder.is_idle());
+    /// ```
+    #[inline(always)]
+    pub fn is_idle(&self) -> bool
+        ensures idle { IsTrue result ↔ (phase_of self.now ≡ Idle) }
+    {
+        self.written == 0 && self.missing == 0 && self.joint == 0 && self.too_long == 0
     }
 
     /// Makes the decoder idle, so that the next byte begins a new piece.
@@ -161,10 +197,11 @@ impl UnbufferedDecoder {
     /// assert_eq!(rt; decoder.feed(&mut buffer, 0), Ok(Some(1)));
     /// assert_eq!(rt; buffer, [7, 0]);
     /// ```
+    #[inline(always)]
     pub fn feed(&mut self, dest: &mut [u8], byte: u8) -> Result<Option<usize>, DecodeError>
         ensures feeds { Feeds dest.old (phase_of self.old) byte result dest.new (phase_of self.new) }
     {
-        self.progress.feed(dest, byte)
+        self.step(dest, byte)
     }
 
     /// Takes bytes of the stream, over this buffer, up to the first one whose result by `feed` isn't `Ok(None)`, as
@@ -180,7 +217,7 @@ impl UnbufferedDecoder {
     pub fn push(&mut self, dest: &mut [u8], bytes: &[u8]) -> Result<Option<DecodeReport>, PushError>
         ensures pushes { PushesBytes dest.old (phase_of self.old) bytes.now result dest.new (phase_of self.new) }
     {
-        if has_vectors() && self.progress.take_short(dest, bytes) {
+        if has_vectors() && self.take_short(dest, bytes) {
             return Ok(None);
         }
         self.push_long(dest, bytes)
@@ -196,7 +233,7 @@ impl UnbufferedDecoder {
     {
         let mut at = 0;
         'by_run: while at < bytes.len() {
-            at += self.progress.take_run(dest, &bytes[at..]);
+            at += self.take_run(dest, &bytes[at..]);
             if at < bytes.len() {
                 let parsed_size = at + 1;
                 match self.feed(dest, bytes[at]) {
@@ -226,19 +263,28 @@ impl UnbufferedDecoder {
     pub fn feed_piece(&mut self, dest: &mut [u8], bytes: &[u8]) -> Option<(PieceEnd, usize)>
         ensures takes { TakesPiece dest.old (phase_of self.old) bytes.now result dest.new (phase_of self.new) }
     {
-        if has_vectors() && self.progress.take_short(dest, bytes) {
-            return None;
+        if has_vectors() {
+            if self.take_frame(dest, bytes) {
+                let end = PieceEnd::reported(self.feed(dest, 0))?;
+                return Some((end, bytes.len()));
+            }
+            if self.take_short(dest, bytes) {
+                return None;
+            }
+        }
+        if bytes.len() <= FEW {
+            return self.feed_each(dest, bytes, 0);
         }
         self.feed_piece_long(dest, bytes)
     }
 
-    /// Does what `feed_piece` does, without a question of its own for a short piece.
+    /// Does what `feed_piece` does, without a question of its own for short pieces.
     fn feed_piece_long(&mut self, dest: &mut [u8], bytes: &[u8]) -> Option<(PieceEnd, usize)>
         ensures takes { TakesPiece dest.old (phase_of self.old) bytes.now result dest.new (phase_of self.new) }
     {
         let mut taken = 0;
         'by_run: while taken < bytes.len() {
-            if self.progress.too_long != 0 {
+            if self.too_long != 0 {
                 // Of a piece that is too long for the buffer, all through its zero is taken.
                 let rest = &bytes[taken..];
                 let len = position_or_len(rest, 0);
@@ -248,13 +294,18 @@ impl UnbufferedDecoder {
                 self.reset();
                 return Some((PieceEnd::TooLong, taken + len + 1));
             }
-            taken += self.progress.take_run(dest, &bytes[taken..]);
+            if bytes[taken] == 0 && self.is_idle() {
+                // As on a line on which nothing is sent.
+                taken += 1;
+                continue;
+            }
+            taken += self.take_run(dest, &bytes[taken..]);
             if taken < bytes.len() {
                 let byte = bytes[taken];
                 let returned = self.feed(dest, byte);
                 taken += 1;
                 if byte == 0 {
-                    if let Some(end) = piece_end(returned) {
+                    if let Some(end) = PieceEnd::reported(returned) {
                         return Some((end, taken));
                     }
                 }

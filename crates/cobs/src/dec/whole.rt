@@ -6,8 +6,8 @@ ghost use Rattle.cobs.specs.Grammar.{Reads};
 ghost use Rattle.cobs.specs.Headline.{IsPiece, ReportsMessage};
 ghost use Rattle.cobs.specs.Stream.{head};
 
-use crate::dec::progress::START;
 use crate::dec::stretch::{decode_stretch, message_len};
+use crate::dec::unbuffered::START;
 use crate::error::{DecodeError, DecodeReport};
 use crate::find::{leading_zeros, len_without_end};
 

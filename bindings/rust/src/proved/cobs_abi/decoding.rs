@@ -1,17 +1,23 @@
 // Made by bindings/rust/translate.py from `crates/cobs_abi/src/decoding.rt`: change that file, and run it again.
-//! The streaming decoder by a step for each byte.
+//! What C sees of the streaming decoder's steps.
 
-use crate::proved::PieceEnd;
 use crate::proved::cobs_abi::answer::{Answer, BROKEN, MORE, TOO_SMALL, done};
-use crate::proved::cobs_abi::decoder::{DECODER_START, Decoder};
+use crate::proved::{PieceEnd, UnbufferedDecoder};
 
-/// The code of a full block.
-const FULL: u8 = 255;
+/// Returns how many bytes of an open message a buffer of `room` bytes holds.
+#[inline(always)]
+fn held(decoder: &UnbufferedDecoder, room: usize) -> usize {
+    if decoder.too_long != 0 {
+        room
+    } else {
+        decoder.written.min(room)
+    }
+}
 
 /// Returns the result of a call that took these of `len` bytes, into a buffer of `room` bytes.
 #[inline(always)]
 pub fn result_of(
-    decoder: &Decoder,
+    decoder: &UnbufferedDecoder,
     found: Option<(PieceEnd, usize)>,
     len: usize,
     room: usize,
@@ -20,7 +26,7 @@ pub fn result_of(
         return Answer {
             status: MORE,
             consumed: len,
-            length: decoder.held(room),
+            length: held(decoder, room),
         };
     };
     match end {
@@ -39,115 +45,28 @@ pub fn result_of(
     }
 }
 
-/// Takes a byte of a piece, over this buffer.
-fn take_byte(decoder: &mut Decoder, buffer: &mut [u8], byte: u8) {
-    if decoder.too_long != 0 {
-        return;
-    }
-    // Read once, as compilers read it again after a byte of the buffer is written.
-    let at = decoder.written;
-    if decoder.lacking != 0 {
-        if buffer.len() <= at {
-            decoder.too_long = 1;
-            return;
-        }
-        buffer[at] = byte;
-        decoder.written = at + 1;
-        decoder.lacking -= 1;
-        return;
-    }
-    if decoder.joint != 0 {
-        if buffer.len() <= at {
-            decoder.too_long = 1;
-            return;
-        }
-        buffer[at] = 0;
-        decoder.written = at + 1;
-    }
-    decoder.lacking = byte - 1;
-    decoder.joint = if byte == FULL { 0 } else { 1 };
-}
-
-/// Returns how a zero ends the open piece, or `None` if no piece has begun.
+/// Takes bytes of a stream of frames for this sentinel through the one that ends the first piece, or all of them.
 #[inline(always)]
-pub fn piece_end(decoder: &Decoder, room: usize) -> Option<PieceEnd> {
-    if decoder.too_long != 0 {
-        return Some(PieceEnd::TooLong);
-    }
-    if decoder.lacking != 0 {
-        return Some(PieceEnd::Broken(decoder.written));
-    }
-    if room < decoder.written {
-        return Some(PieceEnd::TooLong);
-    }
-    if decoder.written == 0 && decoder.joint == 0 {
-        None
-    } else {
-        Some(PieceEnd::Message(decoder.written))
-    }
-}
-
-/// Takes bytes through the sentinel that ends the first piece, or all of them, one after another.
-#[inline(always)]
-fn take_each(
-    decoder: &mut Decoder,
+pub fn decode_each(
+    decoder: &mut UnbufferedDecoder,
     buffer: &mut [u8],
     bytes: &[u8],
     sentinel: u8,
-) -> Option<(PieceEnd, usize)> {
-    // In a local, as compilers read the fields again after each byte that is written to the buffer.
-    let mut state = *decoder;
-    let mut i = 0;
-    if state.too_long == 0 {
-        'by_byte: while i < bytes.len() {
-            let byte = bytes[i] ^ sentinel;
-            i += 1;
-            if byte != 0 {
-                take_byte(&mut state, buffer, byte);
-                if state.too_long != 0 {
-                    break;
-                }
-            } else if let Some(end) = piece_end(&state, buffer.len()) {
-                *decoder = DECODER_START;
-                return Some((end, i));
-            }
-        }
-    }
-    // If the message is too long, only its end counts.
-    'to_end: while i < bytes.len() {
-        let byte = bytes[i] ^ sentinel;
-        if byte == 0 {
-            *decoder = DECODER_START;
-            return Some((PieceEnd::TooLong, i + 1));
-        }
-        i += 1;
-    }
-    // Field by field: a copy of the struct would have its padding too, which has no name in C.
-    decoder.written = state.written;
-    decoder.lacking = state.lacking;
-    decoder.joint = state.joint;
-    decoder.too_long = state.too_long;
-    None
-}
-
-/// Takes bytes of a stream of frames for this sentinel through the one that ends the first piece, or all of them.
-#[inline(always)]
-pub fn decode_each(decoder: &mut Decoder, buffer: &mut [u8], bytes: &[u8], sentinel: u8) -> Answer {
-    let found = take_each(decoder, buffer, bytes, sentinel);
+) -> Answer {
+    let found = decoder.feed_each(buffer, bytes, sentinel);
     result_of(decoder, found, bytes.len(), buffer.len())
 }
 
 /// Takes the next byte of a stream of frames, whose sentinel is zero.
 #[inline(always)]
-pub fn decode_byte(decoder: &mut Decoder, buffer: &mut [u8], byte: u8) -> Answer {
+pub fn decode_byte(decoder: &mut UnbufferedDecoder, buffer: &mut [u8], byte: u8) -> Answer {
     let room = buffer.len();
+    let returned = decoder.feed(buffer, byte);
     if byte != 0 {
-        take_byte(decoder, buffer, byte);
         return result_of(decoder, None, 1, room);
     }
-    let Some(end) = piece_end(decoder, room) else {
+    let Some(end) = PieceEnd::reported(returned) else {
         return result_of(decoder, None, 1, room);
     };
-    *decoder = DECODER_START;
     result_of(decoder, Some((end, 1)), 1, room)
 }

@@ -1,11 +1,9 @@
 // Made by bindings/rust/translate.py from `crates/cobs_small/src/decode.rt`: change that file, and run it again.
 //! Whole frames to messages.
 
-use crate::proved::PieceEnd;
-use crate::proved::cobs_abi::{
-    Answer, BROKEN, DECODER_START, EMPTY, MORE, TOO_SMALL, done, piece_end,
-};
+use crate::proved::cobs_abi::{Answer, BROKEN, EMPTY, MORE, TOO_SMALL, done};
 use crate::proved::cobs_small::decoder::jcobs_decoder_push;
+use crate::proved::{PieceEnd, UnbufferedDecoder};
 
 /// Returns how many bytes are in front of the first zero.
 pub(crate) fn len_to_zero(bytes: &[u8]) -> usize {
@@ -34,14 +32,12 @@ fn result_for_end(consumed: usize, room: usize, end: Option<PieceEnd>) -> Answer
 
 /// Decodes the first frame of the source to the front of `message`.
 pub fn jcobs_decode(source: &[u8], message: &mut [u8]) -> Answer {
-    let mut decoder = DECODER_START;
+    let mut decoder = UnbufferedDecoder::new();
     let pushed = jcobs_decoder_push(&mut decoder, message, source);
     if pushed.status != MORE {
         return pushed;
     }
-    result_for_end(
-        source.len(),
-        message.len(),
-        piece_end(&decoder, message.len()),
-    )
+    // The source ends the piece, as a zero would.
+    let end = PieceEnd::reported(decoder.feed(message, 0));
+    result_for_end(source.len(), message.len(), end)
 }

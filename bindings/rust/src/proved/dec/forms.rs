@@ -4,8 +4,8 @@
 use crate::proved::block::FULL_BLOCK_BYTES;
 use crate::proved::cobs_bytes::window::WIDE_WINDOW;
 use crate::proved::dec::decode;
-use crate::proved::dec::progress::START;
 use crate::proved::dec::stretch::{decode_stretch, kept_len, message_len};
+use crate::proved::dec::unbuffered::START;
 use crate::proved::error::{DecodeError, DecodeVecError};
 use crate::proved::find::{len_without_end, position_or_len};
 #[cfg(feature = "alloc")]

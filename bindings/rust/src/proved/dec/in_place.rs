@@ -4,9 +4,9 @@
 use crate::proved::block::FULL_BLOCK_BYTES;
 use crate::proved::cobs_bytes::lanes::{copy_xored_short, move_to_front, xor_bytes};
 use crate::proved::cobs_bytes::window::{WIDE_WINDOW, WINDOW, has_vectors, is_all, write_row};
-use crate::proved::dec::progress::{DecoderProgress, START};
 use crate::proved::dec::run::STRETCH_MAX;
 use crate::proved::dec::stretch::{decode_stretch, kept_len, message_len};
+use crate::proved::dec::unbuffered::{START, UnbufferedDecoder};
 use crate::proved::error::{DecodeError, DecodeReport};
 use crate::proved::find::{len_without_end, zero_or_len};
 
@@ -16,7 +16,7 @@ fn move_back(buffer: &mut [u8], at: usize, read: usize, len: usize) {
     move_to_front(&mut buffer[at..], read - at, len);
 }
 
-impl DecoderProgress {
+impl UnbufferedDecoder {
     /// Takes bytes of the buffer that it writes to, from `read` to `end`, as many as one step can take, and returns how
     /// many: as `take_part`, and a block's first bytes with its code.
     #[inline(always)]

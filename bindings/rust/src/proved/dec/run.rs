@@ -4,14 +4,15 @@
 use crate::proved::block::FULL_BLOCK_BYTES;
 use crate::proved::cobs_bytes::lanes::{copy_xored, copy_xored_short};
 use crate::proved::cobs_bytes::window::{WIDE_WINDOW, WINDOW, has_vectors, is_all, write_row};
-use crate::proved::dec::progress::{DecoderProgress, joint_after};
+use crate::proved::dec::step::joint_after;
 use crate::proved::dec::stretch::write_zeros_at_codes;
+use crate::proved::dec::unbuffered::{START, UnbufferedDecoder};
 use crate::proved::find::zero_or_len;
 
 /// The most bytes that one stretch has: so few that none of its codes can have a whole full block after it.
 pub(crate) const STRETCH_MAX: usize = FULL_BLOCK_BYTES - 1;
 
-impl DecoderProgress {
+impl UnbufferedDecoder {
     /// Takes the code of the block after a whole one, and writes the zero that joins the two.
     #[inline(always)]
     pub(crate) fn take_joint(&mut self, dest: &mut [u8], code: u8) {
@@ -100,6 +101,30 @@ impl DecoderProgress {
             return false;
         }
         self.take_copied(dest, len);
+        true
+    }
+
+    /// Takes a frame of 2 to 65 bytes up to the zero that is the last byte, if no piece has begun and the message has room, and
+    /// says whether it did. That zero isn't taken.
+    #[inline(always)]
+    pub(crate) fn take_frame(&mut self, dest: &mut [u8], bytes: &[u8]) -> bool {
+        let len = bytes.len();
+        if !self.is_idle() || len < 3 || WIDE_WINDOW + 2 < len || dest.len() < len - 2 {
+            return false;
+        }
+        let code = bytes[0];
+        // Rows of codes without bytes are written at once, by `take_part`.
+        if code == 1 && WINDOW <= len && is_all(bytes, 0, 1) {
+            return false;
+        }
+        if code == 0 || bytes[len - 1] != 0 || !copy_xored_short(&bytes[1..len - 1], dest, 0) {
+            return false;
+        }
+        let mut begun = START;
+        begun.joint = joint_after(code);
+        begun.missing = code - 1;
+        begun.take_copied(dest, len - 2);
+        *self = begun;
         true
     }
 

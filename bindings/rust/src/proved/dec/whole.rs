@@ -1,8 +1,8 @@
 // Made by bindings/rust/translate.py from `crates/cobs/src/dec/whole.rt`: change that file, and run it again.
 //! Decoding a whole frame into another buffer.
 
-use crate::proved::dec::progress::START;
 use crate::proved::dec::stretch::{decode_stretch, message_len};
+use crate::proved::dec::unbuffered::START;
 use crate::proved::error::{DecodeError, DecodeReport};
 use crate::proved::find::{leading_zeros, len_without_end};
 

@@ -11,7 +11,7 @@ use Rattle.cobs.specs.declared.PieceEnd.{PieceEnd}
 use Rattle.cobs_abi.proofs.RoomLemmas.{too_long-output}
 use Rattle.cobs_abi.specs.Answer.{result_by}
 use Rattle.cobs_abi.specs.Decode.{Decodes}
-use Rattle.cobs_abi.specs.State.{phase_in}
+use Rattle.cobs.specs.Fields.Decoders.{phase_of}
 use Rattle.cobs_abi.specs.declared.answer.Answer.{Answer}
 use Rattle.cobs_small.specs.End.{result_for_end}
 use Rattle.cobs_small.proofs.LeadLemmas.{LeadLaw, Leads, leads, no_first}
@@ -61,10 +61,11 @@ returns-then-pushed-ne-MORE c =
     let n : ℕ = length message in
     let r : Answer = c.jcobs_decoder_push-pushed.result in
     let d = c.jcobs_decoder_push-pushed.ensures.decodes in
+    let takes = rw c.new-decoder.ensures.idle at d.takes in
     let message' : List ℕ = c.jcobs_decoder_push-pushed.new.buffer in
-    let phase' : Phase = phase_in c.jcobs_decoder_push-pushed.new.decoder in
+    let phase' : Phase = phase_of c.jcobs_decoder_push-pushed.new.decoder in
     let e : Ended r n message' = ended r.status r.consumed r.length n message' c.if-pushed-ne-MORE.true d.status d.too_small (omega (arith, d.bound, d.len)) in
-    let t : TakesPiece message Idle source (Some (e.end, r.consumed)) message' phase' = subst (λ (x : Option (PieceEnd × ℕ)). TakesPiece message Idle source x message' phase') e.is d.takes in
+    let t : TakesPiece message Idle source (Some (e.end, r.consumed)) message' phase' = subst (λ (x : Option (PieceEnd × ℕ)). TakesPiece message Idle source x message' phase') e.is takes in
     let idle : DecoderAfter message Idle [] = (c.law_14.ensures.idle message Idle).1 refl in
     let front : List ℕ = t.ends.front in
     let u : List ℕ = unended front in
@@ -93,19 +94,20 @@ returns c =
     let message : List ℕ = c.args.message.now in
     let n : ℕ = length message in
     let d = c.jcobs_decoder_push-pushed.ensures.decodes in
+    let takes = rw c.new-decoder.ensures.idle at d.takes in
     let message' : List ℕ = c.jcobs_decoder_push-pushed.new.buffer in
-    let phase' : Phase = phase_in c.jcobs_decoder_push-pushed.new.decoder in
+    let phase' : Phase = phase_of c.jcobs_decoder_push-pushed.new.decoder in
     let t : TakesPiece message Idle source None message' phase' =
-    subst (λ (x : Option (PieceEnd × ℕ)). TakesPiece message Idle source x message' phase') (still c.jcobs_decoder_push-pushed.result c.if-pushed-ne-MORE.false) d.takes in
+    subst (λ (x : Option (PieceEnd × ℕ)). TakesPiece message Idle source x message' phase') (still c.jcobs_decoder_push-pushed.result c.if-pushed-ne-MORE.false) takes in
     let idle : DecoderAfter message Idle [] = (c.law_14.ensures.idle message Idle).1 refl in
     let u : List ℕ = unended source in
     let none : stream_outcomes source n ≡ [] = sym (t.takes.outcomes [] idle) in
     let after : DecoderAfter message' phase' u = t.takes.after [] idle in
-    let stated = (c.law_17.ensures.step message' phase' 0).returned u after.phased in
+    let feeds = c.feed.ensures.feeds in
     let holds : message' ≡ overwritten message (output u) = t.holds [] idle ∙ ap (λ (x : List ℕ). overwritten message (output x)) (c.law_12.ensures.last source n none) in
     record {
-      decodes = all_taken law source message u message' c.result_for_end.result none refl (c.law_1.ensures.within u)
-          (c.result_for_end.ensures ∙ ap (result_for_end (length source) (length message')) (c.piece_end.ensures ∙ ap end_reported stated)
-          ∙ ap (λ (k : ℕ). result_for_end (length source) k (end_reported (result_for u 0 k))) d.len)
-          holds;
+      decodes = all_taken law source message u c.feed.new.dest c.result_for_end.result none refl (c.law_1.ensures.within u)
+          (c.result_for_end.ensures ∙ ap (result_for_end (length source) (length c.feed.new.dest)) (c.reported-end.ensures.end ∙ ap end_reported (feeds.returned u after.phased))
+          ∙ ap (λ (k : ℕ). result_for_end (length source) (length c.feed.new.dest) (end_reported (result_for u 0 k))) d.len ∙ ap (λ (k : ℕ). result_for_end (length source) k (end_reported (result_for u 0 n))) (feeds.len ∙ d.len))
+          (feeds.zero_unchanged refl ∙ holds);
     }

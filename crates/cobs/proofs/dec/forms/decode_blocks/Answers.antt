@@ -4,14 +4,14 @@ use Rattle.std.proofs.lemmas.List.Elements.{All-append, All-take, All-drop}
 use Rattle.std.proofs.Math.Seq.{take-append-add}
 use Rattle.cobs.specs.Decode.{head_result_within}
 use Rattle.cobs.specs.Feed.{Idle, Overlong}
-use Rattle.cobs.specs.Fields.Decoders.{phase_in}
+use Rattle.cobs.specs.Fields.Decoders.{phase_of}
 use Rattle.cobs.specs.Grammar.{HasNoZero}
 use Rattle.cobs.specs.Internal.FeedsQuietly.{FeedsQuietly}
 use Rattle.cobs.specs.Overwritten.{overwritten}
 use Rattle.cobs.specs.Piece.{kept_output, last_part, missing, output}
 use Rattle.cobs.specs.Sentinel.{xor_each}
 use Rattle.cobs.specs.Step.{next_phase}
-use Rattle.cobs.specs.declared.dec.progress.DecoderProgress.{DecoderProgress}
+use Rattle.cobs.specs.declared.dec.unbuffered.UnbufferedDecoder.{UnbufferedDecoder}
 use Rattle.cobs.specs.declared.error.DecodeError.TheVariants.{InvalidFrame, TargetBufTooSmall}
 use Rattle.cobs.specs.declared.error.DecodeError.{DecodeError}
 use Rattle.cobs.proofs.format.SentinelLemmas.{front_xored, rest_xored, slice_xored}
@@ -27,30 +27,30 @@ abbrev Stopped : List ℕ → List ℕ → List ℕ → Type 0
 Stopped h old new = (Err TargetBufTooSmall ≡ head_result_within h (length old)) × (new ≡ overwritten old (kept_output h))
 
 -- some of the first bytes are fed
-module _ (h old b1 : List ℕ) (tail run : ℕ) (inner : DecoderProgress) (tail-is : tail ≡ length h - 254) (none : HasNoZero h) (below : All (λ b. b < 256) h)
-    (fed : FeedsQuietly old Idle (take run (take tail h)) b1 (phase_in inner)) where
+module _ (h old b1 : List ℕ) (tail run : ℕ) (inner : UnbufferedDecoder) (tail-is : tail ≡ length h - 254) (none : HasNoZero h) (below : All (λ b. b < 256) h)
+    (fed : FeedsQuietly old Idle (take run (take tail h)) b1 (phase_of inner)) where
   abbrev p : List ℕ
   p = take tail h
 
   abbrev q : List ℕ
   q = drop tail h
 
-  first_stop : run < tail → next_phase (length b1) (phase_in inner) (get_or p run 0) ≡ Overlong → Stopped h old b1
+  first_stop : run < tail → next_phase (length b1) (phase_of inner) (get_or p run 0) ≡ Overlong → Stopped h old b1
   first_stop short over =
       let cut = kept-cut h none below in
       let k : ℕ = cut.0 in
       let far : run < k = omega (arith, cut.1.0) in
       let same : take run p ≡ take run (take k h) = take-take run tail h (omega arith) ∙ sym (take-take run k h (omega arith)) in
       let here : get_or p run 0 ≡ get_or (take k h) run 0 = get_or-take tail h run 0 short ∙ sym (get_or-take k h run 0 far) in
-      kept_stop h (take k h) old b1 (phase_in inner) run cut.1.1 (All-take (λ b. b ≢ 0) k h none) (omega (arith, length-take k h)) (rw same at fed) (rw here at over)
+      kept_stop h (take k h) old b1 (phase_of inner) run cut.1.1 (All-take (λ b. b ≢ 0) k h none) (omega (arith, length-take k h)) (rw same at fed) (rw here at over)
 
   -- all of them
   module _ (all : tail ≤ run) where
-    first : FeedsQuietly old Idle p b1 (phase_in inner)
-    first = subst (λ (l : List ℕ). FeedsQuietly old Idle l b1 (phase_in inner)) (take_all run p (omega (arith, length-take tail h))) fed
+    first : FeedsQuietly old Idle p b1 (phase_of inner)
+    first = subst (λ (l : List ℕ). FeedsQuietly old Idle l b1 (phase_of inner)) (take_all run p (omega (arith, length-take tail h))) fed
 
     left-is : missing (last_part p) ≡ inner.missing
-    left-is = sym (quiet-at old b1 p (phase_in inner) (quiet p old b1 (phase_in inner) (All-take (λ b. b ≢ 0) tail h none) first) inner refl).1
+    left-is = sym (quiet-at old b1 p (phase_of inner) (quiet p old b1 (phase_of inner) (All-take (λ b. b ≢ 0) tail h none) first) inner refl).1
 
     left_fits : inner.missing ≤ length q
     left_fits =
@@ -58,24 +58,24 @@ module _ (h old b1 : List ℕ) (tail run : ℕ) (inner : DecoderProgress) (tail-
         omega (arith, left-is, tail_left p (length h) (omega arith) (All-take (λ b. b < 256) tail h below), length-drop tail h)
 
     -- some of those behind them
-    module _ (b2 : List ℕ) (inner' : DecoderProgress) (len more : ℕ) (kept : output (p ++ take len q) ≡ kept_output (p ++ q)) (fed' : FeedsQuietly b1 (phase_in inner) (take more (take len q)) b2 (phase_in inner')) where
-      second_stop : more < len → len ≤ length q → next_phase (length b2) (phase_in inner') (get_or (take len q) more 0) ≡ Overlong → Stopped h old b2
+    module _ (b2 : List ℕ) (inner' : UnbufferedDecoder) (len more : ℕ) (kept : output (p ++ take len q) ≡ kept_output (p ++ q)) (fed' : FeedsQuietly b1 (phase_of inner) (take more (take len q)) b2 (phase_of inner')) where
+      second_stop : more < len → len ≤ length q → next_phase (length b2) (phase_of inner') (get_or (take len q) more 0) ≡ Overlong → Stopped h old b2
       second_stop short fits over =
           let r : List ℕ = take len q in
           let l = length-take-le len q fits in
           let at : ℕ = length p + more in
-          let f = FeedsQuietly-append p (take more r) old b1 b2 Idle (phase_in inner) (phase_in inner') first fed' in
+          let f = FeedsQuietly-append p (take more r) old b1 b2 Idle (phase_of inner) (phase_of inner') first fed' in
           let all-kept : output (p ++ r) ≡ kept_output h = kept ∙ ap kept_output (take-append-drop tail h) in
           let nz' = All-take (λ b. b ≢ 0) len q (All-drop (λ b. b ≢ 0) tail h none) in
           let nz = All-append (λ b. b ≢ 0) p r (All-take (λ b. b ≢ 0) tail h none) nz' in
-          kept_stop h (p ++ r) old b2 (phase_in inner') at all-kept nz (omega (arith, length-append p r)) (rw (← take-append-add p r more) at f) (rw (← get_or-append-add p r more 0) at over)
+          kept_stop h (p ++ r) old b2 (phase_of inner') at all-kept nz (omega (arith, length-append p r)) (rw (← take-append-add p r more) at f) (rw (← get_or-append-add p r more 0) at over)
 
       module _ (whole : Bool) (result : Result ℕ DecodeError) (past : len ≤ more) (fits : len ≤ length q) (is : IsTrue whole ↔ (missing (last_part (p ++ q)) ≡ 0)) (ok : IsTrue whole → result ≡ Ok inner'.written)
           (broken : whole ≡ false → result ≡ Err (InvalidFrame inner'.written)) where
         done : (result ≡ head_result_within h (length old)) × (b2 ≡ overwritten old (kept_output h))
         done =
-            let fed-all = subst (λ (l : List ℕ). FeedsQuietly b1 (phase_in inner) l b2 (phase_in inner')) (take_all more (take len q) (omega (arith, length-take-le len q fits))) fed' in
-            rw (take-append-drop tail h) at (kept_fits p q old b1 b2 (phase_in inner) inner' len whole result (All-take (λ b. b ≢ 0) tail h none) (All-drop (λ b. b ≢ 0) tail h none) first fed-all kept is ok broken)
+            let fed-all = subst (λ (l : List ℕ). FeedsQuietly b1 (phase_of inner) l b2 (phase_of inner')) (take_all more (take len q) (omega (arith, length-take-le len q fits))) fed' in
+            rw (take-append-drop tail h) at (kept_fits p q old b1 b2 (phase_of inner) inner' len whole result (All-take (λ b. b ≢ 0) tail h none) (All-drop (λ b. b ≢ 0) tail h none) first fed-all kept is ok broken)
 
 -- the first run
 module _ (c : After-take_blocks) where
@@ -94,7 +94,7 @@ module _ (c : After-take_blocks) where
   bytes : All (λ b. b < 256) (xor_each s source)
   bytes = xored_below s source c.ranges.sentinel.fits c.type_inv.source
 
-  fed-first : FeedsQuietly c.args.dest.now Idle (take c.take_blocks.result (take tail (xor_each s source))) c.take_blocks.new.dest (phase_in c.take_blocks.new.self)
+  fed-first : FeedsQuietly c.args.dest.now Idle (take c.take_blocks.result (take tail (xor_each s source))) c.take_blocks.new.dest (phase_of c.take_blocks.new.self)
   fed-first = rw (front_xored source s tail) at c.take_blocks.ensures.fed
 
 pub take_blocks-requires-clause-nonzero : goal.take_blocks-requires-clause-nonzero

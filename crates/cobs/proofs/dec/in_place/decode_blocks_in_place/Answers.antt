@@ -2,8 +2,8 @@ use Rattle.std.proofs.Common.{◌≡◌, refl, ◌+◌, ◌-◌, ◌<◌, ◌∙
 use Rattle.std.proofs.lemmas.List.{take-take}
 use Rattle.std.proofs.lemmas.List.Elements.{All-take}
 use Rattle.std.proofs.Math.Seq.{take-add}
-use Rattle.cobs.specs.Fields.Decoders.{phase_in}
-use Rattle.cobs.specs.declared.dec.progress.TheConstants.{START}
+use Rattle.cobs.specs.Fields.Decoders.{phase_of}
+use Rattle.cobs.specs.declared.dec.unbuffered.TheConstants.{START}
 use Rattle.cobs.specs.Grammar.{HasNoZero}
 use Rattle.cobs.specs.Feed.{Phase, Idle}
 use Rattle.cobs.specs.Decode.{head_result}
@@ -34,7 +34,7 @@ module _ (c : After-take_in_place) where
   new = c.take_in_place.new.buffer
 
   abbrev phase : Phase
-  phase = phase_in c.take_in_place.new.self
+  phase = phase_of c.take_in_place.new.self
 
   first : HasNoZero (take tail old)
   first = part_nonzero 0 tail c.args.end old c.requires.nonzero (omega arith)

@@ -6,7 +6,7 @@ use Rattle.cobs.specs.Stream.{first_piece, head}
 use Rattle.cobs.proofs.decoding.HeadLemmas.{first_piece_empty, first_piece_none, first_piece_found, head_some, leading_zeros-stop, front_is_head}
 use Rattle.cobs.proofs.decoding.OutcomeSteps.{answer-by, result_of_decode-none, overwritten-none, outcome_result-too_long, result-by, always}
 use Rattle.std.proofs.lemmas.List.Elements.{All-head, All-tail}
-use Rattle.cobs.specs.Fields.Decoders.{phase_in}
+use Rattle.cobs.specs.Fields.Decoders.{phase_of}
 use Rattle.cobs.specs.Feed.{Phase, Idle, Overlong}
 use Rattle.cobs.specs.Grammar.{HasNoZero}
 use Rattle.cobs.specs.Internal.FeedsQuietly.{FeedsQuietly}
@@ -112,13 +112,13 @@ module _ (c : goal.After-map) where
   begins : 0 < length (head piece)
   begins = begun c.args.source.now _ c.leading_zeros-start.ensures.count (omega arith)
 
-  fed : FeedsQuietly c.args.dest.now Idle (take c.take_run-len.result piece) c.take_run-len.new.dest (phase_in c.take_run-len.new.self)
+  fed : FeedsQuietly c.args.dest.now Idle (take c.take_run-len.result piece) c.take_run-len.new.dest (phase_of c.take_run-len.new.self)
   fed = c.take_run-len.ensures.fed
 
   stop : c.take_run-len.result < length piece → get_or piece c.take_run-len.result 0 ≡ 0
   stop = grind arith
 
-  decoded : Quiet c.args.dest.now c.take_run-len.new.dest (phase_in c.take_run-len.new.self) (head piece)
+  decoded : Quiet c.args.dest.now c.take_run-len.new.dest (phase_of c.take_run-len.new.self) (head piece)
   decoded = whole piece _ _ _ _ begins fed (omega arith) stop
 
   is-found : first_piece c.args.source.now ≡ Some (head piece)

@@ -8,12 +8,12 @@ pub by_byte-init : goal.by_byte-init
 by_byte-init g c = record { taken = piece-nothing _ _; same_loan = refl }
 
 pub returns-in-Some-clause-takes : goal.returns-in-Some-clause-takes
-returns-in-Some-clause-takes g c = piece-ended _ _ c.by_byte-test.true c.by_byte.invariant.taken c.feed_byte-returned.ensures.feeds _ c.if-byte-eq0.true (sym c.in-Some.ensures)
+returns-in-Some-clause-takes g c = piece-ended _ _ c.by_byte-test.true c.by_byte.invariant.taken c.feed_byte-returned.ensures.feeds _ c.if-byte-eq0.true (sym c.in-Some.ensures.end)
 
 pub by_byte-preserved : goal.by_byte-preserved
 by_byte-preserved g c = record {
   taken = piece-more _ _ c.by_byte-test.true c.by_byte.invariant.taken c.feed_byte-returned.ensures.feeds (λ z. elim c.if-byte-eq0.branch [
-    | then-byte-eq0+in_default w ↦ sym w.in_default.ensures
+    | then-byte-eq0+in_default w ↦ sym w.in_default.ensures.end
     | else-byte-eq0 w ↦ absurd (w.if-byte-eq0.false z)
   ]);
   same_loan = c.feed_byte-returned.ensures.same_loan ∙ c.by_byte.invariant.same_loan;

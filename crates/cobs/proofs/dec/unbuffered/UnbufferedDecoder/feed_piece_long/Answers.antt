@@ -1,20 +1,20 @@
-use Rattle.std.proofs.Common.{◌≡◌, ◌≤◌, ◌<◌, ◌+◌, ◌-◌, ◌∙◌, sym, subst, arith, ◌≢◌, None, Err, refl, get_or, length, drop, take, length-drop, length-take, List, ℕ}
+use Rattle.std.proofs.Common.{◌≡◌, ◌≤◌, ◌<◌, ◌+◌, ◌-◌, ◌∙◌, sym, subst, arith, ◌≢◌, None, Ok, Err, refl, get_or, length, drop, take, length-drop, length-take, List, ℕ}
 use Rattle.std.proofs.lemmas.Bool.{ne_eqb}
 use Rattle.std.proofs.lemmas.List.{get_or-drop, take_all, take_rest}
 use Rattle.cobs.specs.Feed.{Feeds, Idle, Overlong}
 use Rattle.cobs.specs.FeedPiece.{TakesPiece}
-use Rattle.cobs.specs.Fields.Decoders.{phase_in, phase_of}
+use Rattle.cobs.specs.Fields.Decoders.{phase_of}
 use Rattle.cobs.specs.declared.dec.frame_decoder.PieceEnd.TheVariants.{TooLong}
 use Rattle.cobs.specs.declared.dec.unbuffered.UnbufferedDecoder.{UnbufferedDecoder}
 use Rattle.cobs.specs.declared.error.DecodeError.TheVariants.{TargetBufTooSmall}
 use Rattle.cobs.proofs.streaming.ByByteLemmas.{piece-nothing, piece-more, piece-ended}
-use Rattle.cobs.proofs.streaming.FeedLemmas.{Feeds-step}
+use Rattle.cobs.proofs.streaming.FeedLemmas.{Feeds-step, Feeds-zero}
 use Rattle.cobs.proofs.streaming.RunLemmas.{piece-run, piece-over}
 use Rattle.cobs.proofs.dec.unbuffered.UnbufferedDecoder.feed_piece_long.Goals as goal
 use Rattle.cobs.proofs.dec.unbuffered.UnbufferedDecoder.feed_piece_long.Goals.{After-position_or_len-len, After-take_run-taken}
 
-over_is : (decoder : UnbufferedDecoder) → decoder.progress.too_long ≢ 0 → phase_of decoder ≡ Overlong
-over_is decoder nz = rw (ne_eqb decoder.progress.too_long 0 nz) refl
+over_is : (decoder : UnbufferedDecoder) → decoder.too_long ≢ 0 → phase_of decoder ≡ Overlong
+over_is decoder nz = rw (ne_eqb decoder.too_long 0 nz) refl
 
 -- through a piece that is too long
 passed : (c : After-position_or_len-len) → TakesPiece c.args.dest.now (phase_of c.args.self.now) (take (c.by_run.taken + c.position_or_len-len.result) c.args.bytes.now) None c.by_run.dest Overlong
@@ -25,7 +25,7 @@ passed c =
 
 -- behind the run
 ran : (c : After-take_run-taken)
-    → TakesPiece c.args.dest.now (phase_of c.args.self.now) (take (c.by_run.taken + c.take_run-taken.result) c.args.bytes.now) None c.take_run-taken.new.dest (phase_in c.take_run-taken.new.self)
+    → TakesPiece c.args.dest.now (phase_of c.args.self.now) (take (c.by_run.taken + c.take_run-taken.result) c.args.bytes.now) None c.take_run-taken.new.dest (phase_of c.take_run-taken.new.self)
 ran c = piece-run c.args.bytes.now _ _ (grind (arith, length-drop, length-take)) c.by_run.invariant.none_ended (rw take_rest at c.take_run-taken.ensures.fed)
 
 pub by_run-init : goal.by_run-init
@@ -50,13 +50,21 @@ returns-then-self-ne0 c =
     = subst (λ b. Feeds c.by_run.dest Overlong b (Err TargetBufTooSmall) c.by_run.dest Idle) (sym zero) (Feeds-step c.by_run.dest Overlong 0) in
     record { takes = rw c.reset.ensures.idle (piece-ended bytes i inside (passed (goal.at.returns-then-self-ne0 c).After-position_or_len-len) ends TooLong zero refl) }
 
+pub by_run-preserved-then-is_idle : goal.by_run-preserved-then-is_idle
+by_run-preserved-then-is_idle c =
+    let idle = c.is_idle.ensures.idle.0 c.if-is_idle.true in
+    let zero = c.if-bytes-taken-eq0.true in
+    let taken = rw idle at c.by_run.invariant.none_ended in
+    let feeds : Feeds c.by_run.dest Idle (get_or c.args.bytes.now c.by_run.taken 0) (Ok None) c.by_run.dest Idle = subst (λ b. Feeds c.by_run.dest Idle b (Ok None) c.by_run.dest Idle) (sym zero) (Feeds-zero c.by_run.dest Idle) in
+    record { within = omega arith; none_ended = rw idle (piece-more c.args.bytes.now _ c.by_run-test.true taken feeds (λ _. refl)) }
+
 pub returns-in-Some : goal.returns-in-Some
-returns-in-Some c = record { takes = piece-ended _ _ c.if-taken-bytes.true (ran (goal.at.returns-in-Some c).After-take_run-taken) c.feed-returned.ensures.feeds _ c.if-byte-eq0.true (sym c.in-Some.ensures) }
+returns-in-Some c = record { takes = piece-ended _ _ c.if-taken-bytes.true (ran (goal.at.returns-in-Some c).After-take_run-taken) c.feed-returned.ensures.feeds _ c.if-byte-eq0.true (sym c.in-Some.ensures.end) }
 
 pub by_run-preserved-in_default : goal.by_run-preserved-in_default
 by_run-preserved-in_default c = record {
   within = omega arith;
-  none_ended = piece-more _ _ c.if-taken-bytes.true (ran (goal.at.by_run-preserved-in_default c).After-take_run-taken) c.feed-returned.ensures.feeds (λ _. sym c.in_default.ensures);
+  none_ended = piece-more _ _ c.if-taken-bytes.true (ran (goal.at.by_run-preserved-in_default c).After-take_run-taken) c.feed-returned.ensures.feeds (λ _. sym c.in_default.ensures.end);
 }
 
 pub by_run-preserved-else-byte-eq0 : goal.by_run-preserved-else-byte-eq0

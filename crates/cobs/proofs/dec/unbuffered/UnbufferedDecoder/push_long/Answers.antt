@@ -1,5 +1,5 @@
 use Rattle.std.proofs.Common.{◌+◌, ◌∙◌, ap, arith, Ok, length-drop, length-take}
-use Rattle.cobs.specs.Fields.Decoders.{phase_in, phase_of}
+use Rattle.cobs.specs.Fields.Decoders.{phase_of}
 use Rattle.cobs.proofs.streaming.PushLemmas.{Pushed, Pushed-start, Pushed-more, pushed_fed, pushed_none, pushed_some, pushed_error}
 use Rattle.std.proofs.lemmas.List.{take_rest}
 use Rattle.cobs.proofs.dec.unbuffered.UnbufferedDecoder.push_long.Goals as goal
@@ -9,7 +9,7 @@ pub by_run-init : goal.by_run-init
 by_run-init c = record { within = omega arith; pushed = Pushed-start _ _ _ }
 
 -- behind the run
-ran : (c : After-take_run-at) → Pushed c.args.dest.now (phase_of c.args.self.now) c.take_run-at.new.dest (phase_in c.take_run-at.new.self) c.args.bytes.now (c.by_run.at + c.take_run-at.result)
+ran : (c : After-take_run-at) → Pushed c.args.dest.now (phase_of c.args.self.now) c.take_run-at.new.dest (phase_of c.take_run-at.new.self) c.args.bytes.now (c.by_run.at + c.take_run-at.result)
 ran c = pushed_fed c.args.bytes.now _ _ (grind (arith, length-drop, length-take)) c.by_run.invariant.pushed (rw take_rest at c.take_run-at.ensures.fed)
 
 pub by_run-preserved-in-Ok-None : goal.by_run-preserved-in-Ok-None

@@ -1,0 +1,35 @@
+use Rattle.std.proofs.Common.{◌-◌, ℕ, List, take, drop, sym, subst, arith}
+use Rattle.cobs.specs.Fields.Decoders.{phase_of}
+use Rattle.cobs.specs.Grammar.{HasNoZero}
+use Rattle.cobs.specs.Internal.FeedsQuietly.{FeedsQuietly}
+use Rattle.cobs.proofs.streaming.RunLemmas.{part_nonzero, rest_read}
+use Rattle.cobs.proofs.streaming.StretchLemmas.{joined}
+use Rattle.cobs.proofs.dec.unbuffered.UnbufferedDecoder.take_in_place.Goals as goal
+
+pub take_part_in_place-at-requires-clause-nonzero : goal.take_part_in_place-at-requires-clause-nonzero
+take_part_in_place-at-requires-clause-nonzero c =
+    let a = c.args in
+    let i = c.by_step.invariant in
+    subst (λ (l : List ℕ). HasNoZero (take (a.end - c.by_step.at) l)) (sym (rest_read a.buffer.now c.by_step.buffer a.self.now c.by_step.self a.read c.by_step.at a.end i.started i.within c.requires.nonzero i.fed i.behind))
+    (part_nonzero (c.by_step.at - a.read) (a.end - c.by_step.at) (a.end - a.read) (drop a.read a.buffer.now) c.requires.nonzero (omega arith))
+
+pub by_step-preserved : goal.by_step-preserved
+by_step-preserved c =
+    let a = c.args in
+    let i = c.by_step.invariant in
+    let e = c.take_part_in_place-at.ensures in
+    let n : ℕ = c.take_part_in_place-at.result in
+    let bytes : List ℕ = drop a.read a.buffer.now in
+    let new = c.take_part_in_place-at.new in
+    let more : FeedsQuietly c.by_step.buffer (phase_of c.by_step.self) (take n (drop (c.by_step.at - a.read) bytes)) new.buffer (phase_of new.self)
+    = subst (λ (l : List ℕ). FeedsQuietly c.by_step.buffer (phase_of c.by_step.self) (take n l) new.buffer (phase_of new.self))
+    (rest_read a.buffer.now c.by_step.buffer a.self.now c.by_step.self a.read c.by_step.at a.end i.started i.within c.requires.nonzero i.fed i.behind) e.fed in
+    record {
+      fed = subst (λ (k : ℕ). FeedsQuietly a.buffer.now (phase_of a.self.now) (take k bytes) new.buffer (phase_of new.self)) (omega arith)
+          (joined bytes a.buffer.now c.by_step.buffer new.buffer (phase_of a.self.now) (phase_of c.by_step.self) (phase_of new.self) (c.by_step.at - a.read) n i.fed more);
+      going = e.going;
+      started = omega arith;
+      within = e.within;
+      behind = e.behind;
+      joint = e.joint;
+    }

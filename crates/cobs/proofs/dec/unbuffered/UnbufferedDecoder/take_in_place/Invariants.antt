@@ -1,0 +1,17 @@
+use Rattle.std.proofs.Common.{◌≡◌, ◌≢◌, ◌<◌, ◌≤◌, ◌-◌, take, drop}
+use Rattle.cobs.specs.Fields.Decoders.{phase_of}
+use Rattle.cobs.specs.Internal.FeedsQuietly.{FeedsQuietly}
+use Rattle.cobs.proofs.dec.unbuffered.UnbufferedDecoder.take_in_place.Given as goal
+
+abbrev pub invariant-by_step : goal.invariant-by_step
+invariant-by_step l = record {
+  fed : FeedsQuietly l.fn.buffer (phase_of l.fn.self) (take (l.at - l.read) (drop l.read l.fn.buffer)) l.buffer (phase_of l.self);
+  going : l.self.too_long ≡ 0;
+  started : l.read ≤ l.at;
+  within : l.at ≤ l.end;
+  behind : l.self.written ≤ l.at;
+  joint : l.self.joint ≢ 0 → l.self.written < l.at;
+}
+
+abbrev pub decreases-by_step : goal.decreases-by_step
+decreases-by_step l = l.end - l.at

@@ -1,0 +1,31 @@
+use Rattle.std.proofs.Common.{◌≡◌, ◌≤◌, ◌<◌, ℕ, List, sym, subst, get_or, take, length-take, arith, inl, inr}
+use Rattle.std.proofs.lemmas.Bool.{cases_lt}
+use Rattle.std.proofs.lemmas.List.{get_or-take, take-take}
+use Rattle.cobs.specs.Grammar.{HasNoZero}
+use Rattle.cobs.proofs.format.SentinelLemmas.{xor_each-zero}
+use Rattle.cobs.proofs.dec.unbuffered.UnbufferedDecoder.take_run.Goals as goal
+
+pub take_blocks-requires-clause-nonzero : goal.take_blocks-requires-clause-nonzero
+take_blocks-requires-clause-nonzero c = subst HasNoZero (sym (xor_each-zero _)) c.zero_or_len-end.ensures.before
+
+pub returns-clause-fed : goal.returns-clause-fed
+returns-clause-fed c =
+    let bytes : List ℕ = c.args.bytes.now in
+    let end : ℕ = c.zero_or_len-end.result in
+    let few : c.take_blocks.result ≤ end = omega (arith, c.take_blocks.ensures.within, length-take end bytes) in
+    rw (xor_each-zero (take end bytes), take-take c.take_blocks.result end bytes few) at c.take_blocks.ensures.fed
+
+pub returns-clause-stop : goal.returns-clause-stop
+returns-clause-stop c more nz =
+    let bytes : List ℕ = c.args.bytes.now in
+    let end : ℕ = c.zero_or_len-end.result in
+    let run : ℕ = c.take_blocks.result in
+    let e = c.take_blocks.ensures in
+    let l = length-take end bytes in
+    let all : end ≤ run → end ≡ run = λ past. omega (arith, e.within, l, past) in
+    let short : run < end = elim (cases_lt run end) [
+      | inl less ↦ less
+      | inr past ↦ absurd (nz (subst (λ (k : ℕ). get_or bytes k 0 ≡ 0) (all past) (c.zero_or_len-end.ensures.stop (omega (arith, all past)))))
+    ] in
+    let stop = e.stop (omega arith) in
+    rw (xor_each-zero (take end bytes), get_or-take end bytes run 0 short) at stop

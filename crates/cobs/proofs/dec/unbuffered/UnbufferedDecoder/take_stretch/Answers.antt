@@ -1,0 +1,36 @@
+use Rattle.std.proofs.Common.{◌≡◌, ◌≢◌, ◌≤◌, ◌+◌, ◌-◌, ◌++◌, List, ℕ, bit_xor, length, take, drop, sym, subst, arith, length-take-le}
+use Rattle.std.proofs.lemmas.List.{length-map}
+use Rattle.std.proofs.lemmas.List.Elements.{All-take}
+use borrow.Rule.Slice.PartMut.{put_mid}
+use Rattle.cobs.specs.Grammar.{HasNoZero}
+use Rattle.cobs.specs.Sentinel.{xor_each}
+use Rattle.cobs.proofs.format.SentinelLemmas.{front_xored}
+use Rattle.cobs.proofs.streaming.StretchLemmas.{copied_put, copied-there}
+use Rattle.cobs.proofs.dec.unbuffered.UnbufferedDecoder.take_stretch.Goals as goal
+
+-- the first n bytes, copied behind the output
+module _ (bytes dest ys : List ℕ) (s n at : ℕ) (within : n ≤ length bytes) (room : at + n ≤ length dest)
+    (copied : ys ≡ xor_each s (take n bytes) ++ drop (length (take n bytes)) (take (length dest - at) (drop at dest))) where
+  abbrev xs : List ℕ
+  xs = take n (xor_each s bytes)
+
+  long : length xs ≡ n
+  long = length-take-le n (xor_each s bytes) (omega (arith, length-map bytes (λ (b : ℕ). bit_xor b s)))
+
+  put : put_mid at (length dest - at) dest ys ≡ take at dest ++ (xs ++ drop (at + n) dest)
+  put = copied_put at n s dest ys (take n bytes) xs copied (front_xored bytes s n) (length-take-le n bytes within)
+
+  nonzero : HasNoZero (xor_each s bytes) → HasNoZero (take n (drop at (put_mid at (length dest - at) dest ys)))
+  nonzero nz = subst HasNoZero (sym (copied-there at n dest _ xs room long put)) (All-take (λ b. b ≢ 0) n (xor_each s bytes) nz)
+
+pub take_copied-requires-clause-nonzero : goal.take_copied-requires-clause-nonzero
+take_copied-requires-clause-nonzero c =
+    nonzero c.args.bytes.now c.args.dest.now _ c.args.sentinel c.stretch_len-len.result c.args.self.now.written (omega arith) (omega arith) c.copy_xored.ensures c.requires.nonzero
+
+pub returns-clause-fed : goal.returns-clause-fed
+returns-clause-fed c =
+    let bytes : List ℕ = c.args.bytes.now in
+    let n : ℕ = c.stretch_len-len.result in
+    let within : n ≤ length bytes = omega arith in
+    let room : c.args.self.now.written + n ≤ length c.args.dest.now = omega arith in
+    c.take_copied.ensures.fed c.args.dest.now _ room (long bytes c.args.dest.now _ c.args.sentinel n _ within room c.copy_xored.ensures) (put bytes c.args.dest.now _ c.args.sentinel n _ within room c.copy_xored.ensures)

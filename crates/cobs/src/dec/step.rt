@@ -1,0 +1,162 @@
+//! The step that a streaming decoder takes for each byte, and the loop of such steps.
+ghost use Rattle.std.specs.Prelude.{◌≡◌, ◌≢◌, length};
+ghost use Rattle.cobs.specs.Feed.{Idle};
+ghost use Rattle.cobs.specs.FeedPiece.{TakesPiece};
+ghost use Rattle.cobs.specs.Fields.Decoders.{phase_of};
+ghost use Rattle.cobs.specs.Sentinel.{xor_each};
+ghost use Rattle.cobs.specs.Step.{next_phase, next_buffer, next_result, end_result};
+
+use crate::block::FULL_CODE;
+use crate::dec::frame_decoder::PieceEnd;
+use crate::dec::unbuffered::{START, UnbufferedDecoder};
+use crate::error::DecodeError;
+
+/// The code of a full block, as a byte.
+pub(crate) const FULL: u8 = FULL_CODE as u8;
+
+/// Returns what `joint` is for a block with this code.
+#[inline(always)]
+pub(crate) fn joint_after(code: u8) -> u8
+    ensures full { code ≡ 255 → result ≡ 0 }
+    ensures other { code ≢ 255 → result ≡ 1 }
+{
+    if code == FULL { 0 } else { 1 }
+}
+
+impl UnbufferedDecoder {
+    /// Takes a zero, which ends a piece if one has begun, over a buffer of this length.
+    #[inline(always)]
+    fn end(&mut self, len: usize) -> Result<Option<usize>, DecodeError>
+        ensures returned { result ≡ end_result len (phase_of self.old) }
+        ensures idle { phase_of self.new ≡ Idle }
+    {
+        let ended = *self;
+        *self = START;
+        if ended.too_long != 0 {
+            return Err(DecodeError::TargetBufTooSmall);
+        }
+        if ended.missing != 0 {
+            return Err(DecodeError::InvalidFrame {
+                decoded_bytes: ended.written,
+            });
+        }
+        // Only so in another buffer than the one that the piece began in, since no more is counted than was written.
+        if len < ended.written {
+            return Err(DecodeError::TargetBufTooSmall);
+        }
+        if ended.written == 0 && ended.joint == 0 {
+            Ok(None)
+        } else {
+            Ok(Some(ended.written))
+        }
+    }
+
+    /// Takes a byte of a piece, over this buffer.
+    #[inline(always)]
+    fn take_byte(&mut self, dest: &mut [u8], byte: u8)
+        requires nonzero { byte ≢ 0 }
+        ensures buffer { dest.new ≡ next_buffer dest.old (phase_of self.old) byte }
+        ensures phase { phase_of self.new ≡ next_phase (length dest.old) (phase_of self.old) byte }
+    {
+        if self.too_long != 0 {
+            return;
+        }
+        // Read once, as compilers read it again after a byte of the buffer is written. Three branches, which a processor
+        // predicts, are faster than one write of a chosen byte.
+        let at = self.written;
+        if self.missing != 0 {
+            if dest.len() <= at {
+                self.too_long = 1;
+                return;
+            }
+            dest[at] = byte;
+            self.written = at + 1;
+            self.missing -= 1;
+            return;
+        }
+        if self.joint != 0 {
+            if dest.len() <= at {
+                self.too_long = 1;
+                return;
+            }
+            dest[at] = 0;
+            self.written = at + 1;
+        }
+        self.missing = byte - 1;
+        self.joint = joint_after(byte);
+    }
+
+    /// Takes the next byte of the stream, over this buffer.
+    #[inline(always)]
+    pub(crate) fn step(&mut self, dest: &mut [u8], byte: u8) -> Result<Option<usize>, DecodeError>
+        ensures returned { result ≡ next_result (length dest.old) (phase_of self.old) byte }
+        ensures buffer { dest.new ≡ next_buffer dest.old (phase_of self.old) byte }
+        ensures phase { phase_of self.new ≡ next_phase (length dest.old) (phase_of self.old) byte }
+    {
+        if byte == 0 {
+            return self.end(dest.len());
+        }
+        self.take_byte(dest, byte);
+        if self.too_long != 0 {
+            return Err(DecodeError::TargetBufTooSmall);
+        }
+        Ok(None)
+    }
+
+    /// Takes bytes of a stream of frames for this sentinel, a step each, through the sentinel that ends the first piece, or
+    /// all of them, as [`feed_piece`](Self::feed_piece) does for the sentinel 0. It searches and copies nothing at once, so
+    /// that it is small, and fast for a few bytes. (A choice of this library.)
+    ///
+    /// ```
+    /// let mut decoder = UnbufferedDecoder::new();
+    /// let mut buffer = [0; 4];
+    /// let frame = [2 ^ 10, 7 ^ 10, 1 ^ 10, 10];
+    /// assert_eq!(rt; decoder.feed_each(&mut buffer, &frame[..3], 10), None);
+    /// let end = decoder.feed_each(&mut buffer, &frame[3..], 10);
+    /// assert_eq!(rt; end, Some((PieceEnd::Message(2), 1)));
+    /// assert!(rt; buffer.starts_with(&[7, 0]));
+    /// ```
+    #[inline(always)]
+    pub fn feed_each(
+        &mut self,
+        dest: &mut [u8],
+        bytes: &[u8],
+        sentinel: u8,
+    ) -> Option<(PieceEnd, usize)>
+        ensures takes { TakesPiece dest.old (phase_of self.old) (xor_each sentinel bytes.now) result
+            dest.new (phase_of self.new) }
+    {
+        // A copy, so that it stays in registers: compilers read the fields again after each byte that is written.
+        let mut here = *self;
+        let mut taken = 0;
+        if here.too_long == 0 {
+            'by_byte: while taken < bytes.len() {
+                let byte = bytes[taken] ^ sentinel;
+                taken += 1;
+                if byte != 0 {
+                    here.take_byte(dest, byte);
+                    if here.too_long != 0 {
+                        break;
+                    }
+                } else if let Some(end) = PieceEnd::reported(here.end(dest.len())) {
+                    *self = START;
+                    return Some((end, taken));
+                }
+            }
+        }
+        // If the message is too long, only its end counts.
+        'to_end: while taken < bytes.len() {
+            let byte = bytes[taken] ^ sentinel;
+            taken += 1;
+            if byte == 0 {
+                *self = START;
+                return Some((PieceEnd::TooLong, taken));
+            }
+        }
+        self.written = here.written;
+        self.missing = here.missing;
+        self.joint = here.joint;
+        self.too_long = here.too_long;
+        None
+    }
+}
