@@ -66,8 +66,8 @@ fn decode_blocks_in_place(buffer: &mut [u8], end: usize) -> Result<usize, Decode
     message_len(progress.written, whole)
 }
 
-/// Decodes the first `len` bytes of the buffer, in which no block is full, a byte a turn: each byte behind the first goes one
-/// place to the front, or a zero if it is a code.
+/// Decodes the first `len` bytes of the buffer, 254 at most, a byte a turn: each behind the first goes one place to the front,
+/// and is a zero there if it is a code.
 fn write_output_in_place(buffer: &mut [u8], len: usize) {
     let mut missing = buffer[0] - 1;
     'by_byte: for i in 0..len - 1 {
@@ -82,7 +82,7 @@ fn write_output_in_place(buffer: &mut [u8], len: usize) {
     }
 }
 
-/// As [`decode_stretch_in_place`], without vectors: no byte is written before the frame is known to be whole.
+/// Does what [`decode_stretch_in_place`] does, without vectors: nothing is written before the frame is known to be whole.
 fn decode_by_byte_in_place(buffer: &mut [u8], len: usize) -> bool {
     if len < 2 || WIDE_WINDOW + 1 < len || zero_or_len(&buffer[..len]) < len {
         return false;
@@ -96,7 +96,7 @@ fn decode_by_byte_in_place(buffer: &mut [u8], len: usize) -> bool {
 }
 
 /// Decodes the first `len` bytes of the buffer, if these are 2 to 65 and a frame, and says whether it did. If not, every byte
-/// stays. They are decoded from a copy, which is put back if the frame is broken.
+/// stays. With vectors they are decoded from a copy, which is put back if the frame is broken.
 #[inline(always)]
 fn decode_stretch_in_place(buffer: &mut [u8], len: usize) -> bool {
     if !has_vectors() {
@@ -162,8 +162,8 @@ pub fn decode_in_place_report(buf: &mut [u8]) -> Result<DecodeReport, DecodeErro
 /// Decodes a short frame as [`decode_in_place_report`] does, or returns `None` and leaves the buffer as it was.
 ///
 /// A buffer is taken if it has 2 to 65 bytes before its first zero, which are a whole frame, and at most this zero after them.
-/// [`decode_in_place_report`] asks this first. It calls nothing, as `decode_short`. (A choice of this
-/// library.)
+/// [`decode_in_place_report`] asks this first. Where the target has vectors it calls nothing, as
+/// `decode_short`. (A choice of this library.)
 ///
 /// ```
 /// # use jcobs::proved::*;

@@ -59,14 +59,14 @@ by_byte-preserved c =
     elim c.if-missing-eq0.branch [
       | then-missing-eq0 w ↦
           let next = code-next old c.by_byte.buffer i more c.by_byte.invariant.0 (sym c.by_byte.invariant.1 ∙ w.if-missing-eq0.true) in (
-          w.buffer-is ∙ written old c.by_byte.buffer i more c.by_byte.invariant.0 0 ∙ ap (λ (t : List ℕ × ℕ × ℕ). t.0 ++ drop (i + 1) old) (sym next),
-          w.missing-is ∙ ap (λ (k : ℕ). k - 1) read ∙ ap (λ (t : List ℕ × ℕ × ℕ). t.2) (sym next),
+            w.buffer-is ∙ written old c.by_byte.buffer i more c.by_byte.invariant.0 0 ∙ ap (λ (t : List ℕ × ℕ × ℕ). t.0 ++ drop (i + 1) old) (sym next),
+            w.missing-is ∙ ap (λ (k : ℕ). k - 1) read ∙ ap (λ (t : List ℕ × ℕ × ℕ). t.2) (sym next),
           )
       | else-missing-eq0 w ↦
           let some : c.by_byte.missing ≡ suc (c.by_byte.missing - 1) = omega (arith, w.if-missing-eq0.false) in
           let next = byte-next old c.by_byte.buffer i more c.by_byte.invariant.0 (c.by_byte.missing - 1) (sym c.by_byte.invariant.1 ∙ some) in (
-          w.buffer-is ∙ ap (set c.by_byte.buffer i) read ∙ written old c.by_byte.buffer i more c.by_byte.invariant.0 (get_or old (i + 1) 0) ∙ ap (λ (t : List ℕ × ℕ × ℕ). t.0 ++ drop (i + 1) old) (sym next),
-          w.missing-is ∙ ap (λ (t : List ℕ × ℕ × ℕ). t.2) (sym next),
+            w.buffer-is ∙ ap (set c.by_byte.buffer i) read ∙ written old c.by_byte.buffer i more c.by_byte.invariant.0 (get_or old (i + 1) 0) ∙ ap (λ (t : List ℕ × ℕ × ℕ). t.0 ++ drop (i + 1) old) (sym next),
+            w.missing-is ∙ ap (λ (t : List ℕ × ℕ × ℕ). t.2) (sym next),
           )
     ]
 
