@@ -89,3 +89,20 @@ module _ (first : ℕ) (bytes : List ℕ) (some : 0 < first) (more : first ≤ l
       ap (λ (l : List ℕ). (l, code, left)) put ∙ ap (λ (t : List ℕ × ℕ × ℕ). (take (first - 1) bytes ++ (0 ∷ t.0), t.1, t.2)) e
       ∙ sym (ap (walked first (first - 1)) (sym (take-append-drop (first - 1) bytes) ∙ ap (λ (l : List ℕ). take (first - 1) bytes ++ l) cut) ∙ walked-append first (first - 1) (take (first - 1) bytes) (next ∷ drop first bytes)
       ∙ ap (λ (t : List ℕ × ℕ × ℕ). let v = walked t.1 t.2 (next ∷ drop first bytes) in (t.0 ++ v.0, v.1, v.2)) front)
+
+-- with one byte more
+walked-nil : (code n : ℕ) → walked code n [] ≡ ([], code, n)
+walked-nil code zero = refl
+walked-nil code (suc n) = refl
+
+pub walked-code : (code n : ℕ) (xs : List ℕ) (next : ℕ) → (walked code n xs).2 ≡ 0 → walked code n (xs ++ next ∷ []) ≡ ((walked code n xs).0 ++ 0 ∷ [], next, next - 1)
+walked-code code n xs next none =
+    let w = walked code n xs in
+    walked-append code n xs (next ∷ []) ∙ ap (λ (k : ℕ). let v = walked w.1 k (next ∷ []) in (w.0 ++ v.0, v.1, v.2)) none
+    ∙ ap (λ (t : List ℕ × ℕ × ℕ). (w.0 ++ 0 ∷ t.0, t.1, t.2)) (walked-nil next (next - 1))
+
+pub walked-byte : (code n m : ℕ) (xs : List ℕ) (byte : ℕ) → (walked code n xs).2 ≡ suc m → walked code n (xs ++ byte ∷ []) ≡ ((walked code n xs).0 ++ byte ∷ [], (walked code n xs).1, m)
+walked-byte code n m xs byte more =
+    let w = walked code n xs in
+    walked-append code n xs (byte ∷ []) ∙ ap (λ (k : ℕ). let v = walked w.1 k (byte ∷ []) in (w.0 ++ v.0, v.1, v.2)) more
+    ∙ ap (λ (t : List ℕ × ℕ × ℕ). (w.0 ++ byte ∷ t.0, t.1, t.2)) (walked-nil w.1 m)

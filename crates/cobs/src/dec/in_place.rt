@@ -4,7 +4,7 @@ ghost use Rattle.cobs.specs.Overwritten.{overwritten};
 ghost use Rattle.cobs.specs.Decode.{IsShortPiece, head_result, in_place, result_in_place, in_place_report};
 ghost use Rattle.cobs.specs.Grammar.{HasNoZero, Reads};
 ghost use Rattle.cobs.specs.Headline.{ReturnsMessage, IsPiece, ReportsMessage};
-ghost use Rattle.cobs.specs.Piece.{kept_output, last_part, missing};
+ghost use Rattle.cobs.specs.Piece.{kept_output, last_part, missing, output};
 ghost use Rattle.cobs.specs.Stream.{head};
 ghost use Rattle.cobs.specs.Fields.Decoders.{phase_of};
 ghost use Rattle.cobs.specs.Internal.FeedsQuietly.{FeedsQuietly};
@@ -62,7 +62,7 @@ impl UnbufferedDecoder {
         }
         let at = self.written;
         let len = self.stretch_len((end - read).min(STRETCH_MAX));
-        if has_vectors() && missing == 0 && code == 1 && WINDOW <= len && is_all(buffer, read, 1) {
+        if missing == 0 && code == 1 && WINDOW <= len && is_all(buffer, read, 1) {
             write_row(buffer, at, 0);
             self.written = at + WINDOW;
             return WINDOW;
@@ -111,8 +111,51 @@ fn decode_blocks_in_place(buffer: &mut [u8], end: usize) -> Result<usize, Decode
     message_len(progress.written, whole)
 }
 
+/// Decodes the first `len` bytes of the buffer, 254 at most, a byte a turn: each behind the first goes one place to the front,
+/// and is a zero there if it is a code.
+fn write_output_in_place(buffer: &mut [u8], len: usize)
+    requires few { (0 < len) × (len ≤ 254) }
+    requires within { len ≤ length buffer.old }
+    requires nonzero { HasNoZero (take len buffer.old) }
+    ensures { buffer.new ≡ output (take len buffer.old) ++ drop (len - 1) buffer.old }
+{
+    let mut missing = buffer[0] - 1;
+    'by_byte: for i in 0..len - 1 {
+        let byte = buffer[i + 1];
+        if missing == 0 {
+            buffer[i] = 0;
+            missing = byte - 1;
+        } else {
+            buffer[i] = byte;
+            missing -= 1;
+        }
+    }
+}
+
+/// Does what [`decode_stretch_in_place`] does, without vectors: nothing is written before the frame is known to be whole.
+fn decode_by_byte_in_place(buffer: &mut [u8], len: usize) -> bool
+    requires within { len ≤ length buffer.old }
+    ensures taken { (2 ≤ len) × (len ≤ 65) → HasNoZero (take len buffer.old)
+        → missing (last_part (take len buffer.old)) ≡ 0 → IsTrue result }
+    ensures nonzero { IsTrue result → HasNoZero (take len buffer.old) }
+    ensures some { IsTrue result → 0 < len }
+    ensures returned { IsTrue result → Ok (len - 1) ≡ head_result (take len buffer.old) }
+    ensures buffer { IsTrue result → buffer.new ≡ overwritten buffer.old (kept_output (take len buffer.old)) }
+    ensures kept { result ≡ false → buffer.new ≡ buffer.old }
+{
+    if len < 2 || WIDE_WINDOW + 1 < len || zero_or_len(&buffer[..len]) < len {
+        return false;
+    }
+    let (_, whole) = kept_len(&buffer[..len], 0, 0);
+    if !whole {
+        return false;
+    }
+    write_output_in_place(buffer, len);
+    true
+}
+
 /// Decodes the first `len` bytes of the buffer, if these are 2 to 65 and a frame, and says whether it did. If not, every byte
-/// stays. They are decoded from a copy, which is put back if the frame is broken.
+/// stays. With vectors they are decoded from a copy, which is put back if the frame is broken.
 #[inline(always)]
 fn decode_stretch_in_place(buffer: &mut [u8], len: usize) -> bool
     requires within { len ≤ length buffer.old }
@@ -124,6 +167,9 @@ fn decode_stretch_in_place(buffer: &mut [u8], len: usize) -> bool
     ensures buffer { IsTrue result → buffer.new ≡ overwritten buffer.old (kept_output (take len buffer.old)) }
     ensures kept { result ≡ false → buffer.new ≡ buffer.old }
 {
+    if !has_vectors() {
+        return decode_by_byte_in_place(buffer, len);
+    }
     let mut coded = [0; WIDE_WINDOW + 1];
     if len < 2 || WIDE_WINDOW + 1 < len || !copy_xored_short(&buffer[1..len], &mut coded[1..], 0) {
         return false;
@@ -174,10 +220,8 @@ pub fn decode_in_place_report(buf: &mut [u8]) -> Result<DecodeReport, DecodeErro
     if buf.is_empty() {
         return Err(DecodeError::EmptyFrame);
     }
-    if has_vectors() {
-        if let Some(report) = decode_short_in_place(buf) {
-            return Ok(report);
-        }
+    if let Some(report) = decode_short_in_place(buf) {
+        return Ok(report);
     }
     let end = zero_or_len(buf);
     let frame_size = decode_blocks_in_place(buf, end)?;
@@ -190,8 +234,8 @@ pub fn decode_in_place_report(buf: &mut [u8]) -> Result<DecodeReport, DecodeErro
 /// Decodes a short frame as [`decode_in_place_report`] does, or returns `None` and leaves the buffer as it was.
 ///
 /// A buffer is taken if it has 2 to 65 bytes before its first zero, which are a whole frame, and at most this zero after them.
-/// [`decode_in_place_report`] asks this first. It calls nothing, as [`decode_short`](crate::decode_short). (A choice of this
-/// library.)
+/// [`decode_in_place_report`] asks this first. Where the target has vectors it calls nothing, as
+/// [`decode_short`](crate::decode_short). (A choice of this library.)
 ///
 /// ```
 /// let mut buf = [3, 10, 11, 0];

@@ -13,7 +13,7 @@ use crate::dec::stretch::write_zeros_at_codes;
 use crate::dec::unbuffered::{START, UnbufferedDecoder};
 use crate::find::zero_or_len;
 use cobs_bytes::lanes::{copy_xored, copy_xored_short};
-use cobs_bytes::window::{WIDE_WINDOW, WINDOW, has_vectors, is_all, write_row};
+use cobs_bytes::window::{WIDE_WINDOW, WINDOW, is_all, write_row};
 
 /// The most bytes that one stretch has: so few that none of its codes can have a whole full block after it.
 pub(crate) const STRETCH_MAX: usize = FULL_BLOCK_BYTES - 1;
@@ -211,7 +211,7 @@ impl UnbufferedDecoder {
                 return self.take_block(dest, bytes, sentinel);
             }
             let most = bytes.len().min(dest.len().saturating_sub(self.written));
-            if has_vectors() && code == 1 && WINDOW <= most && is_all(bytes, 0, 1 ^ sentinel) {
+            if code == 1 && WINDOW <= most && is_all(bytes, 0, 1 ^ sentinel) {
                 write_row(dest, self.written, 0);
                 self.written += WINDOW;
                 return WINDOW;

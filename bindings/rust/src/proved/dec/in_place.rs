@@ -34,7 +34,7 @@ impl UnbufferedDecoder {
         }
         let at = self.written;
         let len = self.stretch_len((end - read).min(STRETCH_MAX));
-        if has_vectors() && missing == 0 && code == 1 && WINDOW <= len && is_all(buffer, read, 1) {
+        if missing == 0 && code == 1 && WINDOW <= len && is_all(buffer, read, 1) {
             write_row(buffer, at, 0);
             self.written = at + WINDOW;
             return WINDOW;
@@ -66,10 +66,42 @@ fn decode_blocks_in_place(buffer: &mut [u8], end: usize) -> Result<usize, Decode
     message_len(progress.written, whole)
 }
 
+/// Decodes the first `len` bytes of the buffer, 254 at most, a byte a turn: each behind the first goes one place to the front,
+/// and is a zero there if it is a code.
+fn write_output_in_place(buffer: &mut [u8], len: usize) {
+    let mut missing = buffer[0] - 1;
+    'by_byte: for i in 0..len - 1 {
+        let byte = buffer[i + 1];
+        if missing == 0 {
+            buffer[i] = 0;
+            missing = byte - 1;
+        } else {
+            buffer[i] = byte;
+            missing -= 1;
+        }
+    }
+}
+
+/// Does what [`decode_stretch_in_place`] does, without vectors: nothing is written before the frame is known to be whole.
+fn decode_by_byte_in_place(buffer: &mut [u8], len: usize) -> bool {
+    if len < 2 || WIDE_WINDOW + 1 < len || zero_or_len(&buffer[..len]) < len {
+        return false;
+    }
+    let (_, whole) = kept_len(&buffer[..len], 0, 0);
+    if !whole {
+        return false;
+    }
+    write_output_in_place(buffer, len);
+    true
+}
+
 /// Decodes the first `len` bytes of the buffer, if these are 2 to 65 and a frame, and says whether it did. If not, every byte
-/// stays. They are decoded from a copy, which is put back if the frame is broken.
+/// stays. With vectors they are decoded from a copy, which is put back if the frame is broken.
 #[inline(always)]
 fn decode_stretch_in_place(buffer: &mut [u8], len: usize) -> bool {
+    if !has_vectors() {
+        return decode_by_byte_in_place(buffer, len);
+    }
     let mut coded = [0; WIDE_WINDOW + 1];
     if len < 2 || WIDE_WINDOW + 1 < len || !copy_xored_short(&buffer[1..len], &mut coded[1..], 0) {
         return false;
@@ -116,10 +148,8 @@ pub fn decode_in_place_report(buf: &mut [u8]) -> Result<DecodeReport, DecodeErro
     if buf.is_empty() {
         return Err(DecodeError::EmptyFrame);
     }
-    if has_vectors() {
-        if let Some(report) = decode_short_in_place(buf) {
-            return Ok(report);
-        }
+    if let Some(report) = decode_short_in_place(buf) {
+        return Ok(report);
     }
     let end = zero_or_len(buf);
     let frame_size = decode_blocks_in_place(buf, end)?;
@@ -132,8 +162,8 @@ pub fn decode_in_place_report(buf: &mut [u8]) -> Result<DecodeReport, DecodeErro
 /// Decodes a short frame as [`decode_in_place_report`] does, or returns `None` and leaves the buffer as it was.
 ///
 /// A buffer is taken if it has 2 to 65 bytes before its first zero, which are a whole frame, and at most this zero after them.
-/// [`decode_in_place_report`] asks this first. It calls nothing, as `decode_short`. (A choice of this
-/// library.)
+/// [`decode_in_place_report`] asks this first. Where the target has vectors it calls nothing, as
+/// `decode_short`. (A choice of this library.)
 ///
 /// ```
 /// # use jcobs::proved::*;

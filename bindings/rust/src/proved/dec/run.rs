@@ -3,7 +3,7 @@
 
 use crate::proved::block::FULL_BLOCK_BYTES;
 use crate::proved::cobs_bytes::lanes::{copy_xored, copy_xored_short};
-use crate::proved::cobs_bytes::window::{WIDE_WINDOW, WINDOW, has_vectors, is_all, write_row};
+use crate::proved::cobs_bytes::window::{WIDE_WINDOW, WINDOW, is_all, write_row};
 use crate::proved::dec::step::joint_after;
 use crate::proved::dec::stretch::write_zeros_at_codes;
 use crate::proved::dec::unbuffered::{START, UnbufferedDecoder};
@@ -138,7 +138,7 @@ impl UnbufferedDecoder {
                 return self.take_block(dest, bytes, sentinel);
             }
             let most = bytes.len().min(dest.len().saturating_sub(self.written));
-            if has_vectors() && code == 1 && WINDOW <= most && is_all(bytes, 0, 1 ^ sentinel) {
+            if code == 1 && WINDOW <= most && is_all(bytes, 0, 1 ^ sentinel) {
                 write_row(dest, self.written, 0);
                 self.written += WINDOW;
                 return WINDOW;

@@ -92,7 +92,7 @@ impl UnbufferedDecoder {
     /// # use jcobs::proved::*;
     /// let mut decoder = UnbufferedDecoder::new();
     /// let mut buffer = [0; 4];
-    /// let frame = [3 ^ 10, 7 ^ 10, 0 ^ 10, 10];
+    /// let frame = [2 ^ 10, 7 ^ 10, 1 ^ 10, 10];
     /// assert_eq!(decoder.feed_each(&mut buffer, &frame[..3], 10), None);
     /// let end = decoder.feed_each(&mut buffer, &frame[3..], 10);
     /// assert_eq!(end, Some((PieceEnd::Message(2), 1)));
