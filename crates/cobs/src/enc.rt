@@ -10,6 +10,7 @@ mod progress;
 mod room;
 mod sentinel;
 mod state;
+mod step;
 mod unbuffered;
 mod vector;
 

@@ -8,6 +8,7 @@ pub(crate) mod progress;
 pub(crate) mod room;
 pub(crate) mod sentinel;
 pub(crate) mod state;
+pub(crate) mod step;
 pub(crate) mod unbuffered;
 pub(crate) mod vector;
 

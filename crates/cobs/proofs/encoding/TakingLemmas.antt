@@ -127,6 +127,11 @@ front-filled {source} {old} {slice} {r} {r'} {pos} {index} {next} fits full s is
 pub front-none : (slice : List ℕ) (r : Reached) (source : List ℕ) → IsPlaceIn (length slice) r → TakesFront slice r source 0 slice r
 front-none slice r source p = record { place = p; after = λ m h. subst (CobsEncoderAfter slice r) (sym (append-nil m)) h; end = refl; rest = refl }
 
+-- the same step, by other words
+pub front-same : {slice slice' source source' : List ℕ} {n : ℕ} {r r' s s' : Reached} → r ≡ s → source ≡ source' → r' ≡ s' → TakesFront slice s source' n slice' s' → TakesFront slice r source n slice' r'
+front-same {slice} {slice'} {source} {source'} {n} {r} {r'} {s} {s'} from is to t =
+    subst (λ (q : Reached). TakesFront slice q source n slice' r') (sym from) (subst (λ (xs : List ℕ). TakesFront slice s xs n slice' r') (sym is) (subst (TakesFront slice s source' n slice') (sym to) t))
+
 -- one step and then another, on what is left
 pub front-next : {slice slice' slice'' source left : List ℕ} {r r' r'' : Reached} (n k : ℕ) → left ≡ drop n source → TakesFront slice r source n slice' r' → TakesFront slice' r' left k slice'' r''
     → TakesFront slice r source (n + k) slice'' r''

@@ -1,8 +1,9 @@
 // Made by bindings/rust/translate.py from `crates/cobs/src/enc/blocks.rt`: change that file, and run it again.
 //! How a message is cut into blocks: the core that every encoder into a slice is built on.
 
-use crate::proved::block::{FULL_BLOCK_BYTES, FULL_CODE};
+use crate::proved::block::FULL_CODE;
 use crate::proved::cobs_bytes::window::{WINDOW, copy_at, copy_window, write_row, zeros_at};
+use crate::proved::enc::UnbufferedEncoder;
 use crate::proved::enc::progress::EncoderProgress;
 use crate::proved::find::position_or_len;
 
@@ -50,27 +51,6 @@ fn mark_zeros(dest: &mut [u8], index: usize, next: usize, zeros: u64) -> usize {
         }
     }
     index
-}
-
-/// Takes the first byte. It calls nothing, so that a loop of such pushes stays in registers: 1.5 times as fast in Rust.
-#[inline(always)]
-pub(crate) fn append_byte(
-    source: &[u8],
-    dest: &mut [u8],
-    progress: EncoderProgress,
-) -> EncoderProgress {
-    let EncoderProgress { index, code, .. } = progress;
-    let next = index + code as usize;
-    if source[0] == 0 {
-        dest[index] = code;
-        return progress_at(next, next + 1, false);
-    }
-    dest[next] = source[0];
-    if code as usize == FULL_BLOCK_BYTES {
-        dest[index] = FULL_CODE as u8;
-        return progress_at(next + 1, next + 2, true);
-    }
-    progress_at(index, next + 1, false)
 }
 
 /// Takes a few bytes that can't fill the open block, one by one: each is written, and the code of the block that is open
@@ -205,7 +185,9 @@ fn append_long_run(
     if read == source.len() {
         return (read, progress);
     }
-    (read + 1, append_byte(&source[read..], dest, progress))
+    let mut encoder = UnbufferedEncoder::from_progress(progress);
+    encoder.append_byte(dest, 0);
+    (read + 1, encoder.progress())
 }
 
 /// Takes a `source` whose first run has `run` bytes: by that run, then by windows up to the next long one, in turn.
