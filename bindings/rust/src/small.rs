@@ -37,6 +37,16 @@ pub(crate) fn try_encode(source: &[u8], dest: &mut [u8]) -> Result<usize, DestBu
     encoded(jcobs_encode(source, dest))
 }
 
+pub(crate) fn try_encode_with_sentinel(
+    source: &[u8],
+    dest: &mut [u8],
+    sentinel: u8,
+) -> Result<usize, DestBufTooSmallError> {
+    let len = try_encode(source, dest)?;
+    xor_bytes(&mut dest[..len], sentinel);
+    Ok(len)
+}
+
 pub(crate) fn try_encode_including_sentinels(
     source: &[u8],
     dest: &mut [u8],

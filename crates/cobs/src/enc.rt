@@ -5,6 +5,7 @@ ghost use Rattle.cobs.specs.Length.{encoded_len};
 
 mod blocks;
 mod encoder;
+mod few;
 mod in_place;
 mod progress;
 mod room;
@@ -19,6 +20,7 @@ use crate::error::DestBufTooSmallError;
 use blocks::{append, append_short, close};
 use cobs_bytes::window::WINDOW;
 pub use encoder::CobsEncoder;
+use few::encode_few;
 pub use in_place::encode_in_place;
 pub use progress::EncoderProgress;
 use progress::START;
@@ -93,8 +95,24 @@ fn encode_long(source: &[u8], dest: &mut [u8]) -> usize
 /// assert_eq!(rt; try_encode(b"hell", &mut dest), Ok(5));
 /// assert_eq!(rt; &dest, b"\x05hell");
 /// ```
-#[tactic(auto, using(crate::proofs::format::LengthLemmas::bounds))]
+#[inline]
 pub fn try_encode(source: &[u8], dest: &mut [u8]) -> Result<usize, DestBufTooSmallError>
+    ensures fits { IsOk result ↔ (encoded_len source.now ≤ length dest.old) }
+    ensures frame { IfOk result (λ n. IsEncodedFrame (take n dest.new) source.now) }
+    ensures no_sentinel { IfOk result (λ n. HasNoZero (take n dest.new)) }
+    ensures len { IfOk result (λ n. n ≡ encoded_len source.now) }
+    ensures rest { IfOk result (λ n. drop n dest.new ≡ drop n dest.old) }
+    ensures refused { OnErr result (dest.new ≡ dest.old) }
+{
+    if let Some(len) = encode_few(source, dest, 0) {
+        return Ok(len);
+    }
+    try_encode_any(source, dest)
+}
+
+/// Does what [`try_encode`] does, for any length.
+#[tactic(auto, using(crate::proofs::format::LengthLemmas::bounds))]
+fn try_encode_any(source: &[u8], dest: &mut [u8]) -> Result<usize, DestBufTooSmallError>
     ensures fits { IsOk result ↔ (encoded_len source.now ≤ length dest.old) }
     ensures frame { IfOk result (λ n. IsEncodedFrame (take n dest.new) source.now) }
     ensures no_sentinel { IfOk result (λ n. HasNoZero (take n dest.new)) }

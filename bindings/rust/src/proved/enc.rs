@@ -3,6 +3,7 @@
 
 pub(crate) mod blocks;
 pub(crate) mod encoder;
+pub(crate) mod few;
 pub(crate) mod in_place;
 pub(crate) mod progress;
 pub(crate) mod room;
@@ -17,6 +18,7 @@ use crate::proved::cobs_bytes::window::WINDOW;
 use crate::proved::error::DestBufTooSmallError;
 use blocks::{append, append_short, close};
 pub use encoder::CobsEncoder;
+use few::encode_few;
 pub use in_place::encode_in_place;
 pub use progress::EncoderProgress;
 use progress::START;
@@ -81,7 +83,16 @@ fn encode_long(source: &[u8], dest: &mut [u8]) -> usize {
 /// assert_eq!(try_encode(b"hell", &mut dest), Ok(5));
 /// assert_eq!(&dest, b"\x05hell");
 /// ```
+#[inline]
 pub fn try_encode(source: &[u8], dest: &mut [u8]) -> Result<usize, DestBufTooSmallError> {
+    if let Some(len) = encode_few(source, dest, 0) {
+        return Ok(len);
+    }
+    try_encode_any(source, dest)
+}
+
+/// Does what [`try_encode`] does, for any length.
+fn try_encode_any(source: &[u8], dest: &mut [u8]) -> Result<usize, DestBufTooSmallError> {
     // A message that can't fill a block is seen to fit at once.
     if source.len() < dest.len().min(FULL_CODE) {
         return Ok(encode(source, dest));

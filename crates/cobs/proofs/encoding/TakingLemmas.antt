@@ -20,7 +20,7 @@ use Rattle.cobs.proofs.encoding.OpenedLemmas.{Opened}
 pub after-some : (r : Reached) (bytes : List ℕ) → 0 < length bytes → end_after r bytes ≡ r.block.index + open_len r.block.code bytes
 after-some r bytes h = grind arith
 
--- for the tactics of `take`
+-- for the tactics of `try_append`
 pub ruleset short_room = (after-some, open_len-most, cases_Bool)
 
 -- an encoder that has taken a message is at a place
@@ -36,6 +36,11 @@ after-place slice m r h =
 pub after-end : (slice m bytes : List ℕ) (r : Reached) → CobsEncoderAfter slice r m → encoded_len (m ++ bytes) ≡ end_after r bytes
 after-end slice m [] r h = ap encoded_len (append-nil m) ∙ end-is slice m r h
 after-end slice m (b ∷ bytes) r h = after-len slice m (b ∷ bytes) r (λ e. cc) h
+
+-- no bytes fit wherever an encoder can be
+pub none-fits : (n : ℕ) (r : Reached) (bytes : List ℕ) → length bytes ≡ 0 → IsPlaceIn n r → end_after r bytes ≤ n
+none-fits n r [] e p = p.fits
+none-fits n r (b ∷ bytes) e p = absurd (omega arith)
 
 -- a source has room for its bytes at the least
 pub next-least : (r : Reached) (source : List ℕ) → 0 < r.block.code → 0 < length source → next_of r + length source ≤ end_after r source

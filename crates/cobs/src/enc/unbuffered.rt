@@ -127,43 +127,6 @@ impl UnbufferedEncoder {
         self.full != 0 || (self.taken as usize) < len - self.index
     }
 
-    /// Takes the next bytes if the frame fits with them, and says whether it does: one, or a few in a block, at once.
-    #[inline(always)]
-    #[tactic(auto, using(crate::proofs::encoding::TakingLemmas::short_room))]
-    pub(crate) fn take(&mut self, dest: &mut [u8], bytes: &[u8]) -> bool
-        requires { IsPlaceIn (length dest.old) (reached_by self.old) }
-        ensures fits { IsTrue result ↔ (end_after (reached_by self.old) bytes.now ≤ length dest.old) }
-        ensures taken { IsTrue result → TakesFront dest.old (reached_by self.old) bytes.now
-            (length bytes.now) dest.new (reached_by self.new) }
-        ensures rejected { result ≡ false → (dest.new ≡ dest.old) × (self.new ≡ self.old) }
-        ensures empty { bytes.now ≡ [] → (dest.new ≡ dest.old) × (self.new ≡ self.old) }
-    {
-        if bytes.len() == 1 {
-            if dest.len() - self.index <= self.taken as usize + 1 {
-                return false;
-            }
-            self.append_byte(dest, bytes[0]);
-            return true;
-        }
-        if bytes.is_empty() {
-            return true;
-        }
-        let at = self.progress();
-        if fits_window_and_block(at, bytes.len())
-            && at.code as usize + bytes.len() <= dest.len() - at.index
-        {
-            *self = UnbufferedEncoder::from_progress(append_short(bytes, dest, at, true));
-            return true;
-        }
-        // A copy, so that the encoder stays in registers.
-        let mut behind = at;
-        if !try_append(bytes, dest, &mut behind) {
-            return false;
-        }
-        *self = UnbufferedEncoder::from_progress(behind);
-        true
-    }
-
     /// Takes the next bytes of the message.
     ///
     /// They don't fit exactly if the encoded frame of all the bytes that were taken so far, followed by these, is
@@ -183,6 +146,8 @@ impl UnbufferedEncoder {
     /// assert_eq!(rt; encoder.finalize(&mut buffer), Ok(3));
     /// assert_eq!(rt; buffer, [3, 7, 8]);
     /// ```
+    // A loop of short pushes keeps the encoder in registers then: of single bytes it takes a fifth of the time in the Rust crate.
+    #[inline(always)]
     #[tactic(auto, using(crate::proofs::encoding::TakingLemmas::encoder_steps))]
     pub fn push(&mut self, dest: &mut [u8], bytes: &[u8]) -> Result<(), DestBufTooSmallError>
         ensures room { IsOk result ↔ HasRoomFor (length dest.old) (reached_by self.old) bytes.now }
@@ -197,12 +162,28 @@ impl UnbufferedEncoder {
         ensures refused { OnErr result ((dest.new ≡ dest.old) × (self.new ≡ self.old)) }
         ensures empty { bytes.now ≡ [] → (dest.new ≡ dest.old) × (self.new ≡ self.old) }
     {
+        if bytes.len() == 1 {
+            return self.feed(dest, bytes[0]);
+        }
         if !self.is_within(dest.len()) {
             return Err(DestBufTooSmallError);
         }
-        if !self.take(dest, bytes) {
+        if bytes.is_empty() {
+            return Ok(());
+        }
+        let at = self.progress();
+        if fits_window_and_block(at, bytes.len())
+            && at.code as usize + bytes.len() <= dest.len() - at.index
+        {
+            *self = UnbufferedEncoder::from_progress(append_short(bytes, dest, at, true));
+            return Ok(());
+        }
+        // A copy, so that the encoder stays in registers.
+        let mut behind = at;
+        if !try_append(bytes, dest, &mut behind) {
             return Err(DestBufTooSmallError);
         }
+        *self = UnbufferedEncoder::from_progress(behind);
         Ok(())
     }
 

@@ -120,35 +120,6 @@ impl UnbufferedEncoder {
         self.full != 0 || (self.taken as usize) < len - self.index
     }
 
-    /// Takes the next bytes if the frame fits with them, and says whether it does: one, or a few in a block, at once.
-    #[inline(always)]
-    pub(crate) fn take(&mut self, dest: &mut [u8], bytes: &[u8]) -> bool {
-        if bytes.len() == 1 {
-            if dest.len() - self.index <= self.taken as usize + 1 {
-                return false;
-            }
-            self.append_byte(dest, bytes[0]);
-            return true;
-        }
-        if bytes.is_empty() {
-            return true;
-        }
-        let at = self.progress();
-        if fits_window_and_block(at, bytes.len())
-            && at.code as usize + bytes.len() <= dest.len() - at.index
-        {
-            *self = UnbufferedEncoder::from_progress(append_short(bytes, dest, at, true));
-            return true;
-        }
-        // A copy, so that the encoder stays in registers.
-        let mut behind = at;
-        if !try_append(bytes, dest, &mut behind) {
-            return false;
-        }
-        *self = UnbufferedEncoder::from_progress(behind);
-        true
-    }
-
     /// Takes the next bytes of the message.
     ///
     /// They don't fit exactly if the encoded frame of all the bytes that were taken so far, followed by these, is
@@ -169,13 +140,31 @@ impl UnbufferedEncoder {
     /// assert_eq!(encoder.finalize(&mut buffer), Ok(3));
     /// assert_eq!(buffer, [3, 7, 8]);
     /// ```
+    // A loop of short pushes keeps the encoder in registers then: of single bytes it takes a fifth of the time in the Rust crate.
+    #[inline(always)]
     pub fn push(&mut self, dest: &mut [u8], bytes: &[u8]) -> Result<(), DestBufTooSmallError> {
+        if bytes.len() == 1 {
+            return self.feed(dest, bytes[0]);
+        }
         if !self.is_within(dest.len()) {
             return Err(DestBufTooSmallError);
         }
-        if !self.take(dest, bytes) {
+        if bytes.is_empty() {
+            return Ok(());
+        }
+        let at = self.progress();
+        if fits_window_and_block(at, bytes.len())
+            && at.code as usize + bytes.len() <= dest.len() - at.index
+        {
+            *self = UnbufferedEncoder::from_progress(append_short(bytes, dest, at, true));
+            return Ok(());
+        }
+        // A copy, so that the encoder stays in registers.
+        let mut behind = at;
+        if !try_append(bytes, dest, &mut behind) {
             return Err(DestBufTooSmallError);
         }
+        *self = UnbufferedEncoder::from_progress(behind);
         Ok(())
     }
 

@@ -1,15 +1,10 @@
-use Rattle.std.proofs.Common.{◌≡◌, ◌≢◌, ◌≤◌, ◌+◌, ◌∷◌, ℕ, List, [], length, refl, sym, ◌∙◌, arith}
+use Rattle.std.proofs.Common.{◌≡◌, ◌≢◌, ◌+◌, length, refl, sym, ◌∙◌, arith}
 use Rattle.std.proofs.lemmas.Bool.{eqb-false, eqb-true}
 use Rattle.cobs.specs.Fields.Progress.{reached_by}
-use Rattle.cobs.specs.OpenBlock.{IsPlaceIn, Reached, end_after}
 use Rattle.cobs.proofs.encoding.OpenLenLemmas.{open_len-least}
 use Rattle.cobs.proofs.encoding.StepLemmas.{end-with, place-short}
-use Rattle.cobs.proofs.encoding.TakingLemmas.{after-end, after-place}
+use Rattle.cobs.proofs.encoding.TakingLemmas.{after-end, after-place, none-fits}
 use Rattle.cobs.proofs.enc.unbuffered.UnbufferedEncoder.push_each.Goals as goal
-
-none-fits : (n : ℕ) (r : Reached) (bytes : List ℕ) → length bytes ≡ 0 → IsPlaceIn n r → end_after r bytes ≤ n
-none-fits n r [] e p = p.fits
-none-fits n r (b ∷ bytes) e p = absurd (omega arith)
 
 pub returns-then-not-is_within-clause-fits : goal.returns-then-not-is_within-clause-fits
 returns-then-not-is_within-clause-fits c = λ m h. let yes = c.is_within.ensures.1 (after-place _ m _ h) in (λ t. cc, λ le. cc)
