@@ -118,7 +118,7 @@ fn try_encode_any(source: &[u8], dest: &mut [u8]) -> Result<usize, DestBufTooSma
     ensures no_sentinel { IfOk result (λ n. HasNoZero (take n dest.new)) }
     ensures len { IfOk result (λ n. n ≡ encoded_len source.now) }
     ensures rest { IfOk result (λ n. drop n dest.new ≡ drop n dest.old) }
-    ensures refused { OnErr result (dest.new ≡ dest.old) }
+    ensures rejected { OnErr result (dest.new ≡ dest.old) }
 {
     // A message that can't fill a block is seen to fit at once.
     if source.len() < dest.len().min(FULL_CODE) {

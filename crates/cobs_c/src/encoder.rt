@@ -28,7 +28,7 @@ pub extern "C" fn jcobs_encoder_push(
         encoder.new buffer.new }
 {
     law_13();
-    if encoder.push(buffer, bytes).is_err() {
+    if !encoder.push_few(buffer, bytes) && encoder.push(buffer, bytes).is_err() {
         return too_small();
     }
     done(bytes.len(), end_of(encoder))
@@ -56,6 +56,10 @@ pub extern "C" fn jcobs_encoder_feed(
     ensures encodes { EncodesNext encoder.old buffer.old (byte ∷ []) result
         encoder.new buffer.new }
 {
+    law_13();
+    if encoder.push_few(buffer, &[byte]) {
+        return done(1, end_of(encoder));
+    }
     encode_byte(encoder, buffer, byte)
 }
 

@@ -195,3 +195,5 @@ pub ruleset next_steps = (next-least, left-end, front-next, take_rest)
 pub ruleset from_start = (start-fits, start-place, left-end, all-rest, take_rest)
 
 pub ruleset encoder_steps = (end-is, after-end, all-after, all-rest)
+
+pub ruleset few_steps = (all-after, all-rest, after-some, open_len-most)

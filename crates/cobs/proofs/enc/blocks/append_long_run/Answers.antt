@@ -1,11 +1,12 @@
 use Rattle.std.proofs.Common.{◌≡◌, ◌≤◌, ◌+◌, ◌-◌, ◌∷◌, ◌∙◌, false, ℕ, List, ap, drop, get_or, length, refl, subst, sym, arith, length-drop}
 use borrow.Rule.Slice.PartMut.{put_mid}
 use Rattle.std.proofs.lemmas.List.{drop_more}
-use Rattle.cobs.specs.OpenBlock.{CobsEncoderAfter, Reached, end_after, next_of}
-use Rattle.cobs.specs.Fields.Progress.{reached_at, reached_by}
+use Rattle.cobs.specs.OpenBlock.{CobsEncoderAfter, end_after, next_of}
+use Rattle.cobs.specs.Fields.Progress.{reached_at}
+use Rattle.cobs.proofs.encoding.ByteLemmas.{byte-zero}
 use Rattle.cobs.proofs.encoding.ReachLemmas.{IsNotFull, Reaches, Reaches-weaker}
 use Rattle.cobs.proofs.encoding.MarkLemmas.{run-nonzero, slice-joined}
-use Rattle.cobs.proofs.encoding.TakingLemmas.{front-filled, front-next, front-none, front-same, front-taken, next-least, reaches-start}
+use Rattle.cobs.proofs.encoding.TakingLemmas.{front-filled, front-next, front-none, front-taken, next-least, reaches-start}
 use Rattle.cobs.proofs.enc.blocks.append_long_run.Goals.{After-min-len, After-copy_from_slice}
 use Rattle.cobs.proofs.enc.blocks.append_long_run.Goals as goal
 
@@ -53,16 +54,11 @@ by_block-preserved-then-next-len c =
 
 pub returns-clause-taken : goal.returns-clause-taken
 returns-clause-taken c =
-    let source : List ℕ = c.args.source.now in
-    let read : ℕ = c.by_block.read in
+    let left : List ℕ = drop c.by_block.read c.args.source.now in
     let t = c.by_block.invariant.taken in
-    let within = c.requires.run.within in
-    let at_end : read ≡ c.args.run = omega arith in
-    let zero : get_or source read 0 ≡ 0 = ap (λ (i : ℕ). get_or source i 0) at_end ∙ c.requires.run.stop (omega arith) in
-    let left : drop read source ≡ 0 ∷ drop (read + 1) source = drop_more source read 0 (omega arith) ∙ ap (λ (b : ℕ). b ∷ drop (read + 1) source) zero in
-    let from = c.from_progress-encoder.ensures.progress in
     let end = t.end in
-    let fits : end_after (reached_by c.from_progress-encoder.result) (0 ∷ drop (read + 1) source) ≤ length c.by_block.dest =
-    subst (λ (r : Reached). end_after r (0 ∷ drop (read + 1) source) ≤ length c.by_block.dest) (sym from)
-    (subst (λ (xs : List ℕ). end_after (reached_at c.by_block.progress) xs ≤ length c.by_block.dest) left (omega arith)) in
-    front-next read 1 refl t (front-same (sym from) left c.progress.ensures.progress (c.append_byte.ensures (drop (read + 1) source) fits))
+    let within = c.requires.run.within in
+    let at_end : c.by_block.read ≡ c.args.run = omega arith in
+    let zero : get_or left 0 0 ≡ 0 = ap (λ (xs : List ℕ). get_or xs 0 0) (drop_more c.args.source.now c.by_block.read 0 (omega arith)) ∙ ap (λ (i : ℕ). get_or c.args.source.now i 0) at_end ∙ c.requires.run.stop (omega arith) in
+    let long = length-drop c.by_block.read c.args.source.now in
+    front-next c.by_block.read 1 refl t (byte-zero left c.by_block.dest (reached_at c.by_block.progress) (omega arith) t.place (omega arith) zero c.progress_at.ensures)

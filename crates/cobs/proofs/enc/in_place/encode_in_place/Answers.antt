@@ -44,7 +44,7 @@ append_byte-requires c =
     let byte : ℕ = get_or c.by_byte.buffer (c.max_encoding_overhead-before.result + c.by_byte.taken) 0 in
     let long = length-take c.by_byte.taken (drop c.max_encoding_overhead-before.result c.args.buffer.now) in
     let room = room-only c.by_byte.encoder (length c.by_byte.buffer) byte
-        (record { place = after-place c.by_byte.buffer _ r i.after; fits = fits-one c.by_byte.buffer _ r byte c.args.len i.after (omega arith) (omega arith) }) in
+    (record { place = after-place c.by_byte.buffer _ r i.after; fits = fits-one c.by_byte.buffer _ r byte c.args.len i.after (omega arith) (omega arith) }) in
     record { open_block = room.0; room = room.1 }
 
 pub by_byte-preserved : goal.by_byte-preserved
