@@ -47,7 +47,6 @@ MORE_DERIVES = {
     "FrameReader": ("Debug",),
     "ReadFault": ("Clone", "Copy"),
     "Next": ("Clone", "Copy"),
-    "UnbufferedEncoder": ("Clone",),
 }
 # What the docs say otherwise here, where the decoders have the signatures of the crate `cobs`, and no reader sees a contract.
 REWORDED = {
@@ -68,8 +67,7 @@ CONST = {"max_encoding_overhead", "max_encoding_length", "UnbufferedDecoder::new
 # Calls for one byte, which are to be compiled into the caller's loop.
 INLINE = set(
     "UnbufferedDecoder::feed_piece DecoderState::feed EncoderState::push UnbufferedEncoder::progress"
-    " UnbufferedEncoder::from_progress cobs_abi::done cobs_abi::too_small cobs_abi::end_of cobs_abi::has_room cobs_abi::append"
-    " cobs_abi::Encoder::at cobs_abi::Encoder::progress".split()
+    " UnbufferedEncoder::from_progress cobs_abi::done cobs_abi::too_small has_room".split()
 )
 # The feature that an item needs, if its code has this word.
 FEATURES = {"alloc": r"(?<!\w)(Vec\b|vec!)", "std": r"(?<!\w)std::|(?<![\w:])Read\b"}

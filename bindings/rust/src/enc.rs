@@ -4,12 +4,6 @@ mod encoder;
 
 #[cfg(not(feature = "small"))]
 use crate::proved as engine;
-use crate::proved::cobs_bytes::lanes::xor_bytes;
-#[cfg(not(feature = "small"))]
-use crate::proved::enc::{
-    blocks::{append_short, close},
-    progress::START,
-};
 #[cfg(feature = "small")]
 use crate::small as engine;
 
@@ -60,39 +54,7 @@ pub fn encode(source: &[u8], dest: &mut [u8]) -> usize {
 /// Where the frame doesn't fit, and only there. Then `dest` is as it was.
 #[inline]
 pub fn try_encode(source: &[u8], dest: &mut [u8]) -> Result<usize, DestBufTooSmallError> {
-    #[cfg(not(feature = "small"))]
-    if let Some(len) = encode_few(source, dest, 0) {
-        return Ok(len);
-    }
     engine::try_encode(source, dest)
-}
-
-/// Encodes a message of 1 to 4 bytes that has room for its frame: compiled for each length, it takes half the time.
-#[cfg(not(feature = "small"))]
-#[inline(always)]
-fn encode_few(source: &[u8], dest: &mut [u8], sentinel: u8) -> Option<usize> {
-    if dest.len() <= source.len() {
-        return None;
-    }
-    match *source {
-        [a] => Some(encode_array([a], dest, sentinel)),
-        [a, b] => Some(encode_array([a, b], dest, sentinel)),
-        [a, b, c] => Some(encode_array([a, b, c], dest, sentinel)),
-        [a, b, c, d] => Some(encode_array([a, b, c, d], dest, sentinel)),
-        _ => None,
-    }
-}
-
-/// Encodes a message whose frame has a byte more, and room for it.
-#[cfg(not(feature = "small"))]
-#[inline(always)]
-fn encode_array<const N: usize>(source: [u8; N], dest: &mut [u8], sentinel: u8) -> usize {
-    let progress = append_short(&source, dest, START, false);
-    let len = close(dest, progress);
-    for byte in &mut dest[..N + 1] {
-        *byte ^= sentinel;
-    }
-    len
 }
 
 /// Writes 0, the frame of `source`, and 0 to the front of `dest`, and returns the length of all three. The bytes after
@@ -193,13 +155,7 @@ pub fn try_encode_with_sentinel(
     dest: &mut [u8],
     sentinel: u8,
 ) -> Result<usize, DestBufTooSmallError> {
-    #[cfg(not(feature = "small"))]
-    if let Some(len) = encode_few(source, dest, sentinel) {
-        return Ok(len);
-    }
-    let len = engine::try_encode(source, dest)?;
-    xor_bytes(&mut dest[..len], sentinel);
-    Ok(len)
+    engine::try_encode_with_sentinel(source, dest, sentinel)
 }
 
 /// Memory for the longest frame of the message, and this many bytes more.

@@ -1,9 +1,9 @@
 //! The calls by the bodies that go byte by byte, for the feature `small`.
 
 use crate::dec::{DecodeError, DecodeReport, FrameKind};
-use crate::enc::{DestBufTooSmallError, UnbufferedEncoder};
+use crate::enc::DestBufTooSmallError;
 use crate::proved::cobs_abi::{
-    Answer, BROKEN, CANONICAL, EMPTY, Encoder, LONGER, OK, TOO_SMALL, encode_each,
+    Answer, BROKEN, CANONICAL, EMPTY, LONGER, OK, TOO_SMALL,
 };
 use crate::proved::cobs_bytes::lanes::xor_bytes;
 use crate::proved::cobs_small::decode::jcobs_decode;
@@ -37,6 +37,16 @@ pub(crate) fn try_encode(source: &[u8], dest: &mut [u8]) -> Result<usize, DestBu
     encoded(jcobs_encode(source, dest))
 }
 
+pub(crate) fn try_encode_with_sentinel(
+    source: &[u8],
+    dest: &mut [u8],
+    sentinel: u8,
+) -> Result<usize, DestBufTooSmallError> {
+    let len = try_encode(source, dest)?;
+    xor_bytes(&mut dest[..len], sentinel);
+    Ok(len)
+}
+
 pub(crate) fn try_encode_including_sentinels(
     source: &[u8],
     dest: &mut [u8],
@@ -45,19 +55,6 @@ pub(crate) fn try_encode_including_sentinels(
     let len = encoded(jcobs_encode_terminated(source, rest))?;
     *first = 0;
     Ok(len + 1)
-}
-
-/// Takes the next bytes of a message.
-#[inline]
-pub(crate) fn push_message(
-    encoder: &mut UnbufferedEncoder,
-    dest: &mut [u8],
-    data: &[u8],
-) -> Result<(), DestBufTooSmallError> {
-    let mut state = Encoder::at(encoder.progress());
-    encoded(encode_each(&mut state, dest, data))?;
-    *encoder = UnbufferedEncoder::from_progress(state.progress());
-    Ok(())
 }
 
 pub(crate) fn decode(source: &[u8], dest: &mut [u8]) -> Result<DecodeReport, DecodeError> {

@@ -10,3 +10,4 @@ pub mod ShortSteps
 pub mod RoomLemmas
 pub mod TakingLemmas
 pub mod ByteLemmas
+pub mod StepLemmas

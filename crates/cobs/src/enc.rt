@@ -1,7 +1,8 @@
 //! Encoding: from messages to frames.
-ghost use Rattle.std.specs.Prelude.{◌≡◌, ◌≤◌, ◌↔◌, length, take, drop, IsOk, IfOk, OnErr};
+ghost use Rattle.std.specs.Prelude.{◌≡◌, ◌<◌, ◌≤◌, ◌↔◌, length, take, drop, IsOk, IsSome, IfOk, IfSome, OnErr, None};
 ghost use Rattle.cobs.specs.Grammar.{HasNoZero, IsEncodedFrame};
 ghost use Rattle.cobs.specs.Length.{encoded_len};
+ghost use Rattle.cobs.specs.Sentinel.{IsEncodedFrameFor};
 
 mod blocks;
 mod encoder;
@@ -10,12 +11,14 @@ mod progress;
 mod room;
 mod sentinel;
 mod state;
+mod step;
 mod unbuffered;
 mod vector;
 
 use crate::block::FULL_CODE;
 use crate::error::DestBufTooSmallError;
 use blocks::{append, append_short, close};
+use cobs_bytes::lanes::xor_bytes;
 use cobs_bytes::window::WINDOW;
 pub use encoder::CobsEncoder;
 pub use in_place::encode_in_place;
@@ -92,7 +95,7 @@ fn encode_long(source: &[u8], dest: &mut [u8]) -> usize
 /// assert_eq!(rt; try_encode(b"hell", &mut dest), Ok(5));
 /// assert_eq!(rt; &dest, b"\x05hell");
 /// ```
-#[tactic(auto, using(crate::proofs::format::LengthLemmas::bounds))]
+#[inline]
 pub fn try_encode(source: &[u8], dest: &mut [u8]) -> Result<usize, DestBufTooSmallError>
     ensures fits { IsOk result ↔ (encoded_len source.now ≤ length dest.old) }
     ensures frame { IfOk result (λ n. IsEncodedFrame (take n dest.new) source.now) }
@@ -100,6 +103,22 @@ pub fn try_encode(source: &[u8], dest: &mut [u8]) -> Result<usize, DestBufTooSma
     ensures len { IfOk result (λ n. n ≡ encoded_len source.now) }
     ensures rest { IfOk result (λ n. drop n dest.new ≡ drop n dest.old) }
     ensures refused { OnErr result (dest.new ≡ dest.old) }
+{
+    if let Some(len) = encode_few(source, dest, 0) {
+        return Ok(len);
+    }
+    try_encode_any(source, dest)
+}
+
+/// Does what [`try_encode`] does, for any length.
+#[tactic(auto, using(crate::proofs::format::LengthLemmas::bounds))]
+fn try_encode_any(source: &[u8], dest: &mut [u8]) -> Result<usize, DestBufTooSmallError>
+    ensures fits { IsOk result ↔ (encoded_len source.now ≤ length dest.old) }
+    ensures frame { IfOk result (λ n. IsEncodedFrame (take n dest.new) source.now) }
+    ensures no_sentinel { IfOk result (λ n. HasNoZero (take n dest.new)) }
+    ensures len { IfOk result (λ n. n ≡ encoded_len source.now) }
+    ensures rest { IfOk result (λ n. drop n dest.new ≡ drop n dest.old) }
+    ensures rejected { OnErr result (dest.new ≡ dest.old) }
 {
     // A message that can't fill a block is seen to fit at once.
     if source.len() < dest.len().min(FULL_CODE) {
@@ -110,4 +129,43 @@ pub fn try_encode(source: &[u8], dest: &mut [u8]) -> Result<usize, DestBufTooSma
         return Err(DestBufTooSmallError);
     }
     Ok(close(dest, progress))
+}
+
+/// Encodes a message that can't fill a block, and whose frame fits, for this sentinel.
+#[inline(always)]
+#[tactic(auto, using(crate::proofs::format::LengthLemmas::bounds))]
+fn encode_block(source: &[u8], dest: &mut [u8], sentinel: u8) -> usize
+    requires short { length source.now < 255 }
+    requires room { length source.now < length dest.old }
+    ensures frame { IsEncodedFrameFor sentinel (take result dest.new) source.now }
+    ensures len { result ≡ encoded_len source.now }
+    ensures rest { drop result dest.new ≡ drop result dest.old }
+{
+    // The length by that of the message, which the caller may know.
+    let _len = encode(source, dest);
+    let len = source.len() + 1;
+    xor_bytes(&mut dest[..len], sentinel);
+    len
+}
+
+/// Encodes a message of 1 to 4 bytes for this sentinel if its frame fits. Otherwise it returns `None`, and nothing has changed.
+// By an arm for each length, for which compilers write the loops out, it takes half the time of one loop in the Rust crate.
+#[inline(always)]
+fn encode_few(source: &[u8], dest: &mut [u8], sentinel: u8) -> Option<usize>
+    ensures fits { IsSome result → encoded_len source.now ≤ length dest.old }
+    ensures frame { IfSome result (λ n. IsEncodedFrameFor sentinel (take n dest.new) source.now) }
+    ensures len { IfSome result (λ n. n ≡ encoded_len source.now) }
+    ensures rest { IfSome result (λ n. drop n dest.new ≡ drop n dest.old) }
+    ensures none { result ≡ None → dest.new ≡ dest.old }
+{
+    if dest.len() <= source.len() {
+        return None;
+    }
+    match source.len() {
+        1 => Some(encode_block(&source[..1], dest, sentinel)),
+        2 => Some(encode_block(&source[..2], dest, sentinel)),
+        3 => Some(encode_block(&source[..3], dest, sentinel)),
+        4 => Some(encode_block(&source[..4], dest, sentinel)),
+        _ => None,
+    }
 }

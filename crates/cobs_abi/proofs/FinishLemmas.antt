@@ -5,17 +5,17 @@ use Rattle.std.proofs.lemmas.List.{length-map, length-set, take-take}
 use Rattle.std.proofs.lemmas.Slice.{drop-append-drop}
 use Rattle.std.specs.Int.Bits.{bit_xor, xor_zero_r}
 use Rattle.cobs.specs.Grammar.{IsEncodedFrame, IsFrame}
+use Rattle.cobs.specs.Fields.Encoders.{reached_by}
 use Rattle.cobs.specs.Length.{encoded_len}
 use Rattle.cobs.specs.OpenBlock.{CobsEncoderAfter, Reached, end_of}
 use Rattle.cobs.specs.Sentinel.{xor_each}
+use Rattle.cobs.specs.declared.UnbufferedEncoder.{UnbufferedEncoder}
 use Rattle.cobs_abi.proofs.WritesLemmas.{Writes-failed, Writes-terminated, behind_terminator}
 use Rattle.cobs_abi.specs.Encode.{Writes}
 use Rattle.cobs_abi.specs.Frames.{IsFrameOnWire, IsFrameOnWireFor}
-use Rattle.cobs_abi.specs.State.{reached_in}
 use Rattle.cobs_abi.specs.Stream.{Finishes}
 use Rattle.cobs_abi.specs.declared.answer.Answer.{Answer}
 use Rattle.cobs_abi.specs.declared.answer.TheConstants.{OK}
-use Rattle.cobs_abi.specs.declared.encoder.Encoder.{Encoder}
 
 -- XOR with 0 changes nothing
 pub xor_each-zero : (xs : List ℕ) → xor_each 0 xs ≡ xs
@@ -25,7 +25,7 @@ xor_each-zero (x ∷ xs) = ap (λ (y : ℕ). y ∷ xor_each 0 xs) (xor_zero_r x)
 -- of `law_6`
 module _ (free : (f : List ℕ) (s : ℕ) → IsFrame f → All (λ byte. byte ≢ s) (xor_each s f)) (back : (f : List ℕ) (s : ℕ) → xor_each s (xor_each s f) ≡ f) where
   -- a frame that is finished, and then XORed
-  pub Finishes-changed : {encoder encoder' : Encoder} {buffer part changed : List ℕ} {result : Answer} (s : ℕ) → changed ≡ xor_each s (take result.length part)
+  pub Finishes-changed : {encoder encoder' : UnbufferedEncoder} {buffer part changed : List ℕ} {result : Answer} (s : ℕ) → changed ≡ xor_each s (take result.length part)
       → Finishes 0 IsFrameOnWire encoder buffer result encoder' part → Finishes 0 (IsFrameOnWireFor s) encoder buffer result encoder' (changed ++ drop result.length part)
   Finishes-changed {encoder} {encoder'} {buffer} {part} {changed} {result} s is f =
       let frame : List ℕ = take result.length part in
@@ -70,14 +70,14 @@ module _ (counted : (f m : List ℕ) → IsEncodedFrame f m → length f ≡ enc
       }
 
   -- a byte after what was written for a message
-  module _ {IsWanted IsEnded : List ℕ → List ℕ → Type 0} {encoder encoder' : Encoder} {buffer part : List ℕ} {result : Answer} (last s : ℕ) (room : last + 1 ≡ length buffer) (len : length part ≡ last)
+  module _ {IsWanted IsEnded : List ℕ → List ℕ → Type 0} {encoder encoder' : UnbufferedEncoder} {buffer part : List ℕ} {result : Answer} (last s : ℕ) (room : last + 1 ≡ length buffer) (len : length part ≡ last)
       (f : Finishes 0 IsWanted encoder (take last buffer) result encoder' part) where
     pub Finishes-terminated : ((x m : List ℕ) → IsWanted x m → IsEnded (x ++ s ∷ []) m) → result.status ≡ OK
         → Finishes 1 IsEnded encoder buffer (record { status = OK; consumed = result.consumed; length = result.length + 1 }) encoder' (set (part ++ drop last buffer) result.length s)
     Finishes-terminated ended ok = let front : length (take last buffer) ≡ last = length-take-le last buffer (omega arith) in record {
       writes = λ m h.
-          let fits : encoded_len m ≤ last = omega (arith, f.place ok, end buffer m (reached_in encoder) h, f.bound, front) in
-          let w = f.writes m (After-front buffer m (reached_in encoder) last (omega arith) fits h) in
+          let fits : encoded_len m ≤ last = omega (arith, f.place ok, end buffer m (reached_by encoder) h, f.bound, front) in
+          let w = f.writes m (After-front buffer m (reached_by encoder) last (omega arith) fits h) in
           let size : encoded_len m + 0 + 1 ≡ encoded_len m + 1 = omega arith in
           subst (λ (n : ℕ). Writes n 0 (λ bytes. IsEnded bytes m) buffer (record { status = OK; consumed = result.consumed; length = result.length + 1 }) (set (part ++ drop last buffer) result.length s))
           size (Writes-terminated last s room len w ok (λ (x : List ℕ) e. ended x m e));
@@ -102,7 +102,7 @@ module _ (counted : (f m : List ℕ) → IsEncodedFrame f m → length f ≡ enc
           writes = λ m h.
               let long : last < encoded_len m =
               ⊎_elim (λ (short : nat_le (encoded_len m) last ≡ true).
-              omega (arith, front, Writes-failed (f.writes m (After-front buffer m (reached_in encoder) last (omega arith) (leb-true (encoded_len m) last short) h)) other))
+              omega (arith, front, Writes-failed (f.writes m (After-front buffer m (reached_by encoder) last (omega arith) (leb-true (encoded_len m) last short) h)) other))
               (λ (long : nat_le (encoded_len m) last ≡ false). leb-false (encoded_len m) last long)
               (cases_Bool (nat_le (encoded_len m) last)) in
               record {

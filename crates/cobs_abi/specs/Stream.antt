@@ -3,15 +3,16 @@ use Rattle.std.specs.Prelude.{◌≡◌, ◌≢◌, ◌≤◌, ◌<◌, ◌+◌,
 use Rattle.cobs.specs.Feed.{DecoderAfter, Idle}
 use Rattle.cobs.specs.FeedPiece.{TakesPiece}
 use Rattle.cobs.specs.Fields.Decoders.{phase_of}
+use Rattle.cobs.specs.Fields.Encoders.{reached_by}
 use Rattle.cobs.specs.Length.{encoded_len}
 use Rattle.cobs.specs.OpenBlock.{CobsEncoderAfter, end_of}
 use Rattle.cobs.specs.declared.UnbufferedDecoder.{UnbufferedDecoder}
+use Rattle.cobs.specs.declared.UnbufferedEncoder.{UnbufferedEncoder}
 use Rattle.cobs_abi.specs.Answer.{piece_end_of}
 use Rattle.cobs_abi.specs.Encode.{Writes}
-use Rattle.cobs_abi.specs.State.{held, reached_in}
+use Rattle.cobs_abi.specs.State.{held}
 use Rattle.cobs_abi.specs.declared.answer.Answer.{Answer}
 use Rattle.cobs_abi.specs.declared.answer.TheConstants.{OK, MORE, TOO_SMALL, BROKEN}
-use Rattle.cobs_abi.specs.declared.encoder.Encoder.{Encoder}
 
 -- `jcobs_decoder_reset`: the decoder has taken nothing
 pub record IsFreshDecoder (decoder : UnbufferedDecoder) : Type 0 where
@@ -37,21 +38,21 @@ pub record DecodesNext (decoder : UnbufferedDecoder) (buffer bytes : List ℕ) (
   pub len : length buffer' ≡ length buffer
 
 -- `jcobs_encoder_reset`: the encoder has taken nothing
-pub record IsFreshEncoder (encoder : Encoder) : Type 0 where
-  pub start : reached_in encoder ≡ record { block = record { index = 0; code = 1 }; full = false }
-  pub taken : (buffer : List ℕ) → 0 < length buffer → CobsEncoderAfter buffer (reached_in encoder) []
+pub record IsFreshEncoder (encoder : UnbufferedEncoder) : Type 0 where
+  pub start : reached_by encoder ≡ record { block = record { index = 0; code = 1 }; full = false }
+  pub taken : (buffer : List ℕ) → 0 < length buffer → CobsEncoderAfter buffer (reached_by encoder) []
 
 -- `jcobs_encoder_push`, and `jcobs_encoder_feed` of one byte: the encoder takes the bytes, if the frame of all that it has
 -- taken fits
-pub record EncodesNext (encoder : Encoder) (buffer bytes : List ℕ) (result : Answer) (encoder' : Encoder) (buffer' : List ℕ) : Type 0 where
-  pub fits : (m : List ℕ) → CobsEncoderAfter buffer (reached_in encoder) m
+pub record EncodesNext (encoder : UnbufferedEncoder) (buffer bytes : List ℕ) (result : Answer) (encoder' : UnbufferedEncoder) (buffer' : List ℕ) : Type 0 where
+  pub fits : (m : List ℕ) → CobsEncoderAfter buffer (reached_by encoder) m
       → ((result.status ≡ OK) ↔ (encoded_len (m ++ bytes) ≤ length buffer))
-  pub taken : result.status ≡ OK → (m : List ℕ) → CobsEncoderAfter buffer (reached_in encoder) m
-      → CobsEncoderAfter buffer' (reached_in encoder') (m ++ bytes)
-  pub counted : result.status ≡ OK → (m : List ℕ) → CobsEncoderAfter buffer (reached_in encoder) m → result.length ≡ encoded_len (m ++ bytes)
+  pub taken : result.status ≡ OK → (m : List ℕ) → CobsEncoderAfter buffer (reached_by encoder) m
+      → CobsEncoderAfter buffer' (reached_by encoder') (m ++ bytes)
+  pub counted : result.status ≡ OK → (m : List ℕ) → CobsEncoderAfter buffer (reached_by encoder) m → result.length ≡ encoded_len (m ++ bytes)
   -- in every state
   pub returned : result.status ≡ OK
-      → result ≡ record { status = OK; consumed = length bytes; length = end_of (reached_in encoder') }
+      → result ≡ record { status = OK; consumed = length bytes; length = end_of (reached_by encoder') }
   pub too_small : result.status ≢ OK → result ≡ record { status = TOO_SMALL; consumed = 0; length = 0 }
   pub rejected : result.status ≢ OK → encoder' ≡ encoder
   pub rest : drop result.length buffer' ≡ drop result.length buffer
@@ -60,11 +61,11 @@ pub record EncodesNext (encoder : Encoder) (buffer bytes : List ℕ) (result : A
 
 -- `jcobs_encoder_finish` and its forms, by how many bytes are added to a frame, and by what is written for a message: the
 -- encoder ends the message, if what is to be written fits
-pub record Finishes (added : ℕ) (IsWanted : List ℕ → List ℕ → Type 0) (encoder : Encoder) (buffer : List ℕ) (result : Answer) (encoder' : Encoder) (buffer' : List ℕ) : Type 0 where
-  pub writes : (m : List ℕ) → CobsEncoderAfter buffer (reached_in encoder) m
+pub record Finishes (added : ℕ) (IsWanted : List ℕ → List ℕ → Type 0) (encoder : UnbufferedEncoder) (buffer : List ℕ) (result : Answer) (encoder' : UnbufferedEncoder) (buffer' : List ℕ) : Type 0 where
+  pub writes : (m : List ℕ) → CobsEncoderAfter buffer (reached_by encoder) m
       → Writes (encoded_len m + added) 0 (λ bytes. IsWanted bytes m) buffer result buffer'
   -- in every state
-  pub place : result.status ≡ OK → result.length ≡ end_of (reached_in encoder) + added
+  pub place : result.status ≡ OK → result.length ≡ end_of (reached_by encoder) + added
   pub fresh : result.status ≡ OK → IsFreshEncoder encoder'
   pub too_small : result.status ≢ OK → result ≡ record { status = TOO_SMALL; consumed = 0; length = 0 }
   pub rejected : result.status ≢ OK → encoder' ≡ encoder

@@ -5,9 +5,7 @@
 #![tactic(auto)]
 
 mod answer;
-mod block;
 mod decoding;
-mod encoder;
 mod encoding;
 mod kind;
 mod message;
@@ -16,10 +14,7 @@ mod text;
 
 pub use answer::{Answer, BROKEN, EMPTY, MORE, OK, TOO_SMALL, done, result_by, too_small};
 pub use decoding::{decode_byte, decode_each, result_of};
-pub use encoder::{ENCODER_START, Encoder, end_of};
-pub use encoding::{
-    encode_byte, encode_each, encode_short, encode_within, finish, finish_terminated,
-};
+pub use encoding::{encode_byte, encode_each, encode_within, end_of, finish, finish_terminated};
 pub use kind::{CANONICAL, LONGER, NOT_A_FRAME};
 pub use message::encode_message;
 pub use source::leading_zeros;

@@ -1,29 +1,26 @@
 //! Messages in pieces to frames: encoders whose state and buffer are C's.
 ghost use Rattle.std.specs.Prelude.{◌≡◌, [], ◌∷◌};
-ghost use Rattle.cobs.specs.Sentinel.{xor_each};
 ghost use Rattle.cobs_abi.specs.Frames.{IsFrameOnWire, IsFrameOnWireFor, IsTerminatedFrame};
 ghost use Rattle.cobs_abi.specs.Stream.{EncodesNext, Finishes, IsFreshEncoder};
 
 use cobs::UnbufferedEncoder;
 use cobs::laws::{law_2, law_6, law_13};
-use cobs_abi::{
-    Answer, Encoder, OK, done, encode_each, encode_short, end_of, finish, finish_terminated,
-    too_small,
-};
+use cobs_abi::{Answer, OK, done, encode_byte, end_of, finish, finish_terminated, too_small};
+use cobs_bytes::lanes::xor_bytes;
 
 /// Makes the encoder one that has taken nothing, even if its state is corrupt.
 #[unsafe(no_mangle)]
-pub extern "C" fn jcobs_encoder_reset(encoder: &mut Encoder)
+pub extern "C" fn jcobs_encoder_reset(encoder: &mut UnbufferedEncoder)
     ensures fresh { IsFreshEncoder encoder.new }
 {
-    *encoder = Encoder::at(UnbufferedEncoder::new().progress());
+    *encoder = UnbufferedEncoder::new();
 }
 
 /// Takes the next bytes of a message, if the frame of all that was taken fits the buffer. Even if the state is corrupt, the
 /// buffer keeps its length, and the counts are within the bytes and the buffer.
 #[unsafe(no_mangle)]
 pub extern "C" fn jcobs_encoder_push(
-    encoder: &mut Encoder,
+    encoder: &mut UnbufferedEncoder,
     buffer: &mut [u8],
     bytes: &[u8],
 ) -> Answer
@@ -31,22 +28,16 @@ pub extern "C" fn jcobs_encoder_push(
         encoder.new buffer.new }
 {
     law_13();
-    if let Some(returned) = encode_short(encoder, buffer, bytes) {
-        return returned;
-    }
-    let mut unbuffered = UnbufferedEncoder::from_progress(encoder.progress());
-    if unbuffered.push(buffer, bytes).is_err() {
+    if !encoder.push_few(buffer, bytes) && encoder.push(buffer, bytes).is_err() {
         return too_small();
     }
-    let progress = unbuffered.progress();
-    *encoder = Encoder::at(progress);
-    done(bytes.len(), end_of(progress))
+    done(bytes.len(), end_of(encoder))
 }
 
 /// Ends the message, if its frame fits the buffer. Even if the state is corrupt, the buffer keeps its length, and the
 /// returned length is within it.
 #[unsafe(no_mangle)]
-pub extern "C" fn jcobs_encoder_finish(encoder: &mut Encoder, buffer: &mut [u8]) -> Answer
+pub extern "C" fn jcobs_encoder_finish(encoder: &mut UnbufferedEncoder, buffer: &mut [u8]) -> Answer
     ensures finishes { Finishes 0 IsFrameOnWire encoder.old buffer.old result
         encoder.new buffer.new }
 {
@@ -57,29 +48,25 @@ pub extern "C" fn jcobs_encoder_finish(encoder: &mut Encoder, buffer: &mut [u8])
 
 /// Takes the next byte of a message, as `jcobs_encoder_push` does.
 #[unsafe(no_mangle)]
-pub extern "C" fn jcobs_encoder_feed(encoder: &mut Encoder, buffer: &mut [u8], byte: u8) -> Answer
+pub extern "C" fn jcobs_encoder_feed(
+    encoder: &mut UnbufferedEncoder,
+    buffer: &mut [u8],
+    byte: u8,
+) -> Answer
     ensures encodes { EncodesNext encoder.old buffer.old (byte ∷ []) result
         encoder.new buffer.new }
 {
-    if let Some(returned) = encode_short(encoder, buffer, &[byte]) {
-        return returned;
+    law_13();
+    if encoder.push_few(buffer, &[byte]) {
+        return done(1, end_of(encoder));
     }
-    encode_each(encoder, buffer, &[byte])
-}
-
-/// XORs each byte with the sentinel.
-fn xor_bytes(bytes: &mut [u8], sentinel: u8)
-    ensures { bytes.new ≡ xor_each sentinel bytes.old }
-{
-    for byte in bytes.iter_mut() {
-        *byte ^= sentinel;
-    }
+    encode_byte(encoder, buffer, byte)
 }
 
 /// Ends the message, as `jcobs_encoder_finish` does, with a frame for this sentinel.
 #[unsafe(no_mangle)]
 pub extern "C" fn jcobs_encoder_finish_with_sentinel(
-    encoder: &mut Encoder,
+    encoder: &mut UnbufferedEncoder,
     buffer: &mut [u8],
     sentinel: u8,
 ) -> Answer
@@ -95,7 +82,7 @@ pub extern "C" fn jcobs_encoder_finish_with_sentinel(
 /// Ends the message, as `jcobs_encoder_finish_with_sentinel` does, and writes the sentinel after its frame, if both fit.
 #[unsafe(no_mangle)]
 pub extern "C" fn jcobs_encoder_finish_terminated_with_sentinel(
-    encoder: &mut Encoder,
+    encoder: &mut UnbufferedEncoder,
     buffer: &mut [u8],
     sentinel: u8,
 ) -> Answer
@@ -120,7 +107,7 @@ pub extern "C" fn jcobs_encoder_finish_terminated_with_sentinel(
 /// Ends the message, as `jcobs_encoder_finish` does, and writes a zero after its frame, if both fit.
 #[unsafe(no_mangle)]
 pub extern "C" fn jcobs_encoder_finish_terminated(
-    encoder: &mut Encoder,
+    encoder: &mut UnbufferedEncoder,
     buffer: &mut [u8],
 ) -> Answer
     ensures finishes { Finishes 1 (IsTerminatedFrame 0) encoder.old buffer.old result

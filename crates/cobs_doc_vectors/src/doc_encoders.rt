@@ -215,6 +215,36 @@ fn encoder_state_finalize_example(rt: HostRuntime) {
 }
 
 #[test]
+fn unbuffered_encoder_feed_example(rt: HostRuntime) {
+    let mut buffer = [170; 2];
+    let mut encoder = UnbufferedEncoder::new();
+    assert_eq!(rt; encoder.feed(&mut buffer, 7), Ok(()));
+    assert_eq!(rt; encoder.feed(&mut buffer, 8), Err(DestBufTooSmallError));
+    assert_eq!(rt; encoder.finalize(&mut buffer), Ok(2));
+    assert_eq!(rt; buffer, [2, 7]);
+}
+
+#[test]
+fn unbuffered_encoder_push_few_example(rt: HostRuntime) {
+    let mut buffer = [170; 7];
+    let mut encoder = UnbufferedEncoder::new();
+    assert!(rt; encoder.push_few(&mut buffer, b"hello"));
+    assert!(rt; !encoder.push_few(&mut buffer, b"you"));
+    assert_eq!(rt; encoder.finalize(&mut buffer), Ok(6));
+    assert_eq!(rt; &buffer, b"\x06hello\xaa");
+}
+
+#[test]
+fn unbuffered_encoder_push_each_example(rt: HostRuntime) -> Result<(), Fail> {
+    let mut buffer = [170; 7];
+    let mut encoder = UnbufferedEncoder::new();
+    encoder.push_each(&mut buffer, b"hello")?;
+    assert_eq!(rt; encoder.finalize(&mut buffer), Ok(6));
+    assert_eq!(rt; &buffer, b"\x06hello\xaa");
+    Ok(())
+}
+
+#[test]
 fn unbuffered_encoder_example(rt: HostRuntime) -> Result<(), Fail> {
     let mut encoder = UnbufferedEncoder::new();
     let mut buffer = [0; 64];

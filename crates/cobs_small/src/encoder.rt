@@ -4,21 +4,21 @@ ghost use Rattle.cobs_abi.specs.Frames.{IsFrameOnWire, IsTerminatedFrame};
 ghost use Rattle.cobs_abi.specs.Stream.{EncodesNext, Finishes, IsFreshEncoder};
 
 use cobs::UnbufferedEncoder;
-use cobs_abi::{Answer, Encoder, encode_byte, encode_each, finish, finish_terminated};
+use cobs_abi::{Answer, encode_byte, encode_each, finish, finish_terminated};
 
 /// Makes the encoder one that has taken nothing, even if its state is corrupt.
 #[unsafe(no_mangle)]
-pub extern "C" fn jcobs_encoder_reset(encoder: &mut Encoder)
+pub extern "C" fn jcobs_encoder_reset(encoder: &mut UnbufferedEncoder)
     ensures fresh { IsFreshEncoder encoder.new }
 {
-    *encoder = Encoder::at(UnbufferedEncoder::new().progress());
+    *encoder = UnbufferedEncoder::new();
 }
 
 /// Takes the next bytes of a message, if the frame of all that was taken fits the buffer. Even if the state is corrupt, the
 /// buffer keeps its length, and the counts are within the bytes and the buffer.
 #[unsafe(no_mangle)]
 pub extern "C" fn jcobs_encoder_push(
-    encoder: &mut Encoder,
+    encoder: &mut UnbufferedEncoder,
     buffer: &mut [u8],
     bytes: &[u8],
 ) -> Answer
@@ -30,7 +30,11 @@ pub extern "C" fn jcobs_encoder_push(
 
 /// Takes the next byte of a message, as a push of that byte.
 #[unsafe(no_mangle)]
-pub extern "C" fn jcobs_encoder_feed(encoder: &mut Encoder, buffer: &mut [u8], byte: u8) -> Answer
+pub extern "C" fn jcobs_encoder_feed(
+    encoder: &mut UnbufferedEncoder,
+    buffer: &mut [u8],
+    byte: u8,
+) -> Answer
     ensures encodes { EncodesNext encoder.old buffer.old (byte ∷ []) result
         encoder.new buffer.new }
 {
@@ -40,7 +44,7 @@ pub extern "C" fn jcobs_encoder_feed(encoder: &mut Encoder, buffer: &mut [u8], b
 /// Ends the message, if its frame fits the buffer. Even if the state is corrupt, the buffer keeps its length, and the
 /// returned length is within it.
 #[unsafe(no_mangle)]
-pub extern "C" fn jcobs_encoder_finish(encoder: &mut Encoder, buffer: &mut [u8]) -> Answer
+pub extern "C" fn jcobs_encoder_finish(encoder: &mut UnbufferedEncoder, buffer: &mut [u8]) -> Answer
     ensures finishes { Finishes 0 IsFrameOnWire encoder.old buffer.old result
         encoder.new buffer.new }
 {
@@ -50,7 +54,7 @@ pub extern "C" fn jcobs_encoder_finish(encoder: &mut Encoder, buffer: &mut [u8])
 /// Ends the message, as `jcobs_encoder_finish` does, and writes a zero after its frame, if both fit.
 #[unsafe(no_mangle)]
 pub extern "C" fn jcobs_encoder_finish_terminated(
-    encoder: &mut Encoder,
+    encoder: &mut UnbufferedEncoder,
     buffer: &mut [u8],
 ) -> Answer
     ensures finishes { Finishes 1 (IsTerminatedFrame 0) encoder.old buffer.old result

@@ -3,8 +3,6 @@
 use crate::enc::DestBufTooSmallError;
 use crate::proved::UnbufferedEncoder;
 use crate::proved::enc::blocks::close;
-#[cfg(feature = "small")]
-use crate::small;
 
 /// Encodes a message that comes in pieces into a slice.
 ///
@@ -42,30 +40,10 @@ impl<'a> CobsEncoder<'a> {
     /// the frame of what was taken before can still be had, or fewer bytes be pushed.
     #[inline]
     pub fn push(&mut self, data: &[u8]) -> Result<(), DestBufTooSmallError> {
-        match *data {
-            // The steps of one byte and of two are compiled for them.
-            #[cfg(not(feature = "small"))]
-            [byte] => self.take(&[byte]),
-            #[cfg(not(feature = "small"))]
-            [first, second] => self.take(&[first, second]),
-            // The contract of `take` leaves the empty slice out. That it rejects all other data there is tested.
-            #[cfg(not(feature = "small"))]
-            [] if self.dest.is_empty() => Err(DestBufTooSmallError),
-            #[cfg(not(feature = "small"))]
-            _ => self.take(data),
-            #[cfg(feature = "small")]
-            _ => small::push_message(&mut self.encoder, self.dest, data),
-        }
-    }
-
-    #[cfg(not(feature = "small"))]
-    #[inline(always)]
-    fn take(&mut self, data: &[u8]) -> Result<(), DestBufTooSmallError> {
-        if self.encoder.take(self.dest, data) {
-            Ok(())
-        } else {
-            Err(DestBufTooSmallError)
-        }
+        #[cfg(not(feature = "small"))]
+        return self.encoder.push(self.dest, data);
+        #[cfg(feature = "small")]
+        self.encoder.push_each(self.dest, data)
     }
 
     /// Ends the message: the slice begins with its frame, of the returned length, without a sentinel. It is the frame

@@ -48,7 +48,7 @@ module _ (source slice : List ℕ) (r : Reached) (some : 0 < length source) (pla
       front-filled (omega arith) (omega arith) (Reaches-weaker (λ full p. tt) (more other)) (is ∙ ap (λ (x : ℕ). at (next_of r + 1) x true) (omega arith))
 
 -- there is room for a byte
-fits-byte : (slice : List ℕ) (r : Reached) (byte : ℕ) → 0 < r.block.code → r.block.code < 255 → next_of r < length slice → end_after r (byte ∷ []) ≤ length slice
+pub fits-byte : (slice : List ℕ) (r : Reached) (byte : ℕ) → 0 < r.block.code → r.block.code < 255 → next_of r < length slice → end_after r (byte ∷ []) ≤ length slice
 fits-byte slice r byte some short room = grind (arith, short_room)
 
 -- the same of what it has taken

@@ -1,12 +1,12 @@
 -- How long the encoded frame gets, counted from its open block.
-use Rattle.std.proofs.Common.{◌≡◌, ◌≢◌, ℕ, ◌+◌, ◌-◌, ◌<◌, ◌≤◌, Bool, true, List, [], ◌∷◌, ◌++◌, length, replicate, All, refl, sym, ap, ◌∙◌, arith, append-nil, append_assoc, length-append}
+use Rattle.std.proofs.Common.{◌≡◌, ◌≢◌, ℕ, ◌+◌, ◌-◌, ◌<◌, ◌≤◌, Bool, true, List, [], ◌∷◌, ◌++◌, length, drop, get_or, length-drop, replicate, All, refl, sym, ap, ◌∙◌, arith, append-nil, append_assoc, length-append}
 use Rattle.std.specs.List.{concat}
 use Rattle.std.proofs.lemmas.Bool.{cases_Bool, eqb-true, eqb-false}
-use Rattle.std.proofs.lemmas.List.{length-replicate, nil_from_length}
-use Rattle.std.proofs.lemmas.List.Elements.{All-append, All-replicate, All-head, All-tail}
+use Rattle.std.proofs.lemmas.List.{drop_all, drop_more, length-replicate, nil_from_length}
+use Rattle.std.proofs.lemmas.List.Elements.{All-append, All-cons, All-nil, All-replicate, All-head, All-tail}
 use Rattle.cobs.specs.Grammar.{HasNoZero, IsBlock, is_full, bytes_of, joint, last_of, message_of}
 use Rattle.cobs.specs.Length.{encoded_len, max_encoded_len, open_len}
-use Rattle.cobs.proofs.format.LengthLemmas.{stretches-append, encoded_len-zero, encoded_len-full, encoded_len-le}
+use Rattle.cobs.proofs.format.LengthLemmas.{stretches-append, encoded_len-zero, encoded_len-full, encoded_len-last, encoded_len-le}
 use Rattle.cobs.proofs.encoding.OpenLemmas.{append-some}
 use Rattle.cobs.proofs.encoding.OpenedLemmas.{Opened, ends_in_full}
 
@@ -69,3 +69,26 @@ len-blocks (b ∷ c ∷ front) code bytes t each some =
 -- the frame of a message that goes on
 pub Opened-len : (slice m : List ℕ) (index next : ℕ) (full : Bool) (t : List ℕ) → (full ≡ true → t ≢ []) → Opened slice m index next full → encoded_len (m ++ t) ≡ index + open_len (next - index) t
 Opened-len slice m index next full t more o = grind (arith, length-ones, len-blocks, same_start, ones, ends_in_full)
+
+-- how long the frame gets, byte by byte
+module _ (bytes : List ℕ) (i : ℕ) where
+  -- the bytes are all taken
+  pub len-end : (code : ℕ) → 0 < code → code ≤ 255 → length bytes ≤ i → open_len code (drop i bytes) ≡ code
+  len-end code some short last =
+      let k = length-ones (code - 1) in
+      ap (open_len code) (drop_all i bytes last) ∙ ap encoded_len (append-nil (replicate (code - 1) 1)) ∙ encoded_len-last (replicate (code - 1) 1) (omega arith) (ones (code - 1)) ∙ omega arith
+
+  module _ (more : i < length bytes) where
+    -- a full block is closed
+    pub len-full : (code : ℕ) → code ≡ 255 → open_len code (drop i bytes) ≡ 255 + open_len 1 (drop i bytes)
+    len-full code is = encoded_len-full (replicate (code - 1) 1) (drop i bytes) (omega (arith, length-ones (code - 1))) (ones (code - 1)) (λ e. omega (arith, length-drop i bytes, ap length e))
+
+    -- a byte joins the block
+    pub len-byte : (code : ℕ) → 0 < code → get_or bytes i 0 ≢ 0 → open_len code (drop i bytes) ≡ open_len (code + 1) (drop (i + 1) bytes)
+    len-byte code some other =
+        let b : ℕ = get_or bytes i 0 in
+        ap (open_len code) (drop_more bytes i 0 more) ∙ open_len-join code (b ∷ []) (drop (i + 1) bytes) some (All-cons (λ byte. byte ≢ 0) b [] other (All-nil (λ byte. byte ≢ 0)))
+
+    -- a zero closes it
+    pub len-zero : (code : ℕ) → 0 < code → code < 255 → get_or bytes i 0 ≡ 0 → open_len code (drop i bytes) ≡ code + open_len 1 (drop (i + 1) bytes)
+    len-zero code some short is = ap (open_len code) (drop_more bytes i 0 more ∙ ap (λ (b : ℕ). b ∷ drop (i + 1) bytes) is) ∙ open_len-zero code (drop (i + 1) bytes) some short

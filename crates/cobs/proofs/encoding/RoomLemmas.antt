@@ -7,7 +7,7 @@ use Rattle.std.proofs.lemmas.List.Splits.{slice_split_none, slice_split_at}
 use Rattle.cobs.specs.Grammar.{HasNoZero}
 use Rattle.cobs.specs.Length.{runs, full_blocks, encoded_len, open_len}
 use Rattle.cobs.proofs.format.LengthLemmas.{no_zero, some_stretch, encoded_len-le}
-use Rattle.cobs.proofs.encoding.OpenLenLemmas.{ones, length-ones, open_len-join, open_len-most}
+use Rattle.cobs.proofs.encoding.OpenLenLemmas.{ones, length-ones, open_len-join, open_len-least, open_len-most}
 
 abbrev pub blocks_in : List ℕ → ℕ
 blocks_in m = full_blocks (runs m)
@@ -30,8 +30,8 @@ blocks-le run t =
 pub open_len-is : (code : ℕ) (t : List ℕ) → 0 < code → open_len code t ≡ code + length t + blocks_in (behind (code - 1) t)
 open_len-is code t some = grind (arith, length-append, length-ones)
 
--- for the tactics of `fits`
-pub ruleset counted = (open_len-most, blocks-le)
+-- for the tactics of `fits` and `has_room`
+pub ruleset counted = (open_len-least, open_len-most, blocks-le)
 
 -- nonzero bytes lengthen the run
 pub blocks-more : (run : ℕ) (more t : List ℕ) → HasNoZero more → blocks_in (behind run (more ++ t)) ≡ blocks_in (behind (run + length more) t)

@@ -20,7 +20,7 @@ use Rattle.cobs.proofs.encoding.OpenedLemmas.{Opened}
 pub after-some : (r : Reached) (bytes : List ℕ) → 0 < length bytes → end_after r bytes ≡ r.block.index + open_len r.block.code bytes
 after-some r bytes h = grind arith
 
--- for the tactics of `take`
+-- for the tactics of `try_append`
 pub ruleset short_room = (after-some, open_len-most, cases_Bool)
 
 -- an encoder that has taken a message is at a place
@@ -36,6 +36,11 @@ after-place slice m r h =
 pub after-end : (slice m bytes : List ℕ) (r : Reached) → CobsEncoderAfter slice r m → encoded_len (m ++ bytes) ≡ end_after r bytes
 after-end slice m [] r h = ap encoded_len (append-nil m) ∙ end-is slice m r h
 after-end slice m (b ∷ bytes) r h = after-len slice m (b ∷ bytes) r (λ e. cc) h
+
+-- no bytes fit wherever an encoder can be
+pub none-fits : (n : ℕ) (r : Reached) (bytes : List ℕ) → length bytes ≡ 0 → IsPlaceIn n r → end_after r bytes ≤ n
+none-fits n r [] e p = p.fits
+none-fits n r (b ∷ bytes) e p = absurd (omega arith)
 
 -- a source has room for its bytes at the least
 pub next-least : (r : Reached) (source : List ℕ) → 0 < r.block.code → 0 < length source → next_of r + length source ≤ end_after r source
@@ -127,6 +132,11 @@ front-filled {source} {old} {slice} {r} {r'} {pos} {index} {next} fits full s is
 pub front-none : (slice : List ℕ) (r : Reached) (source : List ℕ) → IsPlaceIn (length slice) r → TakesFront slice r source 0 slice r
 front-none slice r source p = record { place = p; after = λ m h. subst (CobsEncoderAfter slice r) (sym (append-nil m)) h; end = refl; rest = refl }
 
+-- the same step, by other words
+pub front-same : {slice slice' source source' : List ℕ} {n : ℕ} {r r' s s' : Reached} → r ≡ s → source ≡ source' → r' ≡ s' → TakesFront slice s source' n slice' s' → TakesFront slice r source n slice' r'
+front-same {slice} {slice'} {source} {source'} {n} {r} {r'} {s} {s'} from is to t =
+    subst (λ (q : Reached). TakesFront slice q source n slice' r') (sym from) (subst (λ (xs : List ℕ). TakesFront slice s xs n slice' r') (sym is) (subst (TakesFront slice s source' n slice') (sym to) t))
+
 -- one step and then another, on what is left
 pub front-next : {slice slice' slice'' source left : List ℕ} {r r' r'' : Reached} (n k : ℕ) → left ≡ drop n source → TakesFront slice r source n slice' r' → TakesFront slice' r' left k slice'' r''
     → TakesFront slice r source (n + k) slice'' r''
@@ -185,3 +195,5 @@ pub ruleset next_steps = (next-least, left-end, front-next, take_rest)
 pub ruleset from_start = (start-fits, start-place, left-end, all-rest, take_rest)
 
 pub ruleset encoder_steps = (end-is, after-end, all-after, all-rest)
+
+pub ruleset few_steps = (all-after, all-rest, after-some, open_len-most)

@@ -89,10 +89,7 @@ impl<'a> CobsEncoder<'a> {
         ensures refused { OnErr result (IsUnchanged self.old self.new) }
         ensures empty { bytes.now ≡ [] → IsOk result × IsUnchanged self.old self.new }
     {
-        if !self.encoder.take(self.dest, bytes) {
-            return Err(DestBufTooSmallError);
-        }
-        Ok(())
+        self.encoder.push(self.dest, bytes)
     }
 
     /// Ends the message, and returns the length of its encoded frame in bytes. The slice begins with that frame, and

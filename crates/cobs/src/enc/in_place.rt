@@ -4,11 +4,10 @@ ghost use Rattle.cobs.specs.Grammar.{HasNoZero, IsEncodedFrame};
 ghost use Rattle.cobs.specs.Length.{encoded_len, max_encoded_len};
 ghost use Rattle.cobs.specs.OpenBlock.{CobsEncoderAfter, end_of};
 ghost use Rattle.cobs.specs.Overwritten.{message_in};
-ghost use Rattle.cobs.specs.Fields.Progress.{reached_at};
+ghost use Rattle.cobs.specs.Fields.Progress.{reached_by};
 
-use crate::block::{FULL_BLOCK_BYTES, FULL_CODE};
-use crate::enc::blocks::{append_byte, close};
-use crate::enc::progress::{EncoderProgress, START};
+use crate::enc::UnbufferedEncoder;
+use crate::enc::blocks::close;
 use crate::max_encoding_overhead;
 
 /// Encodes a message in its own buffer, and returns the length of its frame in bytes.
@@ -33,10 +32,10 @@ pub fn encode_in_place(buffer: &mut [u8], len: usize) -> usize
     ensures rest { drop result buffer.new ≡ drop result buffer.old }
 {
     let before = max_encoding_overhead(len);
-    let mut progress = START;
+    let mut encoder = UnbufferedEncoder::new();
     'by_byte: for taken in 0..len {
         let byte = buffer[before + taken];
-        progress = append_byte(&[byte], buffer, progress);
+        encoder.append_byte(buffer, byte);
     }
-    close(buffer, progress)
+    close(buffer, encoder.progress())
 }

@@ -1,15 +1,74 @@
 //! Whether a frame fits, before a byte of it is written; and what is taken if it does.
-ghost use Rattle.std.specs.Prelude.{◌≡◌, ◌<◌, ◌≤◌, ◌↔◌, IfSome, IsSome, IsTrue, false, length};
-ghost use Rattle.cobs.specs.Length.{open_len};
+ghost use Rattle.std.specs.Prelude.{◌≡◌, ◌<◌, ◌≤◌, ◌+◌, ◌↔◌, IfSome, IsSome, IsTrue, false, length};
+ghost use Rattle.cobs.specs.Length.{max_encoded_len, open_len};
 ghost use Rattle.cobs.specs.OpenBlock.{IsPlaceIn, end_after};
 ghost use Rattle.cobs.specs.Fields.Progress.{reached_at};
 ghost use Rattle.cobs.specs.Internal.Taking.{IsFirstRun, TakesFront};
 
-use crate::block::FULL_BLOCK_BYTES;
+use crate::block::{FULL_BLOCK_BYTES, FULL_CODE};
 use crate::enc::blocks::{append, append_rest};
 use crate::enc::progress::EncoderProgress;
 use crate::find::position_or_len;
 use memchr::memrchr;
+
+/// The code of a full block, as a byte.
+const FULL: u8 = FULL_CODE as u8;
+
+/// Whether `room` bytes, from the code of an open block, are enough once the block has taken these bytes: counted block by
+/// block.
+fn fits_each(code: u8, bytes: &[u8], room: usize) -> bool
+    requires some { 0 < code }
+    requires open_block { code < 255 }
+    ensures fits { IsTrue result ↔ (open_len code bytes.now ≤ room) }
+{
+    let mut left = room;
+    let mut code = code;
+    'by_byte: for i in 0..bytes.len() {
+        if code == FULL {
+            if left < FULL as usize {
+                return false;
+            }
+            left -= FULL as usize;
+            code = 1;
+        }
+        if bytes[i] != 0 {
+            code += 1;
+        } else {
+            if left < code as usize {
+                return false;
+            }
+            left -= code as usize;
+            code = 1;
+        }
+    }
+    code as usize <= left
+}
+
+/// Returns true only if `spare` bytes cover the overhead of every message of `len` bytes. It divides by 128 instead of 254,
+/// because small processors shift but don't divide. So it may return false if `spare` is just enough.
+#[inline(always)]
+fn covers_overhead(len: usize, spare: usize) -> bool
+    requires some { 0 < spare }
+    ensures { IsTrue result → max_encoded_len len ≤ len + spare }
+{
+    len < FULL_CODE || len / 128 < spare
+}
+
+/// Whether `room` bytes, from the code of an open block, are enough once the block has taken these bytes. It reads the
+/// bytes only if their number doesn't decide that.
+#[tactic(auto, using(crate::proofs::encoding::RoomLemmas::counted))]
+pub(crate) fn has_room(code: u8, bytes: &[u8], room: usize) -> bool
+    requires some { 0 < code }
+    requires open_block { code < 255 }
+    ensures fits { IsTrue result ↔ (open_len code bytes.now ≤ room) }
+{
+    let held = code as usize - 1;
+    if room <= held || room - held <= bytes.len() {
+        return false;
+    }
+    let spare = room - held - bytes.len();
+    covers_overhead(held + bytes.len(), spare) || fits_each(code, bytes, room)
+}
 
 /// Whether `room` bytes, counted from the index of an open block with this code, are enough for the frame once the
 /// block has taken `source`.

@@ -4,7 +4,7 @@ ghost use Rattle.cobs.specs.Length.{encoded_len};
 ghost use Rattle.cobs.specs.Grammar.{HasNoZero};
 ghost use Rattle.cobs.specs.Sentinel.{xor_each, IsEncodedFrameFor, IsDelimitedFrame, IsFreeOf, between_ends};
 
-use crate::enc::{encode, try_encode};
+use crate::enc::{encode, encode_few, try_encode, try_encode_any};
 use crate::error::DestBufTooSmallError;
 use cobs_bytes::lanes::xor_bytes;
 
@@ -47,6 +47,7 @@ pub fn encode_with_sentinel(source: &[u8], dest: &mut [u8], sentinel: u8) -> usi
 /// assert_eq!(rt; try_encode_with_sentinel(&[1, 0], &mut dest, 1), Ok(3));
 /// assert_eq!(rt; dest, [3, 0, 0]);
 /// ```
+#[inline]
 pub fn try_encode_with_sentinel(
     source: &[u8],
     dest: &mut [u8],
@@ -59,7 +60,10 @@ pub fn try_encode_with_sentinel(
     ensures rest { IfOk result (λ n. drop n dest.new ≡ drop n dest.old) }
     ensures refused { OnErr result (dest.new ≡ dest.old) }
 {
-    let written = try_encode(source, dest)?;
+    if let Some(len) = encode_few(source, dest, sentinel) {
+        return Ok(len);
+    }
+    let written = try_encode_any(source, dest)?;
     xor_bytes(&mut dest[..written], sentinel);
     Ok(written)
 }

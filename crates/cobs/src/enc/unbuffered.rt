@@ -6,20 +6,20 @@ ghost use Rattle.cobs.specs.OpenBlock.{CobsEncoderAfter, HasRoomFor, IsPlaceIn, 
 ghost use Rattle.cobs.specs.Fields.Progress.{reached_at, reached_by};
 ghost use Rattle.cobs.specs.Internal.Taking.{TakesFront};
 
-use crate::block::{FULL_BLOCK_BYTES, FULL_CODE};
-use crate::enc::blocks::{append_byte, append_short, close, fits_window_and_block};
-use crate::enc::progress::{EncoderProgress, START};
+use crate::enc::blocks::{append_short, close, fits_window_and_block};
+use crate::enc::progress::EncoderProgress;
 use crate::enc::room::try_append;
 use crate::error::DestBufTooSmallError;
 
 /// Encodes a message that comes in pieces, straight into a buffer that the caller passes to each call.
 ///
-/// It writes the frame that [`CobsEncoder`](crate::CobsEncoder) writes, and has no buffer of its own: a few words say
-/// how far the frame has come. So an encoder can lie in a struct beside its buffer, or cross to another language.
+/// It writes the frame that [`CobsEncoder`](crate::CobsEncoder) writes, and has no buffer of its own: three numbers say
+/// how far the frame has come, and are all 0 at the start. So an encoder can lie in a struct beside its buffer, or cross
+/// to another language.
 ///
 /// From the first push to the end of the message the caller passes one buffer, as the call before left it. Any other
-/// buffer is safe too, of whatever length, and so is any [`EncoderProgress`]: no call panics, or returns a length
-/// that is greater than the buffer's. But what the buffer holds then isn't said.
+/// buffer is safe too, of whatever length, and so are any numbers: no call panics, or returns a length that is greater
+/// than the buffer's. But what the buffer holds then isn't said.
 ///
 /// ```
 /// let mut encoder = UnbufferedEncoder::new();
@@ -29,9 +29,17 @@ use crate::error::DestBufTooSmallError;
 /// assert_eq!(rt; encoder.finalize(&mut buffer), Ok(6));
 /// assert!(rt; buffer.starts_with(b"\x06hello"));
 /// ```
-#[derive(Debug, Drop)]
+#[repr(C)]
+#[derive(Debug, Clone, Copy)]
 pub struct UnbufferedEncoder {
-    progress: EncoderProgress,
+    /// The index in the buffer at which the code of the open block belongs.
+    pub index: usize,
+
+    /// How many bytes the open block has, which are 253 at most.
+    pub taken: u8,
+
+    /// Not 0 if the frame's last block is full, so that the open one is only the place after it.
+    pub full: u8,
 }
 
 impl UnbufferedEncoder {
@@ -47,7 +55,11 @@ impl UnbufferedEncoder {
         ensures start { reached_by result ≡ record { block = record { index = 0; code = 1 }; full = false } }
         ensures taken { (buffer : List ℕ) → 0 < length buffer → CobsEncoderAfter buffer (reached_by result) [] }
     {
-        UnbufferedEncoder { progress: START }
+        UnbufferedEncoder {
+            index: 0,
+            taken: 0,
+            full: 0,
+        }
     }
 
     /// Makes an encoder in this state, whatever the numbers are.
@@ -64,7 +76,11 @@ impl UnbufferedEncoder {
     pub fn from_progress(progress: EncoderProgress) -> Self
         ensures progress { reached_by result ≡ reached_at progress }
     {
-        UnbufferedEncoder { progress }
+        UnbufferedEncoder {
+            index: progress.index,
+            taken: progress.code.wrapping_sub(1),
+            full: if progress.is_full { 1 } else { 0 },
+        }
     }
 
     /// Returns how far the encoder has come.
@@ -76,7 +92,11 @@ impl UnbufferedEncoder {
     pub fn progress(&self) -> EncoderProgress
         ensures progress { reached_at result ≡ reached_by self.now }
     {
-        self.progress
+        EncoderProgress {
+            index: self.index,
+            code: self.taken.wrapping_add(1),
+            is_full: self.full != 0,
+        }
     }
 
     /// Makes the encoder one that has taken nothing.
@@ -96,45 +116,15 @@ impl UnbufferedEncoder {
         *self = UnbufferedEncoder::new();
     }
 
-    /// Whether this progress is possible in a buffer of this length.
-    fn is_within(&self, len: usize) -> bool
+    /// Whether a frame can have come so far in a buffer of this length.
+    #[inline(always)]
+    pub(crate) fn is_within(&self, len: usize) -> bool
         ensures { IsTrue result ↔ IsPlaceIn len (reached_by self.now) }
     {
-        let at = self.progress;
-        let code = at.code as usize;
-        0 < code && code < FULL_CODE && at.index <= len && (at.is_full || code <= len - at.index)
-    }
-
-    /// Takes the next bytes if the frame fits with them, and says whether it does: one, or a few in a block, at once.
-    #[inline(always)]
-    #[tactic(auto, using(crate::proofs::encoding::TakingLemmas::short_room))]
-    pub(crate) fn take(&mut self, dest: &mut [u8], bytes: &[u8]) -> bool
-        requires { IsPlaceIn (length dest.old) (reached_by self.old) }
-        ensures fits { IsTrue result ↔ (end_after (reached_by self.old) bytes.now ≤ length dest.old) }
-        ensures taken { IsTrue result → TakesFront dest.old (reached_by self.old) bytes.now
-            (length bytes.now) dest.new (reached_by self.new) }
-        ensures rejected { result ≡ false → (dest.new ≡ dest.old) × (reached_by self.new ≡ reached_by self.old) }
-        ensures empty { bytes.now ≡ [] → (dest.new ≡ dest.old) × (reached_by self.new ≡ reached_by self.old) }
-    {
-        let at = self.progress;
-        let behind = if bytes.len() == 1 {
-            if dest.len() <= at.index + at.code as usize {
-                return false;
-            }
-            append_byte(bytes, dest, at)
-        } else if fits_window_and_block(at, bytes.len())
-            && at.code as usize + bytes.len() <= dest.len() - at.index
-        {
-            append_short(bytes, dest, at, true)
-        } else {
-            // A copy, so that the encoder stays in registers; field by field, so that no byte between them is copied.
-            let mut behind = EncoderProgress { ..at };
-            let fits = bytes.is_empty() || try_append(bytes, dest, &mut behind);
-            self.progress = EncoderProgress { ..behind };
-            return fits;
-        };
-        self.progress = EncoderProgress { ..behind };
-        true
+        if 253 < self.taken || len < self.index {
+            return false;
+        }
+        self.full != 0 || (self.taken as usize) < len - self.index
     }
 
     /// Takes the next bytes of the message.
@@ -156,6 +146,8 @@ impl UnbufferedEncoder {
     /// assert_eq!(rt; encoder.finalize(&mut buffer), Ok(3));
     /// assert_eq!(rt; buffer, [3, 7, 8]);
     /// ```
+    // A loop of short pushes keeps the encoder in registers then: of single bytes it takes a fifth of the time in the Rust crate.
+    #[inline(always)]
     #[tactic(auto, using(crate::proofs::encoding::TakingLemmas::encoder_steps))]
     pub fn push(&mut self, dest: &mut [u8], bytes: &[u8]) -> Result<(), DestBufTooSmallError>
         ensures room { IsOk result ↔ HasRoomFor (length dest.old) (reached_by self.old) bytes.now }
@@ -167,15 +159,31 @@ impl UnbufferedEncoder {
         ensures rest { OnOk result (let end = end_of (reached_by self.new) in drop end dest.new ≡ drop end dest.old) }
         ensures within { OnOk result (IsPlaceIn (length dest.new) (reached_by self.new)) }
         ensures len { length dest.new ≡ length dest.old }
-        ensures refused { OnErr result ((dest.new ≡ dest.old) × (reached_by self.new ≡ reached_by self.old)) }
-        ensures empty { bytes.now ≡ [] → (dest.new ≡ dest.old) × (reached_by self.new ≡ reached_by self.old) }
+        ensures refused { OnErr result ((dest.new ≡ dest.old) × (self.new ≡ self.old)) }
+        ensures empty { bytes.now ≡ [] → (dest.new ≡ dest.old) × (self.new ≡ self.old) }
     {
+        if bytes.len() == 1 {
+            return self.feed(dest, bytes[0]);
+        }
         if !self.is_within(dest.len()) {
             return Err(DestBufTooSmallError);
         }
-        if !self.take(dest, bytes) {
+        if bytes.is_empty() {
+            return Ok(());
+        }
+        let at = self.progress();
+        if fits_window_and_block(at, bytes.len())
+            && at.code as usize + bytes.len() <= dest.len() - at.index
+        {
+            *self = UnbufferedEncoder::from_progress(append_short(bytes, dest, at, true));
+            return Ok(());
+        }
+        // A copy, so that the encoder stays in registers.
+        let mut behind = at;
+        if !try_append(bytes, dest, &mut behind) {
             return Err(DestBufTooSmallError);
         }
+        *self = UnbufferedEncoder::from_progress(behind);
         Ok(())
     }
 
@@ -210,12 +218,12 @@ impl UnbufferedEncoder {
             ≡ record { block = record { index = 0; code = 1 }; full = false }) }
         ensures taken { OnOk result ((buffer : List ℕ) → 0 < length buffer
             → CobsEncoderAfter buffer (reached_by self.new) []) }
-        ensures refused { OnErr result ((dest.new ≡ dest.old) × (reached_by self.new ≡ reached_by self.old)) }
+        ensures refused { OnErr result ((dest.new ≡ dest.old) × (self.new ≡ self.old)) }
     {
         if !self.is_within(dest.len()) {
             return Err(DestBufTooSmallError);
         }
-        let len = close(dest, self.progress);
+        let len = close(dest, self.progress());
         self.reset();
         Ok(len)
     }

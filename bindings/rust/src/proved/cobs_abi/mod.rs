@@ -5,18 +5,13 @@
 //! after what the call does, so that both state the same contract.
 
 pub(crate) mod answer;
-pub(crate) mod block;
 pub(crate) mod decoding;
-pub(crate) mod encoder;
 pub(crate) mod encoding;
 pub(crate) mod kind;
 pub(crate) mod message;
 
 pub use answer::{Answer, BROKEN, EMPTY, MORE, OK, TOO_SMALL, done, result_by, too_small};
 pub use decoding::{decode_byte, decode_each, result_of};
-pub use encoder::{ENCODER_START, Encoder, end_of};
-pub use encoding::{
-    encode_byte, encode_each, encode_short, encode_within, finish, finish_terminated,
-};
+pub use encoding::{encode_byte, encode_each, encode_within, end_of, finish, finish_terminated};
 pub use kind::{CANONICAL, LONGER, NOT_A_FRAME};
 pub use message::encode_message;

@@ -1,13 +1,13 @@
 // Made by bindings/rust/translate.py from `crates/cobs/src/enc/blocks.rt`: change that file, and run it again.
 //! How a message is cut into blocks: the core that every encoder into a slice is built on.
 
-use crate::proved::block::{FULL_BLOCK_BYTES, FULL_CODE};
+use crate::proved::block::FULL_CODE;
 use crate::proved::cobs_bytes::window::{WINDOW, copy_at, copy_window, write_row, zeros_at};
 use crate::proved::enc::progress::EncoderProgress;
 use crate::proved::find::position_or_len;
 
 /// Fewer bytes go one by one, in place of a window: in the Rust crate 1 byte takes .65 of the time, 4 bytes .61.
-const FEW: usize = 8;
+pub(crate) const FEW: usize = 8;
 
 /// The mask of a window that has no byte but zeros.
 const ALL_ZEROS: u64 = 0xffff_ffff;
@@ -52,31 +52,14 @@ fn mark_zeros(dest: &mut [u8], index: usize, next: usize, zeros: u64) -> usize {
     index
 }
 
-/// Takes the first byte. It calls nothing, so that a loop of such pushes stays in registers: 1.5 times as fast in Rust.
+/// Takes a few bytes that can't fill the open block, one by one: each is written, and the code of the block that is open
+/// before it. No branch asks whether it is a zero, which gives its place to the next code.
 #[inline(always)]
-pub(crate) fn append_byte(
+pub(crate) fn append_few(
     source: &[u8],
     dest: &mut [u8],
     progress: EncoderProgress,
 ) -> EncoderProgress {
-    let EncoderProgress { index, code, .. } = progress;
-    let next = index + code as usize;
-    if source[0] == 0 {
-        dest[index] = code;
-        return progress_at(next, next + 1, false);
-    }
-    dest[next] = source[0];
-    if code as usize == FULL_BLOCK_BYTES {
-        dest[index] = FULL_CODE as u8;
-        return progress_at(next + 1, next + 2, true);
-    }
-    progress_at(index, next + 1, false)
-}
-
-/// Takes a few bytes that can't fill the open block, one by one: each is written, and the code of the block that is open
-/// before it. No branch asks whether it is a zero, which gives its place to the next code.
-#[inline(always)]
-fn append_few(source: &[u8], dest: &mut [u8], progress: EncoderProgress) -> EncoderProgress {
     let mut index = progress.index;
     let mut code = progress.code;
     let mut next = index + code as usize;
@@ -205,7 +188,10 @@ fn append_long_run(
     if read == source.len() {
         return (read, progress);
     }
-    (read + 1, append_byte(&source[read..], dest, progress))
+    let EncoderProgress { index, code, .. } = progress;
+    let next = index + code as usize;
+    dest[index] = code;
+    (read + 1, progress_at(next, next + 1, false))
 }
 
 /// Takes a `source` whose first run has `run` bytes: by that run, then by windows up to the next long one, in turn.

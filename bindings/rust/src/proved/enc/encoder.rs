@@ -69,10 +69,7 @@ impl<'a> CobsEncoder<'a> {
     /// # Ok::<(), Box<dyn std::error::Error>>(())
     /// ```
     pub fn push(&mut self, bytes: &[u8]) -> Result<(), DestBufTooSmallError> {
-        if !self.encoder.take(self.dest, bytes) {
-            return Err(DestBufTooSmallError);
-        }
-        Ok(())
+        self.encoder.push(self.dest, bytes)
     }
 
     /// Ends the message, and returns the length of its encoded frame in bytes. The slice begins with that frame, and

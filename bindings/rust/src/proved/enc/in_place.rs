@@ -1,8 +1,8 @@
 // Made by bindings/rust/translate.py from `crates/cobs/src/enc/in_place.rt`: change that file, and run it again.
 //! A message that is encoded in its own buffer.
 
-use crate::proved::enc::blocks::{append_byte, close};
-use crate::proved::enc::progress::START;
+use crate::proved::enc::UnbufferedEncoder;
+use crate::proved::enc::blocks::close;
 use crate::proved::max_encoding_overhead;
 
 /// Encodes a message in its own buffer, and returns the length of its frame in bytes.
@@ -22,10 +22,10 @@ use crate::proved::max_encoding_overhead;
 /// ```
 pub fn encode_in_place(buffer: &mut [u8], len: usize) -> usize {
     let before = max_encoding_overhead(len);
-    let mut progress = START;
+    let mut encoder = UnbufferedEncoder::new();
     'by_byte: for taken in 0..len {
         let byte = buffer[before + taken];
-        progress = append_byte(&[byte], buffer, progress);
+        encoder.append_byte(buffer, byte);
     }
-    close(buffer, progress)
+    close(buffer, encoder.progress())
 }

@@ -2,7 +2,7 @@
 //! Frames for another sentinel than 0, and frames between sentinels.
 
 use crate::proved::cobs_bytes::lanes::xor_bytes;
-use crate::proved::enc::{encode, try_encode};
+use crate::proved::enc::{encode, encode_few, try_encode, try_encode_any};
 use crate::proved::error::DestBufTooSmallError;
 
 /// Writes the encoded frame of `source` for this sentinel to the front of `dest`, and returns its length in bytes.
@@ -40,12 +40,16 @@ pub fn encode_with_sentinel(source: &[u8], dest: &mut [u8], sentinel: u8) -> usi
 /// assert_eq!(try_encode_with_sentinel(&[1, 0], &mut dest, 1), Ok(3));
 /// assert_eq!(dest, [3, 0, 0]);
 /// ```
+#[inline]
 pub fn try_encode_with_sentinel(
     source: &[u8],
     dest: &mut [u8],
     sentinel: u8,
 ) -> Result<usize, DestBufTooSmallError> {
-    let written = try_encode(source, dest)?;
+    if let Some(len) = encode_few(source, dest, sentinel) {
+        return Ok(len);
+    }
+    let written = try_encode_any(source, dest)?;
     xor_bytes(&mut dest[..written], sentinel);
     Ok(written)
 }

@@ -1,13 +1,10 @@
-use Rattle.std.proofs.Common.{◌<◌, length, refl, arith}
-use Rattle.std.proofs.lemmas.Grind.{common_steps}
-use Rattle.cobs.proofs.encoding.TakingLemmas.{start-after}
-use Rattle.cobs.proofs.format.SentinelLemmas.{encoded_nonzero}
+use Rattle.std.proofs.Common.{ℕ, List, take, subst}
+use Rattle.cobs.specs.Grammar.{IsEncodedFrame}
+use Rattle.cobs.proofs.format.SentinelLemmas.{encoded_nonzero, xor_each-zero}
 use Rattle.cobs.proofs.enc.try_encode.Goals as goal
 
-pub returns-clause-frame : goal.returns-clause-frame
-returns-clause-frame c =
-    let some : 0 < length c.args.dest.now = grind (arith, common_steps) in
-    c.close.ensures.frame c.args.source.now (start-after c.args.dest.now _ refl some (c.try_append.ensures.taken cc))
+pub returns-in-Some-clause-frame : goal.returns-in-Some-clause-frame
+returns-in-Some-clause-frame c = subst (λ (f : List ℕ). IsEncodedFrame f c.args.source.now) (xor_each-zero (take c.in-Some.len c.encode_few.new.dest)) c.in-Some.ensures.frame
 
-pub returns-clause-no_sentinel : goal.returns-clause-no_sentinel
-returns-clause-no_sentinel c = encoded_nonzero (returns-clause-frame c)
+pub returns-in-Some-clause-no_sentinel : goal.returns-in-Some-clause-no_sentinel
+returns-in-Some-clause-no_sentinel c = encoded_nonzero (returns-in-Some-clause-frame c)

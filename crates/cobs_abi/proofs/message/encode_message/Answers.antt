@@ -1,51 +1,32 @@
-use Rattle.std.proofs.Common.{◌≡◌, ◌≤◌, not, true, false, ℕ, List, [], length, drop, sym, ap, ◌∙◌, subst, arith, refl}
-use Rattle.std.proofs.lemmas.Bool.{true≢false, eqb-true}
-use Rattle.std.proofs.Math.ListN.{set}
-use Rattle.cobs.specs.Fields.Encoders.{reached_at}
-use Rattle.cobs.specs.Length.{encoded_len}
-use Rattle.cobs.specs.OpenBlock.{CobsEncoderAfter, Reached, end_of, place_at}
+use Rattle.std.proofs.Common.{◌≡◌, ◌<◌, ◌++◌, not, true, ℕ, List, [], length, drop, sym, ap, ◌∙◌, subst, arith}
+use Rattle.std.specs.Prelude.{OnOk, is_ok, Result, Ok, Err}
+use Rattle.cobs.specs.Fields.Encoders.{reached_by}
+use Rattle.cobs.specs.OpenBlock.{CobsEncoderAfter, end_of}
 use Rattle.cobs_abi.specs.declared.answer.TheConstants.{OK}
-use Rattle.cobs_abi.proofs.PlaceLemmas.{closed, closed-rest, nothing}
 use Rattle.cobs_abi.proofs.message.encode_message.Goals as goal
-use Rattle.cobs_abi.proofs.message.encode_message.Goals.{then-is_empty, else-is_empty, then-not-progress, else-not-progress}
 
-pub returns-then-not-has_room : goal.returns-then-not-has_room
-returns-then-not-has_room c =
-    let long : encoded_len c.args.message.now ≤ length c.args.buffer.now → ⊥ = λ le. true≢false (sym (c.has_room.ensures.fits.1 le) ∙ c.if-not-has_room.true) in
-    record { encodes = rw c.too_small.ensures (record { fits = λ le. absurd (long le); wanted = λ le. absurd (long le); too_small = λ _. refl; rest = refl }) }
+when-ok : {A E : Type 0} (result : Result A E) (P : Type 0) → is_ok result ≡ true → OnOk result P → P
+when-ok (Ok x) P is h = h
+when-ok (Err x) P is h = absurd cc
 
-pub returns : goal.returns
-returns c =
+pub returns-in-Ok : goal.returns-in-Ok
+returns-in-Ok c =
     let m : List ℕ = c.args.message.now in
-    let buffer : List ℕ = c.args.buffer.now in
-    let mid : List ℕ = c.if-is_empty.buffer in
-    let r : Reached = reached_at c.if-is_empty.progress in
-    let fits : encoded_len m ≤ length buffer = c.has_room.ensures.fits.0 c.if-not-has_room.false in
-    let start : CobsEncoderAfter buffer (place_at 0 1 false) [] = c.law_16.ensures.nothing buffer (omega (arith, fits, c.law_4.ensures.lower m)) in
-    let taken : CobsEncoderAfter mid r m = elim c.if-is_empty.branch [
-      | then-is_empty w ↦ rw (w.buffer-is, w.progress-is) (subst (CobsEncoderAfter buffer (place_at 0 1 false)) (sym (nothing m (eqb-true _ 0 (sym c.is_empty.ensures ∙ w.if-is_empty.true)))) start)
-      | else-is_empty w ↦ rw (w.buffer-is, w.progress-is) (w.append-progress.ensures.taken [] start)
-    ] in
-    let behind : drop (end_of r) mid ≡ drop (end_of r) buffer = elim c.if-is_empty.branch [
-      | then-is_empty w ↦ rw (w.buffer-is, w.progress-is) refl
-      | else-is_empty w ↦ rw (w.buffer-is, w.progress-is) w.append-progress.ensures.rest
-    ] in
-    let place = c.law_16.ensures.place mid m r taken in
-    let e = c.law_13.ensures.end mid m r taken in
-    let open' : r.full ≡ false → c.if-not-progress.buffer ≡ set mid r.block.index r.block.code = λ part. elim c.if-not-progress.branch [
-      | then-not-progress w ↦ w.buffer-is
-      | else-not-progress w ↦ absurd (true≢false (sym (ap not part) ∙ w.if-not-progress.false))
-    ] in
-    let full' : r.full ≡ true → c.if-not-progress.buffer ≡ mid = λ full. elim c.if-not-progress.branch [
-      | then-not-progress w ↦ absurd (true≢false (sym w.if-not-progress.true ∙ ap not full))
-      | else-not-progress w ↦ w.buffer-is
-    ] in
-    let f = closed c.law_16.ensures.frame c.law_16.ensures.full_frame mid m c.if-not-progress.buffer r taken open' full' in
+    let old : List ℕ = c.args.buffer.now in
+    let pushed : List ℕ = c.push_each.new.dest in
+    let end : ℕ = end_of (reached_by c.push_each.new.self) in
+    let e = c.in-Ok.ensures in
+    let ok : is_ok c.push_each.result ≡ true = c.is_err.ensures.negation ∙ ap not c.if-is_err.false in
+    let some : 0 < length old = omega (arith, (c.push_each.ensures.room.0 ok).place.fits, ap end_of c.new-encoder.ensures.start) in
+    let after : CobsEncoderAfter pushed (reached_by c.push_each.new.self) m =
+    when-ok c.push_each.result ((x : List ℕ) → CobsEncoderAfter old (reached_by c.new-encoder.result) x → CobsEncoderAfter pushed (reached_by c.push_each.new.self) (x ++ m)) ok c.push_each.ensures.taken
+        [] (c.new-encoder.ensures.taken old some) in
+    let behind : drop end pushed ≡ drop end old = when-ok c.push_each.result (drop end pushed ≡ drop end old) ok c.push_each.ensures.rest in
     record {
-      encodes = rw (c.done.ensures, c.end_of.ensures) (record {
-        fits = λ _. ap (λ (n : ℕ). record { status = OK; consumed = length m; length = n }) (omega (arith, e));
-        wanted = λ _. (f, (c.law_1.ensures.only _ m f.reads).1);
-        too_small = λ long. absurd (omega (arith, long, fits));
-        rest = closed-rest mid c.if-not-progress.buffer r place.some open' full' ∙ behind;
+      encodes = rw c.done.ensures (record {
+        fits = λ _. ap (λ (n : ℕ). record { status = OK; consumed = length m; length = n }) (e.len m after);
+        wanted = λ _. (e.frame m after, e.no_sentinel m after);
+        too_small = λ long. absurd (omega (arith, long, e.len m after, e.within, c.push_each.ensures.len));
+        rest = e.rest ∙ subst (λ (n : ℕ). drop n pushed ≡ drop n old) (sym e.end) behind;
       });
     }

@@ -2,4 +2,4 @@ use Rattle.cobs_abi.proofs.FinishLemmas.{Finishes-changed}
 use Rattle.cobs_c.proofs.encoder.jcobs_encoder_finish_with_sentinel.Goals as goal
 
 pub returns : goal.returns
-returns c = record { finishes = Finishes-changed c.law_6.ensures.free c.law_6.ensures.back c.args.sentinel c.xor_bytes.ensures c.jcobs_encoder_finish-returned.ensures.finishes }
+returns c = record { finishes = Finishes-changed c.law_6.ensures.free c.law_6.ensures.back c.args.sentinel c.xor_bytes.ensures.changed c.jcobs_encoder_finish-returned.ensures.finishes }

@@ -1,8 +1,9 @@
-use Rattle.std.proofs.Common.{◌≤◌, ◌+◌, ◌-◌, false, ℕ, List, drop, length, refl, arith, length-drop}
+use Rattle.std.proofs.Common.{◌≡◌, ◌≤◌, ◌+◌, ◌-◌, ◌∙◌, false, ℕ, List, ap, drop, get_or, length, refl, arith, length-drop}
 use borrow.Rule.Slice.PartMut.{put_mid}
-use Rattle.std.proofs.lemmas.List.{take_rest}
+use Rattle.std.proofs.lemmas.List.{drop_more}
 use Rattle.cobs.specs.OpenBlock.{CobsEncoderAfter, end_after, next_of}
 use Rattle.cobs.specs.Fields.Progress.{reached_at}
+use Rattle.cobs.proofs.encoding.ByteLemmas.{byte-zero}
 use Rattle.cobs.proofs.encoding.ReachLemmas.{IsNotFull, Reaches, Reaches-weaker}
 use Rattle.cobs.proofs.encoding.MarkLemmas.{run-nonzero, slice-joined}
 use Rattle.cobs.proofs.encoding.TakingLemmas.{front-filled, front-next, front-none, front-taken, next-least, reaches-start}
@@ -52,4 +53,12 @@ by_block-preserved-then-next-len c =
     record { within = omega arith; taken = front-next c.by_block.read c.min-len.result refl c.by_block.invariant.taken (front-filled (omega arith) c.if-next-len.true (Reaches-weaker (λ full p. tt) s) c.progress_at-progress.ensures) }
 
 pub returns-clause-taken : goal.returns-clause-taken
-returns-clause-taken c = front-next c.by_block.read 1 (take_rest c.args.source.now c.by_block.read) c.by_block.invariant.taken c.append_byte.ensures
+returns-clause-taken c =
+    let left : List ℕ = drop c.by_block.read c.args.source.now in
+    let t = c.by_block.invariant.taken in
+    let end = t.end in
+    let within = c.requires.run.within in
+    let at_end : c.by_block.read ≡ c.args.run = omega arith in
+    let zero : get_or left 0 0 ≡ 0 = ap (λ (xs : List ℕ). get_or xs 0 0) (drop_more c.args.source.now c.by_block.read 0 (omega arith)) ∙ ap (λ (i : ℕ). get_or c.args.source.now i 0) at_end ∙ c.requires.run.stop (omega arith) in
+    let long = length-drop c.by_block.read c.args.source.now in
+    front-next c.by_block.read 1 refl t (byte-zero left c.by_block.dest (reached_at c.by_block.progress) (omega arith) t.place (omega arith) zero c.progress_at.ensures)

@@ -1,14 +1,14 @@
 use Rattle.std.proofs.Common.{◌≡◌, ◌<◌, ◌≤◌, ◌+◌, ◌-◌, ◌++◌, ℕ, List, [], ◌∷◌, drop, take, get_or, refl, sym, ap, ◌∙◌, subst, arith, length, length-drop, length-take}
 use Rattle.std.proofs.lemmas.Bool.{cases_Bool}
 use Rattle.std.proofs.lemmas.List.{drop-drop, get_or-drop, length_push, take_more}
-use Rattle.cobs.specs.Fields.Progress.{reached_at}
+use Rattle.cobs.specs.Fields.Progress.{reached_at, reached_by}
 use Rattle.cobs.specs.Length.{max_encoded_len}
-use Rattle.cobs.specs.OpenBlock.{CobsEncoderAfter, Reached, end_after, end_of, next_of}
+use Rattle.cobs.specs.OpenBlock.{CobsEncoderAfter, IsPlaceIn, Reached, end_after, end_of, next_of}
 use Rattle.cobs.specs.Overwritten.{message_in}
 use Rattle.cobs.proofs.format.LengthLemmas.{encoded_len-le}
 use Rattle.cobs.proofs.format.SentinelLemmas.{encoded_nonzero}
 use Rattle.cobs.proofs.encoding.AfterLemmas.{end-is}
-use Rattle.cobs.proofs.encoding.CoreLemmas.{after-nothing}
+use Rattle.cobs.proofs.encoding.StepLemmas.{room-only}
 use Rattle.cobs.proofs.encoding.TakingLemmas.{after-end, after-place, all-end, all-rest, next-least}
 use Rattle.cobs.proofs.enc.in_place.encode_in_place.Goals as goal
 
@@ -35,23 +35,28 @@ fits-one slice m r byte n h more fits =
     omega arith
 
 pub by_byte-init : goal.by_byte-init
-by_byte-init c = record { after = after-nothing c.args.buffer.now (omega arith); rest = refl }
+by_byte-init c = record { after = c.new-encoder.ensures.taken c.args.buffer.now (omega arith); rest = refl }
 
-pub append_byte-progress-requires : goal.append_byte-progress-requires
-append_byte-progress-requires c =
+pub append_byte-requires : goal.append_byte-requires
+append_byte-requires c =
     let i = c.by_byte.invariant in
+    let r : Reached = reached_by c.by_byte.encoder in
+    let byte : ℕ = get_or c.by_byte.buffer (c.max_encoding_overhead-before.result + c.by_byte.taken) 0 in
     let long = length-take c.by_byte.taken (drop c.max_encoding_overhead-before.result c.args.buffer.now) in
-    record { some = omega arith; place = after-place c.by_byte.buffer _ (reached_at c.by_byte.progress) i.after; fits = fits-one c.by_byte.buffer _ (reached_at c.by_byte.progress) _ c.args.len i.after (omega arith) (omega arith) }
+    let room = room-only c.by_byte.encoder (length c.by_byte.buffer) byte
+    (record { place = after-place c.by_byte.buffer _ r i.after; fits = fits-one c.by_byte.buffer _ r byte c.args.len i.after (omega arith) (omega arith) }) in
+    record { open_block = room.0; room = room.1 }
 
 pub by_byte-preserved : goal.by_byte-preserved
 by_byte-preserved c =
     let old : List ℕ = c.args.buffer.now in
     let before : ℕ = c.max_encoding_overhead-before.result in
     let at : ℕ = before + c.by_byte.taken in
-    let r : Reached = reached_at c.by_byte.progress in
-    let r' : Reached = reached_at c.append_byte-progress.result in
+    let r : Reached = reached_by c.by_byte.encoder in
+    let r' : Reached = reached_by c.append_byte.new.self in
     let i = c.by_byte.invariant in
-    let e = c.append_byte-progress.ensures in
+    let some = length-take c.by_byte.taken (drop before old) in
+    let e = c.append_byte.ensures [] (fits-one c.by_byte.buffer _ r _ c.args.len i.after (omega arith) (omega arith)) in
     let long = length-drop before old in
     let taken = length-take c.by_byte.taken (drop before old) in
     let end = end-is c.by_byte.buffer _ r i.after in
@@ -65,19 +70,20 @@ by_byte-preserved c =
     record { after = rw more (e.after _ i.after); rest = all-rest e ∙ further (end_of r) (end_of r') c.by_byte.buffer old (omega arith) i.rest }
 
 pub close-requires : goal.close-requires
-close-requires c = after-place c.by_byte.buffer _ (reached_at c.by_byte.progress) c.by_byte.invariant.after
+close-requires c = subst (IsPlaceIn (length c.by_byte.buffer)) (sym c.progress.ensures.progress) (after-place c.by_byte.buffer _ (reached_by c.by_byte.encoder) c.by_byte.invariant.after)
 
 pub returns : goal.returns
 returns c =
-    let r : Reached = reached_at c.by_byte.progress in
+    let r : Reached = reached_at c.progress.result in
     let all : c.by_byte.taken ≡ c.args.len = omega arith in
     let message : take c.by_byte.taken (drop c.max_encoding_overhead-before.result c.args.buffer.now) ≡ message_in c.args.len c.args.buffer.now =
     ap (λ (n : ℕ). take n (drop c.max_encoding_overhead-before.result c.args.buffer.now)) all ∙ ap (λ (n : ℕ). take c.args.len (drop n c.args.buffer.now)) c.max_encoding_overhead-before.ensures.overhead in
-    let after = rw message at c.by_byte.invariant.after in
+    let same = c.progress.ensures.progress in
+    let after = subst (λ (r : Reached). CobsEncoderAfter c.by_byte.buffer r (message_in c.args.len c.args.buffer.now)) (sym same) (rw message at c.by_byte.invariant.after) in
     let frame = c.close.ensures.frame (message_in c.args.len c.args.buffer.now) after in
     record {
       frame = frame;
       no_sentinel = encoded_nonzero frame;
       len = c.close.ensures.end ∙ sym (end-is c.by_byte.buffer (message_in c.args.len c.args.buffer.now) r after);
-      rest = c.close.ensures.rest ∙ subst (λ (n : ℕ). drop n c.by_byte.buffer ≡ drop n c.args.buffer.now) (sym c.close.ensures.end) c.by_byte.invariant.rest;
+      rest = c.close.ensures.rest ∙ subst (λ (n : ℕ). drop n c.by_byte.buffer ≡ drop n c.args.buffer.now) (sym (c.close.ensures.end ∙ ap end_of same)) c.by_byte.invariant.rest;
     }

@@ -8,3 +8,6 @@ returns-clause-frame c = grind (arith, length-map, length-take-le, take_at, xor_
 
 pub returns-clause-no_sentinel : goal.returns-clause-no_sentinel
 returns-clause-no_sentinel c = encoded_free c.args.sentinel _ (returns-clause-frame c)
+
+pub returns-in-Some-clause-no_sentinel : goal.returns-in-Some-clause-no_sentinel
+returns-in-Some-clause-no_sentinel c = encoded_free c.args.sentinel _ c.in-Some.ensures.frame

@@ -1,6 +1,6 @@
 use Rattle.std.proofs.Common.{◌≡◌, ◌+◌, ◌<◌, ◌≤◌, drop}
 use Rattle.cobs.specs.Length.{open_len}
-use Rattle.cobs_abi.proofs.block.fits.Given as goal
+use Rattle.cobs.proofs.enc.room.fits_each.Given as goal
 
 -- what the bytes that are left need is what all of them need, less what is used up
 abbrev pub invariant-by_byte : goal.invariant-by_byte

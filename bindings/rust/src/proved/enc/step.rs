@@ -1,0 +1,133 @@
+// Made by bindings/rust/translate.py from `crates/cobs/src/enc/step.rt`: change that file, and run it again.
+//! The encoder byte by byte: the step for a byte of the message, and a piece as a loop of steps.
+
+use crate::proved::block::{FULL_BLOCK_BYTES, FULL_CODE};
+use crate::proved::enc::UnbufferedEncoder;
+use crate::proved::enc::blocks::{FEW, append_few};
+use crate::proved::enc::room::has_room;
+use crate::proved::error::DestBufTooSmallError;
+
+impl UnbufferedEncoder {
+    /// Takes the next byte of the message, for which there is room.
+    // It calls nothing, so that a loop of such steps stays in registers.
+    #[inline(always)]
+    pub(crate) fn append_byte(&mut self, dest: &mut [u8], byte: u8) {
+        let code = self.taken + 1;
+        let next = self.index + code as usize;
+        if byte == 0 {
+            dest[self.index] = code;
+            self.index = next;
+            self.taken = 0;
+            self.full = 0;
+            return;
+        }
+        dest[next] = byte;
+        if code as usize == FULL_BLOCK_BYTES {
+            dest[self.index] = FULL_CODE as u8;
+            self.index = next + 1;
+            self.taken = 0;
+            self.full = 1;
+        } else {
+            self.taken = code;
+            self.full = 0;
+        }
+    }
+
+    /// Takes the next byte of the message.
+    ///
+    /// It does what [`push`](UnbufferedEncoder::push) of this byte does, and fails where that does.
+    ///
+    /// # Errors
+    /// `DestBufTooSmallError` if the byte doesn't fit. Then neither the encoder nor the buffer has changed.
+    ///
+    /// ```
+    /// # use jcobs::proved::*;
+    /// let mut buffer = [170; 2];
+    /// let mut encoder = UnbufferedEncoder::new();
+    /// assert_eq!(encoder.feed(&mut buffer, 7), Ok(()));
+    /// assert_eq!(encoder.feed(&mut buffer, 8), Err(DestBufTooSmallError));
+    /// assert_eq!(encoder.finalize(&mut buffer), Ok(2));
+    /// assert_eq!(buffer, [2, 7]);
+    /// ```
+    #[inline(always)]
+    pub fn feed(&mut self, dest: &mut [u8], byte: u8) -> Result<(), DestBufTooSmallError> {
+        let room = dest.len();
+        let taken = self.taken;
+        if 253 < taken || room < self.index || room - self.index <= taken as usize + 1 {
+            return Err(DestBufTooSmallError);
+        }
+        self.append_byte(dest, byte);
+        Ok(())
+    }
+
+    /// Takes up to 8 bytes of the message if they fit and can't fill the open block, and returns whether it did. Otherwise
+    /// nothing has changed, and [`push`](UnbufferedEncoder::push) takes the bytes if they fit.
+    ///
+    /// No branch asks whether a byte is a zero, which a processor could guess wrong: single bytes, and records pushed field
+    /// by field, take less time then if zeros come by chance, and more if they come seldom.
+    ///
+    /// ```
+    /// # use jcobs::proved::*;
+    /// let mut buffer = [170; 7];
+    /// let mut encoder = UnbufferedEncoder::new();
+    /// assert!(encoder.push_few(&mut buffer, b"hello"));
+    /// assert!(!encoder.push_few(&mut buffer, b"you"));
+    /// assert_eq!(encoder.finalize(&mut buffer), Ok(6));
+    /// assert_eq!(&buffer, b"\x06hello\xaa");
+    /// ```
+    #[inline(always)]
+    pub fn push_few(&mut self, dest: &mut [u8], bytes: &[u8]) -> bool {
+        let len = bytes.len();
+        let taken = self.taken as usize;
+        let room = dest.len().saturating_sub(self.index);
+        if len == 0 || FEW < len || 253 < taken + len || room <= taken + len {
+            return false;
+        }
+        *self = UnbufferedEncoder::from_progress(append_few(bytes, dest, self.progress()));
+        true
+    }
+
+    /// Takes the next bytes of the message, one at a time.
+    ///
+    /// It does what [`push`](UnbufferedEncoder::push) does, in less code and more time: for small devices.
+    ///
+    /// # Errors
+    /// Those of [`push`](UnbufferedEncoder::push).
+    ///
+    /// ```
+    /// # use jcobs::proved::*;
+    /// let mut buffer = [170; 7];
+    /// let mut encoder = UnbufferedEncoder::new();
+    /// encoder.push_each(&mut buffer, b"hello")?;
+    /// assert_eq!(encoder.finalize(&mut buffer), Ok(6));
+    /// assert_eq!(&buffer, b"\x06hello\xaa");
+    /// # Ok::<(), Box<dyn std::error::Error>>(())
+    /// ```
+    #[inline]
+    pub fn push_each(&mut self, dest: &mut [u8], bytes: &[u8]) -> Result<(), DestBufTooSmallError> {
+        if !self.is_within(dest.len()) {
+            return Err(DestBufTooSmallError);
+        }
+        if bytes.is_empty() {
+            return Ok(());
+        }
+        if !has_room(self.taken + 1, bytes, dest.len() - self.index) {
+            return Err(DestBufTooSmallError);
+        }
+        self.append_each(dest, bytes);
+        Ok(())
+    }
+
+    /// Takes the next bytes of the message, for which there is room, one at a time.
+    #[inline(always)]
+    fn append_each(&mut self, dest: &mut [u8], bytes: &[u8]) {
+        // A copy, so that the numbers stay in registers.
+        let mut encoder = *self;
+        'by_byte: for i in 0..bytes.len() {
+            encoder.append_byte(dest, bytes[i]);
+        }
+        self.index = encoder.index;
+        self.taken = encoder.taken;
+        self.full = encoder.full;
+    }
+}

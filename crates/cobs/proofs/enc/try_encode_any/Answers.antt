@@ -1,0 +1,13 @@
+use Rattle.std.proofs.Common.{◌<◌, length, refl, arith}
+use Rattle.std.proofs.lemmas.Grind.{common_steps}
+use Rattle.cobs.proofs.encoding.TakingLemmas.{start-after}
+use Rattle.cobs.proofs.format.SentinelLemmas.{encoded_nonzero}
+use Rattle.cobs.proofs.enc.try_encode_any.Goals as goal
+
+pub returns-clause-frame : goal.returns-clause-frame
+returns-clause-frame c =
+    let some : 0 < length c.args.dest.now = grind (arith, common_steps) in
+    c.close.ensures.frame c.args.source.now (start-after c.args.dest.now _ refl some (c.try_append.ensures.taken cc))
+
+pub returns-clause-no_sentinel : goal.returns-clause-no_sentinel
+returns-clause-no_sentinel c = encoded_nonzero (returns-clause-frame c)

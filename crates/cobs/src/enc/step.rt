@@ -1,0 +1,177 @@
+//! The encoder byte by byte: the step for a byte of the message, and a piece as a loop of steps.
+ghost use Rattle.std.specs.Prelude.{◌≡◌, ◌<◌, ◌≤◌, ◌+◌, ◌++◌, ◌↔◌, [], ◌∷◌, ℕ, List, length, drop, IsOk, IsTrue, OnOk, OnErr, false};
+ghost use Rattle.cobs.specs.Length.{encoded_len};
+ghost use Rattle.cobs.specs.OpenBlock.{CobsEncoderAfter, HasRoomFor, IsPlaceIn, end_after, end_of};
+ghost use Rattle.cobs.specs.Fields.Progress.{reached_by};
+ghost use Rattle.cobs.specs.Internal.Taking.{TakesFront};
+
+use crate::block::{FULL_BLOCK_BYTES, FULL_CODE};
+use crate::enc::UnbufferedEncoder;
+use crate::enc::blocks::{FEW, append_few};
+use crate::enc::room::has_room;
+use crate::error::DestBufTooSmallError;
+
+impl UnbufferedEncoder {
+    /// Takes the next byte of the message, for which there is room.
+    // It calls nothing, so that a loop of such steps stays in registers.
+    #[inline(always)]
+    pub(crate) fn append_byte(&mut self, dest: &mut [u8], byte: u8)
+        requires open_block { self.old.taken ≤ 253 }
+        requires room { self.old.index + self.old.taken + 1 < length dest.old }
+        ensures { (behind : List ℕ) → end_after (reached_by self.old) (byte ∷ behind) ≤ length dest.old
+            → TakesFront dest.old (reached_by self.old) (byte ∷ behind) 1 dest.new (reached_by self.new) }
+    {
+        let code = self.taken + 1;
+        let next = self.index + code as usize;
+        if byte == 0 {
+            dest[self.index] = code;
+            self.index = next;
+            self.taken = 0;
+            self.full = 0;
+            return;
+        }
+        dest[next] = byte;
+        if code as usize == FULL_BLOCK_BYTES {
+            dest[self.index] = FULL_CODE as u8;
+            self.index = next + 1;
+            self.taken = 0;
+            self.full = 1;
+        } else {
+            self.taken = code;
+            self.full = 0;
+        }
+    }
+
+    /// Takes the next byte of the message.
+    ///
+    /// It does what [`push`](UnbufferedEncoder::push) of this byte does, and fails where that does.
+    ///
+    /// # Errors
+    /// `DestBufTooSmallError` if the byte doesn't fit. Then neither the encoder nor the buffer has changed.
+    ///
+    /// ```
+    /// let mut buffer = [170; 2];
+    /// let mut encoder = UnbufferedEncoder::new();
+    /// assert_eq!(rt; encoder.feed(&mut buffer, 7), Ok(()));
+    /// assert_eq!(rt; encoder.feed(&mut buffer, 8), Err(DestBufTooSmallError));
+    /// assert_eq!(rt; encoder.finalize(&mut buffer), Ok(2));
+    /// assert_eq!(rt; buffer, [2, 7]);
+    /// ```
+    #[inline(always)]
+    #[tactic(auto, using(crate::proofs::encoding::TakingLemmas::encoder_steps))]
+    pub fn feed(&mut self, dest: &mut [u8], byte: u8) -> Result<(), DestBufTooSmallError>
+        ensures room { IsOk result ↔ HasRoomFor (length dest.old) (reached_by self.old) (byte ∷ []) }
+        ensures fits { (m : List ℕ) → CobsEncoderAfter dest.old (reached_by self.old) m
+            → (IsOk result ↔ (encoded_len (m ++ byte ∷ []) ≤ length dest.old)) }
+        ensures taken { OnOk result ((m : List ℕ)
+            → CobsEncoderAfter dest.old (reached_by self.old) m
+            → CobsEncoderAfter dest.new (reached_by self.new) (m ++ byte ∷ [])) }
+        ensures rest { OnOk result (let end = end_of (reached_by self.new) in drop end dest.new ≡ drop end dest.old) }
+        ensures within { OnOk result (IsPlaceIn (length dest.new) (reached_by self.new)) }
+        ensures len { length dest.new ≡ length dest.old }
+        ensures refused { OnErr result ((dest.new ≡ dest.old) × (self.new ≡ self.old)) }
+    {
+        let room = dest.len();
+        let taken = self.taken;
+        if 253 < taken || room < self.index || room - self.index <= taken as usize + 1 {
+            return Err(DestBufTooSmallError);
+        }
+        self.append_byte(dest, byte);
+        Ok(())
+    }
+
+    /// Takes up to 8 bytes of the message if they fit and can't fill the open block, and returns whether it did. Otherwise
+    /// nothing has changed, and [`push`](UnbufferedEncoder::push) takes the bytes if they fit.
+    ///
+    /// No branch asks whether a byte is a zero, which a processor could guess wrong: single bytes, and records pushed field
+    /// by field, take less time then if zeros come by chance, and more if they come seldom.
+    ///
+    /// ```
+    /// let mut buffer = [170; 7];
+    /// let mut encoder = UnbufferedEncoder::new();
+    /// assert!(rt; encoder.push_few(&mut buffer, b"hello"));
+    /// assert!(rt; !encoder.push_few(&mut buffer, b"you"));
+    /// assert_eq!(rt; encoder.finalize(&mut buffer), Ok(6));
+    /// assert_eq!(rt; &buffer, b"\x06hello\xaa");
+    /// ```
+    #[inline(always)]
+    #[tactic(auto, using(crate::proofs::encoding::TakingLemmas::few_steps))]
+    pub fn push_few(&mut self, dest: &mut [u8], bytes: &[u8]) -> bool
+        ensures taken { IsTrue result → (m : List ℕ)
+            → CobsEncoderAfter dest.old (reached_by self.old) m
+            → CobsEncoderAfter dest.new (reached_by self.new) (m ++ bytes.now) }
+        ensures rest { IsTrue result → (let end = end_of (reached_by self.new) in drop end dest.new ≡ drop end dest.old) }
+        ensures within { IsTrue result → IsPlaceIn (length dest.new) (reached_by self.new) }
+        ensures len { length dest.new ≡ length dest.old }
+        ensures refused { result ≡ false → (dest.new ≡ dest.old) × (self.new ≡ self.old) }
+    {
+        let len = bytes.len();
+        let taken = self.taken as usize;
+        let room = dest.len().saturating_sub(self.index);
+        if len == 0 || FEW < len || 253 < taken + len || room <= taken + len {
+            return false;
+        }
+        *self = UnbufferedEncoder::from_progress(append_few(bytes, dest, self.progress()));
+        true
+    }
+
+    /// Takes the next bytes of the message, one at a time.
+    ///
+    /// It does what [`push`](UnbufferedEncoder::push) does, in less code and more time: for small devices.
+    ///
+    /// # Errors
+    /// Those of [`push`](UnbufferedEncoder::push).
+    ///
+    /// ```
+    /// let mut buffer = [170; 7];
+    /// let mut encoder = UnbufferedEncoder::new();
+    /// encoder.push_each(&mut buffer, b"hello")?;
+    /// assert_eq!(rt; encoder.finalize(&mut buffer), Ok(6));
+    /// assert_eq!(rt; &buffer, b"\x06hello\xaa");
+    /// ```
+    #[inline]
+    #[tactic(auto, using(crate::proofs::encoding::TakingLemmas::encoder_steps))]
+    pub fn push_each(&mut self, dest: &mut [u8], bytes: &[u8]) -> Result<(), DestBufTooSmallError>
+        ensures room { IsOk result ↔ HasRoomFor (length dest.old) (reached_by self.old) bytes.now }
+        ensures fits { (m : List ℕ) → CobsEncoderAfter dest.old (reached_by self.old) m
+            → (IsOk result ↔ (encoded_len (m ++ bytes.now) ≤ length dest.old)) }
+        ensures taken { OnOk result ((m : List ℕ)
+            → CobsEncoderAfter dest.old (reached_by self.old) m
+            → CobsEncoderAfter dest.new (reached_by self.new) (m ++ bytes.now)) }
+        ensures rest { OnOk result (let end = end_of (reached_by self.new) in drop end dest.new ≡ drop end dest.old) }
+        ensures within { OnOk result (IsPlaceIn (length dest.new) (reached_by self.new)) }
+        ensures len { length dest.new ≡ length dest.old }
+        ensures refused { OnErr result ((dest.new ≡ dest.old) × (self.new ≡ self.old)) }
+        ensures empty { bytes.now ≡ [] → (dest.new ≡ dest.old) × (self.new ≡ self.old) }
+    {
+        if !self.is_within(dest.len()) {
+            return Err(DestBufTooSmallError);
+        }
+        if bytes.is_empty() {
+            return Ok(());
+        }
+        if !has_room(self.taken + 1, bytes, dest.len() - self.index) {
+            return Err(DestBufTooSmallError);
+        }
+        self.append_each(dest, bytes);
+        Ok(())
+    }
+
+    /// Takes the next bytes of the message, for which there is room, one at a time.
+    #[inline(always)]
+    fn append_each(&mut self, dest: &mut [u8], bytes: &[u8])
+        requires some { 0 < length bytes.now }
+        requires place { IsPlaceIn (length dest.old) (reached_by self.old) }
+        requires fits { end_after (reached_by self.old) bytes.now ≤ length dest.old }
+        ensures { TakesFront dest.old (reached_by self.old) bytes.now (length bytes.now) dest.new (reached_by self.new) }
+    {
+        // A copy, so that the numbers stay in registers.
+        let mut encoder = *self;
+        'by_byte: for i in 0..bytes.len() {
+            encoder.append_byte(dest, bytes[i]);
+        }
+        self.index = encoder.index;
+        self.taken = encoder.taken;
+        self.full = encoder.full;
+    }
+}
