@@ -28,7 +28,10 @@ pub extern "C" fn jcobs_encoder_push(
         encoder.new buffer.new }
 {
     law_13();
-    if !encoder.push_few(buffer, bytes) && encoder.push(buffer, bytes).is_err() {
+    if encoder.push_few(buffer, bytes) {
+        return done(bytes.len(), end_of(encoder));
+    }
+    if encoder.push(buffer, bytes).is_err() {
         return too_small();
     }
     done(bytes.len(), end_of(encoder))
