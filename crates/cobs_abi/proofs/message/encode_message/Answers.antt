@@ -20,7 +20,7 @@ returns-in-Ok c =
     let some : 0 < length old = omega (arith, (c.push_each.ensures.room.0 ok).place.fits, ap end_of c.new-encoder.ensures.start) in
     let after : CobsEncoderAfter pushed (reached_by c.push_each.new.self) m =
     when-ok c.push_each.result ((x : List ℕ) → CobsEncoderAfter old (reached_by c.new-encoder.result) x → CobsEncoderAfter pushed (reached_by c.push_each.new.self) (x ++ m)) ok c.push_each.ensures.taken
-        [] (c.new-encoder.ensures.taken old some) in
+    [] (c.new-encoder.ensures.taken old some) in
     let behind : drop end pushed ≡ drop end old = when-ok c.push_each.result (drop end pushed ≡ drop end old) ok c.push_each.ensures.rest in
     record {
       encodes = rw c.done.ensures (record {
