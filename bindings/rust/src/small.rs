@@ -2,9 +2,7 @@
 
 use crate::dec::{DecodeError, DecodeReport, FrameKind};
 use crate::enc::DestBufTooSmallError;
-use crate::proved::cobs_abi::{
-    Answer, BROKEN, CANONICAL, EMPTY, LONGER, OK, TOO_SMALL,
-};
+use crate::proved::cobs_abi::{Answer, BROKEN, CANONICAL, EMPTY, LONGER, OK, TOO_SMALL};
 use crate::proved::cobs_bytes::lanes::xor_bytes;
 use crate::proved::cobs_small::decode::jcobs_decode;
 use crate::proved::cobs_small::encode::{jcobs_encode, jcobs_encode_terminated};

@@ -121,7 +121,10 @@ fn encoder_progress_example(rt: HostRuntime) -> Result<(), Fail> {
     let mut encoder = UnbufferedEncoder::new();
     encoder.push(&mut buffer, b"hello")?;
     let progress = encoder.progress();
-    assert_eq!(rt; (progress.index, progress.code, progress.is_full), (0, 6, false));
+    assert_eq!(rt;
+        (progress.index, progress.code, progress.is_full),
+        (0, 6, false)
+    );
     Ok(())
 }
 

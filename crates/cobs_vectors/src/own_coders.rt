@@ -1,7 +1,7 @@
 //! Coders of a user's own, proved from the laws only, and an encoder in a state that another program kept.
 ghost use Rattle.std.specs.Prelude.{◌≡◌, ◌≤◌, ◌<◌, ◌^◌, ◌↔◌, List, ℕ, length, take, IfOk, IsOk, IsTrue};
 ghost use Rattle.cobs.specs.Feed.{Feeds};
-ghost use Rattle.cobs.specs.FeedPiece.{TakesPiece, end_reported};
+ghost use Rattle.cobs.specs.FeedPiece.{TakesPiece};
 ghost use Rattle.cobs.specs.Fields.Decoders.{phase_of};
 ghost use Rattle.cobs.specs.Fields.Encoders.{reached_by};
 ghost use Rattle.cobs.specs.Grammar.{IsCanonical, IsEncodedFrame, IsFrame, Reads};
@@ -13,8 +13,8 @@ ghost use Rattle.cobs.specs.Sentinel.{IsEncodedFrameFor, IsFreeOf, xor_each};
 
 use cobs::laws::{law_1, law_4, law_6, law_15, law_16, law_17, law_19, law_20};
 use cobs::{
-    DecodeError, DecoderPhase, DestBufTooSmallError, FrameKind, PieceEnd, UnbufferedDecoder,
-    UnbufferedEncoder, encode, encode_with_sentinel,
+    DecodeError, DestBufTooSmallError, FrameKind, PieceEnd, UnbufferedDecoder, UnbufferedEncoder,
+    encode, encode_with_sentinel,
 };
 use std::alloc::{AllocError, Global};
 
@@ -116,18 +116,6 @@ pub fn encode_by_byte(message: &[u8], dest: &mut [u8]) -> usize
     index + code as usize
 }
 
-/// How the result for a zero ends a piece.
-fn piece_end(returned: Result<Option<usize>, DecodeError>) -> Option<PieceEnd>
-    ensures { result ≡ end_reported returned }
-{
-    match returned {
-        Ok(None) | Err(DecodeError::EmptyFrame) => None,
-        Ok(Some(len)) => Some(PieceEnd::Message(len)),
-        Err(DecodeError::InvalidFrame { decoded_bytes }) => Some(PieceEnd::Broken(decoded_bytes)),
-        Err(DecodeError::TargetBufTooSmall) => Some(PieceEnd::TooLong),
-    }
-}
-
 /// Takes bytes one by one through the zero that ends the first piece, or all of them: this is `feed_piece`.
 pub fn feed_each(
     decoder: &mut UnbufferedDecoder,
@@ -141,7 +129,7 @@ pub fn feed_each(
     'by_byte: for (i, byte) in bytes.iter().enumerate() {
         let returned = decoder.feed(buffer, *byte);
         if *byte == 0 {
-            if let Some(end) = piece_end(returned) {
+            if let Some(end) = PieceEnd::reported(returned) {
                 return Some((end, i + 1));
             }
         }
@@ -160,10 +148,10 @@ pub fn feed_between(
         buffer.new (phase_of decoder.new) }
 {
     law_17();
-    match (byte, decoder.phase()) {
-        (0, DecoderPhase::Idle) => Ok(None),
-        _ => decoder.feed(buffer, byte),
+    if byte == 0 && decoder.is_idle() {
+        return Ok(None);
     }
+    decoder.feed(buffer, byte)
 }
 
 /// Which frame a piece is, found from code to code.

@@ -9,10 +9,10 @@ pub by_byte-preserved : goal.by_byte-preserved
 by_byte-preserved c =
     let on = c.law_17.ensures.byte c.args.bytes.now _ _ _ _ _ _ _ c.by_byte.i c.by_byte-test.true c.by_byte.invariant c.feed-returned.ensures.feeds in
     elim c.if-byte-eq0.branch [
-      | then-byte-eq0+in_default w ↦ on (λ _. sym w.piece_end.ensures ∙ w.in_default.is)
+      | then-byte-eq0+in_default w ↦ on (λ _. sym w.reported.ensures.end ∙ w.in_default.is)
       | else-byte-eq0 w ↦ on (λ zero. absurd (w.if-byte-eq0.false zero))
     ]
 
 pub returns-in-Some : goal.returns-in-Some
 returns-in-Some c =
-    c.law_17.ensures.end c.args.bytes.now _ _ _ _ _ _ _ _ c.by_byte.i c.by_byte-test.true c.by_byte.invariant c.feed-returned.ensures.feeds c.if-byte-eq0.true (sym c.piece_end.ensures ∙ c.in-Some.is)
+    c.law_17.ensures.end c.args.bytes.now _ _ _ _ _ _ _ _ c.by_byte.i c.by_byte-test.true c.by_byte.invariant c.feed-returned.ensures.feeds c.if-byte-eq0.true (sym c.reported.ensures.end ∙ c.in-Some.is)
