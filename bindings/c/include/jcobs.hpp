@@ -32,8 +32,8 @@
 //         sender.reset();
 //     }
 //
-// The table in jcobs.h says what status, consumed and length are, and its preconditions hold here too, but that a view
-// always has a length. Buffers must not overlap, and nothing else may change them while a call runs.
+// In jcobs.h the lines below each prototype say what status, consumed and length are, and its preconditions hold here too,
+// but that a view always has a length. Buffers must not overlap, and nothing else may change them while a call runs.
 #ifndef JCOBS_HPP
 #define JCOBS_HPP
 

@@ -12,6 +12,8 @@ c=$(cd "$(dirname "$0")/.." && pwd)
 cd "$c" || exit 1
 # shellcheck source=SCRIPTDIR/../../../tests/count.sh
 . ../../tests/count.sh
+# shellcheck source=SCRIPTDIR/languages.sh
+. tests/languages.sh
 machine=$(uname -m)
 here=build/$machine-unknown-linux-gnu
 flags='-Wall -Wextra -Wpedantic -Wconversion -Werror'
@@ -78,7 +80,7 @@ of nothing: no message' $run "$at/messages"
 
 # The functions that the header declares.
 calls() {
-    sed -n 's/^[a-z].* \**\(jcobs_[a-z_0-9]*\)(.*/\1/p' include/jcobs.h
+    sed -n 's/^JCOBS_API .* \**\(jcobs_[a-z_0-9]*\)(.*/\1/p' include/jcobs.h
 }
 
 symbols() {
@@ -348,6 +350,11 @@ part 'jcobs.hpp' "$at/cpp"
 part 'jcobs.hpp, if a callback throws' throws
 part 'jcobs.hpp without an allocator' no_allocator
 part 'a switch over the status' switches
+part 'enums that are short' short_enums
+part 'enums that are short, on AVR and Hexagon' short_enums_on_devices
+part 'jcobs.c in one translation unit, static' one_unit static -Wno-unused-function
+part 'jcobs.c in one translation unit, static inline' one_unit 'static inline'
+part 'jcobs.c in a shared library: exported, or hidden' exports
 part '1,000,000 random calls between pages without access' "$at/guard" 1000000
 for chunk in 1 7 4096; do
     part "read_frames, $chunk bytes at a time" reads "$chunk"
