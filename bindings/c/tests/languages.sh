@@ -54,3 +54,65 @@ exports() {
     exported '__attribute__((visibility("default")))' -fvisibility=hidden >"$work/exported" &&
         prints "$(calls | sort)" cat "$work/exported"
 }
+
+# The test of jcobs.hpp by each compiler and standard that has what it needs.
+cpp_standards() {
+    for compiler in g++ clang++; do
+        command -v $compiler >/dev/null || continue
+        for standard in c++17 c++20 c++2b; do
+            $compiler "-std=$standard" -fno-exceptions -O1 $flags -Wshadow -Iinclude tests/cpp.cpp "$at/libjcobs.a" -o "$work/cpp" &&
+                "$work/cpp" || return 1
+        done
+    done
+}
+
+# Receivers that a vector moves, by sanitizers: a buffer that went away would be found.
+moved() {
+    "${CXX:-c++}" -std=c++17 -g $flags -fsanitize=address,undefined -fno-sanitize-recover=all -Iinclude tests/moved.cpp \
+        "$at/libjcobs.a" -o "$work/moved" && "$work/moved"
+}
+
+compiles_cpp() { # COMPILER STATEMENTS FLAG..
+    compiler=$1
+    statements=$2
+    shift 2
+    {
+        printf '#include <jcobs.hpp>\n#include <string>\n#include <vector>\n'
+        printf 'std::vector<unsigned char> made();\nstd::string text();\nvoid use(std::vector<unsigned char> &kept);\n'
+        printf 'void use(std::vector<unsigned char> &kept)\n{\n    (void)kept;\n    %s\n}\n' "$statements"
+    } >"$work/statements.cpp"
+    $compiler -std=c++17 "$@" -Iinclude -fsyntax-only "$work/statements.cpp" 2>"$work/said.compiler"
+}
+
+# Each wrong use is an error that names the function which is deleted, and the right one beside it is none.
+refused() {
+    for compiler in g++ clang++; do
+        command -v $compiler >/dev/null || continue
+        compiles_cpp $compiler 'jcobs::buffer b(kept); jcobs::receiver r(kept); jcobs::sender s(b); (void)jcobs::encode(text(), kept);' ||
+            { cat "$work/said.compiler"; return 1; }
+        while read -r statement; do
+            if compiles_cpp $compiler "$statement" || ! grep -q 'deleted' "$work/said.compiler"; then
+                echo "$compiler: $statement"
+                cat "$work/said.compiler"
+                return 1
+            fi
+        done <<'END'
+jcobs::buffer b(made());
+jcobs::buffer b = made();
+jcobs::buffer b{std::array<unsigned char, 9>{}};
+jcobs::receiver r(made());
+jcobs::receiver r{jcobs::buffer(made())};
+jcobs::receiver r(made(), 7);
+jcobs::sender s(made());
+jcobs::sender s(jcobs::buffer{made()});
+(void)jcobs::encode(kept, made());
+(void)jcobs::decode_in_place(made());
+jcobs::receiver r(kept); jcobs::receiver copy(r);
+jcobs::sender s(kept); jcobs::sender copy(s);
+END
+    done
+    # Clang warns of a view that outlives a temporary.
+    command -v clang++ >/dev/null || return 0
+    compiles_cpp clang++ 'jcobs::view v(kept); (void)v; (void)jcobs::frame_kind(text());' -Wall -Wextra -Werror || return 1
+    ! compiles_cpp clang++ 'jcobs::view v = text(); (void)v;' -Wall -Wextra -Werror && grep -q 'Wdangling' "$work/said.compiler"
+}

@@ -245,7 +245,7 @@ over_musl() {
 }
 
 sums() (
-    cmp include/jcobs.h device/src/jcobs.h || return 1
+    cmp include/jcobs.h device/src/jcobs.h && cmp include/jcobs.hpp device/src/jcobs.hpp || return 1
     cd prebuilt && sha256sum -c SHA256SUMS
 )
 
@@ -349,6 +349,9 @@ fi
 part 'jcobs.hpp' "$at/cpp"
 part 'jcobs.hpp, if a callback throws' throws
 part 'jcobs.hpp without an allocator' no_allocator
+part 'jcobs.hpp by g++ and clang++, C++17 to C++23' cpp_standards
+part 'jcobs.hpp: receivers that are moved, with sanitizers' moved
+part 'jcobs.hpp: what must not compile' refused
 part 'a switch over the status' switches
 part 'enums that are short' short_enums
 part 'enums that are short, on AVR and Hexagon' short_enums_on_devices

@@ -80,7 +80,7 @@ def check_manifests():
     assert properties["precompiled"] == "full" and properties["ldflags"] == "-ljcobs"
     assert properties["architectures"] == library["platforms"] == "*" and "srcFilter" not in build
     assert (HERE / "src" / properties["includes"]).is_file() and (HERE / "src/jcobs.c").is_file()
-    assert (HERE / build["includeDir"] / library["headers"]).is_file()
+    assert all((HERE / build["includeDir"] / header).is_file() for header in library["headers"])
     module = (HERE / "zephyr/module.yml").read_text()
     assert "kconfig: zephyr/Kconfig" in module and "config JCOBS" in (HERE / "zephyr/Kconfig").read_text()
     script = HERE / build["extraScript"]
