@@ -256,5 +256,8 @@ include($device/cmake/jcobs.cmake)"
     part 'CMake: add_subdirectory of device, the archive' cmake_example 0 "add_subdirectory($device jcobs)"
     part 'CMake: add_subdirectory, the archive' cmake_example 0 "add_subdirectory($root/bindings/c jcobs)"
     part 'CMake: add_subdirectory, jcobs.c' cmake_example 1 "add_subdirectory($root/bindings/c jcobs)" -DJCOBS_FROM_SOURCE=ON
+    part 'CMake: add_subdirectory of the repository, the archive' cmake_example 0 "add_subdirectory($root jcobs)"
+    # No library can be shared there: it is a static one.
+    part 'CMake: BUILD_SHARED_LIBS, jcobs.c' cmake_example 1 "add_subdirectory($root jcobs)" -DJCOBS_FROM_SOURCE=ON -DBUILD_SHARED_LIBS=ON
 fi
 finish
