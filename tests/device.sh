@@ -228,6 +228,9 @@ if has clang clang 'jcobs.c compiled for MSP430'; then
     part 'jcobs.c compiled for MSP430' compiles clang --target=msp430 -ffreestanding -I"$work"
 fi
 part 'flash and stack, Cortex-M4: decoder, encoder, decoder and encode_terminated, all, stack' sizes
+if [ -n "${on_cortex:-}" ]; then
+    part 'instructions and flash beside C by hand' python3 "$device/tests/speed.py"
+fi
 part 'library.json, library.properties, ESP-IDF and Zephyr' python3 "$device/tests/packages.py"
 if [ -z "${on_cortex:-}" ]; then
     skip 'the firmware, the sketch and the CMake examples' 'they are for a Cortex-M'
