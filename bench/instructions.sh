@@ -3,8 +3,8 @@
 # versions of it. Callgrind counts what the driver's `measured` does, three times over the same messages, and nothing else;
 # the calls are counted side by side.
 set -eu
-workloads="zeros;none;every 16;runs of 20 to 45;random;alternating;5 % zeros;i32, signed;text;telemetry;below 20;8 bytes;1 byte"
-calls="encode;encoder feed;encoder 8;encoder 64;decode;decode sentinel;in place;feed;push 8;push 64;push whole"
+workloads="zeros;none;every 16;runs of 20 to 45;random;alternating;5 % zeros;i32, signed;text;telemetry;below 20;200 bytes;8 bytes;1 byte"
+calls="encode;encoder feed;encoder 8;encoder 64;encoder whole;decode;decode sentinel;in place;feed;push 8;push 64;push whole"
 each() { # LIST COMMAND..: the command for each of them
     list=$1
     shift

@@ -1,5 +1,5 @@
 #!/bin/sh
-# Measures what ships, as a program links it: libjcobs.a, and the Rust crate of bindings/rust, beside what someone would take
+# Measures what ships, as a program links it: libjcobs.a, jcobs.c, and the Rust crate of bindings/rust, beside what someone would take
 # instead.
 #
 #     bench/run.sh [--crate FOLDER] [--quick] [--docs]   prints the tables of the documents
@@ -13,8 +13,8 @@
 #                 bench/results/ and docs/images/performance.svg.
 #
 # It needs rustc, cc, and the crate `memchr` (Debian's librust-memchr-dev); --old needs valgrind. It takes three minutes, with
-# --quick half of one, on a machine with no other load. C is built with -O3 for x86-64-v2, for which libjcobs is, and Rust as
-# `cargo build --release` does it. The driver is built at four places in memory: on some processors a loop is half as fast where
+# --quick half of one, on a machine with no other load. C is built with -O3 for x86-64-v2, for which libjcobs is, jcobs.c with -O2
+# for any x86-64, and Rust as `cargo build --release` does it. The driver is built at four places in memory: on some processors a loop is half as fast where
 # one of its jumps crosses a multiple of 32 bytes. The best place counts, for each implementation, in three rounds.
 set -eu
 here=$(cd "$(dirname "$0")" && pwd)
@@ -41,7 +41,12 @@ done
 mkdir -p "$out"
 flags="-C opt-level=3 -C codegen-units=1"
 cc -O3 -march=x86-64-v2 -Wall -Wextra -c "$here/rivals.c" -o "$out/rivals.o"
-ar rcs "$out/librivals.a" "$out/rivals.o"
+# jcobs.c as most compile it, by names that don't meet those of the library.
+cc -O2 -std=c99 -Wall -Wextra -I"$top/bindings/c/include" -c "$top/bindings/c/source/jcobs.c" -o "$out/jcobs.o"
+nm --defined-only "$out/jcobs.o" | sed -n 's/.* T \(.*\)/\1 source_\1/p' >"$out/names"
+objcopy --redefine-syms="$out/names" "$out/jcobs.o"
+rm -f "$out/librivals.a"
+ar rcs "$out/librivals.a" "$out/rivals.o" "$out/jcobs.o"
 memchr=$(ls -d /usr/share/cargo/registry/memchr-2.* 2>/dev/null | tail -1)
 [ -n "$memchr" ] || { echo "bench/run.sh needs the crate memchr: apt-get install librust-memchr-dev" >&2; exit 1; }
 # What the build script of this version asks for on x86-64.

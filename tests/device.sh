@@ -169,9 +169,21 @@ cmake_example() { # LIBRARY-IN-THE-BUILD LINE FLAG..
     [ "$(find "$work/project/build" -name libjcobs.a | wc -l)" = "$wanted" ]
 }
 
+# jcobs.hpp in QEMU: its test over jcobs.c, and a program over the archive, which has no calls for sentinels.
+cpp_on_cortex() { # PROGRAM SOURCE LIBRARY
+    arm-none-eabi-gcc -mcpu=cortex-m4 -mthumb -Os -c "$device/tests/start_arm.c" -o "$work/start.o" || return 1
+    built=$3
+    if [ "${3%.c}" != "$3" ]; then
+        built=$work/jcobs.o
+        arm-none-eabi-gcc -mcpu=cortex-m4 -mthumb -Os -I"$include" -c "$3" -o "$built" || return 1
+    fi
+    arm-none-eabi-g++ -mcpu=cortex-m4 -mthumb -Os -std=c++17 -fno-exceptions -fno-rtti -Wall -Wextra -Werror -I"$device/src" \
+        --specs=rdimon.specs -T "$device/tests/mps2.ld" "$work/start.o" "$2" "$built" -o "$work/$1" && on_arm cortex-m4 "$work/$1"
+}
+
 # A sketch in C++, against the header and the archive that Arduino takes for this processor.
 sketch() {
-    cmp "$include/jcobs.h" "$device/src/jcobs.h" || return 1
+    cmp "$include/jcobs.h" "$device/src/jcobs.h" && cmp "$include/jcobs.hpp" "$device/src/jcobs.hpp" || return 1
     printf '#include <jcobs.h>\nint main() {\n    jcobs_decoder decoder = JCOBS_DECODER_INIT;\n    unsigned char buffer[8];\n    return static_cast<int>(jcobs_decoder_feed(&decoder, buffer, sizeof buffer, 0).status);\n}\n' >"$work/sketch.cpp"
     for cpu in cortex-m0plus cortex-m4; do
         arm-none-eabi-g++ -mcpu="$cpu" -mthumb -Os -std=gnu++11 -fno-exceptions -Wall -Wextra -Werror -I"$device/src" \
@@ -216,6 +228,9 @@ if has clang clang 'jcobs.c compiled for MSP430'; then
     part 'jcobs.c compiled for MSP430' compiles clang --target=msp430 -ffreestanding -I"$work"
 fi
 part 'flash and stack, Cortex-M4: decoder, encoder, decoder and encode_terminated, all, stack' sizes
+if [ -n "${on_cortex:-}" ]; then
+    part 'instructions and flash beside C by hand' python3 "$device/tests/speed.py"
+fi
 part 'library.json, library.properties, ESP-IDF and Zephyr' python3 "$device/tests/packages.py"
 if [ -z "${on_cortex:-}" ]; then
     skip 'the firmware, the sketch and the CMake examples' 'they are for a Cortex-M'
@@ -232,6 +247,10 @@ else
     skip 'firmware shown by cobs_watch' "it isn't built for $(uname -m)"
 fi
 part 'an Arduino sketch' sketch
+if has "$(arm-none-eabi-g++ -print-file-name=libstdc++.a)" libstdc++-arm-none-eabi-newlib 'jcobs.hpp on a Cortex-M4'; then
+    part 'jcobs.hpp on a Cortex-M4, over jcobs.c' cpp_on_cortex cpp "$root/bindings/c/tests/cpp.cpp" "$source"
+    part 'jcobs.hpp on a Cortex-M4, over the archive' cpp_on_cortex link "$device/tests/link.cpp" "$(archive cortex-m4)"
+fi
 if has cmake cmake 'the CMake examples'; then
     part 'CMake: include, the archive' cmake_example 0 "include($device/cmake/jcobs.cmake)"
     part 'CMake: include twice, jcobs.c' cmake_example 1 "set(JCOBS_CORE \"\")
@@ -240,5 +259,8 @@ include($device/cmake/jcobs.cmake)"
     part 'CMake: add_subdirectory of device, the archive' cmake_example 0 "add_subdirectory($device jcobs)"
     part 'CMake: add_subdirectory, the archive' cmake_example 0 "add_subdirectory($root/bindings/c jcobs)"
     part 'CMake: add_subdirectory, jcobs.c' cmake_example 1 "add_subdirectory($root/bindings/c jcobs)" -DJCOBS_FROM_SOURCE=ON
+    part 'CMake: add_subdirectory of the repository, the archive' cmake_example 0 "add_subdirectory($root jcobs)"
+    # No library can be shared there: it is a static one.
+    part 'CMake: BUILD_SHARED_LIBS, jcobs.c' cmake_example 1 "add_subdirectory($root jcobs)" -DJCOBS_FROM_SOURCE=ON -DBUILD_SHARED_LIBS=ON
 fi
 finish

@@ -1,4 +1,4 @@
-//! The calls of libjcobs, and of rivals.c. Each is safe to make: a slice is passed as a pointer and a length.
+//! The calls of libjcobs, of jcobs.c and of rivals.c. Each is safe to make: a slice is passed as a pointer and a length.
 
 use crate::calls::{SENTINEL, Work, chunk_of, through};
 
@@ -15,6 +15,9 @@ type Code = unsafe extern "C" fn(*const u8, usize, *mut u8, usize) -> usize;
 type InPlace = unsafe extern "C" fn(*mut u8, usize) -> usize;
 type Push = unsafe extern "C" fn(&mut State, *mut u8, usize, *const u8, usize, &mut usize) -> usize;
 type Take = unsafe extern "C" fn(&mut State, *mut u8, usize, *const u8, usize) -> i32;
+type Encode = unsafe extern "C" fn(*const u8, usize, *mut u8, usize) -> Answer;
+type EncodeFor = unsafe extern "C" fn(*const u8, usize, *mut u8, usize, u8) -> Answer;
+type DecodeInPlace = unsafe extern "C" fn(*mut u8, usize) -> Answer;
 type FeedOne = unsafe extern "C" fn(&mut State, *mut u8, usize, u8) -> Answer;
 type PushSome = unsafe extern "C" fn(&mut State, *mut u8, usize, *const u8, usize) -> Answer;
 type Finish = unsafe extern "C" fn(&mut State, *mut u8, usize) -> Answer;
@@ -31,6 +34,18 @@ unsafe extern "C" {
     fn jcobs_encoder_push(encoder: &mut State, buffer: *mut u8, room: usize, bytes: *const u8, len: usize) -> Answer;
     fn jcobs_encoder_feed(encoder: &mut State, buffer: *mut u8, room: usize, byte: u8) -> Answer;
     fn jcobs_encoder_finish(encoder: &mut State, buffer: *mut u8, room: usize) -> Answer;
+
+    // jcobs.c, by names that run.sh gives its calls.
+    fn source_jcobs_encode(message: *const u8, len: usize, frame: *mut u8, room: usize) -> Answer;
+    fn source_jcobs_encode_with_sentinel(message: *const u8, len: usize, frame: *mut u8, room: usize, sentinel: u8) -> Answer;
+    fn source_jcobs_decode(source: *const u8, len: usize, message: *mut u8, room: usize) -> Answer;
+    fn source_jcobs_decode_with_sentinel(source: *const u8, len: usize, message: *mut u8, room: usize, sentinel: u8) -> Answer;
+    fn source_jcobs_decode_in_place(buffer: *mut u8, len: usize) -> Answer;
+    fn source_jcobs_decoder_push(decoder: &mut State, buffer: *mut u8, room: usize, bytes: *const u8, len: usize) -> Answer;
+    fn source_jcobs_decoder_feed(decoder: &mut State, buffer: *mut u8, room: usize, byte: u8) -> Answer;
+    fn source_jcobs_encoder_push(encoder: &mut State, buffer: *mut u8, room: usize, bytes: *const u8, len: usize) -> Answer;
+    fn source_jcobs_encoder_feed(encoder: &mut State, buffer: *mut u8, room: usize, byte: u8) -> Answer;
+    fn source_jcobs_encoder_finish(encoder: &mut State, buffer: *mut u8, room: usize) -> Answer;
 
     fn unchecked_encode(source: *const u8, len: usize, dest: *mut u8, room: usize) -> usize;
     fn unchecked_decode(source: *const u8, len: usize, dest: *mut u8, room: usize) -> usize;
@@ -70,15 +85,51 @@ fn ended(length: usize) -> Option<usize> {
     (length != usize::MAX - 1).then_some(length)
 }
 
-pub fn libjcobs(call: &str, work: &mut Work) -> Option<usize> {
-    let streams = Streams {
+/// The calls of jcobs.h.
+pub struct Library {
+    encode: Encode,
+    encode_for: EncodeFor,
+    decode: Encode,
+    decode_for: EncodeFor,
+    in_place: DecodeInPlace,
+    streams: Streams,
+}
+
+/// The built library.
+pub const BUILT: Library = Library {
+    encode: jcobs_encode,
+    encode_for: jcobs_encode_with_sentinel,
+    decode: jcobs_decode,
+    decode_for: jcobs_decode_with_sentinel,
+    in_place: jcobs_decode_in_place,
+    streams: Streams {
         feed: jcobs_decoder_feed,
         push: jcobs_decoder_push,
         encoder_feed: jcobs_encoder_feed,
         encoder_push: jcobs_encoder_push,
         finish: jcobs_encoder_finish,
-    };
-    if let Some(sum) = streams.once(call, work) {
+    },
+};
+
+/// jcobs.c, as a compiler makes it.
+pub const SOURCE: Library = Library {
+    encode: source_jcobs_encode,
+    encode_for: source_jcobs_encode_with_sentinel,
+    decode: source_jcobs_decode,
+    decode_for: source_jcobs_decode_with_sentinel,
+    in_place: source_jcobs_decode_in_place,
+    streams: Streams {
+        feed: source_jcobs_decoder_feed,
+        push: source_jcobs_decoder_push,
+        encoder_feed: source_jcobs_encoder_feed,
+        encoder_push: source_jcobs_encoder_push,
+        finish: source_jcobs_encoder_finish,
+    },
+};
+
+#[inline(always)]
+pub fn library(of: &Library, call: &str, work: &mut Work) -> Option<usize> {
+    if let Some(sum) = of.streams.once(call, work) {
         return Some(sum);
     }
     let Work { messages, frames, sentinel_frames, room, copies, .. } = work;
@@ -86,22 +137,22 @@ pub fn libjcobs(call: &str, work: &mut Work) -> Option<usize> {
     // SAFETY: each pointer comes with its slice's length.
     Some(unsafe {
         match call {
-            "encode" => messages.iter().map(|m| ok(jcobs_encode(m.as_ptr(), m.len(), to, room))).sum(),
+            "encode" => messages.iter().map(|m| ok((of.encode)(m.as_ptr(), m.len(), to, room))).sum(),
             "encode sentinel" => {
-                messages.iter().map(|m| ok(jcobs_encode_with_sentinel(m.as_ptr(), m.len(), to, room, SENTINEL))).sum()
+                messages.iter().map(|m| ok((of.encode_for)(m.as_ptr(), m.len(), to, room, SENTINEL))).sum()
             }
-            "decode" => frames.iter().map(|f| ok(jcobs_decode(f.as_ptr(), f.len(), to, room))).sum(),
+            "decode" => frames.iter().map(|f| ok((of.decode)(f.as_ptr(), f.len(), to, room))).sum(),
             "decode sentinel" => {
-                sentinel_frames.iter().map(|f| ok(jcobs_decode_with_sentinel(f.as_ptr(), f.len(), to, room, SENTINEL))).sum()
+                sentinel_frames.iter().map(|f| ok((of.decode_for)(f.as_ptr(), f.len(), to, room, SENTINEL))).sum()
             }
-            "in place" => copies.iter_mut().map(|f| ok(jcobs_decode_in_place(f.as_mut_ptr(), f.len()))).sum(),
+            "in place" => copies.iter_mut().map(|f| ok((of.in_place)(f.as_mut_ptr(), f.len()))).sum(),
             _ => return None,
         }
     })
 }
 
-/// The streaming calls of libjcobs, and of code with its states and answers.
-struct Streams {
+/// The streaming calls of jcobs.h, and of code with its states and answers.
+pub struct Streams {
     feed: FeedOne,
     push: PushSome,
     encoder_feed: FeedOne,
@@ -122,7 +173,7 @@ impl Streams {
                 "encoder feed" => {
                     encoded(messages, 1, |state, piece| (self.encoder_feed)(state, to, room, piece[0]).status == 0, finish)
                 }
-                "encoder 8" | "encoder 64" => encoded(
+                "encoder 8" | "encoder 64" | "encoder whole" => encoded(
                     messages,
                     chunk,
                     |state, piece| (self.encoder_push)(state, to, room, piece.as_ptr(), piece.len()).status == 0,
@@ -245,7 +296,7 @@ pub fn rival(who: &str, call: &str, work: &mut Work) -> Option<usize> {
                     (taken, ended(length))
                 })
             }
-            "encoder 8" | "encoder 64" => {
+            "encoder 8" | "encoder 64" | "encoder whole" => {
                 let (_, take) = rival.streams?;
                 encoded(
                     messages,

@@ -5,12 +5,13 @@ use crate::{c, crates, simd};
 use std::hint::black_box;
 
 /// The columns. A number is how many bytes each call takes; "feed" takes one.
-pub const CALLS: [&str; 13] = [
+pub const CALLS: [&str; 14] = [
     "encode",
     "encode sentinel",
     "encoder feed",
     "encoder 8",
     "encoder 64",
+    "encoder whole",
     "decode",
     "decode sentinel",
     "in place",
@@ -22,7 +23,8 @@ pub const CALLS: [&str; 13] = [
 ];
 
 /// What ships, then what someone would take instead, then the limit.
-pub const WHO: [&str; 9] = ["libjcobs", "jcobs", "cobs", "unchecked", "bytes", "reported", "memchr", "simd", "limit"];
+pub const WHO: [&str; 10] =
+    ["libjcobs", "jcobs.c", "jcobs", "cobs", "unchecked", "bytes", "reported", "memchr", "simd", "limit"];
 
 /// The sentinel of the calls that take one.
 pub const SENTINEL: u8 = 0x7E;
@@ -80,7 +82,8 @@ impl Work {
 /// Does the call once for each message, and returns the sum of the lengths of what it made. `None`: they have no such call.
 pub fn once(call: &str, who: &str, work: &mut Work) -> Option<usize> {
     match who {
-        "libjcobs" => c::libjcobs(call, work),
+        "libjcobs" => c::library(&c::BUILT, call, work),
+        "jcobs.c" => c::library(&c::SOURCE, call, work),
         "jcobs" => crates::jcobs::once(call, work),
         #[cfg(with_crate)]
         "cobs" => crates::cobs::once(call, work),

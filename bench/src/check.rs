@@ -16,8 +16,8 @@ fn check_call(call: &str, who: &str, work: &mut Work) {
     let (message, frame) = (work.messages[0].clone(), work.frames[0].clone());
     let Some(sum) = once(call, who, work) else { return };
     let wanted = match call {
-        "encode" | "encoder feed" | "encoder 8" | "encoder 64" if who == "limit" => return,
-        "encode" | "encoder feed" | "encoder 8" | "encoder 64" => frame,
+        "encode" if who == "limit" => return,
+        "encode" | "encoder feed" | "encoder 8" | "encoder 64" | "encoder whole" => frame,
         "encode sentinel" => frame.iter().map(|byte| byte ^ SENTINEL).collect(),
         _ => message,
     };

@@ -90,7 +90,7 @@ macro_rules! calls_of {
                     "encode" => encode(messages, room),
                     "encode sentinel" => encode_sentinel(messages, room),
                     "encoder feed" => encoder_feed(messages, room),
-                    "encoder 8" | "encoder 64" => encoder_push(messages, chunk, room),
+                    "encoder 8" | "encoder 64" | "encoder whole" => encoder_push(messages, chunk, room),
                     "decode" => decode(frames, room),
                     "decode sentinel" => decode_sentinel(sentinel_frames, room),
                     "in place" => in_place(copies),

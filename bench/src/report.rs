@@ -44,6 +44,7 @@ fn shown(value: Option<f64>) -> String {
 fn name_of(who: &str) -> &str {
     match who {
         "cobs" => "the crate `cobs`",
+        "jcobs.c" => "`jcobs.c` by `cc -O2`",
         "unchecked" => "C without checks",
         "bytes" => "checked C",
         "reported" => "checked C with `jcobs_answer`",
@@ -54,9 +55,18 @@ fn name_of(who: &str) -> &str {
     }
 }
 
-/// Whom each of the two is compared with.
+/// What ships, at the head of a table.
+fn title_of(who: &str) -> String {
+    if who == "jcobs.c" { name_of(who).into() } else { format!("`{who}`") }
+}
+
+/// Whom each of these is compared with.
 fn rivals(who: &str) -> &'static [&'static str] {
-    if who == "jcobs" { &["cobs"] } else { &["unchecked", "bytes", "reported", "memchr", "simd", "limit"] }
+    match who {
+        "jcobs" => &["cobs"],
+        "jcobs.c" => &["bytes", "reported"],
+        _ => &["jcobs.c", "unchecked", "bytes", "reported", "memchr", "simd", "limit"],
+    }
 }
 
 /// A table with a row for each of these workloads and a column for each call that has a value.
@@ -87,15 +97,26 @@ pub fn of(who: &str, files: &[&str]) {
 }
 
 /// What a reader may have to send, with the easiest and the hardest rows among them.
-const CHOSEN: [&str; 10] =
-    ["none", "random", "every 16", "text", "telemetry", "i32, 16 bits", "f32", "below 20", "8 bytes", "64 bytes"];
+const CHOSEN: [&str; 11] = [
+    "none",
+    "random",
+    "every 16",
+    "text",
+    "telemetry",
+    "i32, 16 bits",
+    "f32",
+    "below 20",
+    "8 bytes",
+    "64 bytes",
+    "200 bytes",
+];
 
 /// The rates of what ships, for the chosen rows.
 pub fn shipped(files: &[&str]) {
     let figures = Figures::read(files);
-    for who in ["libjcobs", "jcobs"] {
+    for who in ["libjcobs", "jcobs.c", "jcobs"] {
         if figures.best("encode", "none", who).is_some() {
-            rates(&figures, &format!("`{who}`, MB/s"), who, &CHOSEN);
+            rates(&figures, &format!("{}, MB/s", title_of(who)), who, &CHOSEN);
         }
     }
 }
@@ -135,14 +156,14 @@ fn spread(title: &str, limit: f64, ratio: impl Fn(&str, &str) -> Option<f64>) {
     println!();
 }
 
-/// Each of the two beside each rival, and the Rust crates again by the files with link-time optimization, behind `--`.
+/// Each that ships beside each rival, and the Rust crates again by the files with link-time optimization, behind `--`.
 pub fn pairs(files: &[&str]) {
     let (plain, linked) = files.split_at(files.iter().position(|file| *file == "--").unwrap_or(files.len()));
     let figures = Figures::read(plain);
-    for who in ["libjcobs", "jcobs"] {
+    for who in ["libjcobs", "jcobs.c", "jcobs"] {
         for rival in rivals(who).iter().filter(|rival| **rival != "limit") {
             if figures.ratio("encode", "none", who, rival).is_some() {
-                let title = format!("`{who}` / {}", name_of(rival));
+                let title = format!("{} / {}", title_of(who), name_of(rival));
                 spread(&title, 1.0, |call, row| figures.ratio(call, row, who, rival));
             }
         }
@@ -160,7 +181,7 @@ pub fn readme(files: &[&str]) {
     let calls = ["encode", "decode", "in place", "push 64", "push 8", "feed"];
     println!("| | {} |", calls.join(" | "));
     println!("|---|{}", "--:|".repeat(calls.len()));
-    for (who, rival, name) in [("libjcobs", "bytes", "C"), ("jcobs", "cobs", "Rust")] {
+    for (who, rival, name) in [("libjcobs", "bytes", "C"), ("jcobs.c", "bytes", "`jcobs.c`"), ("jcobs", "cobs", "Rust")] {
         for row in rows {
             let cells: Vec<String> = calls.iter().map(|call| shown(figures.ratio(call, row, who, rival))).collect();
             println!("| {name}, {row} | {} |", cells.join(" | "));

@@ -418,7 +418,7 @@ pub fn once(call: &str, work: &mut Work) -> Option<usize> {
     let dest = room.as_mut_ptr();
     Some(match call {
         "encode" => messages.iter().map(|m| unsafe { encode(m, dest) }).sum(),
-        "encoder 8" | "encoder 64" => messages.iter().map(|m| unsafe { encode_in_chunks(m, chunk, dest) }).sum(),
+        "encoder 8" | "encoder 64" | "encoder whole" => messages.iter().map(|m| unsafe { encode_in_chunks(m, chunk, dest) }).sum(),
         "decode" => frames.iter().map(|f| decode(f, room).unwrap()).sum(),
         "in place" => copies.iter_mut().map(|f| decode_in_place(f).unwrap()).sum(),
         "push 8" | "push 64" | "push whole" => {

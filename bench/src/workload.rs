@@ -25,7 +25,7 @@ impl Dice {
 }
 
 /// The rows. The last ones are 64 messages of so many bytes, in turn, so that the processor learns their branches.
-pub const WORKLOADS: [&str; 27] = [
+pub const WORKLOADS: [&str; 28] = [
     "zeros",
     "none",
     "every 16",
@@ -53,6 +53,7 @@ pub const WORKLOADS: [&str; 27] = [
     "8 bytes",
     "16 bytes",
     "64 bytes",
+    "200 bytes",
 ];
 
 /// Bytes of the messages of a row, about, unless these are short and few.

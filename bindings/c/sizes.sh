@@ -35,7 +35,7 @@ row() { # NAME FLAGS CALL..
     echo "| $name | $(bytes x86_64 "$@") | $(bytes aarch64 "$@") |"
 }
 
-all=$(sed -n 's/^[a-z].* \**\(jcobs_[a-z_0-9]*\)(.*/\1/p' include/jcobs.h)
+all=$(sed -n 's/^JCOBS_API .* \**\(jcobs_[a-z_0-9]*\)(.*/\1/p' include/jcobs.h)
 {
     echo '| calls of the program | x86-64 | aarch64 |'
     echo '|---|--:|--:|'

@@ -32,12 +32,12 @@
 //         sender.reset();
 //     }
 //
-// The table in jcobs.h says what status, consumed and length are, and its preconditions hold here too, but that a view
-// always has a length. Buffers must not overlap, and nothing else may change them while a call runs.
+// In jcobs.h the lines below each prototype say what status, consumed and length are, and its preconditions hold here too,
+// but that a view always has a length. Buffers must not overlap, and nothing else may change them while a call runs.
 #ifndef JCOBS_HPP
 #define JCOBS_HPP
 
-#include <jcobs.h>
+#include "jcobs.h"
 
 #include <array>
 #include <cstddef>
@@ -45,6 +45,16 @@
 #include <string_view>
 #include <type_traits>
 #include <utility>
+
+// Clang then warns of a view of a temporary that has bytes of its own, which outlives it.
+#if defined(__has_cpp_attribute)
+#if __has_cpp_attribute(gsl::Pointer)
+#define JCOBS_POINTER [[gsl::Pointer]]
+#endif
+#endif
+#ifndef JCOBS_POINTER
+#define JCOBS_POINTER
+#endif
 
 namespace jcobs
 {
@@ -79,19 +89,25 @@ struct is_temporary<Range, std::enable_if_t<!std::is_lvalue_reference_v<Range> &
 
 // Bytes that are elsewhere, by a pointer and a length, as std::span of C++20. A view is made of any container or view
 // of bytes: unsigned char, char, std::byte; but of an array of char, which may end with a '\0', by its pointer and a length.
-template <class Byte> class basic_view
+// A temporary can be read, for as long as it lives; a buffer to write to isn't made of one, since what is written ends with it.
+template <class Byte> class JCOBS_POINTER basic_view
 {
     using anything = std::conditional_t<std::is_const_v<Byte>, const void, void>;
+    template <class Range>
+    static constexpr bool is_taken = detail::is_bytes<Range, Byte>::value &&
+                                     (std::is_const_v<Byte> || !detail::is_temporary<Range>::value);
 
   public:
     constexpr basic_view() noexcept = default;
     basic_view(anything *data, std::size_t size) noexcept : data_(static_cast<Byte *>(data)), size_(size)
     {
     }
-    template <class Range, std::enable_if_t<detail::is_bytes<Range, Byte>::value, int> = 0>
+    template <class Range, std::enable_if_t<is_taken<Range>, int> = 0>
     basic_view(Range &&range) noexcept : basic_view(std::data(range), std::size(range))
     {
     }
+    template <class Range, std::enable_if_t<detail::is_bytes<Range, Byte>::value && !is_taken<Range>, int> = 0>
+    basic_view(Range &&temporary) = delete;
 
     constexpr Byte *data() const noexcept
     {
@@ -191,17 +207,29 @@ constexpr std::size_t max_overhead(std::size_t message_len) noexcept
 }
 
 // Receives a stream of frames in pieces of any size, and keeps the open message in a buffer, which must outlive it. Each
-// frame is followed by the sentinel.
+// frame is followed by the sentinel. It can be moved, but not by a callback of its push: the one that is moved from is idle,
+// and has no buffer.
 class receiver
 {
   public:
     explicit receiver(buffer messages, unsigned char sentinel = 0) noexcept : buffer_(messages), sentinel_(sentinel)
     {
     }
-    template <class Range, std::enable_if_t<detail::is_temporary<Range>::value, int> = 0>
-    explicit receiver(Range &&messages, unsigned char sentinel = 0) = delete;
-    receiver(const receiver &) = delete;
-    receiver &operator=(const receiver &) = delete;
+    receiver(receiver &&other) noexcept
+        : decoder_(std::exchange(other.decoder_, {})), buffer_(std::exchange(other.buffer_, {})),
+          consumed_(std::exchange(other.consumed_, 0)), sentinel_(other.sentinel_)
+    {
+    }
+    receiver &operator=(receiver &&other) noexcept
+    {
+        if (this != &other) {
+            decoder_ = std::exchange(other.decoder_, {});
+            buffer_ = std::exchange(other.buffer_, {});
+            consumed_ = std::exchange(other.consumed_, 0);
+            sentinel_ = other.sentinel_;
+        }
+        return *this;
+    }
 
     // Calls on_message(view) for each message that ends in these bytes, and on_error(jcobs_answer) for each frame that
     // is broken or too long. The message is in the buffer until the next push. If one of the two throws, the bytes through
@@ -252,11 +280,18 @@ class receiver
     }
 
   private:
+    // Takes bytes, at least one, through the sentinel that ends a frame. Archives for devices have no call for sentinels.
     jcobs_answer next(const unsigned char *bytes, std::size_t len) noexcept
     {
         if (sentinel_ == 0)
             return jcobs_decoder_push(&decoder_, buffer_.data(), buffer_.size(), bytes, len);
-        return jcobs_decoder_push_with_sentinel(&decoder_, buffer_.data(), buffer_.size(), bytes, len, sentinel_);
+        std::size_t taken = 0;
+        jcobs_answer answer{};
+        do {
+            answer = feed(bytes[taken++]);
+        } while (answer.status == JCOBS_MORE && taken < len);
+        answer.consumed = taken;
+        return answer;
     }
 
     jcobs_decoder decoder_ = JCOBS_DECODER_INIT;
@@ -265,17 +300,26 @@ class receiver
     unsigned char sentinel_;
 };
 
-// Encodes messages that come in pieces, each to the front of a buffer, which must outlive it.
+// Encodes messages that come in pieces, each to the front of a buffer, which must outlive it. It can be moved: the one that
+// is moved from has taken nothing, and has no buffer.
 class sender
 {
   public:
     explicit sender(buffer frame) noexcept : buffer_(frame)
     {
     }
-    template <class Range, std::enable_if_t<detail::is_temporary<Range>::value, int> = 0>
-    explicit sender(Range &&frame) = delete;
-    sender(const sender &) = delete;
-    sender &operator=(const sender &) = delete;
+    sender(sender &&other) noexcept
+        : encoder_(std::exchange(other.encoder_, {})), buffer_(std::exchange(other.buffer_, {}))
+    {
+    }
+    sender &operator=(sender &&other) noexcept
+    {
+        if (this != &other) {
+            encoder_ = std::exchange(other.encoder_, {});
+            buffer_ = std::exchange(other.buffer_, {});
+        }
+        return *this;
+    }
 
     // Takes the next bytes of the message, or one. Returns false if the frame with them doesn't fit; then nothing has
     // changed.
@@ -294,14 +338,11 @@ class sender
     // changed, and reset forgets the message.
     [[nodiscard]] view finish(unsigned char sentinel = 0) noexcept
     {
-        return {buffer_.data(),
-                jcobs_encoder_finish_with_sentinel(&encoder_, buffer_.data(), buffer_.size(), sentinel).length};
+        return for_sentinel(jcobs_encoder_finish(&encoder_, buffer_.data(), buffer_.size()), sentinel);
     }
     [[nodiscard]] view finish_terminated(unsigned char sentinel = 0) noexcept
     {
-        return {
-            buffer_.data(),
-            jcobs_encoder_finish_terminated_with_sentinel(&encoder_, buffer_.data(), buffer_.size(), sentinel).length};
+        return for_sentinel(jcobs_encoder_finish_terminated(&encoder_, buffer_.data(), buffer_.size()), sentinel);
     }
 
     // Forgets the message.
@@ -311,6 +352,14 @@ class sender
     }
 
   private:
+    // The frame of this length, for the sentinel. Archives for devices have no call for sentinels.
+    view for_sentinel(jcobs_answer answer, unsigned char sentinel) noexcept
+    {
+        for (std::size_t i = 0; sentinel != 0 && i < answer.length; i++)
+            buffer_[i] = static_cast<unsigned char>(buffer_[i] ^ sentinel);
+        return {buffer_.data(), answer.length};
+    }
+
     jcobs_encoder encoder_ = JCOBS_ENCODER_INIT;
     buffer buffer_;
 };

@@ -3,18 +3,35 @@
 import re
 from dataclasses import dataclass
 
+from llvm import Unknown
+
 SIZES = {"size_t": 8, "unsigned char": 1, "JCOBS_STATUS": 4}
-IN_ASCII = {
-    "≡": "=",
-    "≢": "!=",
-    "≤": "<=",
-    "→": "->",
-    "∷": "::",
-    "×": "&",
-    "¬": "not ",
-    "λ": "\\",
-    "↔": "<->",
-    "ℕ": "Nat",
+# What a clause says, by its first words: a sentence for those who read jcobs.c alone.
+SAYS = {
+    "Decodes ": """the result and every byte of the buffer depend only on the source and message_len, as COBS is defined;
+        a buffer as long as the source is never too small.""",
+    "DecodesInPlace ": "the result and every byte of the buffer depend only on the buffer, as COBS is defined.",
+    "DecodesNext ": """the result, the state and the buffer are those that the definition of the stream has after these
+        bytes, however it is cut into calls. In every state consumed and length are within bytes and buffer.""",
+    "Encodes ": """if the frame fits, it is the message's, and bytes after it are as they were; if it doesn't, the status
+        is TOO_SMALL, and the buffer is as it was.""",
+    "EncodesInPlace ": """if the longest frame fits, the buffer begins with the message's, and bytes after that are as they
+        were; if it doesn't, the status is TOO_SMALL, and the buffer is as it was.""",
+    "EncodesNext ": """the status is OK exactly if the frame of all that was taken and these bytes fits. If it isn't OK, the
+        state and the buffer are as they were. In every state consumed and length are within bytes and buffer.""",
+    "EncodesTerminated 0 ": """if the frame and the zero fit, they are the message's, and bytes after them are as they were;
+        if they don't, the status is TOO_SMALL, and the buffer is as it was.""",
+    "Finishes 0 ": """if the frame of all that was taken fits, the buffer begins with it, and the encoder has taken nothing;
+        if it doesn't, the status is TOO_SMALL, and the state and the buffer are as they were.""",
+    "Finishes 1 ": """if the frame of all that was taken and the zero fit, the buffer begins with them, and the encoder has
+        taken nothing; if they don't, the status is TOO_SMALL, and the state and the buffer are as they were.""",
+    "IsFreshDecoder ": "then the decoder has taken nothing, whatever its state was.",
+    "IsFreshEncoder ": "then the encoder has taken nothing, whatever its state was.",
+    "IsKindOf ": """the result is NOT_A_FRAME exactly if the bytes are no frame, and CANONICAL exactly if they are the one that
+        encoders write.""",
+    "ReportsIdle ": "the result is 1 exactly if no piece is open.",
+    "max_encoded_len message_len < 2 ^ 64 →": "the result is that number if it is below 2 to the 64th,",
+    "2 ^ 64 ≤ max_encoded_len message_len →": "and 0 if not.",
 }
 
 
@@ -42,7 +59,7 @@ def structs(header):
 def calls(header):
     """The calls that the header declares, in its order."""
     found = {}
-    for kind, name, params in re.findall(r"^([a-z][\w ]*?)\b(jcobs_\w+)\(([^)]*)\)[^;{]*;", header, re.M):
+    for kind, name, params in re.findall(r"^JCOBS_API ([a-z][\w ]*?)\b(jcobs_\w+)\(([^)]*)\)[^;{]*;", header, re.M):
         pairs = []
         for param in params.split(","):
             if match := re.fullmatch(r"\s*(.*?[ *])(\w+)\s*", param):
@@ -53,20 +70,23 @@ def calls(header):
 
 
 def contracts(sources):
-    """For each call of these .rt files: its doc comment, its clauses in ASCII, and the file's name."""
+    """For each call of these .rt files: its doc comment, what its clauses say, and the file's name."""
     found = {}
     pattern = r'((?:^///[^\n]*\n)+)^#\[unsafe\(no_mangle\)\]\n^pub extern "C" fn (\w+)(.*?)^\{'
     for path in sources:
         for doc, name, rest in re.findall(pattern, path.read_text(), re.S | re.M):
             text = " ".join(re.findall(r"^/// ?(.*)", doc, re.M))
-            clauses = re.findall(r"^    ensures\s+(.*?)(?=^    ensures|\Z)", rest, re.S | re.M)
-            found[name] = (text.replace("`", ""), [in_ascii(it) for it in clauses], path.name)
+            clauses = re.findall(r"^    ensures \w+ \{\s*(.*?)\s*\}$", rest, re.S | re.M)
+            if len(clauses) != rest.count("ensures"):
+                raise Unknown(f"contract of {name}")
+            found[name] = (text.replace("`", ""), " ".join(map(in_words, clauses)), path.name)
     return found
 
 
-def in_ascii(clause):
-    text = " ".join(clause.split())
-    for sign, plain in IN_ASCII.items():
-        text = text.replace(sign, plain)
-    text.encode("ascii")
-    return text
+def in_words(clause):
+    """What a clause says. One that begins otherwise than those of SAYS is an error."""
+    text = " ".join(clause.split()) + " "
+    said = [" ".join(words.split()) for start, words in SAYS.items() if text.startswith(start)]
+    if len(said) != 1:
+        raise Unknown(f"clause {text}")
+    return said[0]

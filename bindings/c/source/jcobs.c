@@ -4,14 +4,15 @@
  * variables, allocates nothing, and names no function of a C library; a compiler may call memset for some of its lines.
  *
  * What is proved: the functions of crates/cobs_small, for lengths of 64 bits, on any contents of the buffers and the
- * states. Each meets the contract in its comment, accesses only the buffers that it is given, and returns. The words
- * of the contracts are defined in crates/cobs_abi/specs and crates/cobs/specs.
+ * states. Each meets its contract, accesses only the buffers that it is given, and returns. The comment over a function
+ * says what its contract says, in short, and names the file of crates/cobs_small/src in which it is. The words of the
+ * contracts are defined in crates/cobs_abi/specs and crates/cobs/specs.
  *
  * What is not proved, but tested: that this text does the same. The toolchain's clang simplified the proved module
  * (cobs_small.ll), translate.py wrote its instructions as C, and your compiler compiles them. Lengths have the width of
  * your size_t. tests/device.sh and bindings/c/tests/run.sh run this file on processors with 16, 32 and 64 bits and both byte
  * orders: the vectors of conformance/ (but on the one with 16 bits), and random calls compared with plain C, with states of
- * random bytes. The calls after the last contract are written by hand, and tested in the same way.
+ * random bytes. The calls from jcobs_xor on are written by hand, and tested in the same way.
  */
 #include "jcobs.h"
 
@@ -34,8 +35,9 @@ static jcobs_answer jcobs_answered(JCOBS_STATUS status, size_t consumed, size_t 
 }
 
 /* Takes one byte of the stream, as a push of that byte.
- * Proved, in decoder.rt:
- *     ensures decodes { DecodesNext decoder.old buffer.old (byte :: []) result decoder.new buffer.new } */
+ * Proved, by the contract in decoder.rt: the result, the state and the buffer are those that the definition of the
+ * stream has after these bytes, however it is cut into calls. In every state consumed and length are within bytes
+ * and buffer. */
 jcobs_answer jcobs_decoder_feed(jcobs_decoder *decoder, void *buffer, size_t buffer_len, unsigned char byte)
 {
     unsigned char *const to = (unsigned char *)buffer;
@@ -96,8 +98,7 @@ jcobs_answer jcobs_decoder_feed(jcobs_decoder *decoder, void *buffer, size_t buf
 }
 
 /* Returns 1 if no piece is open, and 0 otherwise.
- * Proved, in decoder.rt:
- *     ensures idle { ReportsIdle decoder.now result } */
+ * Proved, by the contract in decoder.rt: the result is 1 exactly if no piece is open. */
 unsigned int jcobs_decoder_is_idle(const jcobs_decoder *decoder)
 {
     if (decoder->written != 0 || decoder->missing != 0 || decoder->joint != 0) {
@@ -108,8 +109,9 @@ unsigned int jcobs_decoder_is_idle(const jcobs_decoder *decoder)
 
 /* Takes bytes of the stream through the zero that ends the first piece, or all of them. Even if the state is
  * corrupt, the buffer keeps its length, and the counts are within the bytes and the buffer.
- * Proved, in decoder.rt:
- *     ensures decodes { DecodesNext decoder.old buffer.old bytes.now result decoder.new buffer.new } */
+ * Proved, by the contract in decoder.rt: the result, the state and the buffer are those that the definition of the
+ * stream has after these bytes, however it is cut into calls. In every state consumed and length are within bytes
+ * and buffer. */
 jcobs_answer jcobs_decoder_push(jcobs_decoder *decoder, void *buffer, size_t buffer_len, const void *bytes, size_t len)
 {
     unsigned char *const to = (unsigned char *)buffer;
@@ -194,8 +196,7 @@ jcobs_answer jcobs_decoder_push(jcobs_decoder *decoder, void *buffer, size_t buf
 }
 
 /* Makes the decoder one that has taken nothing, even if its state is corrupt.
- * Proved, in decoder.rt:
- *     ensures fresh { IsFreshDecoder decoder.new } */
+ * Proved, by the contract in decoder.rt: then the decoder has taken nothing, whatever its state was. */
 void jcobs_decoder_reset(jcobs_decoder *decoder)
 {
     decoder->written = 0;
@@ -205,8 +206,8 @@ void jcobs_decoder_reset(jcobs_decoder *decoder)
 }
 
 /* Writes the frame of the message to the front of the buffer frame, if it fits. Otherwise nothing is written.
- * Proved, in encode.rt:
- *     ensures encodes { Encodes message.now frame.old result frame.new } */
+ * Proved, by the contract in encode.rt: if the frame fits, it is the message's, and bytes after it are as they
+ * were; if it doesn't, the status is TOO_SMALL, and the buffer is as it was. */
 jcobs_answer jcobs_encode(const void *message, size_t message_len, void *frame, size_t frame_len)
 {
     const unsigned char *const from = (const unsigned char *)message;
@@ -272,8 +273,8 @@ jcobs_answer jcobs_encode(const void *message, size_t message_len, void *frame, 
 
 /* Encodes the message of message_len bytes that lies in the buffer, behind the room for the longest frame's other
  * bytes, to the front of the buffer, if the longest frame fits. Otherwise nothing is written.
- * Proved, in encode.rt:
- *     ensures encodes { EncodesInPlace message_len buffer.old result buffer.new } */
+ * Proved, by the contract in encode.rt: if the longest frame fits, the buffer begins with the message's, and bytes
+ * after that are as they were; if it doesn't, the status is TOO_SMALL, and the buffer is as it was. */
 jcobs_answer jcobs_encode_in_place(void *buffer, size_t buffer_len, size_t message_len)
 {
     unsigned char *const to = (unsigned char *)buffer;
@@ -332,8 +333,8 @@ jcobs_answer jcobs_encode_in_place(void *buffer, size_t buffer_len, size_t messa
 
 /* Writes the frame of the message and a zero after it to the front of the buffer frame, if both fit. Otherwise
  * nothing is written.
- * Proved, in encode.rt:
- *     ensures encodes { EncodesTerminated 0 message.now frame.old result frame.new } */
+ * Proved, by the contract in encode.rt: if the frame and the zero fit, they are the message's, and bytes after
+ * them are as they were; if they don't, the status is TOO_SMALL, and the buffer is as it was. */
 jcobs_answer jcobs_encode_terminated(const void *message, size_t message_len, void *frame, size_t frame_len)
 {
     unsigned char *const to = (unsigned char *)frame;
@@ -355,8 +356,9 @@ jcobs_answer jcobs_encode_terminated(const void *message, size_t message_len, vo
 }
 
 /* Takes the next byte of a message, as a push of that byte.
- * Proved, in encoder.rt:
- *     ensures encodes { EncodesNext encoder.old buffer.old (byte :: []) result encoder.new buffer.new } */
+ * Proved, by the contract in encoder.rt: the status is OK exactly if the frame of all that was taken and these
+ * bytes fits. If it isn't OK, the state and the buffer are as they were. In every state consumed and length are
+ * within bytes and buffer. */
 jcobs_answer jcobs_encoder_feed(jcobs_encoder *encoder, void *buffer, size_t buffer_len, unsigned char byte)
 {
     unsigned char *const to = (unsigned char *)buffer;
@@ -395,8 +397,9 @@ jcobs_answer jcobs_encoder_feed(jcobs_encoder *encoder, void *buffer, size_t buf
 
 /* Ends the message, if its frame fits the buffer. Even if the state is corrupt, the buffer keeps its length, and
  * the returned length is within it.
- * Proved, in encoder.rt:
- *     ensures finishes { Finishes 0 IsFrameOnWire encoder.old buffer.old result encoder.new buffer.new } */
+ * Proved, by the contract in encoder.rt: if the frame of all that was taken fits, the buffer begins with it, and
+ * the encoder has taken nothing; if it doesn't, the status is TOO_SMALL, and the state and the buffer are as they
+ * were. */
 jcobs_answer jcobs_encoder_finish(jcobs_encoder *encoder, void *buffer, size_t buffer_len)
 {
     unsigned char *const to = (unsigned char *)buffer;
@@ -430,9 +433,9 @@ jcobs_answer jcobs_encoder_finish(jcobs_encoder *encoder, void *buffer, size_t b
 }
 
 /* Ends the message, as jcobs_encoder_finish does, and writes a zero after its frame, if both fit.
- * Proved, in encoder.rt:
- *     ensures finishes { Finishes 1 (IsTerminatedFrame 0) encoder.old buffer.old result encoder.new buffer.new
- *         } */
+ * Proved, by the contract in encoder.rt: if the frame of all that was taken and the zero fit, the buffer begins
+ * with them, and the encoder has taken nothing; if they don't, the status is TOO_SMALL, and the state and the
+ * buffer are as they were. */
 jcobs_answer jcobs_encoder_finish_terminated(jcobs_encoder *encoder, void *buffer, size_t buffer_len)
 {
     unsigned char *const to = (unsigned char *)buffer;
@@ -472,8 +475,9 @@ jcobs_answer jcobs_encoder_finish_terminated(jcobs_encoder *encoder, void *buffe
 
 /* Takes the next bytes of a message, if the frame of all that was taken fits the buffer. Even if the state is
  * corrupt, the buffer keeps its length, and the counts are within the bytes and the buffer.
- * Proved, in encoder.rt:
- *     ensures encodes { EncodesNext encoder.old buffer.old bytes.now result encoder.new buffer.new } */
+ * Proved, by the contract in encoder.rt: the status is OK exactly if the frame of all that was taken and these
+ * bytes fits. If it isn't OK, the state and the buffer are as they were. In every state consumed and length are
+ * within bytes and buffer. */
 jcobs_answer jcobs_encoder_push(jcobs_encoder *encoder, void *buffer, size_t buffer_len, const void *bytes, size_t len)
 {
     unsigned char *const to = (unsigned char *)buffer;
@@ -569,8 +573,7 @@ jcobs_answer jcobs_encoder_push(jcobs_encoder *encoder, void *buffer, size_t buf
 }
 
 /* Makes the encoder one that has taken nothing, even if its state is corrupt.
- * Proved, in encoder.rt:
- *     ensures fresh { IsFreshEncoder encoder.new } */
+ * Proved, by the contract in encoder.rt: then the encoder has taken nothing, whatever its state was. */
 void jcobs_encoder_reset(jcobs_encoder *encoder)
 {
     encoder->index = 0;
@@ -579,9 +582,7 @@ void jcobs_encoder_reset(jcobs_encoder *encoder)
 }
 
 /* Returns how many bytes the longest frame of a message of message_len bytes has, or 0 if that number doesn't fit.
- * Proved, in encode.rt:
- *     ensures fits { max_encoded_len message_len < 2 ^ 64 -> result = max_encoded_len message_len }
- *     ensures too_long { 2 ^ 64 <= max_encoded_len message_len -> result = 0 } */
+ * Proved, by the contract in encode.rt: the result is that number if it is below 2 to the 64th, and 0 if not. */
 size_t jcobs_max_length(size_t message_len)
 {
     size_t overhead;
@@ -595,8 +596,8 @@ size_t jcobs_max_length(size_t message_len)
 }
 
 /* Returns whether the bytes are a frame, and which one of its message.
- * Proved, in kind.rt:
- *     ensures kind { IsKindOf bytes.now result } */
+ * Proved, by the contract in kind.rt: the result is NOT_A_FRAME exactly if the bytes are no frame, and CANONICAL
+ * exactly if they are the one that encoders write. */
 unsigned int jcobs_frame_kind(const void *bytes, size_t len)
 {
     const unsigned char *const from = (const unsigned char *)bytes;
@@ -629,8 +630,8 @@ unsigned int jcobs_frame_kind(const void *bytes, size_t len)
 }
 
 /* Decodes the frame at the front of the buffer in its own place.
- * Proved, in in_place.rt:
- *     ensures decodes { DecodesInPlace buffer.old result buffer.new } */
+ * Proved, by the contract in in_place.rt: the result and every byte of the buffer depend only on the buffer, as
+ * COBS is defined. */
 jcobs_answer jcobs_decode_in_place(void *buffer, size_t buffer_len)
 {
     unsigned char *const to = (unsigned char *)buffer;
@@ -675,8 +676,8 @@ jcobs_answer jcobs_decode_in_place(void *buffer, size_t buffer_len)
 }
 
 /* Decodes the first frame of the source to the front of message.
- * Proved, in decode.rt:
- *     ensures decodes { Decodes source.now message.old result message.new } */
+ * Proved, by the contract in decode.rt: the result and every byte of the buffer depend only on the source and
+ * message_len, as COBS is defined; a buffer as long as the source is never too small. */
 jcobs_answer jcobs_decode(const void *source, size_t source_len, void *message, size_t message_len)
 {
     jcobs_decoder decoder;

@@ -4,14 +4,15 @@
  * variables, allocates nothing, and names no function of a C library; a compiler may call memset for some of its lines.
  *
  * What is proved: the functions of crates/cobs_small, for lengths of 64 bits, on any contents of the buffers and the
- * states. Each meets the contract in its comment, accesses only the buffers that it is given, and returns. The words
- * of the contracts are defined in crates/cobs_abi/specs and crates/cobs/specs.
+ * states. Each meets its contract, accesses only the buffers that it is given, and returns. The comment over a function
+ * says what its contract says, in short, and names the file of crates/cobs_small/src in which it is. The words of the
+ * contracts are defined in crates/cobs_abi/specs and crates/cobs/specs.
  *
  * What is not proved, but tested: that this text does the same. The toolchain's clang simplified the proved module
  * (cobs_small.ll), translate.py wrote its instructions as C, and your compiler compiles them. Lengths have the width of
  * your size_t. tests/device.sh and bindings/c/tests/run.sh run this file on processors with 16, 32 and 64 bits and both byte
  * orders: the vectors of conformance/ (but on the one with 16 bits), and random calls compared with plain C, with states of
- * random bytes. The calls after the last contract are written by hand, and tested in the same way.
+ * random bytes. The calls from jcobs_xor on are written by hand, and tested in the same way.
  */
 #include "jcobs.h"
 

@@ -1,11 +1,11 @@
 #!/usr/bin/env python3
 """Writes jcobs.c from cobs_small.ll, the proved module as LLVM text: translate.py [--check]
 
-Each exported function of the module becomes one function of C, with the names that jcobs.h gives its arguments and the
-contract of crates/cobs_small in its comment. A number of 64 bits becomes a size_t; other constants than 0 to 255, and
-anything else that could differ for a shorter size_t, are errors, as is each instruction that isn't known. What comes
-before and after them is in top.c and rest.c. The file is written here and to ../device/src; with --check both are compared
-and not written.
+Each exported function of the module becomes one function of C, with the names that jcobs.h gives its arguments, and
+its comment says what its contract in crates/cobs_small says. A number of 64 bits becomes a size_t; other constants than
+0 to 255, and anything else that could differ for a shorter size_t, are errors, as is each instruction that isn't known.
+What comes before and after them is in top.c and rest.c. The file is written here and to ../device/src; with --check
+both are compared and not written.
 """
 
 import sys
@@ -31,12 +31,9 @@ NAMES = {
 }
 
 
-def comment(text, clauses, source):
-    """The comment over a function: what it does, and its contract."""
-    lines = textwrap.wrap(text, 112)
-    lines.append(f"Proved, in {source}:" if clauses else "")
-    for clause in clauses:
-        lines += textwrap.wrap(f"ensures {clause}", 108, initial_indent="    ", subsequent_indent="        ")
+def comment(text, says, source):
+    """The comment over a function: what it does, and what its contract says."""
+    lines = textwrap.wrap(text, 112) + textwrap.wrap(f"Proved, by the contract in {source}: {says}", 112)
     return "/* " + "\n * ".join(lines) + " */"
 
 

@@ -20,7 +20,7 @@ static int is_answer(jcobs_answer answer, unsigned int status, size_t consumed, 
 }
 
 /* The greatest length is a constant expression. */
-static unsigned char at_compile_time[JCOBS_MAX_LENGTH(255)];
+typedef unsigned char at_compile_time[JCOBS_MAX_LENGTH(255)];
 
 static void test_constants(void)
 {
@@ -32,7 +32,7 @@ static void test_constants(void)
     unsigned char byte = 255;
     unsigned int word = 4294967295u;
 
-    expect(sizeof at_compile_time == 257, "JCOBS_MAX_LENGTH(255) is 257");
+    expect(sizeof(at_compile_time) == 257, "JCOBS_MAX_LENGTH(255) is 257");
     expect(JCOBS_MAX_LENGTH(0) == 1 && JCOBS_MAX_LENGTH(254) == 255, "JCOBS_MAX_LENGTH of 0 and of 254");
     expect(JCOBS_MAX_LENGTH(byte) == 257 && JCOBS_MAX_LENGTH(2147483647) == 2155938308ul,
            "JCOBS_MAX_LENGTH of each type");
@@ -40,6 +40,10 @@ static void test_constants(void)
                ? jcobs_max_length(word) == 0
                : JCOBS_MAX_LENGTH(word) == jcobs_max_length(word) && JCOBS_MAX_LENGTH(4294967295u) == 4311876616ul,
            "JCOBS_MAX_LENGTH of each type");
+    /* 254 for each 255 of the greatest number, which is a multiple of 255: the longest message whose frame has a length. */
+    expect(jcobs_max_length((size_t)-1 / 255 * 254) == (size_t)-1, "the greatest length");
+    expect(jcobs_max_length((size_t)-1 / 255 * 254 - 1) == (size_t)-1 - 1, "the greatest length but one");
+    expect(jcobs_max_length((size_t)-1 / 255 * 254 + 1) == 0, "the least length that doesn't fit");
     expect(jcobs_max_length((size_t)-1) == 0, "no length that doesn't fit");
     expect(jcobs_version() == JCOBS_VERSION, "the version is the header's");
     expect(jcobs_abi_1() == JCOBS_VERSION_MAJOR, "the version of the ABI");

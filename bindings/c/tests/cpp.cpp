@@ -8,6 +8,7 @@
 #include <string>
 #include <string_view>
 #include <type_traits>
+#include <utility>
 #include <vector>
 #if __cplusplus >= 202002L
 #include <span>
@@ -26,9 +27,19 @@ static_assert(!is_written<std::string_view> && !is_written<const std::array<std:
 static_assert(!is_written<jcobs::view> && !is_written<char (&)[6]>);
 static_assert(jcobs::max_length(0) == 1 && jcobs::max_length(254) == 255 && jcobs::max_length(255) == 257);
 static_assert(jcobs::max_length(static_cast<std::size_t>(-1)) == 0);
+static_assert(jcobs::max_length(static_cast<std::size_t>(-1) / 255 * 254) == static_cast<std::size_t>(-1));
+static_assert(jcobs::max_length(static_cast<std::size_t>(-1) / 255 * 254 + 1) == 0);
 static_assert(!std::is_copy_constructible_v<jcobs::receiver> && !std::is_copy_constructible_v<jcobs::sender>);
 
-// Buffers that end with the expression aren't taken; views of buffers that don't are.
+static_assert(std::is_nothrow_move_constructible_v<jcobs::receiver> &&
+              std::is_nothrow_move_assignable_v<jcobs::receiver>);
+static_assert(std::is_nothrow_move_constructible_v<jcobs::sender> && std::is_nothrow_move_assignable_v<jcobs::sender>);
+
+// Buffers that end with the expression aren't taken; views of buffers that don't are. Such bytes can be read.
+static_assert(!is_written<std::vector<unsigned char>> && !is_written<std::array<std::byte, 4>> &&
+              !is_written<std::string>);
+static_assert(!is_written<const std::vector<unsigned char>> && !is_written<unsigned char (&&)[4]>);
+static_assert(is_read<std::vector<unsigned char>> && is_read<std::array<std::byte, 4>> && is_read<std::string>);
 template <class Range> constexpr bool is_kept = std::is_constructible_v<jcobs::receiver, Range>;
 template <class Range> constexpr bool is_sent = std::is_constructible_v<jcobs::sender, Range>;
 static_assert(is_kept<std::vector<unsigned char> &> && is_kept<std::array<char, 4> &> && is_kept<unsigned char (&)[4]>);
@@ -37,6 +48,7 @@ static_assert(is_sent<std::vector<unsigned char> &> && is_sent<jcobs::buffer> &&
 static_assert(!is_sent<std::vector<unsigned char>> && !is_sent<std::array<std::byte, 4>>);
 static_assert(!std::is_constructible_v<jcobs::receiver, std::vector<unsigned char>, unsigned char>);
 #if __cplusplus >= 202002L
+static_assert(is_written<std::span<unsigned char>> && is_written<std::span<std::byte, 4>>);
 static_assert(is_kept<std::span<unsigned char>> && is_sent<std::span<std::byte, 4>> && !is_kept<std::span<const char>>);
 #endif
 
@@ -112,10 +124,45 @@ static void test_streams()
     expect(lines.feed('\n').status == JCOBS_BROKEN, "byte by byte, for a newline");
 }
 
+// What was open goes on in the one that it is moved to. The other is idle, and has no buffer.
+static void test_moves()
+{
+    std::array<std::byte, 8> frame{};
+    unsigned char messages[4];
+    jcobs::receiver first(messages, 7);
+    jcobs::sender begun(frame);
+    int met = 0;
+    const auto on_message = [&](jcobs::view message) {
+        met++;
+        expect(equal(message, "hey"sv), "the message, after a move");
+    };
+    const auto on_error = [&](jcobs_answer answer) {
+        met += 10;
+        expect(answer.status == JCOBS_TOO_SMALL && answer.length == 0, "there is no buffer");
+    };
+
+    first.push("\3o"sv, on_message);
+    jcobs::receiver second(std::move(first));
+    expect(first.is_idle() && first.consumed() == 0 && second.consumed() == 2, "a receiver is moved");
+    second.push("b~\7"sv, on_message);
+    first.push("\3ob~\7"sv, on_message, on_error);
+    first = std::move(second);
+    first.push("\3ob~\7"sv, on_message);
+    expect(met == 12, "what moved receivers receive");
+
+    expect(begun.push("he"sv), "push");
+    jcobs::sender sender(std::move(begun));
+    expect(!begun.push("he"sv) && begun.finish().empty(), "a sender without a buffer");
+    expect(sender.push("y"sv) && equal(sender.finish(), "\4hey"sv), "finish after a move");
+    begun = std::move(sender);
+    expect(begun.push("hey"sv) && equal(begun.finish_terminated(7), "\3ob~\7"sv), "moved back");
+}
+
 int main()
 {
     test_calls();
     test_streams();
+    test_moves();
     if (failures == 0)
         std::puts("all calls of jcobs.hpp returned what they should");
     return failures == 0 ? 0 : 1;

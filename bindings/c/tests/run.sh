@@ -12,6 +12,10 @@ c=$(cd "$(dirname "$0")/.." && pwd)
 cd "$c" || exit 1
 # shellcheck source=SCRIPTDIR/../../../tests/count.sh
 . ../../tests/count.sh
+# shellcheck source=SCRIPTDIR/languages.sh
+. tests/languages.sh
+# shellcheck source=SCRIPTDIR/builds.sh
+. tests/builds.sh
 machine=$(uname -m)
 here=build/$machine-unknown-linux-gnu
 flags='-Wall -Wextra -Wpedantic -Wconversion -Werror'
@@ -78,7 +82,7 @@ of nothing: no message' $run "$at/messages"
 
 # The functions that the header declares.
 calls() {
-    sed -n 's/^[a-z].* \**\(jcobs_[a-z_0-9]*\)(.*/\1/p' include/jcobs.h
+    sed -n 's/^JCOBS_API .* \**\(jcobs_[a-z_0-9]*\)(.*/\1/p' include/jcobs.h
 }
 
 symbols() {
@@ -164,55 +168,6 @@ switches() {
     done
 }
 
-# The examples by find_package, over a folder that CMAKE_PREFIX_PATH names; version 2 isn't found.
-found_by_cmake() { # PREFIX TARGET
-    rm -rf "$work/cmake"
-    mkdir -p "$work/example" && cp examples/*.c* "$work/example" && sed "s/jcobs::jcobs/$2/" examples/CMakeLists.txt >"$work/example/CMakeLists.txt" &&
-        cmake -S "$work/example" -B "$work/cmake" -DCMAKE_PREFIX_PATH="$1" && cmake --build "$work/cmake" || return 1
-    echo hi | "$work/cmake/send_lines" | prints 'message 2 6869' "$work/cmake/read_frames" || return 1
-    mkdir -p "$work/second" && sed 's/jcobs 1.0/jcobs 2.0/; /^add_executable/,$d' examples/CMakeLists.txt >"$work/second/CMakeLists.txt"
-    ! cmake -S "$work/second" -B "$work/second/build" -DCMAKE_PREFIX_PATH="$1" >"$work/cmaked" 2>&1 &&
-        grep -q 'not compatible\|considered but not accepted' "$work/cmaked"
-}
-
-# A project that fetches this repository, over the built library or jcobs.c: a library of its own, installed and exported, and a
-# program that finds that one.
-fetched() { # FLAG..
-    rm -rf "$work/fetching" && mkdir -p "$work/fetching/used" && cp examples/messages.cpp "$work/fetching/used" || return 1
-    tar -cf "$work/fetching/jcobs.tar" --exclude=./build --transform 's,^\.,jcobs/bindings/c,' . || return 1
-    cat >"$work/fetching/CMakeLists.txt" <<'END'
-cmake_minimum_required(VERSION 3.18)
-project(fetching VERSION 1.0 LANGUAGES C)
-include(FetchContent)
-FetchContent_Declare(jcobs URL "${CMAKE_SOURCE_DIR}/jcobs.tar" SOURCE_SUBDIR bindings/c)
-FetchContent_MakeAvailable(jcobs)
-add_library(sender sender.c)
-target_link_libraries(sender PUBLIC jcobs::jcobs)
-install(TARGETS sender EXPORT sender-targets)
-install(EXPORT sender-targets NAMESPACE sender:: DESTINATION lib/cmake/sender)
-install(FILES sender-config.cmake DESTINATION lib/cmake/sender)
-END
-    printf 'include(CMakeFindDependencyMacro)\nfind_dependency(jcobs 1.0)\ninclude("${CMAKE_CURRENT_LIST_DIR}/sender-targets.cmake")\n' \
-        >"$work/fetching/sender-config.cmake"
-    printf '#include <jcobs.h>\nunsigned int sender_version(void);\nunsigned int sender_version(void)\n{\n    return jcobs_version();\n}\n' \
-        >"$work/fetching/sender.c"
-    cat >"$work/fetching/used/CMakeLists.txt" <<'END'
-cmake_minimum_required(VERSION 3.16)
-project(used LANGUAGES C CXX)
-set(CMAKE_CXX_STANDARD 17)
-find_package(sender REQUIRED)
-add_executable(messages messages.cpp)
-target_link_libraries(messages sender::sender)
-END
-    for flag in -DBUILD_SHARED_LIBS=OFF -DBUILD_SHARED_LIBS=ON; do
-        rm -rf "$work/fetching/build" "$work/fetching/used/build" "$work/fetching/prefix"
-        cmake -S "$work/fetching" -B "$work/fetching/build" -DCMAKE_INSTALL_PREFIX="$work/fetching/prefix" $flag "$@" &&
-            cmake --build "$work/fetching/build" --target install || return 1
-        cmake -S "$work/fetching/used" -B "$work/fetching/used/build" -DCMAKE_PREFIX_PATH="$work/fetching/prefix" &&
-            cmake --build "$work/fetching/used/build" && at=$work/fetching/used/build messages || return 1
-    done
-}
-
 # Packed for /usr: nothing in the package has a run path, and each link of the README leads to a file.
 packed() (
     make install "DESTDIR=$work/root" PREFIX=/usr && ! grep '^Libs.*rpath' "$work/root/usr/lib/pkgconfig/jcobs.pc" || return 1
@@ -243,7 +198,7 @@ over_musl() {
 }
 
 sums() (
-    cmp include/jcobs.h device/src/jcobs.h || return 1
+    cmp include/jcobs.h device/src/jcobs.h && cmp include/jcobs.hpp device/src/jcobs.hpp || return 1
     cd prebuilt && sha256sum -c SHA256SUMS
 )
 
@@ -347,7 +302,15 @@ fi
 part 'jcobs.hpp' "$at/cpp"
 part 'jcobs.hpp, if a callback throws' throws
 part 'jcobs.hpp without an allocator' no_allocator
+part 'jcobs.hpp by g++ and clang++, C++17 to C++23' cpp_standards
+part 'jcobs.hpp: receivers that are moved, with sanitizers' moved
+part 'jcobs.hpp: what must not compile' refused
 part 'a switch over the status' switches
+part 'enums that are short' short_enums
+part 'enums that are short, on AVR and Hexagon' short_enums_on_devices
+part 'jcobs.c in one translation unit, static' one_unit static -Wno-unused-function
+part 'jcobs.c in one translation unit, static inline' one_unit 'static inline'
+part 'jcobs.c in a shared library: exported, or hidden' exports
 part '1,000,000 random calls between pages without access' "$at/guard" 1000000
 for chunk in 1 7 4096; do
     part "read_frames, $chunk bytes at a time" reads "$chunk"
@@ -358,6 +321,7 @@ part 'send_lines, and read_frames behind it' sends_and_reads
 part 'messages in C++17' messages
 if has pkg-config pkg-config 'install and dist'; then
     part 'install to a private prefix' private_prefix
+    part 'uninstall' uninstalled
     part 'install for a package' packed
     part 'dist: the same bytes twice, unpacked elsewhere' unpacked
     if has cmake cmake 'the commands of the installed README'; then
@@ -377,8 +341,21 @@ if has cmake cmake 'find_package'; then
     part 'find_package in a prefix, shared' found_by_cmake "$work/prefix" jcobs::shared
 fi
 if has cmake cmake FetchContent; then
-    part 'FetchContent: the built library' fetched
-    part 'FetchContent: jcobs.c' fetched -DJCOBS_FROM_SOURCE=ON
+    part 'FetchContent: the built library' fetched ''
+    part 'FetchContent: jcobs.c' fetched '' -DJCOBS_FROM_SOURCE=ON
+    part 'FetchContent of bindings/c: jcobs.c' fetched 'SOURCE_SUBDIR bindings/c' -DJCOBS_FROM_SOURCE=ON
+    part 'add_subdirectory of the repository' added
+    part 'CMake: a shared library of jcobs.c' shared_by_cmake
+    part 'CMake: each call of jcobs.c is a section' sections_by_cmake
+fi
+if has meson meson Meson && has pkg-config pkg-config Meson; then
+    part 'Meson: the built library' by_meson static libjcobs.a
+    part 'Meson: jcobs.c' by_meson static libjcobs.a -Dfrom_source=true
+    part 'Meson: jcobs.c, shared' by_meson shared libjcobs.so.1 -Dfrom_source=true
+    part 'Meson: a subproject' meson_subproject
+fi
+if has cmake cmake 'recipes for vcpkg and Conan'; then
+    part 'recipes for vcpkg and Conan' python3 tests/recipes.py
 fi
 if has musl-gcc musl-tools 'over musl'; then
     part 'over musl' over_musl

@@ -1,11 +1,14 @@
 # The library as a target: include(.../bindings/c/device/cmake/jcobs.cmake), then target_link_libraries(program jcobs::jcobs).
 #
-# JCOBS_CORE names a folder of src/, whose archive is taken; a toolchain file can set it. Without it jcobs.c is compiled.
+# JCOBS_CORE names a folder of src/, whose archive is taken; a toolchain file can set it. Without it jcobs.c is compiled, each call
+# to a section of its own, so that -Wl,--gc-sections leaves out those that the program doesn't make.
 if(NOT TARGET jcobs::jcobs)
     get_filename_component(_jcobs_src "${CMAKE_CURRENT_LIST_DIR}/../src" ABSOLUTE)
     if(NOT JCOBS_CORE)
-        add_library(jcobs STATIC "${_jcobs_src}/jcobs.c")
+        add_library(jcobs "${_jcobs_src}/jcobs.c")
         target_include_directories(jcobs PUBLIC "$<BUILD_INTERFACE:${_jcobs_src}>")
+        target_compile_options(jcobs PRIVATE "$<$<C_COMPILER_ID:GNU,Clang,AppleClang,ARMClang,IntelLLVM>:-ffunction-sections>")
+        set_target_properties(jcobs PROPERTIES WINDOWS_EXPORT_ALL_SYMBOLS ON)
         add_library(jcobs::jcobs ALIAS jcobs)
     elseif(EXISTS "${_jcobs_src}/${JCOBS_CORE}/libjcobs.a")
         add_library(jcobs::jcobs STATIC IMPORTED GLOBAL)

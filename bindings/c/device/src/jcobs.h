@@ -78,40 +78,12 @@
  *
  * Results
  *
- * consumed is how many bytes were taken of the message, the source or the bytes pushed. length is how many bytes at
- * the front of the buffer the row is about. Bytes after these are as they were before the call, or for a
- * streaming call as they were before the frame or message began; decode_in_place_with_sentinel is different there.
+ * Below each prototype is what it returns, for each status that it can have:
  *
- * call                      status     consumed              length
- * ------------------------  ---------  --------------------  --------------------------------------------
- * encode..                  OK         the whole message     the frame, and its terminator if asked for
- *                           TOO_SMALL  0                     0; the buffer is as it was
- * decode                    OK         zeros in front, the   the message
- *                                      frame, and the zero
- *                                      after it
- *                           BROKEN     the same              the output of the frame, up to where it ends
- *                           TOO_SMALL  the same              the whole buffer: the output's first bytes
- *                           EMPTY      the whole source      0: there are no bytes, or only zeros
- * decode_with_sentinel      OK         the frame, and the    the message
- *                                      sentinel after it
- *                           BROKEN     the same              the output of the whole blocks
- *                           TOO_SMALL  the same              the whole buffer: the first bytes of these
- *                           EMPTY      0                     0: there are no bytes
- * decode_in_place           OK         the frame, and the    the message
- *   and .._with_sentinel               sentinel after it
- *                           BROKEN     the same              the output of the whole blocks
- *                           EMPTY      0                     0: there are no bytes
- * decoder_push..            OK         through the sentinel  the message
- *   and _feed                          that ends a frame
- *                           BROKEN     the same              the output of the frame, up to where it ends
- *                           TOO_SMALL  the same              the whole buffer: the output's first bytes
- *                           MORE       all bytes             what the buffer has of an unfinished message
- * encoder_push              OK         all bytes             the frame's length so far: the frame itself is
- *   and _feed                                                there only after finish, which writes the code
- *                                                            of the open block
- *                           TOO_SMALL  0                     0; the state and the buffer are as they were
- * encoder_finish..          OK         0                     the frame, and its terminator if asked for
- *                           TOO_SMALL  0                     0; the state and the buffer are as they were
+ * - consumed is how many bytes were taken of the message, the source or the bytes pushed;
+ * - length is how many bytes at the front of the buffer the result is about. Bytes after these are as they were before
+ *   the call, or for a streaming call as they were before the frame or message began. The only exception is
+ *   jcobs_decode_in_place_with_sentinel.
  *
  * The output of the whole blocks ends with the zero between the last of them and the block that is cut off, unless
  * that last one is full: that of 02 41 05 42 is 41 00.
@@ -140,18 +112,25 @@ extern "C" {
 #define JCOBS_VERSION_PATCH 0
 #define JCOBS_VERSION (JCOBS_VERSION_MAJOR * 10000 + JCOBS_VERSION_MINOR * 100 + JCOBS_VERSION_PATCH)
 
-/* The result of a call. In jcobs_answer it has the size of unsigned int in every language and on every target. So its
- * type is fixed if the language allows it. If enums may be shorter, as on bare-metal ARM, jcobs_answer has an unsigned
- * int instead. Elsewhere -Wswitch checks a switch over it. */
+/* Comes before each prototype. For jcobs.c in one translation unit with the code that calls it, define it as static
+ * and include jcobs.c; in a library, as what exports a function or hides it, such as
+ * __attribute__((visibility("hidden"))). */
+#ifndef JCOBS_API
+#define JCOBS_API
+#endif
+
+/* The type of a status in jcobs_answer has the size of unsigned int in every language, on every target and with
+ * -fshort-enums. It is jcobs_status where that has this size, so that -Wswitch checks a switch over it. */
 #if (defined(__cplusplus) && __cplusplus >= 201103L) || (defined(__STDC_VERSION__) && __STDC_VERSION__ >= 202311L)
 #define JCOBS_ENUM(name) enum name : unsigned int
 #define JCOBS_STATUS jcobs_status
 #else
 #define JCOBS_ENUM(name) enum name
-#if defined(__ARM_SIZEOF_MINIMAL_ENUM) && __ARM_SIZEOF_MINIMAL_ENUM < 4
-#define JCOBS_STATUS unsigned int
+#if defined(__GNUC__) && !defined(__cplusplus)
+#define JCOBS_STATUS                                                                                                   \
+    __typeof__(__builtin_choose_expr(sizeof(jcobs_status) == sizeof(unsigned int), (jcobs_status)0, 0u))
 #else
-#define JCOBS_STATUS jcobs_status
+#define JCOBS_STATUS unsigned int
 #endif
 #endif
 typedef JCOBS_ENUM(jcobs_status){
@@ -162,15 +141,12 @@ typedef JCOBS_ENUM(jcobs_status){
     JCOBS_EMPTY = 4      /* there is no frame */
 } jcobs_status;
 
-/* The result of a call, by the table above. */
+/* The result of a call. */
 typedef struct jcobs_answer {
     JCOBS_STATUS status; /* what became of it: a jcobs_status */
     size_t consumed;     /* how many bytes were taken */
     size_t length;       /* how many bytes at the front of the buffer it is about */
 } jcobs_answer;
-
-/* This doesn't compile if the status is shorter, as by -fshort-enums elsewhere: then the library can't be called. */
-typedef char jcobs_status_is_an_unsigned_int[sizeof(JCOBS_STATUS) == sizeof(unsigned int) ? 1 : -1];
 
 /* What bytes are, without sentinels around them. */
 enum jcobs_kind {
@@ -204,7 +180,8 @@ typedef struct jcobs_encoder {
 #define JCOBS_ENCODER_INIT {0, 0, 0}
 /* clang-format on */
 
-/* What GCC and Clang check of a call: that its result is used, and GCC also that the pointers have room for the lengths. */
+/* What GCC and Clang check of a call: that its result is used and its state isn't NULL, and GCC also that the pointers
+ * have room for the lengths. The numbers are those of a pointer and of its length among the arguments. */
 #ifdef __GNUC__
 #define JCOBS_CHECKED __attribute__((warn_unused_result))
 #define JCOBS_STATE __attribute__((nonnull(1)))
@@ -213,13 +190,17 @@ typedef struct jcobs_encoder {
 #define JCOBS_STATE
 #endif
 #if defined(__GNUC__) && __GNUC__ >= 11 && !defined(__clang__)
-#define JCOBS_ACCESS(mode, pointer, length) __attribute__((access(mode, pointer, length)))
+#define JCOBS_READS(pointer, length) __attribute__((access(read_only, pointer, length)))
+#define JCOBS_WRITES(pointer, length) __attribute__((access(write_only, pointer, length)))
+#define JCOBS_CHANGES(pointer, length) __attribute__((access(read_write, pointer, length)))
 #else
-#define JCOBS_ACCESS(mode, pointer, length)
+#define JCOBS_READS(pointer, length)
+#define JCOBS_WRITES(pointer, length)
+#define JCOBS_CHANGES(pointer, length)
 #endif
 
 /* Returns the length of the longest frame of a message of this length, without a terminator: the length, and 1 for
- * each 254 bytes begun, and 1 for the empty message. If that doesn't fit a size_t, the function returns 0.
+ * each 254 bytes begun, and 1 for the empty message.
  *
  * The macro is the same as a constant expression, as for the length of an array, but wraps round where the function
  * returns 0. Its type is size_t, whatever unsigned type the argument has that isn't wider; it evaluates its argument
@@ -227,131 +208,170 @@ typedef struct jcobs_encoder {
 #define JCOBS_MAX_LENGTH(message_len)                                                                                  \
     (sizeof(char) * (message_len) + sizeof(char) * (message_len) / 254 +                                               \
      (sizeof(char) * (message_len) % 254 != 0 || (message_len) == 0 ? 1 : 0))
-size_t jcobs_max_length(size_t message_len) JCOBS_CHECKED;
+JCOBS_API size_t jcobs_max_length(size_t message_len) JCOBS_CHECKED;
+/* returns: that length, or 0 if it doesn't fit a size_t */
 
 /* Writes the frame of the message to the front of `frame`. Room for jcobs_max_length(message_len) bytes always
- * suffices; the status is TOO_SMALL exactly if the frame itself doesn't fit. */
-jcobs_answer jcobs_encode(const void *message, size_t message_len, void *frame, size_t frame_len)
-    JCOBS_ACCESS(read_only, 1, 2) JCOBS_ACCESS(write_only, 3, 4) JCOBS_CHECKED;
+ * suffices. */
+JCOBS_API jcobs_answer jcobs_encode(const void *message, size_t message_len, void *frame, size_t frame_len)
+    JCOBS_READS(1, 2) JCOBS_WRITES(3, 4) JCOBS_CHECKED;
+/* returns: status OK, consumed message_len, length of the frame
+ *          status TOO_SMALL, consumed 0, length 0, exactly if the frame doesn't fit: the buffer is as it was */
 
 /* Does the same, with a zero after the frame, which needs one byte more. */
-jcobs_answer jcobs_encode_terminated(const void *message, size_t message_len, void *frame, size_t frame_len)
-    JCOBS_ACCESS(read_only, 1, 2) JCOBS_ACCESS(write_only, 3, 4) JCOBS_CHECKED;
+JCOBS_API jcobs_answer jcobs_encode_terminated(const void *message, size_t message_len, void *frame, size_t frame_len)
+    JCOBS_READS(1, 2) JCOBS_WRITES(3, 4) JCOBS_CHECKED;
+/* returns: status OK, consumed message_len, length of the frame and its zero
+ *          status TOO_SMALL, consumed 0, length 0, exactly if both don't fit: the buffer is as it was */
 
 /* Do the same for another sentinel: each byte of the frame is XORed with it. The terminator is the sentinel. */
-jcobs_answer jcobs_encode_with_sentinel(const void *message, size_t message_len, void *frame, size_t frame_len,
-                                        unsigned char sentinel) JCOBS_ACCESS(read_only, 1, 2)
-    JCOBS_ACCESS(write_only, 3, 4) JCOBS_CHECKED;
-jcobs_answer jcobs_encode_terminated_with_sentinel(const void *message, size_t message_len, void *frame,
-                                                   size_t frame_len, unsigned char sentinel)
-    JCOBS_ACCESS(read_only, 1, 2) JCOBS_ACCESS(write_only, 3, 4) JCOBS_CHECKED;
+JCOBS_API jcobs_answer jcobs_encode_with_sentinel(const void *message, size_t message_len, void *frame,
+                                                  size_t frame_len, unsigned char sentinel) JCOBS_READS(1, 2)
+    JCOBS_WRITES(3, 4) JCOBS_CHECKED;
+/* returns: as jcobs_encode */
+JCOBS_API jcobs_answer jcobs_encode_terminated_with_sentinel(const void *message, size_t message_len, void *frame,
+                                                             size_t frame_len, unsigned char sentinel) JCOBS_READS(1, 2)
+    JCOBS_WRITES(3, 4) JCOBS_CHECKED;
+/* returns: as jcobs_encode_terminated */
 
 /* Encodes a message in its own buffer, where there is no second one. Its message_len bytes lie in the buffer from
  * JCOBS_MAX_OVERHEAD(message_len) on; what is before them doesn't matter. Then the buffer begins with the frame that
- * jcobs_encode writes. The status is TOO_SMALL exactly if the buffer is shorter than jcobs_max_length(message_len). */
+ * jcobs_encode writes. */
 #define JCOBS_MAX_OVERHEAD(message_len) (JCOBS_MAX_LENGTH(message_len) - sizeof(char) * (message_len))
-jcobs_answer jcobs_encode_in_place(void *buffer, size_t buffer_len, size_t message_len)
-    JCOBS_ACCESS(read_write, 1, 2) JCOBS_CHECKED;
+JCOBS_API jcobs_answer jcobs_encode_in_place(void *buffer, size_t buffer_len, size_t message_len)
+    JCOBS_CHANGES(1, 2) JCOBS_CHECKED;
+/* returns: status OK, consumed message_len, length of the frame
+ *          status TOO_SMALL, consumed 0, length 0, exactly if the buffer is shorter than jcobs_max_length(message_len):
+ *              it is as it was */
 
 /* Decodes the first frame of the source to the front of `message`. Zeros in front of the frame are skipped, and it
  * ends at the next zero or with the source. A buffer as long as the source always suffices. */
-jcobs_answer jcobs_decode(const void *source, size_t source_len, void *message, size_t message_len)
-    JCOBS_ACCESS(read_only, 1, 2) JCOBS_ACCESS(write_only, 3, 4) JCOBS_CHECKED;
+JCOBS_API jcobs_answer jcobs_decode(const void *source, size_t source_len, void *message, size_t message_len)
+    JCOBS_READS(1, 2) JCOBS_WRITES(3, 4) JCOBS_CHECKED;
+/* returns: status OK, consumed zeros in front, the frame and the zero after it, length of the message
+ *          status BROKEN, consumed the same, length of the frame's output up to where it ends
+ *          status TOO_SMALL, consumed the same, length message_len: the buffer has the output's first bytes
+ *          status EMPTY, consumed source_len, length 0: there are no bytes, or only zeros */
 
 /* Decodes the frame at the front of the source, for this sentinel, to the front of `message`. The frame ends at the
  * first sentinel or with the source. No sentinel is skipped: one in front is an empty message. */
-jcobs_answer jcobs_decode_with_sentinel(const void *source, size_t source_len, void *message, size_t message_len,
-                                        unsigned char sentinel) JCOBS_ACCESS(read_only, 1, 2)
-    JCOBS_ACCESS(write_only, 3, 4) JCOBS_CHECKED;
+JCOBS_API jcobs_answer jcobs_decode_with_sentinel(const void *source, size_t source_len, void *message,
+                                                  size_t message_len, unsigned char sentinel) JCOBS_READS(1, 2)
+    JCOBS_WRITES(3, 4) JCOBS_CHECKED;
+/* returns: status OK, consumed the frame and the sentinel after it, length of the message
+ *          status BROKEN, consumed the same, length of the output of the whole blocks
+ *          status TOO_SMALL, consumed the same, length message_len: the buffer has that output's first bytes
+ *          status EMPTY, consumed 0, length 0: there are no bytes */
 
 /* Decodes the frame at the front of the buffer in place. It ends at the first zero or with the buffer. No zero is
  * skipped: one in front is an empty message. There is always room. */
-jcobs_answer jcobs_decode_in_place(void *buffer, size_t buffer_len) JCOBS_ACCESS(read_write, 1, 2) JCOBS_CHECKED;
+JCOBS_API jcobs_answer jcobs_decode_in_place(void *buffer, size_t buffer_len) JCOBS_CHANGES(1, 2) JCOBS_CHECKED;
+/* returns: status OK, consumed the frame and the zero after it, length of the message
+ *          status BROKEN, consumed the same, length of the output of the whole blocks
+ *          status EMPTY, consumed 0, length 0: there are no bytes */
 
 /* Does the same for this sentinel. In the rest of the frame after the message, each byte is XORed with the sentinel;
  * the sentinel and what follows it aren't changed, so that the next frame begins at buffer + consumed. */
-jcobs_answer jcobs_decode_in_place_with_sentinel(void *buffer, size_t buffer_len, unsigned char sentinel)
-    JCOBS_ACCESS(read_write, 1, 2) JCOBS_CHECKED;
+JCOBS_API jcobs_answer jcobs_decode_in_place_with_sentinel(void *buffer, size_t buffer_len, unsigned char sentinel)
+    JCOBS_CHANGES(1, 2) JCOBS_CHECKED;
+/* returns: as jcobs_decode_in_place, with the sentinel for the zero */
 
-/* Returns whether the bytes are a frame for the sentinel 0, and which one of its message: one of enum jcobs_kind. */
-unsigned int jcobs_frame_kind(const void *bytes, size_t len) JCOBS_ACCESS(read_only, 1, 2) JCOBS_CHECKED;
+/* Returns whether the bytes are a frame for the sentinel 0, and which one of its message. */
+JCOBS_API unsigned int jcobs_frame_kind(const void *bytes, size_t len) JCOBS_READS(1, 2) JCOBS_CHECKED;
+/* returns: one of enum jcobs_kind */
 
 /* Resets the decoder to the start, whatever the state was. */
-void jcobs_decoder_reset(jcobs_decoder *decoder) JCOBS_STATE;
+JCOBS_API void jcobs_decoder_reset(jcobs_decoder *decoder) JCOBS_STATE;
 
 /* Takes bytes of a stream of frames, each followed by a zero, through the zero that ends the first one. The message
  * is then at the front of the buffer until the next call; bytes after that zero have no effect: push them next. Every
- * frame is reported once, at its zero: OK, BROKEN, or TOO_SMALL if its output is longer than the buffer. Zeros
- * between frames are skipped. A broken or oversized frame never affects the next.
+ * frame is reported once, at its zero. Zeros between frames are skipped. A broken or oversized frame never affects
+ * the next.
  *
  * While a frame is open, pass the same buffer with the same length, as the last call left it. Otherwise the status
  * of that frame and the contents of the buffer are unspecified. */
-jcobs_answer jcobs_decoder_push(jcobs_decoder *decoder, void *buffer, size_t buffer_len, const void *bytes,
-                                size_t len) JCOBS_STATE JCOBS_ACCESS(write_only, 2, 3)
-    JCOBS_ACCESS(read_only, 4, 5) JCOBS_CHECKED;
+JCOBS_API jcobs_answer jcobs_decoder_push(jcobs_decoder *decoder, void *buffer, size_t buffer_len, const void *bytes,
+                                          size_t len) JCOBS_STATE JCOBS_WRITES(2, 3) JCOBS_READS(4, 5) JCOBS_CHECKED;
+/* returns: status OK, consumed through the zero that ends a frame, length of the message
+ *          status BROKEN, consumed the same, length of the frame's output up to where it ends
+ *          status TOO_SMALL, consumed the same, length buffer_len: the output is longer, and its first bytes are there
+ *          status MORE, consumed len, length of what the buffer has of an unfinished message */
 
 /* Takes one byte, as jcobs_decoder_push of that byte does. In the library for hosts it is faster than a push. */
-jcobs_answer jcobs_decoder_feed(jcobs_decoder *decoder, void *buffer, size_t buffer_len, unsigned char byte) JCOBS_STATE
-    JCOBS_ACCESS(write_only, 2, 3) JCOBS_CHECKED;
+JCOBS_API jcobs_answer jcobs_decoder_feed(jcobs_decoder *decoder, void *buffer, size_t buffer_len,
+                                          unsigned char byte) JCOBS_STATE JCOBS_WRITES(2, 3) JCOBS_CHECKED;
+/* returns: as jcobs_decoder_push, consumed 1 */
 
-/* Takes bytes of a stream of frames for this sentinel, each followed by one, as jcobs_decoder_push does for 0, but slower,
- * byte by byte. */
-jcobs_answer jcobs_decoder_push_with_sentinel(jcobs_decoder *decoder, void *buffer, size_t buffer_len,
-                                              const void *bytes, size_t len, unsigned char sentinel) JCOBS_STATE
-    JCOBS_ACCESS(write_only, 2, 3) JCOBS_ACCESS(read_only, 4, 5) JCOBS_CHECKED;
+/* Takes bytes of a stream of frames for this sentinel, each followed by one, as jcobs_decoder_push does for 0, but
+ * slower, byte by byte. */
+JCOBS_API jcobs_answer jcobs_decoder_push_with_sentinel(jcobs_decoder *decoder, void *buffer, size_t buffer_len,
+                                                        const void *bytes, size_t len,
+                                                        unsigned char sentinel) JCOBS_STATE JCOBS_WRITES(2, 3)
+    JCOBS_READS(4, 5) JCOBS_CHECKED;
+/* returns: as jcobs_decoder_push, with the sentinel for the zero */
 
-/* Returns 1 if no frame is open, that is if all that was pushed is reported, and 0 if a frame has begun. At the end of
- * a stream, 0 says that the last frame has no sentinel. */
-unsigned int jcobs_decoder_is_idle(const jcobs_decoder *decoder) JCOBS_STATE JCOBS_CHECKED;
+/* Returns whether no frame is open, that is whether all that was pushed is reported. At the end of a stream, 0 says
+ * that the last frame has no sentinel. */
+JCOBS_API unsigned int jcobs_decoder_is_idle(const jcobs_decoder *decoder) JCOBS_STATE JCOBS_CHECKED;
+/* returns: 1 if no frame is open, and 0 if one has begun */
 
 /* Resets the encoder to the start, whatever the state was. */
-void jcobs_encoder_reset(jcobs_encoder *encoder) JCOBS_STATE;
+JCOBS_API void jcobs_encoder_reset(jcobs_encoder *encoder) JCOBS_STATE;
 
-/* Takes the next bytes of a message, whose frame is made in the buffer. The status is TOO_SMALL exactly if the frame
- * of all that was taken and these bytes doesn't fit; then push fewer bytes, finish the shorter message, or give it up
- * by jcobs_encoder_reset.
+/* Takes the next bytes of a message, whose frame is made in the buffer. If they don't fit, push fewer bytes, finish the
+ * shorter message, or give it up by jcobs_encoder_reset.
  *
  * From the first push to the finish, pass the same buffer with the same length, as the last call left it.
  * Otherwise the contents of the buffer are unspecified. */
-jcobs_answer jcobs_encoder_push(jcobs_encoder *encoder, void *buffer, size_t buffer_len, const void *bytes,
-                                size_t len) JCOBS_STATE JCOBS_ACCESS(write_only, 2, 3)
-    JCOBS_ACCESS(read_only, 4, 5) JCOBS_CHECKED;
+JCOBS_API jcobs_answer jcobs_encoder_push(jcobs_encoder *encoder, void *buffer, size_t buffer_len, const void *bytes,
+                                          size_t len) JCOBS_STATE JCOBS_WRITES(2, 3) JCOBS_READS(4, 5) JCOBS_CHECKED;
+/* returns: status OK, consumed len, length of the frame so far, which is there only after finish: that writes the code
+ *              of the open block
+ *          status TOO_SMALL, consumed 0, length 0, exactly if the frame of all that was taken and these bytes doesn't
+ *              fit: the state and the buffer are as they were */
 
 /* Takes one byte, as jcobs_encoder_push of that byte does. */
-jcobs_answer jcobs_encoder_feed(jcobs_encoder *encoder, void *buffer, size_t buffer_len, unsigned char byte) JCOBS_STATE
-    JCOBS_ACCESS(write_only, 2, 3) JCOBS_CHECKED;
+JCOBS_API jcobs_answer jcobs_encoder_feed(jcobs_encoder *encoder, void *buffer, size_t buffer_len,
+                                          unsigned char byte) JCOBS_STATE JCOBS_WRITES(2, 3) JCOBS_CHECKED;
+/* returns: as jcobs_encoder_push, consumed 1 or 0 */
 
 /* Ends the message: the buffer then begins with its frame, the one that jcobs_encode writes, and the encoder is at
- * the start. The status is TOO_SMALL only if not even that frame fits: if the buffer is empty, or isn't the one that
- * was pushed to. */
-jcobs_answer jcobs_encoder_finish(jcobs_encoder *encoder, void *buffer, size_t buffer_len) JCOBS_STATE
-    JCOBS_ACCESS(write_only, 2, 3) JCOBS_CHECKED;
+ * the start. */
+JCOBS_API jcobs_answer jcobs_encoder_finish(jcobs_encoder *encoder, void *buffer, size_t buffer_len) JCOBS_STATE
+    JCOBS_WRITES(2, 3) JCOBS_CHECKED;
+/* returns: status OK, consumed 0, length of the frame
+ *          status TOO_SMALL, consumed 0, length 0, only if the buffer is empty, or isn't the one that was pushed to:
+ *              the state and the buffer are as they were */
 
-/* Does the same, with a zero after the frame, which needs one byte more. If only that byte doesn't fit, nothing has
- * changed. */
-jcobs_answer jcobs_encoder_finish_terminated(jcobs_encoder *encoder, void *buffer, size_t buffer_len) JCOBS_STATE
-    JCOBS_ACCESS(write_only, 2, 3) JCOBS_CHECKED;
+/* Does the same, with a zero after the frame, which needs one byte more. */
+JCOBS_API jcobs_answer jcobs_encoder_finish_terminated(jcobs_encoder *encoder, void *buffer,
+                                                       size_t buffer_len) JCOBS_STATE JCOBS_WRITES(2, 3) JCOBS_CHECKED;
+/* returns: status OK, consumed 0, length of the frame and its zero
+ *          status TOO_SMALL, consumed 0, length 0, if both don't fit: the state and the buffer are as they were */
 
 /* Do the same for another sentinel: each byte of the frame is XORed with it. The pushes are those for 0. */
-jcobs_answer jcobs_encoder_finish_with_sentinel(jcobs_encoder *encoder, void *buffer, size_t buffer_len,
-                                                unsigned char sentinel) JCOBS_STATE
-    JCOBS_ACCESS(write_only, 2, 3) JCOBS_CHECKED;
-jcobs_answer jcobs_encoder_finish_terminated_with_sentinel(jcobs_encoder *encoder, void *buffer, size_t buffer_len,
-                                                           unsigned char sentinel) JCOBS_STATE
-    JCOBS_ACCESS(write_only, 2, 3) JCOBS_CHECKED;
+JCOBS_API jcobs_answer jcobs_encoder_finish_with_sentinel(jcobs_encoder *encoder, void *buffer, size_t buffer_len,
+                                                          unsigned char sentinel) JCOBS_STATE
+    JCOBS_WRITES(2, 3) JCOBS_CHECKED;
+/* returns: as jcobs_encoder_finish */
+JCOBS_API jcobs_answer jcobs_encoder_finish_terminated_with_sentinel(jcobs_encoder *encoder, void *buffer,
+                                                                     size_t buffer_len,
+                                                                     unsigned char sentinel) JCOBS_STATE
+    JCOBS_WRITES(2, 3) JCOBS_CHECKED;
+/* returns: as jcobs_encoder_finish_terminated */
 
-/* Writes a short English description of a status to `text`, with a '\0' after it, cut to fit, and returns the length
- * of the whole description; JCOBS_TEXT_LENGTH bytes are room for it. If text_len is 0, nothing is written. A number
- * that is no status is "unknown status". */
+/* Writes a short English description of a status to `text`, with a '\0' after it, cut to fit; JCOBS_TEXT_LENGTH bytes
+ * are room for it. If text_len is 0, nothing is written. A number that is no status is "unknown status". */
 #define JCOBS_TEXT_LENGTH 48
-size_t jcobs_strerror(unsigned int status, char *text, size_t text_len) JCOBS_ACCESS(write_only, 2, 3);
+JCOBS_API size_t jcobs_strerror(unsigned int status, char *text, size_t text_len) JCOBS_WRITES(2, 3);
+/* returns: the length of the whole description */
 
 /* Returns the version of the library, as JCOBS_VERSION. */
-unsigned int jcobs_version(void);
+JCOBS_API unsigned int jcobs_version(void);
 
 /* Returns 1. A library of another major version has no function of this name, so a program that refers to it can't be
  * linked with one. */
-unsigned int jcobs_abi_1(void);
+JCOBS_API unsigned int jcobs_abi_1(void);
 
 #ifdef __cplusplus
 }

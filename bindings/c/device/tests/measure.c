@@ -1,52 +1,12 @@
 /* How many instructions a byte each call takes in QEMU, beside plain.c, and a call for each byte; on an AVR in simavr, how many
  * cycles. */
 #include "plain.h"
+#include "ticks.h"
 
 #include <stdio.h>
 #include <string.h>
 
 #define LONG 4000
-
-#if defined(__riscv)
-#define EACH 1
-#define COUNTED 0xffffff
-static void begin(void)
-{
-}
-static unsigned long now(void)
-{
-    unsigned long instructions;
-
-    __asm__ volatile("rdinstret %0" : "=r"(instructions));
-    return instructions;
-}
-#elif defined(__AVR__)
-#include <avr/io.h>
-#define EACH 64
-#define COUNTED 0xffff
-static void begin(void)
-{
-    TCCR1B = 1 << CS11 | 1 << CS10;
-}
-static unsigned long now(void)
-{
-    return TCNT1;
-}
-#else /* Cortex-M: QEMU runs one instruction in each nanosecond (-icount shift=0), and the timer counts down 40 of them. */
-#define EACH 40
-#define COUNTED 0xffffff
-static volatile unsigned int *const timer = (volatile unsigned int *)0xe000e010; /* control, reload, value */
-static void begin(void)
-{
-    timer[1] = COUNTED;
-    timer[2] = 0;
-    timer[0] = 5;
-}
-static unsigned long now(void)
-{
-    return COUNTED - timer[2];
-}
-#endif
 
 static unsigned char message[LONG];
 static unsigned char frame[LONG + LONG / 254 + 2];
@@ -105,14 +65,6 @@ static void push_bytes(void)
             return;
     }
     answer = jcobs_encoder_finish(&encoder, frame, sizeof frame);
-}
-
-static unsigned long ticks(void (*call)(void))
-{
-    unsigned long before = now();
-
-    call();
-    return (now() - before) & COUNTED;
 }
 
 static void compare(const char *name, void (*call)(void), void (*plain)(void))

@@ -68,22 +68,31 @@ def run_script(path, processor):
     return env.added, names["CORES"]
 
 
+def check_library(folder):
+    """The library.json of a folder: that of this one, or that of the repository, for those who name its address."""
+    library = json.loads((folder / "library.json").read_text())
+    build = library.pop("build")
+    assert (folder / build.get("srcDir", "src")).resolve() == HERE / "src"
+    assert all((folder / build["includeDir"] / header).is_file() for header in library["headers"])
+    assert (folder / build["extraScript"]).resolve() == HERE / "platformio.py" and "srcFilter" not in build
+    return library
+
+
 def check_manifests():
     """library.json and library.properties, and the archive or the source for each processor."""
-    library = json.loads((HERE / "library.json").read_text())
+    library = check_library(HERE)
+    assert check_library(HERE.parents[2]) == library
     lines = (HERE / "library.properties").read_text().splitlines()
     properties = dict(line.split("=", 1) for line in lines)
-    build = library["build"]
     assert list(properties) == NEEDED, sorted(properties)
     assert properties["name"] == library["name"] and properties["version"] == library["version"]
     assert f'version: "{library["version"]}"' in (HERE / "idf_component.yml").read_text()
     assert properties["precompiled"] == "full" and properties["ldflags"] == "-ljcobs"
-    assert properties["architectures"] == library["platforms"] == "*" and "srcFilter" not in build
+    assert properties["architectures"] == library["platforms"] == "*"
     assert (HERE / "src" / properties["includes"]).is_file() and (HERE / "src/jcobs.c").is_file()
-    assert (HERE / build["includeDir"] / library["headers"]).is_file()
     module = (HERE / "zephyr/module.yml").read_text()
     assert "kconfig: zephyr/Kconfig" in module and "config JCOBS" in (HERE / "zephyr/Kconfig").read_text()
-    script = HERE / build["extraScript"]
+    script = HERE / "platformio.py"
     _, cores = run_script(script, "cortex-m4")
     for processor in cores:
         added, _ = run_script(script, processor)

@@ -1,0 +1,369 @@
+// jcobs.hpp: jcobs.h for C++17. It has only inline functions, allocates nothing, and throws only what a callback throws.
+//
+// To receive, in reads of any size:
+//
+//     unsigned char buffer[1024];
+//     unsigned char bytes[256];
+//     jcobs::receiver receiver(buffer);
+//     ssize_t n;
+//
+//     while ((n = read(fd, bytes, sizeof bytes)) > 0)
+//         receiver.push({bytes, static_cast<std::size_t>(n)},
+//                       [](jcobs::view message) { handle(message.data(), message.size()); },
+//                       [](jcobs_answer answer) { complain(answer.status); });
+//
+// To send:
+//
+//     std::array<unsigned char, jcobs::max_length(1024) + 1> frame;
+//     const jcobs_answer answer = jcobs::encode_terminated(std::string_view(text), frame);
+//
+//     if (answer.status == JCOBS_OK)
+//         transmit(frame.data(), answer.length);
+//
+// To send a message that comes in pieces:
+//
+//     std::array<std::byte, jcobs::max_length(1024) + 1> room;
+//     jcobs::sender sender(room);
+//
+//     if (sender.push(std::string_view("id: ")) && sender.push(std::string_view(text))) {
+//         const jcobs::view frame = sender.finish_terminated();
+//         transmit(frame.data(), frame.size());
+//     } else {
+//         sender.reset();
+//     }
+//
+// In jcobs.h the lines below each prototype say what status, consumed and length are, and its preconditions hold here too,
+// but that a view always has a length. Buffers must not overlap, and nothing else may change them while a call runs.
+#ifndef JCOBS_HPP
+#define JCOBS_HPP
+
+#include "jcobs.h"
+
+#include <array>
+#include <cstddef>
+#include <iterator>
+#include <string_view>
+#include <type_traits>
+#include <utility>
+
+// Clang then warns of a view of a temporary that has bytes of its own, which outlives it.
+#if defined(__has_cpp_attribute)
+#if __has_cpp_attribute(gsl::Pointer)
+#define JCOBS_POINTER [[gsl::Pointer]]
+#endif
+#endif
+#ifndef JCOBS_POINTER
+#define JCOBS_POINTER
+#endif
+
+namespace jcobs
+{
+
+namespace detail
+{
+
+// Whether a range's elements are contiguous bytes of any type. An array of char isn't taken, since it would be with its '\0'.
+template <class Range, class Byte, class = void> struct is_bytes : std::false_type {
+};
+template <class Range, class Byte>
+struct is_bytes<
+    Range, Byte,
+    std::void_t<decltype(std::data(std::declval<Range &>())), decltype(std::size(std::declval<Range &>()))>> {
+    using element = std::remove_pointer_t<decltype(std::data(std::declval<Range &>()))>;
+    static constexpr bool value =
+        sizeof(element) == 1 && std::is_trivially_copyable_v<element> &&
+        (std::is_const_v<Byte> || !std::is_const_v<element>)&&!(std::is_array_v<std::remove_reference_t<Range>> &&
+                                                                std::is_same_v<std::remove_const_t<element>, char>);
+};
+
+// Whether a range is a temporary that has bytes of its own, which end with it, unlike a view's: a view that is const still
+// gives bytes that aren't.
+template <class Range, class = void> struct is_temporary : std::false_type {
+};
+template <class Range>
+struct is_temporary<Range, std::enable_if_t<!std::is_lvalue_reference_v<Range> && is_bytes<Range, const char>::value>>
+    : std::is_const<std::remove_pointer_t<decltype(std::data(std::declval<const Range &>()))>> {
+};
+
+} // namespace detail
+
+// Bytes that are elsewhere, by a pointer and a length, as std::span of C++20. A view is made of any container or view
+// of bytes: unsigned char, char, std::byte; but of an array of char, which may end with a '\0', by its pointer and a length.
+// A temporary can be read, for as long as it lives; a buffer to write to isn't made of one, since what is written ends with it.
+template <class Byte> class JCOBS_POINTER basic_view
+{
+    using anything = std::conditional_t<std::is_const_v<Byte>, const void, void>;
+    template <class Range>
+    static constexpr bool is_taken = detail::is_bytes<Range, Byte>::value &&
+                                     (std::is_const_v<Byte> || !detail::is_temporary<Range>::value);
+
+  public:
+    constexpr basic_view() noexcept = default;
+    basic_view(anything *data, std::size_t size) noexcept : data_(static_cast<Byte *>(data)), size_(size)
+    {
+    }
+    template <class Range, std::enable_if_t<is_taken<Range>, int> = 0>
+    basic_view(Range &&range) noexcept : basic_view(std::data(range), std::size(range))
+    {
+    }
+    template <class Range, std::enable_if_t<detail::is_bytes<Range, Byte>::value && !is_taken<Range>, int> = 0>
+    basic_view(Range &&temporary) = delete;
+
+    constexpr Byte *data() const noexcept
+    {
+        return data_;
+    }
+    constexpr std::size_t size() const noexcept
+    {
+        return size_;
+    }
+    constexpr bool empty() const noexcept
+    {
+        return size_ == 0;
+    }
+    constexpr Byte *begin() const noexcept
+    {
+        return data_;
+    }
+    constexpr Byte *end() const noexcept
+    {
+        return data_ + size_;
+    }
+    constexpr Byte &operator[](std::size_t index) const noexcept
+    {
+        return data_[index];
+    }
+
+  private:
+    Byte *data_ = nullptr; // may be null if there are no bytes
+    std::size_t size_ = 0;
+};
+
+using view = basic_view<const unsigned char>; // bytes that are read
+using buffer = basic_view<unsigned char>;     // bytes that are written
+
+// Returns the length of the longest frame of a message of this length, without a terminator, or 0 if it doesn't fit a size_t.
+[[nodiscard]] constexpr std::size_t max_length(std::size_t message_len) noexcept
+{
+    return JCOBS_MAX_LENGTH(message_len) < message_len ? 0 : JCOBS_MAX_LENGTH(message_len);
+}
+
+// Returns how many bytes longer that frame is than its message.
+constexpr std::size_t max_overhead(std::size_t message_len) noexcept
+{
+    return JCOBS_MAX_OVERHEAD(message_len);
+}
+
+// Encode a message to the front of a buffer, without a terminator or with one.
+[[nodiscard]] inline jcobs_answer encode(view message, buffer frame) noexcept
+{
+    return jcobs_encode(message.data(), message.size(), frame.data(), frame.size());
+}
+[[nodiscard]] inline jcobs_answer encode(view message, buffer frame, unsigned char sentinel) noexcept
+{
+    return jcobs_encode_with_sentinel(message.data(), message.size(), frame.data(), frame.size(), sentinel);
+}
+[[nodiscard]] inline jcobs_answer encode_terminated(view message, buffer frame) noexcept
+{
+    return jcobs_encode_terminated(message.data(), message.size(), frame.data(), frame.size());
+}
+[[nodiscard]] inline jcobs_answer encode_terminated(view message, buffer frame, unsigned char sentinel) noexcept
+{
+    return jcobs_encode_terminated_with_sentinel(message.data(), message.size(), frame.data(), frame.size(), sentinel);
+}
+
+// Encodes the message that lies in the buffer from max_overhead(message_len) on, to the front of the buffer.
+[[nodiscard]] inline jcobs_answer encode_in_place(buffer bytes, std::size_t message_len) noexcept
+{
+    return jcobs_encode_in_place(bytes.data(), bytes.size(), message_len);
+}
+
+// Decodes the first frame of the source to the front of a buffer. Zeros in front of it are skipped.
+[[nodiscard]] inline jcobs_answer decode(view source, buffer message) noexcept
+{
+    return jcobs_decode(source.data(), source.size(), message.data(), message.size());
+}
+
+// Decodes the frame at the front of the source, for this sentinel. No sentinel is skipped: one in front is an empty message.
+[[nodiscard]] inline jcobs_answer decode_with_sentinel(view source, buffer message, unsigned char sentinel) noexcept
+{
+    return jcobs_decode_with_sentinel(source.data(), source.size(), message.data(), message.size(), sentinel);
+}
+
+// Decode the frame at the front of a buffer in place.
+[[nodiscard]] inline jcobs_answer decode_in_place(buffer bytes) noexcept
+{
+    return jcobs_decode_in_place(bytes.data(), bytes.size());
+}
+[[nodiscard]] inline jcobs_answer decode_in_place(buffer bytes, unsigned char sentinel) noexcept
+{
+    return jcobs_decode_in_place_with_sentinel(bytes.data(), bytes.size(), sentinel);
+}
+
+// Returns what bytes without sentinels around them are.
+[[nodiscard]] inline jcobs_kind frame_kind(view bytes) noexcept
+{
+    return static_cast<jcobs_kind>(jcobs_frame_kind(bytes.data(), bytes.size()));
+}
+
+// Receives a stream of frames in pieces of any size, and keeps the open message in a buffer, which must outlive it. Each
+// frame is followed by the sentinel. It can be moved, but not by a callback of its push: the one that is moved from is idle,
+// and has no buffer.
+class receiver
+{
+  public:
+    explicit receiver(buffer messages, unsigned char sentinel = 0) noexcept : buffer_(messages), sentinel_(sentinel)
+    {
+    }
+    receiver(receiver &&other) noexcept
+        : decoder_(std::exchange(other.decoder_, {})), buffer_(std::exchange(other.buffer_, {})),
+          consumed_(std::exchange(other.consumed_, 0)), sentinel_(other.sentinel_)
+    {
+    }
+    receiver &operator=(receiver &&other) noexcept
+    {
+        if (this != &other) {
+            decoder_ = std::exchange(other.decoder_, {});
+            buffer_ = std::exchange(other.buffer_, {});
+            consumed_ = std::exchange(other.consumed_, 0);
+            sentinel_ = other.sentinel_;
+        }
+        return *this;
+    }
+
+    // Calls on_message(view) for each message that ends in these bytes, and on_error(jcobs_answer) for each frame that
+    // is broken or too long. The message is in the buffer until the next push. If one of the two throws, the bytes through
+    // that frame are taken, and those after it are not; the receiver is idle, and a next push begins a new frame.
+    template <class OnMessage, class OnError> void push(view bytes, OnMessage &&on_message, OnError &&on_error)
+    {
+        consumed_ = 0;
+        for (std::size_t at = 0; at < bytes.size();) {
+            const jcobs_answer answer = next(bytes.data() + at, bytes.size() - at);
+            at += answer.consumed;
+            consumed_ = at;
+            if (answer.status == JCOBS_OK)
+                on_message(view(buffer_.data(), answer.length));
+            else if (answer.status != JCOBS_MORE)
+                on_error(answer);
+        }
+    }
+
+    // Does the same, and ignores frames that are broken or too long.
+    template <class OnMessage> void push(view bytes, OnMessage &&on_message)
+    {
+        push(bytes, std::forward<OnMessage>(on_message), [](jcobs_answer) {});
+    }
+
+    // Returns how many bytes the last push has taken: all, unless a callback threw.
+    [[nodiscard]] std::size_t consumed() const noexcept
+    {
+        return consumed_;
+    }
+
+    // Takes one byte. The message, if the status is JCOBS_OK, is the first bytes of the buffer.
+    [[nodiscard]] jcobs_answer feed(unsigned char byte) noexcept
+    {
+        const auto fed = static_cast<unsigned char>(byte ^ sentinel_);
+        return jcobs_decoder_feed(&decoder_, buffer_.data(), buffer_.size(), fed);
+    }
+
+    // Returns whether no frame is open.
+    [[nodiscard]] bool is_idle() const noexcept
+    {
+        return jcobs_decoder_is_idle(&decoder_) == 1;
+    }
+
+    // Forgets the open frame.
+    void reset() noexcept
+    {
+        jcobs_decoder_reset(&decoder_);
+    }
+
+  private:
+    // Takes bytes, at least one, through the sentinel that ends a frame. Archives for devices have no call for sentinels.
+    jcobs_answer next(const unsigned char *bytes, std::size_t len) noexcept
+    {
+        if (sentinel_ == 0)
+            return jcobs_decoder_push(&decoder_, buffer_.data(), buffer_.size(), bytes, len);
+        std::size_t taken = 0;
+        jcobs_answer answer{};
+        do {
+            answer = feed(bytes[taken++]);
+        } while (answer.status == JCOBS_MORE && taken < len);
+        answer.consumed = taken;
+        return answer;
+    }
+
+    jcobs_decoder decoder_ = JCOBS_DECODER_INIT;
+    buffer buffer_;
+    std::size_t consumed_ = 0;
+    unsigned char sentinel_;
+};
+
+// Encodes messages that come in pieces, each to the front of a buffer, which must outlive it. It can be moved: the one that
+// is moved from has taken nothing, and has no buffer.
+class sender
+{
+  public:
+    explicit sender(buffer frame) noexcept : buffer_(frame)
+    {
+    }
+    sender(sender &&other) noexcept
+        : encoder_(std::exchange(other.encoder_, {})), buffer_(std::exchange(other.buffer_, {}))
+    {
+    }
+    sender &operator=(sender &&other) noexcept
+    {
+        if (this != &other) {
+            encoder_ = std::exchange(other.encoder_, {});
+            buffer_ = std::exchange(other.buffer_, {});
+        }
+        return *this;
+    }
+
+    // Takes the next bytes of the message, or one. Returns false if the frame with them doesn't fit; then nothing has
+    // changed.
+    [[nodiscard]] bool push(view bytes) noexcept
+    {
+        return jcobs_encoder_push(&encoder_, buffer_.data(), buffer_.size(), bytes.data(), bytes.size()).status ==
+               JCOBS_OK;
+    }
+    [[nodiscard]] bool feed(unsigned char byte) noexcept
+    {
+        return jcobs_encoder_feed(&encoder_, buffer_.data(), buffer_.size(), byte).status == JCOBS_OK;
+    }
+
+    // End the message and return its frame, without a terminator or with one, for the sentinel. The frame is in the buffer
+    // until the next push. It is empty if it doesn't fit, without a terminator only if the buffer is empty: then nothing has
+    // changed, and reset forgets the message.
+    [[nodiscard]] view finish(unsigned char sentinel = 0) noexcept
+    {
+        return for_sentinel(jcobs_encoder_finish(&encoder_, buffer_.data(), buffer_.size()), sentinel);
+    }
+    [[nodiscard]] view finish_terminated(unsigned char sentinel = 0) noexcept
+    {
+        return for_sentinel(jcobs_encoder_finish_terminated(&encoder_, buffer_.data(), buffer_.size()), sentinel);
+    }
+
+    // Forgets the message.
+    void reset() noexcept
+    {
+        jcobs_encoder_reset(&encoder_);
+    }
+
+  private:
+    // The frame of this length, for the sentinel. Archives for devices have no call for sentinels.
+    view for_sentinel(jcobs_answer answer, unsigned char sentinel) noexcept
+    {
+        for (std::size_t i = 0; sentinel != 0 && i < answer.length; i++)
+            buffer_[i] = static_cast<unsigned char>(buffer_[i] ^ sentinel);
+        return {buffer_.data(), answer.length};
+    }
+
+    jcobs_encoder encoder_ = JCOBS_ENCODER_INIT;
+    buffer buffer_;
+};
+
+} // namespace jcobs
+
+#endif
