@@ -9,7 +9,7 @@ use Rattle.cobs.proofs.enc.blocks.append_few.Goals as goal
 
 pub by_byte-init : goal.by_byte-init
 by_byte-init c =
-    record { open' = omega arith; coded = omega arith; reaches = Reaches-weaker (λ full u lt. absurd (omega arith)) (reaches-start c.args.source.now c.args.dest.now (reached_at c.args.progress) c.requires.some c.requires.code (omega arith)) }
+    record { open' = omega arith; reaches = Reaches-weaker (λ full u lt. absurd (omega arith)) (reaches-start c.args.source.now c.args.dest.now (reached_at c.args.progress) c.requires.some c.requires.code (omega arith)) }
 
 pub by_byte-preserved : goal.by_byte-preserved
 by_byte-preserved c =
@@ -21,15 +21,14 @@ by_byte-preserved c =
     let o = r.ordered in
     let after : List ℕ = set c.by_byte.dest next byte in
     let k = length-set c.by_byte.dest next byte in
-    let code : c.by_byte.code ≡ next - index = omega (arith, c.by_byte.invariant.coded) in
     elim c.if-byte-eq0.branch [
       | then-byte-eq0 b ↦ (let is = b.index-is in
           let same = written _ _ _ c.by_byte.dest _ read index next byte _ (omega arith) r in
           let closed = Reaches-zero _ _ _ after _ read index next _ (λ full. 0 < read + 1 → full ≡ false) (omega arith) b.if-byte-eq0.true (omega arith) (omega arith) (λ lt. refl) same in
-          record { open' = omega arith; coded = omega arith; reaches = rw code (Reaches-at refl refl (sym is) refl (λ full p. p) closed) })
+          record { open' = omega arith; reaches = Reaches-at refl refl (sym is) refl (λ full p. p) closed })
       | else-byte-eq0 b ↦ (let is = b.index-is in
           let more = joined _ _ _ c.by_byte.dest _ read index next byte _ (omega arith) r refl b.if-byte-eq0.false (omega arith) (omega arith) in
-          record { open' = omega arith; coded = omega arith; reaches = Reaches-at refl refl (sym is) refl (λ full p. p) (Reaches-code _ _ _ after _ (read + 1) index (next + 1) _ (λ full. 0 < read + 1 → full ≡ false) c.by_byte.code more) })
+          record { open' = omega arith; reaches = Reaches-at refl refl (sym is) refl (λ full p. p) (Reaches-code _ _ _ after _ (read + 1) index (next + 1) _ (λ full. 0 < read + 1 → full ≡ false) (next - index) more) })
     ]
 
 pub returns : goal.returns

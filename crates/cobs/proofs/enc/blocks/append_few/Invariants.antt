@@ -7,6 +7,5 @@ use Rattle.cobs.proofs.enc.blocks.append_few.Given as goal
 abbrev pub invariant-by_byte : goal.invariant-by_byte
 invariant-by_byte l = record {
   open' : l.next + (length l.source - l.read) < l.index + 255;
-  coded : l.index + l.code ≡ l.next;
   reaches : Reaches (CobsEncoderAfter l.fn.dest (reached_at l.fn.progress)) l.source l.fn.dest l.dest (end_after (reached_at l.fn.progress) l.source) l.read l.index l.next (λ full. 0 < l.read → full ≡ false);
 }
