@@ -212,63 +212,86 @@ jcobs_answer jcobs_encode(const void *message, size_t message_len, void *frame, 
 {
     const unsigned char *const from = (const unsigned char *)message;
     unsigned char *const to = (unsigned char *)frame;
-    size_t i, left, at;
-    unsigned char code, byte;
+    size_t at, i, left, at2;
+    unsigned char code, code2, byte, code3;
 
-    if (frame_len <= message_len) {
+    if (frame_len == 0) {
         return jcobs_answered(JCOBS_TOO_SMALL, 0, 0);
     }
-    if (message_len >= 255 && (message_len >> 7) >= frame_len - message_len) {
-        code = 1;
-        left = frame_len;
-        for (i = 0; i != message_len; i++) {
-            if (code == 255) {
-                if (left < 255) {
-                    return jcobs_answered(JCOBS_TOO_SMALL, 0, 0);
+    if (message_len == 0) {
+        at = 0;
+        code = 0;
+        code2 = 0;
+    } else {
+        if (frame_len <= message_len) {
+            return jcobs_answered(JCOBS_TOO_SMALL, 0, 0);
+        }
+        if (message_len >= 255 && (message_len >> 7) >= frame_len - message_len) {
+            code = 1;
+            left = frame_len;
+            for (i = 0; i != message_len; i++) {
+                if (code == 255) {
+                    if (left < 255) {
+                        return jcobs_answered(JCOBS_TOO_SMALL, 0, 0);
+                    }
+                    code = 1;
+                    left -= 255;
                 }
-                code = 1;
-                left -= 255;
+                if (from[i] == 0) {
+                    if (left < (size_t)code) {
+                        return jcobs_answered(JCOBS_TOO_SMALL, 0, 0);
+                    }
+                    left -= (size_t)code;
+                    code = 1;
+                } else {
+                    code = (unsigned char)(code + 1);
+                }
             }
-            if (from[i] == 0) {
-                if (left < (size_t)code) {
-                    return jcobs_answered(JCOBS_TOO_SMALL, 0, 0);
-                }
-                left -= (size_t)code;
-                code = 1;
-            } else {
-                code = (unsigned char)(code + 1);
+            if (left < (size_t)code) {
+                return jcobs_answered(JCOBS_TOO_SMALL, 0, 0);
             }
         }
-        if (left < (size_t)code) {
+        at = 0;
+        code = 0;
+        code2 = 0;
+        for (i = 0; i != message_len; i++) {
+            byte = from[i];
+            code = (unsigned char)(code + 1);
+            at2 = at + (size_t)code;
+            if (byte == 0) {
+                to[at] = code;
+                at = at2;
+                code = 0;
+                code2 = 0;
+            } else {
+                to[at2] = byte;
+                if (code == 254) {
+                    to[at] = 255;
+                    at = at2 + 1;
+                    code = 0;
+                    code2 = 1;
+                } else {
+                    code2 = 0;
+                }
+            }
+        }
+        if (code > 253 || frame_len < at) {
             return jcobs_answered(JCOBS_TOO_SMALL, 0, 0);
         }
     }
-    code = 1;
-    at = 0;
-    if (message_len != 0) {
-        for (i = 0; i != message_len; i++) {
-            if (code == 255) {
-                to[at] = 255;
-                code = 1;
-                at += 255;
-            }
-            byte = from[i];
-            if (byte == 0) {
-                to[at] = code;
-                at += (size_t)code;
-                code = 1;
-            } else {
-                to[at + (size_t)code] = byte;
-                code = (unsigned char)(code + 1);
-            }
-        }
-        if (code == 255) {
-            to[at] = 255;
-            return jcobs_answered(JCOBS_OK, message_len, at + 255);
-        }
+    if (code2 == 0 && frame_len - at <= (size_t)code) {
+        return jcobs_answered(JCOBS_TOO_SMALL, 0, 0);
     }
-    to[at] = code;
-    return jcobs_answered(JCOBS_OK, message_len, at + (size_t)code);
+    code = (unsigned char)(code + 1);
+    if (at < frame_len) {
+        if (code2 == 0) {
+            code3 = code;
+        } else {
+            code3 = to[at];
+        }
+        to[at] = code3;
+    }
+    return jcobs_answered(JCOBS_OK, message_len, at + (size_t)(unsigned char)(code2 == 0 ? code : 0));
 }
 
 /* Encodes the message of message_len bytes that lies in the buffer, behind the room for the longest frame's other
@@ -279,56 +302,56 @@ jcobs_answer jcobs_encode_in_place(void *buffer, size_t buffer_len, size_t messa
 {
     unsigned char *const to = (unsigned char *)buffer;
     size_t start, index, i, next;
-    unsigned char code, byte, last;
-    int is_full;
+    unsigned char code, last, byte, code3;
 
     if (buffer_len < message_len) {
         return jcobs_answered(JCOBS_TOO_SMALL, 0, 0);
     }
     if (message_len == 0) {
-        if (buffer_len == 0) {
+        if (buffer_len == message_len) {
             return jcobs_answered(JCOBS_TOO_SMALL, 0, 0);
         }
         start = 1;
     } else {
-        start = message_len / 254 + (size_t)(message_len % 254 != 0);
-        if (buffer_len - message_len < start) {
+        if (buffer_len - message_len < message_len / 254 + (size_t)(message_len % 254 != 0)) {
             return jcobs_answered(JCOBS_TOO_SMALL, 0, 0);
         }
+        start = message_len / 254 + (size_t)(message_len % 254 != 0);
     }
     index = 0;
-    code = 1;
-    is_full = 0;
+    code = 0;
+    last = 0;
     for (i = 0; i != message_len; i++) {
         byte = to[start + i];
+        code = (unsigned char)(code + 1);
         next = index + (size_t)code;
         if (byte == 0) {
             to[index] = code;
             index = next;
-            code = 1;
-            is_full = 0;
+            code = 0;
+            last = 0;
         } else {
             to[next] = byte;
             if (code == 254) {
                 to[index] = 255;
                 index = next + 1;
-                code = 1;
-                is_full = 1;
+                code = 0;
+                last = 1;
             } else {
-                code = (unsigned char)(code + 1);
-                is_full = 0;
+                last = 0;
             }
         }
     }
+    code = (unsigned char)(code + 1);
     if (index < buffer_len) {
-        if (is_full) {
-            last = to[index];
+        if (last == 0) {
+            code3 = code;
         } else {
-            last = code;
+            code3 = to[index];
         }
-        to[index] = last;
+        to[index] = code3;
     }
-    return jcobs_answered(JCOBS_OK, message_len, (is_full ? 0 : (size_t)code) + index);
+    return jcobs_answered(JCOBS_OK, message_len, index + (size_t)(unsigned char)(last == 0 ? code : 0));
 }
 
 /* Writes the frame of the message and a zero after it to the front of the buffer frame, if both fit. Otherwise
@@ -362,37 +385,42 @@ jcobs_answer jcobs_encode_terminated(const void *message, size_t message_len, vo
 jcobs_answer jcobs_encoder_feed(jcobs_encoder *encoder, void *buffer, size_t buffer_len, unsigned char byte)
 {
     unsigned char *const to = (unsigned char *)buffer;
-    size_t index, next;
-    unsigned char taken, full;
+    unsigned char taken, taken2;
+    size_t index, next, n;
 
-    index = encoder->index;
     taken = encoder->taken;
-    if (buffer_len < index || taken > 253 || buffer_len - index <= (size_t)taken + 1) {
+    if (taken > 253) {
         return jcobs_answered(JCOBS_TOO_SMALL, 0, 0);
     }
-    taken = (unsigned char)(taken + 1);
-    next = index + (size_t)taken;
+    index = encoder->index;
+    if (buffer_len < index || buffer_len - index <= (size_t)taken + 1) {
+        return jcobs_answered(JCOBS_TOO_SMALL, 0, 0);
+    }
+    taken2 = (unsigned char)(taken + 1);
+    next = index + (size_t)taken2;
     if (byte == 0) {
-        to[index] = taken;
+        to[index] = taken2;
         encoder->index = next;
         encoder->taken = 0;
         encoder->full = 0;
-        return jcobs_answered(JCOBS_OK, 1, next + 1);
-    }
-    to[next] = byte;
-    if (taken == 254) {
-        to[index] = 255;
-        index = next + 1;
-        encoder->index = index;
-        taken = 0;
-        full = 1;
+        n = 1;
     } else {
-        index = next + 1;
-        full = 0;
+        to[next] = byte;
+        if (taken2 == 254) {
+            to[encoder->index] = 255;
+            next++;
+            encoder->index = next;
+            encoder->taken = 0;
+            encoder->full = 1;
+            n = 0;
+        } else {
+            encoder->taken = taken2;
+            encoder->full = 0;
+            n = (size_t)(unsigned char)(taken + 2);
+            next = encoder->index;
+        }
     }
-    encoder->taken = taken;
-    encoder->full = full;
-    return jcobs_answered(JCOBS_OK, 1, index);
+    return jcobs_answered(JCOBS_OK, 1, next + n);
 }
 
 /* Ends the message, if its frame fits the buffer. Even if the state is corrupt, the buffer keeps its length, and
@@ -403,8 +431,8 @@ jcobs_answer jcobs_encoder_feed(jcobs_encoder *encoder, void *buffer, size_t buf
 jcobs_answer jcobs_encoder_finish(jcobs_encoder *encoder, void *buffer, size_t buffer_len)
 {
     unsigned char *const to = (unsigned char *)buffer;
-    unsigned char taken, full, code;
-    size_t index;
+    unsigned char taken, full, code, code2;
+    size_t index, length;
 
     if (buffer_len == 0) {
         return jcobs_answered(JCOBS_TOO_SMALL, 0, 0);
@@ -421,15 +449,20 @@ jcobs_answer jcobs_encoder_finish(jcobs_encoder *encoder, void *buffer, size_t b
     if (full == 0 && buffer_len - index <= (size_t)taken) {
         return jcobs_answered(JCOBS_TOO_SMALL, 0, 0);
     }
-    if (full == 0) {
-        code = (unsigned char)(taken + 1);
-        to[index] = code;
-        index += (size_t)code;
+    code = (unsigned char)(taken + 1);
+    if (index < buffer_len) {
+        if (full == 0) {
+            code2 = code;
+        } else {
+            code2 = to[index];
+        }
+        to[index] = code2;
     }
+    length = index + (size_t)(unsigned char)(full == 0 ? code : 0);
     encoder->index = 0;
     encoder->taken = 0;
     encoder->full = 0;
-    return jcobs_answered(JCOBS_OK, 0, index);
+    return jcobs_answered(JCOBS_OK, 0, length);
 }
 
 /* Ends the message, as jcobs_encoder_finish does, and writes a zero after its frame, if both fit.
@@ -439,8 +472,8 @@ jcobs_answer jcobs_encoder_finish(jcobs_encoder *encoder, void *buffer, size_t b
 jcobs_answer jcobs_encoder_finish_terminated(jcobs_encoder *encoder, void *buffer, size_t buffer_len)
 {
     unsigned char *const to = (unsigned char *)buffer;
-    size_t room, index;
-    unsigned char taken, full, code;
+    size_t room, index, at;
+    unsigned char taken, full, code, code2;
 
     if (buffer_len == 0) {
         return jcobs_answered(JCOBS_TOO_SMALL, 0, 0);
@@ -461,16 +494,21 @@ jcobs_answer jcobs_encoder_finish_terminated(jcobs_encoder *encoder, void *buffe
     if (full == 0 && room - index <= (size_t)taken) {
         return jcobs_answered(JCOBS_TOO_SMALL, 0, 0);
     }
-    if (full == 0) {
-        code = (unsigned char)(taken + 1);
-        to[index] = code;
-        index += (size_t)code;
+    code = (unsigned char)(taken + 1);
+    if (index < room) {
+        if (full == 0) {
+            code2 = code;
+        } else {
+            code2 = to[index];
+        }
+        to[index] = code2;
     }
+    at = index + (size_t)(unsigned char)(full == 0 ? code : 0);
     encoder->index = 0;
     encoder->taken = 0;
     encoder->full = 0;
-    to[index] = 0;
-    return jcobs_answered(JCOBS_OK, 0, index + 1);
+    to[at] = 0;
+    return jcobs_answered(JCOBS_OK, 0, at + 1);
 }
 
 /* Takes the next bytes of a message, if the frame of all that was taken fits the buffer. Even if the state is
@@ -482,9 +520,8 @@ jcobs_answer jcobs_encoder_push(jcobs_encoder *encoder, void *buffer, size_t buf
 {
     unsigned char *const to = (unsigned char *)buffer;
     const unsigned char *const from = (const unsigned char *)bytes;
-    unsigned char taken, full, code, open, byte;
-    size_t index, left, room, held, i;
-    int is_full;
+    unsigned char taken, full, code, byte;
+    size_t index, left, room, held, i, at;
 
     taken = encoder->taken;
     if (taken > 253) {
@@ -499,77 +536,65 @@ jcobs_answer jcobs_encoder_push(jcobs_encoder *encoder, void *buffer, size_t buf
     if (full == 0 && left <= (size_t)taken) {
         return jcobs_answered(JCOBS_TOO_SMALL, 0, 0);
     }
-    code = (unsigned char)(taken + 1);
-    if (len == 0) {
-        if (full == 0) {
-            return jcobs_answered(JCOBS_OK, 0, index + (size_t)code);
-        }
-        return jcobs_answered(JCOBS_OK, 0, index);
-    }
-    if (left <= (size_t)taken) {
-        return jcobs_answered(JCOBS_TOO_SMALL, 0, 0);
-    }
-    room = left - (size_t)taken;
-    if (room <= len) {
-        return jcobs_answered(JCOBS_TOO_SMALL, 0, 0);
-    }
-    held = len + (size_t)taken;
-    if (held >= 255 && (held >> 7) >= room - len) {
-        open = code;
-        for (i = 0; i != len; i++) {
-            if (open == 255) {
-                if (left < 255) {
-                    return jcobs_answered(JCOBS_TOO_SMALL, 0, 0);
-                }
-                open = 1;
-                left -= 255;
-            }
-            if (from[i] == 0) {
-                if (left < (size_t)open) {
-                    return jcobs_answered(JCOBS_TOO_SMALL, 0, 0);
-                }
-                left -= (size_t)open;
-                open = 1;
-            } else {
-                open = (unsigned char)(open + 1);
-            }
-        }
-        if (left < (size_t)open) {
+    if (len != 0) {
+        code = (unsigned char)(taken + 1);
+        if (left <= (size_t)taken) {
             return jcobs_answered(JCOBS_TOO_SMALL, 0, 0);
         }
-    }
-    for (i = 0;; i++) {
-        is_full = code == 255;
-        if (i == len) {
-            break;
+        room = left - (size_t)taken;
+        if (room <= len) {
+            return jcobs_answered(JCOBS_TOO_SMALL, 0, 0);
         }
-        if (is_full) {
-            to[index] = 255;
-            code = 1;
-            index += 255;
+        held = len + (size_t)taken;
+        if (held >= 255 && (held >> 7) >= room - len) {
+            for (i = 0; i != len; i++) {
+                if (code == 255) {
+                    if (left < 255) {
+                        return jcobs_answered(JCOBS_TOO_SMALL, 0, 0);
+                    }
+                    code = 1;
+                    left -= 255;
+                }
+                if (from[i] == 0) {
+                    if (left < (size_t)code) {
+                        return jcobs_answered(JCOBS_TOO_SMALL, 0, 0);
+                    }
+                    left -= (size_t)code;
+                    code = 1;
+                } else {
+                    code = (unsigned char)(code + 1);
+                }
+            }
+            if (left < (size_t)code) {
+                return jcobs_answered(JCOBS_TOO_SMALL, 0, 0);
+            }
         }
-        byte = from[i];
-        if (byte == 0) {
-            to[index] = code;
-            index += (size_t)code;
-            code = 1;
-        } else {
-            to[index + (size_t)code] = byte;
-            code = (unsigned char)(code + 1);
+        for (i = 0; i != len; i++) {
+            byte = from[i];
+            taken = (unsigned char)(taken + 1);
+            at = index + (size_t)taken;
+            if (byte == 0) {
+                to[index] = taken;
+                index = at;
+                taken = 0;
+                full = 0;
+            } else {
+                to[at] = byte;
+                if (taken == 254) {
+                    to[index] = 255;
+                    index = at + 1;
+                    taken = 0;
+                    full = 1;
+                } else {
+                    full = 0;
+                }
+            }
         }
+        encoder->index = index;
+        encoder->taken = taken;
+        encoder->full = full;
     }
-    if (is_full) {
-        to[index] = 255;
-        index += 255;
-        code = 1;
-    }
-    encoder->index = index;
-    encoder->taken = (unsigned char)(code - 1);
-    encoder->full = (unsigned char)is_full;
-    if (is_full) {
-        return jcobs_answered(JCOBS_OK, len, index);
-    }
-    return jcobs_answered(JCOBS_OK, len, index + (size_t)code);
+    return jcobs_answered(JCOBS_OK, len, index + (size_t)(unsigned char)(full == 0 ? (unsigned char)(taken + 1) : 0));
 }
 
 /* Makes the encoder one that has taken nothing, even if its state is corrupt.

@@ -23,7 +23,7 @@ HERE = Path(__file__).resolve().parent
 NAMES = {
     "jcobs_encode_in_place": {"at": "start", "at2": "index", "at3": "next", "code2": "last"},
     "jcobs_encoder_feed": {"index2": "next"},
-    "jcobs_encoder_push": {"n": "held", "left2": "room", "full2": "is_full", "code2": "open"},
+    "jcobs_encoder_push": {"n": "held", "left2": "room"},
     "jcobs_encoder_finish_terminated": {"left": "room"},
     "jcobs_max_length": {"n": "overhead"},
     "jcobs_decode_in_place": {"at": "read", "at2": "next", "left": "count"},

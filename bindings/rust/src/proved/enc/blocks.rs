@@ -61,14 +61,12 @@ pub(crate) fn append_few(
     progress: EncoderProgress,
 ) -> EncoderProgress {
     let mut index = progress.index;
-    let mut code = progress.code;
-    let mut next = index + code as usize;
+    let mut next = index + progress.code as usize;
     'by_byte: for read in 0..source.len() {
         let byte = source[read];
         dest[next] = byte;
-        dest[index] = code;
+        dest[index] = (next - index) as u8;
         index = if byte == 0 { next } else { index };
-        code = if byte == 0 { 1 } else { code + 1 };
         next += 1;
     }
     progress_at(index, next, false)
