@@ -78,6 +78,13 @@ END2
 [0, 0, 0, 0]' cargo run -q
 )
 
+# An example that is a package of its own, as it needs other crates.
+example() { # FOLDER PRINTED FLAG..
+    folder=$1 printed=$2
+    shift 2
+    prints "$printed" cargo run -q "$@" --manifest-path "examples/$folder/Cargo.toml"
+}
+
 # A crate that depends on `cobs`, below a program that puts this one in its place.
 dependents() (
     mkdir -p "$work/dependent/src" "$work/patched/src" && cd "$work/patched" &&
@@ -119,6 +126,13 @@ part 'byte by byte' units --features small
 part 'byte by byte, without an allocator' units --no-default-features --features small
 part 'serde, defmt and heapless' features
 part 'a crate that depends on cobs' dependents
+part 'an example over embedded-io' example embedded-io '4 frames' \
+    --config "patch.crates-io.embedded-io.path = '$PWD/tests/stand_in/embedded-io'"
+if ls -d /usr/share/cargo/registry/tokio-util-0.7* >/dev/null 2>&1; then
+    part 'an example for tokio' example tokio '4 frames'
+else
+    skip 'an example for tokio' "needs Debian's librust-tokio-util-dev"
+fi
 part 'examples of the documentation' cargo test --doc
 part 'those without a feature' cargo test --doc --no-default-features
 part 'documentation' documentation std,serde,heapless
