@@ -4,7 +4,10 @@
 use std::collections::VecDeque;
 use std::io::{self, BufReader, Error, ErrorKind, Read, Write};
 
-use jcobs::{DecodeError, MessageReader, MessageWriter, decode_stream_in_place, frames};
+use jcobs::{
+    CobsDecoderHeapless, DecodeError, FrameReader, FrameSource, MessageReader, MessageWriter, Next,
+    ReadFault, decode_stream_in_place, frames,
+};
 
 /// What a port does at one read.
 #[derive(Clone)]
@@ -369,5 +372,40 @@ fn frames_of_each_short_stream() {
             assert_eq!(messages.next(), None);
             assert_eq!(messages.into_remainder(), rest);
         }
+    }
+}
+
+/// A source that gives a byte each read, of which this one is a zero. It counts the reads.
+struct ByBytes {
+    reads: usize,
+    zero: usize,
+}
+
+impl FrameSource for ByBytes {
+    fn read_some(&mut self, chunk: &mut [u8; 64]) -> Option<usize> {
+        self.reads += 1;
+        chunk[0] = u8::from(self.reads != self.zero);
+        Some(1)
+    }
+}
+
+#[test]
+fn a_call_reads_65536_times() {
+    for zero in [65_535, 65_536, 65_537] {
+        let mut reader = FrameReader::new(CobsDecoderHeapless::<65_536>::new());
+        let mut source = ByBytes { reads: 0, zero };
+        // Every block has a code alone: a byte less than there are codes.
+        let message = Ok(Next::Message(zero - 2));
+        if zero > 65_536 {
+            let fault = reader.next_frame(&mut source);
+            assert_eq!(
+                (fault, source.reads),
+                (Err(ReadFault::TooManyReads), 65_536)
+            );
+        }
+        assert_eq!(
+            (reader.next_frame(&mut source), source.reads),
+            (message, zero)
+        );
     }
 }

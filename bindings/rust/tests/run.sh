@@ -121,6 +121,7 @@ oldest() {
 part 'units, signatures, differences and cases' units
 part 'without vectors' without_vectors
 part 'every step, and every string of six tokens' cargo test --release --test steps
+part 'every run, room and cut' cargo test --release --test model
 part 'without a feature' units --no-default-features
 part 'byte by byte' units --features small
 part 'byte by byte, without an allocator' units --no-default-features --features small
