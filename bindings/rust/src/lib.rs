@@ -92,6 +92,8 @@
 //!
 //! The crate is `no_std` without `std`.
 #![no_std]
+// Pages of docs.rs then say which feature an item needs.
+#![cfg_attr(docsrs, feature(doc_cfg))]
 
 #[cfg(feature = "alloc")]
 extern crate alloc;
@@ -180,6 +182,11 @@ pub const fn max_encoding_length(source_len: usize) -> usize {
         None => panic!("max_encoding_length: the length fits a usize"),
     }
 }
+
+/// The examples of README.md are tests too.
+#[cfg(all(doctest, feature = "std"))]
+#[doc = include_str!("../README.md")]
+struct Readme;
 
 #[cfg(test)]
 mod tests {

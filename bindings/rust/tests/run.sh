@@ -50,6 +50,12 @@ documentation() {
     RUSTDOCFLAGS='-D warnings' cargo doc --no-deps --features "$1"
 }
 
+# With the features of the compiler that docs.rs turns on.
+as_docs_rs() {
+    RUSTC_BOOTSTRAP=1 RUSTDOCFLAGS='-D warnings --cfg docsrs' CARGO_TARGET_DIR=$work/docs_rs cargo doc --no-deps &&
+        grep -q 'crate feature <code>std</code>' "$work/docs_rs/doc/jcobs/struct.MessageReader.html"
+}
+
 # The optional features, in a program that uses each.
 features() (
     mkdir -p "$work/features/src" && cd "$work/features" && cat >Cargo.toml <<'END' && cat >src/main.rs <<'END2' &&
@@ -99,7 +105,7 @@ dependents() (
 
 # The README's declarations for the library for C, in a program that is linked with it.
 by_extern() {
-    sed -n '/^```rust$/,/^```$/p' README.md | sed -n '/^#\[repr(C)\]$/,/^```$/p' | sed '/^```$/d' >"$work/extern.rs" &&
+    sed -n '/^```rust,no_run$/,/^```$/p' README.md | sed -n '/^#\[repr(C)\]$/,/^```$/p' | sed '/^```$/d' >"$work/extern.rs" &&
         grep -q 'jcobs_encode' "$work/extern.rs" &&
         rustc --edition 2021 -D warnings -o "$work/extern" -L "native=$root/bindings/c/prebuilt/$(uname -m)-linux" "$work/extern.rs" &&
         prints '[3, 104, 105]' "$work/extern"
@@ -137,6 +143,7 @@ fi
 part 'examples of the documentation' cargo test --doc
 part 'those without a feature' cargo test --doc --no-default-features
 part 'documentation' documentation std,serde,heapless
+part 'documentation, as docs.rs makes it' as_docs_rs
 if [ -f "$root/bindings/c/prebuilt/$(uname -m)-linux/libjcobs.a" ]; then
     part 'the library for C, by the declarations of the README' by_extern
 else
