@@ -111,6 +111,12 @@ by_extern() {
         prints '[3, 104, 105]' "$work/extern"
 }
 
+# Every call of the library for C beside that of this crate.
+beside_c() {
+    RUSTFLAGS="-L native=$root/bindings/c/prebuilt/$(uname -m)-linux" CARGO_TARGET_DIR=$work/beside_c \
+        cargo run -q --release --manifest-path tests/beside_c/Cargo.toml >"$work/compared" && sed 's/^/= /' "$work/compared"
+}
+
 # The package that cargo makes has all that it needs: its tests run where nothing else of the repository is.
 packaged() (
     cargo package --no-verify --allow-dirty --target-dir "$work/package" && mkdir "$work/alone" &&
@@ -146,6 +152,7 @@ part 'documentation' documentation std,serde,heapless
 part 'documentation, as docs.rs makes it' as_docs_rs
 if [ -f "$root/bindings/c/prebuilt/$(uname -m)-linux/libjcobs.a" ]; then
     part 'the library for C, by the declarations of the README' by_extern
+    part 'the library for C beside the crate' beside_c
 else
     skip 'the library for C' "it isn't prebuilt for $(uname -m)"
 fi
