@@ -12,93 +12,30 @@ import long
 import model
 from definition import encoded_frame, is_whole, masked, output, parts
 from group import Group
+from messages import (
+    LENGTHS,
+    MESSAGE,
+    NAMED_MESSAGES,
+    SHORT_MESSAGES,
+    at_block_ends,
+    at_edges,
+    counting,
+    dense_messages,
+    filled,
+    lists,
+    long_messages,
+    round_words,
+    with_zero,
+)
 
 HERE = os.path.dirname(os.path.abspath(__file__))
 PROGRAM = f"{HERE}/../crates/cobs_conformance"
 
 ANY = "?"
-MESSAGE = bytes([10, 11, 0, 12])
 FRAME = encoded_frame(MESSAGE)
 STREAM = bytes([0, 3, 7, 8, 0, 5, 1, 0, 6, 1, 2, 3, 4, 5, 0, 2, 9, 0])
 STREAM_OF_OVERFLOW = bytes([4, 7, 8, 9, 0, 2, 5, 0, 3, 1, 0, 0, 1, 0])
 HELLO = b"\x0chello world"
-LENGTHS = [*range(252, 257), *range(507, 511), *range(761, 765)]
-
-
-def filled(length, byte=0xAA):
-    return bytes([byte]) * length
-
-
-def counting(length, first=1):
-    return bytes((first + at - 1) % 255 + 1 for at in range(length))
-
-
-def with_zero(length, *places):
-    return bytes(0 if at in places else 1 for at in range(length))
-
-
-def lists(alphabet, longest):
-    for length in range(longest + 1):
-        yield from map(bytes, itertools.product(alphabet, repeat=length))
-
-
-SHORT_MESSAGES = list(lists([0, 1, 255], 3))
-
-NAMED_MESSAGES = [
-    MESSAGE,
-    b"\xff\0",
-    b"\0\0\1\0",
-    b"\1\2\3",
-    b"\0\x11\0\x22",
-    b"hello",
-    b"hello world",
-    bytes(range(1, 255)),
-    bytes(range(255)),
-    bytes(range(1, 256)),
-    bytes([*range(2, 256), 0]),
-    bytes([*range(3, 256), 0, 1]),
-]
-
-
-def long_messages():
-    for length in LENGTHS:
-        yield filled(length, 1)
-        yield counting(length)
-        if length in (254, 255, 508):
-            yield bytes(length)
-        for place in [253, 254, 255, 507, 508, 509, 762, length - 1]:
-            if place < length:
-                yield with_zero(length, place)
-    yield with_zero(509, 254)
-    yield with_zero(764, 254, 509)
-    yield with_zero(764, 253, 508)
-    yield filled(1016, 255)
-
-
-def at_block_ends():
-    """A few long messages on both sides of a block's end."""
-    for length in [253, 254, 255, 508, 509]:
-        yield filled(length, 1)
-        yield with_zero(length, length - 1)
-    yield with_zero(509, 254)
-    yield bytes(300)
-
-
-def round_words():
-    """Runs and rows of zeros of lengths round those of machine words and vectors, with a little behind them."""
-    for length in [7, 8, 9, 15, 16, 17, 31, 32, 33, 63, 64, 65, 127, 128, 129]:
-        yield counting(length) + b"\0\1\2"
-        yield bytes(length) + b"\1"
-        yield b"\1\0" * (length // 2) + b"\2"
-
-
-def dense_messages():
-    """Short blocks behind a first one, so that the codes of some bytes in turn lead from each place to each other."""
-    for first in [0, 1, 6, 14, 15, 16, 40]:
-        for period in [1, 2, 3, 4]:
-            yield counting(first) + b"\0" + (counting(period - 1) + b"\0") * (72 // period) + b"\1"
-        yield counting(first) + b"\0" + b"\0".join(counting(length % 5, 7) for length in range(0, 90, 3))
-        yield counting(first) + b"\0" + b"\0".join(counting(length * length % 11) for length in range(24))
 
 
 def short_sources():
@@ -134,6 +71,7 @@ def encoding():
         ("named", NAMED_MESSAGES),
         ("words", round_words()),
         ("long", long_messages()),
+        ("edge", at_edges()),
     ]:
         for message in messages:
             group.owed(label, "encode_vec", message)
@@ -163,6 +101,10 @@ def rooms():
             group.choice("try-long", "try_encode", message, filled(room))
         for room in [enough + 1, enough + 2]:
             group.choice("try-wrapped-long", "try_encode_including_sentinels", message, filled(room))
+    for message in at_edges():
+        enough = len(encoded_frame(message))
+        group.choice("edge", "try_encode", message, filled(enough - 1))
+        group.choice("edge", "try_encode", message, filled(enough))
     return group
 
 
@@ -292,6 +234,10 @@ def encoder():
     for pieces in [[ones, b""], [ones, b"\0"], [ones, b"", b"\0"], [ones, b"", b"\1"], [ones, b"\1", b"\0", b""]]:
         for room in range(254, 259):
             group.choice("full", "encoder", filled(room), *pieces)
+    for message in at_edges():
+        enough, cut = len(encoded_frame(message)), len(message) // 2
+        group.choice("edge", "encoder", filled(enough), message[:cut], message[cut:])
+        group.choice("edge", "encoder", filled(enough - 1), message[:cut], message[cut:])
     for cut in [0, 1, 127, 253, 254, 255, 256, 507, 508, 509]:
         given = more + b"\0"
         group.choice("two-full", "encoder", filled(513), given[:cut], b"", given[cut:], b"")

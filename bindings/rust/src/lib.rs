@@ -41,19 +41,37 @@
 //! # }
 //! ```
 //!
-//! A reader over any [`std::io::Read`] gives one outcome a call:
+//! [`MessageReader`] reads messages from a port, a socket or a file, and [`MessageWriter`] writes them:
 //!
 //! ```
 //! # #[cfg(feature = "std")] {
-//! use jcobs::{CobsDecoderHeapless, FrameReader, Next, Recorded};
+//! use jcobs::{MessageReader, MessageWriter};
 //!
-//! let mut port = Recorded::new(&b"\x06hello\0\x09h\0"[..]);
-//! let mut reader = FrameReader::new(CobsDecoderHeapless::<64>::new());
-//! assert_eq!(reader.next_frame(&mut port), Ok(Next::Message(5)));
-//! assert_eq!(reader.decoder().dest()[..5], *b"hello");
-//! assert_eq!(reader.next_frame(&mut port), Ok(Next::Broken(1)));
+//! let mut port = MessageWriter::new(Vec::new());
+//! port.write_message(b"hello")?;
+//!
+//! let line = port.into_inner();
+//! let mut port = MessageReader::new(&line[..], 64);
+//! assert_eq!(port.read_message()?, Some(Ok(&b"hello"[..])));
+//! assert_eq!(port.read_message()?, None);
 //! # }
+//! # Ok::<(), Box<dyn std::error::Error>>(())
 //! ```
+//!
+//! # Which call for what
+//!
+//! | a program has | it calls |
+//! |---|---|
+//! | a message | [`encode`] into a slice, [`try_encode`] if it may not fit, [`encode_vec`], [`encode_in_place`] in its own buffer; for any sentinel [`encode_with_sentinel`] |
+//! | a message in pieces | [`CobsEncoder`]; [`UnbufferedEncoder`], whose buffer is passed to each call; [`EncoderState`] for a container of its own |
+//! | a frame | [`decode`], [`decode_vec`], [`decode_in_place`]; for any sentinel [`decode_with_sentinel`]; [`frame_kind`] |
+//! | bytes from a line, an interrupt, a channel | [`CobsDecoder`] over a slice, [`CobsDecoderHeapless`] with its buffer inside, [`CobsDecoderOwned`]; [`UnbufferedDecoder`], whose buffer is passed to each call |
+//! | a [`Read`](std::io::Read) or [`Write`](std::io::Write) | [`MessageReader`], [`MessageWriter`] |
+//! | another source, without `std` | [`FrameReader`] over a [`FrameSource`] |
+//! | a recorded stream | [`frames`], [`decode_stream_in_place`], [`decode_stream`]; [`encode_frames`] makes one |
+//! | a buffer to make | [`max_encoding_length`] |
+//!
+//! The folder `examples` has a codec for tokio, a receiver over embedded-io, and one whose bytes come by an interrupt.
 //!
 //! # What is proved
 //!
@@ -64,8 +82,8 @@
 //!
 //! # Features
 //!
-//! - `std` (default): `alloc`; [`Recorded`], a source of bytes over any [`std::io::Read`]; and `std` of `memchr`, which then
-//!   searches with AVX2 if the processor has it.
+//! - `std` (default): `alloc`; [`MessageReader`] and [`MessageWriter`]; [`Recorded`], a [`FrameSource`] over any
+//!   [`std::io::Read`]; and `std` of `memchr`, which then searches with AVX2 if the processor has it.
 //! - `alloc`: the calls that make vectors, and [`CobsDecoderOwned`].
 //! - `small`: bodies that go byte by byte, for firmware: of [`frame_kind`] and the calls of the crate `cobs`, except
 //!   [`decode_with_sentinel`] and `decode_vec_with_sentinel`. These and all others keep those with vectors.
@@ -74,6 +92,8 @@
 //!
 //! The crate is `no_std` without `std`.
 #![no_std]
+// Pages of docs.rs then say which feature an item needs.
+#![cfg_attr(docsrs, feature(doc_cfg))]
 
 #[cfg(feature = "alloc")]
 extern crate alloc;
@@ -86,6 +106,8 @@ mod array_vec;
 mod dec;
 #[forbid(unsafe_code)]
 mod enc;
+#[forbid(unsafe_code)]
+mod frames;
 #[forbid(unsafe_code)]
 mod memory;
 // What is written there is the proved source, whose layout and loops aren't changed for a lint. Labels name its loops for
@@ -100,21 +122,32 @@ mod memory;
 #[doc(hidden)]
 #[forbid(unsafe_code)]
 pub mod proved;
+#[cfg(feature = "std")]
+#[forbid(unsafe_code)]
+mod read;
 mod simd;
 // Without the feature nothing calls it.
 #[cfg_attr(not(feature = "small"), allow(dead_code, unused_imports))]
 #[forbid(unsafe_code)]
 mod small;
+#[cfg(feature = "std")]
+#[forbid(unsafe_code)]
+mod write;
 
 pub use crate::array_vec::ArrayVec;
 pub use crate::dec::*;
 pub use crate::enc::*;
+pub use crate::frames::{Frames, MessagesInPlace, decode_stream_in_place, frames};
 pub use crate::memory::AllocError;
 #[cfg(feature = "std")]
 pub use crate::proved::Recorded;
 #[cfg(feature = "alloc")]
 pub use crate::proved::{FrameOutcome, decode_stream, encode_frames, encode_frames_room};
 pub use crate::proved::{FrameReader, FrameSource, Next};
+#[cfg(feature = "std")]
+pub use crate::read::MessageReader;
+#[cfg(feature = "std")]
+pub use crate::write::MessageWriter;
 
 /// The greatest number of bytes by which a frame is longer than its message of `source_len` bytes: 1 for each 254
 /// bytes, rounded up, and 1 for the empty message.
@@ -149,6 +182,11 @@ pub const fn max_encoding_length(source_len: usize) -> usize {
         None => panic!("max_encoding_length: the length fits a usize"),
     }
 }
+
+/// The examples of README.md are tests too.
+#[cfg(all(doctest, feature = "std"))]
+#[doc = include_str!("../README.md")]
+struct Readme;
 
 #[cfg(test)]
 mod tests {

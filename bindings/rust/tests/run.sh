@@ -50,6 +50,12 @@ documentation() {
     RUSTDOCFLAGS='-D warnings' cargo doc --no-deps --features "$1"
 }
 
+# With the features of the compiler that docs.rs turns on.
+as_docs_rs() {
+    RUSTC_BOOTSTRAP=1 RUSTDOCFLAGS='-D warnings --cfg docsrs' CARGO_TARGET_DIR=$work/docs_rs cargo doc --no-deps &&
+        grep -q 'crate feature <code>std</code>' "$work/docs_rs/doc/jcobs/struct.MessageReader.html"
+}
+
 # The optional features, in a program that uses each.
 features() (
     mkdir -p "$work/features/src" && cd "$work/features" && cat >Cargo.toml <<'END' && cat >src/main.rs <<'END2' &&
@@ -78,6 +84,13 @@ END2
 [0, 0, 0, 0]' cargo run -q
 )
 
+# An example that is a package of its own, as it needs other crates.
+example() { # FOLDER PRINTED FLAG..
+    folder=$1 printed=$2
+    shift 2
+    prints "$printed" cargo run -q "$@" --manifest-path "examples/$folder/Cargo.toml"
+}
+
 # A crate that depends on `cobs`, below a program that puts this one in its place.
 dependents() (
     mkdir -p "$work/dependent/src" "$work/patched/src" && cd "$work/patched" &&
@@ -92,10 +105,16 @@ dependents() (
 
 # The README's declarations for the library for C, in a program that is linked with it.
 by_extern() {
-    sed -n '/^```rust$/,/^```$/p' README.md | sed -n '/^#\[repr(C)\]$/,/^```$/p' | sed '/^```$/d' >"$work/extern.rs" &&
+    sed -n '/^```rust,no_run$/,/^```$/p' README.md | sed -n '/^#\[repr(C)\]$/,/^```$/p' | sed '/^```$/d' >"$work/extern.rs" &&
         grep -q 'jcobs_encode' "$work/extern.rs" &&
         rustc --edition 2021 -D warnings -o "$work/extern" -L "native=$root/bindings/c/prebuilt/$(uname -m)-linux" "$work/extern.rs" &&
         prints '[3, 104, 105]' "$work/extern"
+}
+
+# Every call of the library for C beside that of this crate.
+beside_c() {
+    RUSTFLAGS="-L native=$root/bindings/c/prebuilt/$(uname -m)-linux" CARGO_TARGET_DIR=$work/beside_c \
+        cargo run -q --release --manifest-path tests/beside_c/Cargo.toml >"$work/compared" && sed 's/^/= /' "$work/compared"
 }
 
 # The package that cargo makes has all that it needs: its tests run where nothing else of the repository is.
@@ -114,16 +133,26 @@ oldest() {
 part 'units, signatures, differences and cases' units
 part 'without vectors' without_vectors
 part 'every step, and every string of six tokens' cargo test --release --test steps
+part 'every run, room and cut' cargo test --release --test model
 part 'without a feature' units --no-default-features
 part 'byte by byte' units --features small
 part 'byte by byte, without an allocator' units --no-default-features --features small
 part 'serde, defmt and heapless' features
 part 'a crate that depends on cobs' dependents
+part 'an example over embedded-io' example embedded-io '4 frames' \
+    --config "patch.crates-io.embedded-io.path = '$PWD/tests/stand_in/embedded-io'"
+if ls -d /usr/share/cargo/registry/tokio-util-0.7* >/dev/null 2>&1; then
+    part 'an example for tokio' example tokio '4 frames'
+else
+    skip 'an example for tokio' "needs Debian's librust-tokio-util-dev"
+fi
 part 'examples of the documentation' cargo test --doc
 part 'those without a feature' cargo test --doc --no-default-features
 part 'documentation' documentation std,serde,heapless
+part 'documentation, as docs.rs makes it' as_docs_rs
 if [ -f "$root/bindings/c/prebuilt/$(uname -m)-linux/libjcobs.a" ]; then
     part 'the library for C, by the declarations of the README' by_extern
+    part 'the library for C beside the crate' beside_c
 else
     skip 'the library for C' "it isn't prebuilt for $(uname -m)"
 fi

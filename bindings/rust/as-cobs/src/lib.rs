@@ -4,6 +4,8 @@
 //! [patch.crates-io]
 //! cobs = { path = "jirompeka/bindings/rust/as-cobs" }
 //! ```
+//!
+//! Cargo does so only for those that ask for version 0.5: this package has that version, and its names and signatures.
 #![no_std]
 #![forbid(unsafe_code)]
 

@@ -1,0 +1,86 @@
+//! Messages over a port of embedded-io, in memory that is passed. Nothing but `main` needs `std`.
+
+use core::convert::Infallible;
+
+use embedded_io::{ErrorType, Read, Write};
+use jcobs::{CobsDecoderHeapless, DecodeError, FrameDecoder, PieceEnd};
+
+/// Reads once, and hands on each message that has ended. Returns how many bytes the port had: none at its end.
+///
+/// An error of the port loses nothing: the next call continues.
+fn receive<R: Read, const N: usize>(
+    port: &mut R,
+    decoder: &mut CobsDecoderHeapless<N>,
+    mut on_message: impl FnMut(Result<&[u8], DecodeError>),
+) -> Result<usize, R::Error> {
+    let mut chunk = [0; 64];
+    let count = port.read(&mut chunk)?;
+    let mut bytes = &chunk[..count];
+    while let Some((end, taken)) = decoder.feed_piece(bytes) {
+        bytes = &bytes[taken..];
+        on_message(match end {
+            PieceEnd::Message(len) => Ok(&decoder.dest()[..len]),
+            PieceEnd::Broken(decoded_bytes) => Err(DecodeError::InvalidFrame { decoded_bytes }),
+            PieceEnd::TooLong => Err(DecodeError::TargetBufTooSmall),
+        });
+    }
+    Ok(count)
+}
+
+/// Writes the frame of a message and a zero, by way of `frame`.
+///
+/// # Panics
+///
+/// If `frame` is shorter than [`jcobs::max_encoding_length`] of the message, and 1.
+fn send<W: Write>(port: &mut W, message: &[u8], frame: &mut [u8]) -> Result<(), W::Error> {
+    let len = jcobs::encode(message, frame);
+    frame[len] = 0;
+    port.write_all(&frame[..=len])?;
+    port.flush()
+}
+
+/// A port whose two ends are joined, and which gives 3 bytes a read.
+#[derive(Default)]
+struct Loopback(Vec<u8>);
+
+impl ErrorType for Loopback {
+    type Error = Infallible;
+}
+
+impl Read for Loopback {
+    fn read(&mut self, to: &mut [u8]) -> Result<usize, Infallible> {
+        let len = self.0.len().min(to.len()).min(3);
+        to[..len].copy_from_slice(&self.0[..len]);
+        self.0.drain(..len);
+        Ok(len)
+    }
+}
+
+impl Write for Loopback {
+    fn write(&mut self, bytes: &[u8]) -> Result<usize, Infallible> {
+        self.0.extend(bytes);
+        Ok(bytes.len())
+    }
+
+    fn flush(&mut self) -> Result<(), Infallible> {
+        Ok(())
+    }
+}
+
+fn main() {
+    let mut port = Loopback::default();
+    let mut frame = [0; jcobs::max_encoding_length(300) + 1];
+    for message in [&b"hello"[..], b"", b"a\0b", &[7; 300]] {
+        let Ok(()) = send(&mut port, message, &mut frame);
+    }
+    let mut decoder = CobsDecoderHeapless::<16>::new();
+    let mut received = Vec::new();
+    while receive(&mut port, &mut decoder, |message| {
+        received.push(message.map(<[u8]>::to_vec));
+    }) != Ok(0)
+    {}
+    let expected = [&b"hello"[..], b"", b"a\0b"].map(|message| Ok(message.to_vec()));
+    assert_eq!(received[..3], expected);
+    assert_eq!(received[3..], [Err(DecodeError::TargetBufTooSmall)]);
+    println!("{} frames", received.len());
+}

@@ -1,0 +1,79 @@
+//! Bytes that come by an interrupt. Its handler only keeps them, and the main loop decodes them.
+//!
+//! Nothing here needs `std` but `main`, which plays the hardware.
+
+use std::sync::atomic::{AtomicU8, AtomicUsize, Ordering};
+
+use jcobs::CobsDecoderHeapless;
+
+/// A queue of bytes, from one interrupt handler to one main loop.
+struct Queue<const N: usize> {
+    bytes: [AtomicU8; N],
+    /// How many bytes were put in, and taken out. Both only grow, and wrap round.
+    put: AtomicUsize,
+    taken: AtomicUsize,
+}
+
+impl<const N: usize> Queue<N> {
+    const fn new() -> Self {
+        // Otherwise the places wouldn't go on in order when the counters wrap round.
+        assert!(N.is_power_of_two());
+        Self {
+            bytes: [const { AtomicU8::new(0) }; N],
+            put: AtomicUsize::new(0),
+            taken: AtomicUsize::new(0),
+        }
+    }
+
+    /// Puts in a byte. If the queue is full, it is dropped: the frame arrives damaged.
+    fn put(&self, byte: u8) {
+        let put = self.put.load(Ordering::Relaxed);
+        if put.wrapping_sub(self.taken.load(Ordering::Acquire)) < N {
+            self.bytes[put % N].store(byte, Ordering::Relaxed);
+            self.put.store(put.wrapping_add(1), Ordering::Release);
+        }
+    }
+
+    fn take(&self) -> Option<u8> {
+        let taken = self.taken.load(Ordering::Relaxed);
+        if taken == self.put.load(Ordering::Acquire) {
+            return None;
+        }
+        let byte = self.bytes[taken % N].load(Ordering::Relaxed);
+        self.taken.store(taken.wrapping_add(1), Ordering::Release);
+        Some(byte)
+    }
+}
+
+static RECEIVED: Queue<64> = Queue::new();
+
+/// The interrupt handler of the receiver, with the byte of its data register.
+fn on_byte(byte: u8) {
+    RECEIVED.put(byte);
+}
+
+/// A turn of the main loop: takes the bytes that have come, and hands on each message.
+fn poll<const N: usize>(decoder: &mut CobsDecoderHeapless<N>, mut on_message: impl FnMut(&[u8])) {
+    while let Some(byte) = RECEIVED.take() {
+        // An error is a frame that is damaged or too long: it is dropped, and the next one isn't affected.
+        if let Ok(Some(len)) = decoder.feed(byte) {
+            on_message(&decoder.dest()[..len]);
+        }
+    }
+}
+
+fn main() {
+    let mut decoder = CobsDecoderHeapless::<32>::new();
+    let mut messages = Vec::new();
+    for part in [&b"\x06hel"[..], b"lo\0\x09bro\0\x03h", b"i\0"] {
+        part.iter().copied().for_each(on_byte);
+        poll(&mut decoder, |message| messages.push(message.to_vec()));
+    }
+    assert_eq!(messages, [&b"hello"[..], b"hi"]);
+    println!("{} messages", messages.len());
+}
+
+#[test]
+fn messages_come_through_the_queue() {
+    main();
+}

@@ -1,0 +1,125 @@
+//! The frames of a recorded stream, one after another.
+
+use core::iter::FusedIterator;
+use core::mem;
+
+use crate::dec::{DecodeError, decode_in_place};
+
+/// Returns an iterator over the frames of a recorded stream, in order and still encoded: the nonempty pieces that a
+/// zero ends, without that zero.
+///
+/// Whether a piece is a frame is not looked at. [`decode`](crate::decode) says that, into a buffer of the caller's.
+/// The crate `cobs` doesn't have this call.
+///
+/// ```
+/// use jcobs::frames;
+///
+/// let mut stream = frames(b"\0\x03hi\0\0\x02x\0\x05un");
+/// assert_eq!(stream.next(), Some(&b"\x03hi"[..]));
+/// assert_eq!(stream.next(), Some(&b"\x02x"[..]));
+/// assert_eq!(stream.next(), None);
+/// assert_eq!(stream.remainder(), b"\x05un");
+/// ```
+#[inline]
+#[must_use]
+pub fn frames(stream: &[u8]) -> Frames<'_> {
+    Frames { rest: stream }
+}
+
+/// An iterator over the frames of a recorded stream. [`frames`] makes it.
+#[derive(Debug, Clone)]
+pub struct Frames<'a> {
+    rest: &'a [u8],
+}
+
+impl<'a> Frames<'a> {
+    /// Returns the bytes after the zero of the last frame that was returned. After the end these are the bytes that no
+    /// zero has ended.
+    #[inline]
+    #[must_use]
+    pub fn remainder(&self) -> &'a [u8] {
+        self.rest
+    }
+}
+
+impl<'a> Iterator for Frames<'a> {
+    type Item = &'a [u8];
+
+    #[inline]
+    fn next(&mut self) -> Option<&'a [u8]> {
+        loop {
+            let end = memchr::memchr(0, self.rest)?;
+            let frame = &self.rest[..end];
+            self.rest = &self.rest[end + 1..];
+            if !frame.is_empty() {
+                return Some(frame);
+            }
+        }
+    }
+}
+
+impl FusedIterator for Frames<'_> {}
+
+/// Returns an iterator over the messages of a recorded stream. Each is decoded at the place of its frame, so no other
+/// memory is used.
+///
+/// An item is the message of a nonempty piece that a zero ends, or the error for it. A broken piece never affects
+/// another one. The crate `cobs` doesn't have this call.
+///
+/// ```
+/// use jcobs::decode_stream_in_place;
+///
+/// let mut stream = *b"\x03hi\0\x07cut\0\x02x\0";
+/// let mut messages = Vec::new();
+/// for message in decode_stream_in_place(&mut stream) {
+///     match message {
+///         Ok(message) => messages.push(message),
+///         Err(error) => eprintln!("dropped: {error}"),
+///     }
+/// }
+/// assert_eq!(messages, [&b"hi"[..], b"x"]);
+/// ```
+///
+/// # Errors
+///
+/// [`DecodeError::InvalidFrame`] as an item: the piece breaks off inside a block. The count is that of
+/// [`decode_in_place`](crate::decode_in_place).
+#[inline]
+#[must_use]
+pub fn decode_stream_in_place(stream: &mut [u8]) -> MessagesInPlace<'_> {
+    MessagesInPlace { rest: stream }
+}
+
+/// An iterator over the messages of a recorded stream. [`decode_stream_in_place`] makes it.
+#[derive(Debug)]
+pub struct MessagesInPlace<'a> {
+    rest: &'a mut [u8],
+}
+
+impl<'a> MessagesInPlace<'a> {
+    /// Returns the bytes after the zero of the last piece that was returned. After the end these are the bytes that no
+    /// zero has ended, as they were.
+    #[inline]
+    #[must_use]
+    pub fn into_remainder(self) -> &'a mut [u8] {
+        self.rest
+    }
+}
+
+impl<'a> Iterator for MessagesInPlace<'a> {
+    type Item = Result<&'a mut [u8], DecodeError>;
+
+    #[inline]
+    fn next(&mut self) -> Option<Self::Item> {
+        loop {
+            let end = memchr::memchr(0, self.rest)?;
+            let (frame, rest) = mem::take(&mut self.rest).split_at_mut(end);
+            self.rest = &mut rest[1..];
+            if !frame.is_empty() {
+                return Some(decode_in_place(frame).map(|len| &mut frame[..len]));
+            }
+        }
+    }
+}
+
+impl FusedIterator for MessagesInPlace<'_> {}

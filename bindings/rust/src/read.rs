@@ -1,0 +1,160 @@
+//! Messages from a port: the frames of any buffered reader.
+
+use std::boxed::Box;
+use std::io::{self, BufRead, ErrorKind};
+
+use crate::dec::{DecodeError, DecoderPhase, PieceEnd, UnbufferedDecoder};
+
+/// Reads messages from a serial port, a socket, a file: from anything that is [`BufRead`].
+///
+/// A [`BufReader`](std::io::BufReader) makes a `BufRead` of any [`Read`](io::Read), and reads as many bytes at once as
+/// have come. The crate `cobs` doesn't have this type.
+///
+/// ```
+/// use std::io::BufReader;
+/// use jcobs::MessageReader;
+///
+/// # fn open_port() -> std::io::Result<&'static [u8]> { Ok(b"\x06hello\0\x09h\0\x02x\0") }
+/// let mut messages = MessageReader::new(BufReader::new(open_port()?), 256);
+/// let mut taken = Vec::new();
+/// while let Some(message) = messages.read_message()? {
+///     match message {
+///         Ok(message) => taken.push(message.to_vec()),
+///         Err(error) => eprintln!("dropped: {error}"),
+///     }
+/// }
+/// assert_eq!(taken, [&b"hello"[..], b"x"]);
+/// # Ok::<(), std::io::Error>(())
+/// ```
+///
+/// # A port that waits, and one that doesn't
+///
+/// An error of the port is returned as it is, and nothing is lost by it: the bytes of a frame that has begun are kept,
+/// and the next call continues there. So a port with a timeout, or one that doesn't block, is read in a loop:
+///
+/// ```
+/// use std::io::{self, BufRead, ErrorKind};
+/// use jcobs::MessageReader;
+///
+/// /// Returns the length of the next message, if there is one yet.
+/// fn poll(messages: &mut MessageReader<impl BufRead>) -> io::Result<Option<usize>> {
+///     match messages.read_message() {
+///         Ok(Some(Ok(message))) => Ok(Some(message.len())),
+///         // A damaged frame. The one after it isn't affected.
+///         Ok(Some(Err(_))) => Ok(None),
+///         Ok(None) => Err(io::Error::new(ErrorKind::UnexpectedEof, "the port was closed")),
+///         // Nothing has come yet.
+///         Err(e) if matches!(e.kind(), ErrorKind::TimedOut | ErrorKind::WouldBlock) => Ok(None),
+///         Err(e) => Err(e),
+///     }
+/// }
+/// # let mut messages = MessageReader::new(&b"\x03hi\0\x09\0"[..], 8);
+/// # assert_eq!(poll(&mut messages)?, Some(2));
+/// # assert_eq!(poll(&mut messages)?, None);
+/// # assert!(poll(&mut messages).is_err());
+/// # Ok::<(), io::Error>(())
+/// ```
+#[derive(Debug)]
+pub struct MessageReader<R> {
+    inner: R,
+    decoder: UnbufferedDecoder,
+    message: Box<[u8]>,
+}
+
+impl<R: BufRead> MessageReader<R> {
+    /// Makes a reader of messages of up to `max_len` bytes. It allocates that many, and never more.
+    ///
+    /// ```
+    /// let stdin = std::io::stdin().lock();
+    /// let messages = jcobs::MessageReader::new(stdin, 1024);
+    /// ```
+    #[must_use]
+    pub fn new(inner: R, max_len: usize) -> Self {
+        Self {
+            inner,
+            decoder: UnbufferedDecoder::new(),
+            message: std::vec![0; max_len].into_boxed_slice(),
+        }
+    }
+
+    /// Reads until a zero ends a frame, and returns its message.
+    ///
+    /// - `Ok(Some(Ok(message)))`: a message.
+    /// - `Ok(Some(Err(error)))`: a frame that is damaged ([`DecodeError::InvalidFrame`], with the number of bytes it
+    ///   decoded to), or whose message is longer than `max_len` ([`DecodeError::TargetBufTooSmall`]). Read on: it never
+    ///   affects another frame.
+    /// - `Ok(None)`: the source has ended, after a zero or before its first byte. If it grows, read on.
+    ///
+    /// Zeros without a frame between them are skipped. The source is read until a zero comes, however many bytes that
+    /// are; those of a message that is too long are dropped.
+    ///
+    /// ```
+    /// use jcobs::{DecodeError, MessageReader};
+    ///
+    /// let mut messages = MessageReader::new(&b"\x03hi\0\x06hello\0"[..], 4);
+    /// assert_eq!(messages.read_message()?, Some(Ok(&b"hi"[..])));
+    /// assert_eq!(messages.read_message()?, Some(Err(DecodeError::TargetBufTooSmall)));
+    /// assert_eq!(messages.read_message()?, None);
+    /// # Ok::<(), std::io::Error>(())
+    /// ```
+    ///
+    /// # Errors
+    ///
+    /// - [`ErrorKind::UnexpectedEof`]: the source has ended inside a frame.
+    /// - Each error of the source, such as [`ErrorKind::TimedOut`] and [`ErrorKind::WouldBlock`], except
+    ///   [`ErrorKind::Interrupted`], after which the source is read again.
+    ///
+    /// After an error the next call continues where this one was.
+    pub fn read_message(&mut self) -> io::Result<Option<Result<&[u8], DecodeError>>> {
+        Ok(self.read_piece()?.map(|end| match end {
+            PieceEnd::Message(len) => Ok(&self.message[..len]),
+            PieceEnd::Broken(decoded_bytes) => Err(DecodeError::InvalidFrame { decoded_bytes }),
+            PieceEnd::TooLong => Err(DecodeError::TargetBufTooSmall),
+        }))
+    }
+
+    /// Reads until a zero ends a piece, or the source ends between two.
+    fn read_piece(&mut self) -> io::Result<Option<PieceEnd>> {
+        loop {
+            let bytes = match self.inner.fill_buf() {
+                Ok(bytes) => bytes,
+                Err(error) if error.kind() == ErrorKind::Interrupted => continue,
+                Err(error) => return Err(error),
+            };
+            if bytes.is_empty() {
+                if self.decoder.phase() == DecoderPhase::Idle {
+                    return Ok(None);
+                }
+                return Err(io::Error::new(
+                    ErrorKind::UnexpectedEof,
+                    "the source ended inside a frame",
+                ));
+            }
+            let ended = self.decoder.feed_piece(&mut self.message, bytes);
+            let taken = ended.map_or(bytes.len(), |(_, taken)| taken);
+            self.inner.consume(taken);
+            if let Some((end, _)) = ended {
+                return Ok(Some(end));
+            }
+        }
+    }
+}
+
+impl<R> MessageReader<R> {
+    /// Returns the source.
+    pub fn get_ref(&self) -> &R {
+        &self.inner
+    }
+
+    /// Returns the source, to be changed: for example to set its timeout. What is read from it directly is missing in
+    /// the next message.
+    pub fn get_mut(&mut self) -> &mut R {
+        &mut self.inner
+    }
+
+    /// Returns the source. The bytes after the last frame that was read are still in it, except those of a frame that
+    /// has begun.
+    pub fn into_inner(self) -> R {
+        self.inner
+    }
+}

@@ -1,0 +1,110 @@
+//! Messages to a port: each one as a frame and a zero.
+
+use std::io::{self, Write};
+use std::vec::Vec;
+
+use crate::enc::encode;
+
+/// Ends a frame that was cut, so that no decoder takes it for a message.
+///
+/// A zero alone would make a shorter message of a frame that was cut between two blocks. If k bytes of a block are
+/// missing, at most 254, the first k of these complete it. The next one is a code of 255, followed by fewer than 254
+/// bytes. The 1 is there for k = 0: it is an empty block.
+const CLOSING: [u8; 256] = {
+    let mut bytes = [255; 256];
+    bytes[0] = 1;
+    bytes[255] = 0;
+    bytes
+};
+
+/// Writes messages to a serial port, a socket, a file: to anything that is [`Write`]. Each is one frame, the zero that
+/// ends it, and one [`write_all`](Write::write_all).
+///
+/// The crate `cobs` doesn't have this type.
+///
+/// ```
+/// use jcobs::MessageWriter;
+///
+/// let mut messages = MessageWriter::new(Vec::new());
+/// messages.write_message(b"hello")?;
+/// messages.write_message(b"")?;
+/// assert_eq!(messages.into_inner(), b"\x06hello\0\x01\0");
+/// # Ok::<(), std::io::Error>(())
+/// ```
+#[derive(Debug)]
+pub struct MessageWriter<W> {
+    inner: W,
+    /// Memory for the bytes of a write.
+    written: Vec<u8>,
+    /// Whether the last write failed, so that a part of its frame may be written.
+    failed: bool,
+}
+
+impl<W: Write> MessageWriter<W> {
+    /// Makes a writer. It allocates as the messages need it, and keeps that memory for the next one.
+    #[must_use]
+    pub const fn new(inner: W) -> Self {
+        Self {
+            inner,
+            written: Vec::new(),
+            failed: false,
+        }
+    }
+
+    /// Writes the frame of `message` and a zero. It doesn't flush.
+    ///
+    /// After a write that failed it first writes 256 bytes. They end what may have been written of that frame, in such a
+    /// way that it can't be taken for a message: the receiver meets one frame that is broken, or too long for it.
+    ///
+    /// # Errors
+    ///
+    /// - Each error of [`Write::write_all`]. How much was written isn't known then: write the message again.
+    /// - [`OutOfMemory`](io::ErrorKind::OutOfMemory): nothing was written.
+    pub fn write_message(&mut self, message: &[u8]) -> io::Result<()> {
+        let start = if self.failed { CLOSING.len() } else { 0 };
+        self.reserve(start + crate::max_encoding_length(message.len()) + 1)?;
+        self.written[..start].copy_from_slice(&CLOSING[..start]);
+        let end = start + encode(message, &mut self.written[start..]);
+        self.written[end] = 0;
+        self.failed = true;
+        self.inner.write_all(&self.written[..=end])?;
+        self.failed = false;
+        Ok(())
+    }
+
+    /// Makes `written` at least this long.
+    fn reserve(&mut self, len: usize) -> io::Result<()> {
+        if let Some(more) = len.checked_sub(self.written.len()) {
+            self.written.try_reserve(more)?;
+            self.written.resize(len, 0);
+        }
+        Ok(())
+    }
+
+    /// Flushes what the messages are written to.
+    ///
+    /// # Errors
+    ///
+    /// Those of [`Write::flush`].
+    pub fn flush(&mut self) -> io::Result<()> {
+        self.inner.flush()
+    }
+}
+
+impl<W> MessageWriter<W> {
+    /// Returns what the messages are written to.
+    pub fn get_ref(&self) -> &W {
+        &self.inner
+    }
+
+    /// Returns what the messages are written to, to be changed. What is written to it directly comes between two
+    /// frames.
+    pub fn get_mut(&mut self) -> &mut W {
+        &mut self.inner
+    }
+
+    /// Returns what the messages were written to.
+    pub fn into_inner(self) -> W {
+        self.inner
+    }
+}

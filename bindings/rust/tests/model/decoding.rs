@@ -1,0 +1,243 @@
+//! Frames to messages, in each room and cut.
+
+use jcobs::{CobsDecoder, DecodeError, PieceEnd, PushError, UnbufferedDecoder};
+
+use crate::grammar::{Decoder, encoded};
+use crate::{ALL, FILL, messages, some_messages};
+
+/// The results of the zeros of a stream, each after this many bytes, and what is in the buffer then.
+type Results = Vec<(usize, Result<usize, DecodeError>, Vec<u8>)>;
+
+/// A stream, and the results of its zeros with this much room.
+struct Case {
+    stream: Vec<u8>,
+    room: usize,
+    results: Results,
+    /// For each byte, whether it is of a message that is too long by then.
+    too_long: Vec<bool>,
+}
+
+/// A buffer that begins with as much of these bytes as fits.
+fn filled(bytes: &[u8], room: usize) -> Vec<u8> {
+    let mut dest = vec![FILL; room];
+    let fits = bytes.len().min(room);
+    dest[..fits].copy_from_slice(&bytes[..fits]);
+    dest
+}
+
+impl Case {
+    fn of(stream: Vec<u8>, room: usize) -> Self {
+        let mut decoder = Decoder::default();
+        let (mut results, mut too_long) = (Vec::new(), Vec::new());
+        for (at, &byte) in stream.iter().enumerate() {
+            let dest = (byte == 0).then(|| filled(&decoder.output, room));
+            let result = decoder.take(byte, room);
+            too_long.push(result == Err(DecodeError::TargetBufTooSmall));
+            if let (Some(dest), Some(result)) = (dest, result.transpose()) {
+                results.push((at + 1, result, dest));
+            }
+        }
+        Self {
+            stream,
+            room,
+            results,
+            too_long,
+        }
+    }
+
+    /// Compares the results of a coder, which takes bytes over a buffer and says how many, and what came of them.
+    fn check(
+        &self,
+        cut: usize,
+        mut take: impl FnMut(&mut [u8], &[u8]) -> (usize, Option<Result<usize, DecodeError>>),
+    ) {
+        let place = || format!("{:?} cut at {cut}, room for {}", self.stream, self.room);
+        let mut dest = vec![FILL; self.room];
+        let mut results = self.results.iter();
+        let mut at = 0;
+        for end in [cut, self.stream.len()] {
+            while at < end {
+                let (taken, result) = take(&mut dest, &self.stream[at..end]);
+                assert!(taken > 0, "{}", place());
+                at += taken;
+                match result {
+                    Some(result) if self.stream[at - 1] == 0 => {
+                        let expected = results.next().expect("a zero has a result");
+                        assert_eq!((at, result), (expected.0, expected.1), "{}", place());
+                        assert_eq!(dest, expected.2, "{}", place());
+                        dest.fill(FILL);
+                    }
+                    Some(result) => {
+                        assert_eq!(result, Err(DecodeError::TargetBufTooSmall), "{}", place());
+                        assert!(self.too_long[at - 1], "{}", place());
+                    }
+                    None => assert_eq!(at, end, "{}", place()),
+                }
+            }
+        }
+        assert!(results.next().is_none(), "{}", place());
+    }
+
+    /// By each way to take a piece.
+    fn check_pushes(&self, cut: usize) {
+        let mut decoder = UnbufferedDecoder::new();
+        self.check(cut, |dest, bytes| match decoder.push(dest, bytes) {
+            Ok(None) => (bytes.len(), None),
+            Ok(Some(report)) => (report.parsed_size(), Some(Ok(report.frame_size()))),
+            Err(PushError { error, parsed_size }) => (parsed_size, Some(Err(error))),
+        });
+        let mut decoder = UnbufferedDecoder::new();
+        self.check(cut, |dest, bytes| {
+            // The state is all that it has.
+            decoder = UnbufferedDecoder::from_phase(decoder.phase());
+            match decoder.feed_piece(dest, bytes) {
+                None => (bytes.len(), None),
+                Some((PieceEnd::Message(len), taken)) => (taken, Some(Ok(len))),
+                Some((PieceEnd::Broken(decoded_bytes), taken)) => {
+                    let error = DecodeError::InvalidFrame { decoded_bytes };
+                    (taken, Some(Err(error)))
+                }
+                Some((PieceEnd::TooLong, taken)) => {
+                    (taken, Some(Err(DecodeError::TargetBufTooSmall)))
+                }
+            }
+        });
+        self.check_buffered(cut);
+    }
+
+    /// By the decoder that borrows its buffer, which is copied to that of `check` after each call.
+    fn check_buffered(&self, cut: usize) {
+        let mut buffer = vec![FILL; self.room];
+        let mut decoder = CobsDecoder::new(&mut buffer);
+        let mut pushed = 0;
+        self.check(cut, |dest, bytes| {
+            let result = decoder.push(bytes);
+            let taken = decoder.parsed_size();
+            dest.copy_from_slice(decoder.dest());
+            if let Ok(Some(report)) = result {
+                assert_eq!(report.parsed_size(), taken);
+            }
+            if bytes[taken - 1] == 0 {
+                decoder.dest_mut().fill(FILL);
+            }
+            // Unlike the others it says at the end of a push that the message is too long.
+            pushed += taken;
+            if taken == bytes.len() && bytes[taken - 1] != 0 {
+                let expected = Err(DecodeError::TargetBufTooSmall);
+                assert_eq!(result == expected, self.too_long[pushed - 1]);
+            }
+            (
+                taken,
+                result
+                    .map(|report| report.map(|report| report.frame_size()))
+                    .transpose(),
+            )
+        });
+    }
+
+    /// By bytes one by one.
+    fn check_feeds(&self) {
+        let mut decoder = UnbufferedDecoder::new();
+        self.check(0, |dest, bytes| {
+            for (before, &byte) in bytes.iter().enumerate() {
+                if let Some(result) = decoder.feed(dest, byte).transpose() {
+                    return (before + 1, Some(result));
+                }
+            }
+            (bytes.len(), None)
+        });
+    }
+}
+
+/// The frame of a message and a zero, then those of a short one.
+fn stream(message: &[u8]) -> Vec<u8> {
+    [&encoded(message)[..], b"\0\x03hi\0"].concat()
+}
+
+/// Calls the functions for a whole frame, which is cut to this length.
+fn check_whole(message: &[u8], room: usize, frame: &[u8]) {
+    let place = || format!("{frame:?}, room for {room}");
+    let mut decoder = Decoder::default();
+    for byte in frame {
+        let _ = decoder.take(*byte, room);
+    }
+    let expected = match frame {
+        [] => Err(DecodeError::EmptyFrame),
+        _ => decoder.ended(room),
+    };
+    let mut dest = vec![FILL; room];
+    let report = jcobs::decode(frame, &mut dest);
+    let result = report.map(|report| {
+        assert_eq!(report.parsed_size(), frame.len(), "{}", place());
+        Some(report.frame_size())
+    });
+    assert_eq!(result, expected, "{}", place());
+    assert_eq!(dest, filled(&decoder.output, room), "{}", place());
+
+    let mut buffer = frame.to_vec();
+    let len = jcobs::decode_in_place(&mut buffer);
+    let is_frame = !frame.is_empty() && decoder.ended(message.len()).is_ok();
+    assert_eq!(len.is_ok(), is_frame, "{}", place());
+    if let Ok(len) = len {
+        assert_eq!(&buffer[..len], decoder.output, "{}", place());
+        assert_eq!(&buffer[len..], &frame[len..], "{}", place());
+    }
+}
+
+#[test]
+fn the_least_room() {
+    messages(&[&[], &[0, 7, 7]], |message| {
+        let stream = stream(message);
+        let frame = &stream[..stream.len() - 5];
+        check_whole(message, message.len(), frame);
+        check_whole(message, message.len(), &frame[..frame.len() - 1]);
+        let case = Case::of(stream, message.len().max(2));
+        case.check_pushes(case.stream.len() / 2);
+        case.check_feeds();
+    });
+}
+
+#[test]
+fn each_room() {
+    let check = |message: &[u8]| {
+        let stream = stream(message);
+        for room in 0..=message.len() + 1 {
+            check_whole(message, room, &stream[..stream.len() - 5]);
+            let case = Case::of(stream.clone(), room);
+            case.check_pushes(stream.len() / 3);
+            case.check_feeds();
+        }
+    };
+    if ALL {
+        messages(&[&[]], check);
+    } else {
+        some_messages(&[&[]], check);
+    }
+}
+
+#[test]
+fn each_cut() {
+    let check = |message: &[u8]| {
+        let case = Case::of(stream(message), message.len().max(2));
+        // And with the frame broken off by its zero.
+        let mut broken = case.stream.clone();
+        broken.remove(broken.len() - 6);
+        let broken = Case::of(broken, message.len().max(2));
+        for cut in 0..=case.stream.len() {
+            case.check_pushes(cut);
+            check_whole(
+                message,
+                message.len(),
+                &case.stream[..cut.min(case.stream.len() - 5)],
+            );
+            if cut < case.stream.len() {
+                broken.check_pushes(cut);
+            }
+        }
+    };
+    if ALL {
+        messages(&[&[]], check);
+    } else {
+        some_messages(&[&[]], check);
+    }
+}

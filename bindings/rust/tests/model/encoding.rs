@@ -1,0 +1,171 @@
+//! Messages to frames, in each room and cut.
+
+use jcobs::{CobsEncoder, DestBufTooSmallError, UnbufferedEncoder};
+
+use crate::grammar::Encoder;
+use crate::{ALL, FILL, messages, some_messages};
+
+/// The ends of a message after its run.
+const TAILS: [&[u8]; 3] = [&[], &[0], &[0, 7, 7, 7, 7, 7]];
+
+/// A message, its frame, and the length of the frame of each front of it.
+struct Case<'a> {
+    message: &'a [u8],
+    frame: Vec<u8>,
+    lens: Vec<usize>,
+}
+
+impl<'a> Case<'a> {
+    fn of(message: &'a [u8]) -> Self {
+        let mut encoder = Encoder::default();
+        let mut lens = vec![encoder.len()];
+        for byte in message {
+            encoder.take(*byte);
+            lens.push(encoder.len());
+        }
+        let frame = encoder.frame();
+        Self {
+            message,
+            frame,
+            lens,
+        }
+    }
+
+    /// Calls the functions for a whole message.
+    fn check_whole(&self, room: usize) {
+        let place = || format!("{:?}, room for {room}", self.message);
+        let mut dest = vec![FILL; room];
+        let returned = jcobs::try_encode(self.message, &mut dest);
+        let expected = written(&self.frame, room);
+        assert_eq!((returned, dest), expected, "{}", place());
+
+        let sentinel = 0x55;
+        let mut dest = vec![FILL; room];
+        let returned = jcobs::try_encode_with_sentinel(self.message, &mut dest, sentinel);
+        let xored: Vec<_> = self.frame.iter().map(|byte| byte ^ sentinel).collect();
+        assert_eq!((returned, dest), written(&xored, room), "{}", place());
+
+        let mut dest = vec![FILL; room];
+        let returned = jcobs::try_encode_including_sentinels(self.message, &mut dest);
+        let between = [&[0], &self.frame[..], &[0]].concat();
+        assert_eq!((returned, dest), written(&between, room), "{}", place());
+    }
+
+    /// Pushes the message in two pieces.
+    fn check_pushes(&self, room: usize, cut: usize) {
+        let place = || format!("{:?} cut at {cut}, room for {room}", self.message);
+        let (first, second) = self.message.split_at(cut);
+        let fits = [self.lens[cut] <= room, self.frame.len() <= room];
+        let pushed = |fits| {
+            if fits {
+                Ok(())
+            } else {
+                Err(DestBufTooSmallError)
+            }
+        };
+        let mut dest = vec![FILL; room];
+        let mut encoder = CobsEncoder::new(&mut dest);
+        assert_eq!(encoder.push(first), pushed(fits[0]), "{}", place());
+        if fits[0] {
+            assert_eq!(encoder.push(second), pushed(fits[1]), "{}", place());
+        }
+        let len = encoder.finalize();
+        self.check_frame(len, &dest, cut, fits);
+
+        let mut dest = vec![FILL; room];
+        let mut encoder = UnbufferedEncoder::new();
+        assert_eq!(
+            encoder.push(&mut dest, first),
+            pushed(fits[0]),
+            "{}",
+            place()
+        );
+        // The state is all that it has.
+        let mut encoder = UnbufferedEncoder::from_progress(encoder.progress());
+        if fits[0] {
+            assert_eq!(
+                encoder.push(&mut dest, second),
+                pushed(fits[1]),
+                "{}",
+                place()
+            );
+        }
+        if room > 0 {
+            let len = encoder.finalize(&mut dest).expect("what was taken fits");
+            self.check_frame(len, &dest, cut, fits);
+        } else {
+            assert_eq!(encoder.finalize(&mut dest), Err(DestBufTooSmallError));
+        }
+    }
+
+    /// The buffer has the frame of what was taken, and nothing else has changed.
+    fn check_frame(&self, len: usize, dest: &[u8], cut: usize, fits: [bool; 2]) {
+        let of_front;
+        let frame = match fits {
+            _ if dest.is_empty() => &[],
+            [true, true] => &self.frame[..],
+            [true, false] => {
+                of_front = crate::grammar::encoded(&self.message[..cut]);
+                &of_front[..]
+            }
+            _ => &[1],
+        };
+        let place = || format!("{:?} cut at {cut}, {dest:?}", self.message);
+        assert_eq!(&dest[..len], frame, "{}", place());
+        assert!(dest[len..].iter().all(|&byte| byte == FILL), "{}", place());
+    }
+}
+
+/// What a call does that writes these bytes, if they fit.
+fn written(bytes: &[u8], room: usize) -> (Result<usize, DestBufTooSmallError>, Vec<u8>) {
+    let mut dest = vec![FILL; room];
+    let Some(front) = dest.get_mut(..bytes.len()) else {
+        return (Err(DestBufTooSmallError), dest);
+    };
+    front.copy_from_slice(bytes);
+    (Ok(bytes.len()), dest)
+}
+
+#[test]
+fn the_least_room() {
+    messages(&TAILS, |message| {
+        let case = Case::of(message);
+        let len = case.frame.len();
+        case.check_whole(len - 1);
+        case.check_whole(len);
+        case.check_pushes(len, message.len() / 2);
+        case.check_pushes(len - 1, message.len());
+    });
+}
+
+#[test]
+fn each_room() {
+    let check = |message: &[u8]| {
+        let case = Case::of(message);
+        for room in 0..=case.frame.len() + 3 {
+            case.check_whole(room);
+            case.check_pushes(room, message.len() / 3);
+        }
+    };
+    if ALL {
+        messages(&TAILS[2..], check);
+    } else {
+        some_messages(&TAILS[2..], check);
+    }
+}
+
+#[test]
+fn each_cut() {
+    let check = |message: &[u8]| {
+        let case = Case::of(message);
+        for cut in 0..=message.len() {
+            case.check_pushes(case.frame.len(), cut);
+            case.check_pushes(case.frame.len() - 1, cut);
+        }
+    };
+    if ALL {
+        messages(&TAILS[..1], check);
+    } else {
+        some_messages(&TAILS[..1], check);
+    }
+}
