@@ -1,5 +1,6 @@
 """Readers that threads share, and exceptions of signal handlers while a reader is at work."""
 
+import contextlib
 import io
 import os
 import signal
@@ -140,8 +141,8 @@ def alarms(limit):
     signal.signal(signal.SIGALRM, made.before)
 
 
-# The functions that take and free an object, which `alone`, `read` and `__next__` do.
-TAKE_AND_FREE = {"call", "begins", "is_at_work", "read", "__next__"}
+# The functions that take an object and free it, as `alone` does.
+TAKE_AND_FREE = {"call", "begins", "is_at_work", "read", "__next__", "_send"}
 
 
 def interrupts(step, call, functions=None):
@@ -174,7 +175,23 @@ def interrupts(step, call, functions=None):
     return False
 
 
+class Sink:
+    """A stream as those of trio, which takes all at once."""
+
+    async def receive_some(self, size):
+        return b""
+
+    async def send_all(self, data):
+        pass
+
+
+def awaited(coroutine):
+    with contextlib.suppress(StopIteration):
+        coroutine.send(None)
+
+
 CALLS = {
+    "AsyncFrameReader.write": lambda: (jcobs.AsyncFrameReader(Sink()), lambda it: awaited(it.write(b"hi"))),
     "Decoder.feed": lambda: (jcobs.Decoder(9), lambda it: it.feed(b"\x03hi\0\x02")),
     "Decoder.unfinished": lambda: (jcobs.Decoder(9), lambda it: it.unfinished),
     "Encoder.feed": lambda: (jcobs.Encoder(9), lambda it: it.feed(b"a")),
@@ -186,6 +203,7 @@ CALLS = {
 }
 
 
+@pytest.mark.filterwarnings("ignore:coroutine .* was never awaited")
 @pytest.mark.parametrize("call", CALLS)
 def test_an_exception_at_any_step_of_a_call_leaves_its_object_free(call):
     make, step = CALLS[call], 1
