@@ -6,20 +6,24 @@ usage: tests/docs.py [--write]
 - Each public item of crates/cobs/src has an example in its doc comment: types, traits, functions, methods, the methods
   of public traits, the methods of impls of other traits that have a doc comment of their own, and modules.
 - crates/cobs_doc_vectors has each of these examples as a test or a function, but for its layout. With --write they are
-  written (examples.py); run `rt fmt` there then.
+  written (examples.py); run `rt fmt` there then, and write the imports of a new test by hand.
 - The proof of an example of a law, if the tests have one, is printed with it.
 - The functions that README.md and crates/cobs/CALLING.md show are in a crate of tests; of a test, its statements.
 - The contracts in crates/cobs/CALLING.md are those of src, of the calls in QUOTED. With --write they are written.
 - No file outside crates/cobs names its proofs, or a type by the private module that it is in: what a caller cites are
   its specs, its laws and the public names of its types.
 - docs/MAP.md names each file of the repository, or a folder that it is in.
-- Each block of tests/wrong_code.txt can be applied. `tests/REFUSED.md` counts and names these and the edits of must-fail/.
+- docs/PROMISES.md, crates/cobs/CALLING.md and docs/DIFFERENCES.md have a row of each public call that is their matter
+  (calls.py).
+- Each block of tests/wrong_code.txt can be applied, and its function is there. `tests/REFUSED.md` counts and names these
+  and the edits of must-fail/. With --write the blocks are counted, and the names go that aren't there any more.
 - No imports of the libraries go in a ring; files have at most 450 lines and functions 40 (layout.py).
 - Each document is in plain words; its links, the paths and commands that it shows, and the clauses
   that it names are there; all versions are that of the file VERSION (prose.py).
-- Counts, sizes and the toolchain in documents are those of the tree, and addresses can exist (facts.py).
+- Counts, sizes and the toolchain in documents are those of the tree, copies are equal, and addresses can exist (facts.py).
 
-It prints what differs, and the status is then 1.
+Only files that git tracks are read. It prints what differs, and the status is then 1. It also prints what grew since the
+last commit, or in it if nothing is changed (growth.py); that changes no status.
 """
 import re
 import subprocess
@@ -28,8 +32,10 @@ import sys
 sys.dont_write_bytecode = True
 from pathlib import Path, PurePosixPath
 
+import calls
 import examples
 import facts
+import growth
 import layout
 import prose
 import wrong_code
@@ -140,7 +146,7 @@ def files_off_map():
     """A line for each file that the map doesn't name, nor a folder that it is in."""
     names = names_on_map()
     bases = sorted((base for base in names if base is not None), key=len, reverse=True)
-    command = ["git", "-C", str(TOP), "ls-files", "-co", "--exclude-standard"]
+    command = ["git", "-C", str(TOP), "ls-files"]
     for file in subprocess.run(command, capture_output=True, text=True, check=True).stdout.splitlines():
         base = next(base for base in bases if not base or file.startswith(base + "/"))
         path = PurePosixPath(file.removeprefix(base + "/"))
@@ -153,7 +159,7 @@ def files_off_map():
 
 def names_without_file():
     """A line for each file that the map names and that isn't there."""
-    command = ["git", "-C", str(TOP), "ls-files", "-co", "--exclude-standard"]
+    command = ["git", "-C", str(TOP), "ls-files"]
     listed = subprocess.run(command, capture_output=True, text=True, check=True).stdout.splitlines()
     files = {f"/{file}" for file in listed if (TOP / file).is_file()}
     for name in sorted(set().union(*names_on_map().values())):
@@ -174,7 +180,7 @@ def wrong_code_amiss():
     there, named = [*edits, *(block.name for block in blocks)], re.findall(r"`(\w+-\w+)`", text)
     yield from (f"tests/REFUSED.md: it doesn't name {name}" for name in there if f"`{name}`" not in text)
     yield from (f"tests/REFUSED.md: it names {name}, which isn't there" for name in named if name not in there)
-    for count in (f"{len(edits)} edits", f"{len(blocks)} blocks"):
+    for count in (f"{len(edits)} edits", wrong_code.counts(blocks)):
         if count not in text:
             yield f"tests/REFUSED.md: these are {count}"
 
@@ -182,7 +188,8 @@ def wrong_code_amiss():
 def main():
     if "--write" in sys.argv[1:]:
         examples.write()
-    said = [*items_without_example(), *examples.complaints(), *files_off_map(), *names_without_file(), *private_names(), *wrong_code_amiss()]
+        wrong_code.write([], some=True)
+    said = [*items_without_example(), *examples.complaints(), *files_off_map(), *names_without_file(), *private_names(), *wrong_code_amiss(), *calls.complaints()]
     head, heading, tail = CALLING.read_text().partition(HEADING)
     before = tail.partition("```text\n")[0]
     wanted = head + heading + before + all_contracts()
@@ -191,6 +198,8 @@ def main():
     elif CALLING.read_text() != wanted:
         said.append(f"{CALLING.relative_to(TOP)}: its contracts are not those of src; tests/docs.py --write writes them")
     said += [*layout.complaints(), *prose.complaints(), *facts.complaints()]
+    grown = [f"grew: {line}" for line in growth.since_parent()]
+    print(*grown, sep="\n", end="\n" * bool(grown))
     print("\n".join(said) if said else "each public item has an example that is run; the documents name and quote what is there")
     return 1 if said else 0
 

@@ -1,5 +1,7 @@
 """The facts that tests/docs.py checks in documents: counts, laws, copies, the toolchain, addresses, bytes read."""
 import re
+import subprocess
+import sys
 from pathlib import Path
 
 import prose
@@ -86,14 +88,22 @@ def unread_bytes():
 
 def other_copies():
     """A line for each copy that a package carries and that isn't its original."""
-    licences = [(name, f"bindings/{folder}/{name}") for name in ("LICENSE-MIT", "LICENSE-APACHE") for folder in ("rust", "web")]
-    sources = [("include/jcobs.h", "device/src/jcobs.h"), ("source/jcobs.c", "device/src/jcobs.c")]
-    for original, copy in licences + [(f"bindings/c/{original}", f"bindings/c/{copy}") for original, copy in sources]:
+    copies = [(name, f"bindings/{folder}/{name}") for name in ("LICENSE-MIT", "LICENSE-APACHE") for folder in ("rust", "web")]
+    copies.append(("bindings/c/include/jcobs.h", "bindings/c/device/src/jcobs.h"))
+    for original, copy in copies:
         if (TOP / original).read_bytes() != (TOP / copy).read_bytes():
-            yield f"{copy}: it isn't {original}"
+            yield f"{copy}: it isn't {original}: run cp {original} {copy}"
 
 
-CHECKS = (other_copies, wrong_counts, laws_left_out, other_toolchains, dead_addresses, unread_bytes)
+def other_translations():
+    """What the script that writes jcobs.c, here and to the device's folder, says of one that it hasn't written."""
+    script = TOP / "bindings/c/source/translate.py"
+    ran = subprocess.run([sys.executable, "-B", str(script), "--check"], capture_output=True, text=True)
+    if ran.returncode:
+        yield ran.stderr.strip().replace(f"{TOP}/", "")
+
+
+CHECKS = (other_copies, other_translations, wrong_counts, laws_left_out, other_toolchains, dead_addresses, unread_bytes)
 
 
 def complaints():

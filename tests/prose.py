@@ -45,8 +45,8 @@ RT_COMMANDS = set("all check ci doc expand fmt lemma lib must-fail new plant run
 
 
 def files():
-    """Each file of the repository, as a path from its top."""
-    command = ["git", "-C", str(TOP), "ls-files", "-co", "--exclude-standard"]
+    """Each file of the repository that git tracks, as a path from its top."""
+    command = ["git", "-C", str(TOP), "ls-files"]
     listed = subprocess.run(command, capture_output=True, text=True, check=True).stdout.splitlines()
     return [name for name in listed if (TOP / name).is_file()]
 

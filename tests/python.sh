@@ -80,7 +80,7 @@ tests() { # BACKEND PYTHON FILE-OR-FOLDER..
     backend=$1
     interpreter=$2
     shift 2
-    JCOBS_INSTALLED=$backend in_work timeout 1800 "$interpreter" -m pytest -q -rs "$@"
+    JCOBS_INSTALLED=$backend in_work timeout 14400 "$interpreter" -m pytest -q -rs "$@"
 }
 counts() { # FILE: the tests that were skipped, and how many passed
     { grep '^SKIPPED' "$1"; tail -n 1 "$1"; } | sed 's/^/    /'

@@ -122,6 +122,8 @@ if has "$node" nodejs 'Node'; then
     part 'Node: all cases' "$node" "$web/test/vectors.mjs" "$web/cobs.wasm" "$root/conformance"
 fi
 if has python3 python3 'the documents'; then
+    part 'C: jcobs.c is translated from the proved module' "$c/source/translate.py" --check
+    part 'Rust: its functions are the proved ones' "$root/bindings/rust/tests/proved.py"
     part 'what is built is of these sources' "$root/tests/prebuilt.py"
     part 'the documents' "$root/tests/docs.py"
 fi

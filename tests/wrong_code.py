@@ -15,7 +15,8 @@ proofs cite. N blocks are tried at once, by default as many as there are process
 
 For each block it prints a line, in the order of the file: its name, the function that was rejected, and which of its
 clauses have no proof; if a loop invariant is left without a proof, the loop's name, after the word 'loop'. The status is 0
-if each block was rejected. With --write, the table of `tests/REFUSED.md` is written if all were tried and rejected.
+if each block was rejected. With --write, the rows of `tests/REFUSED.md` are then written: of the blocks that were tried,
+and with no words of all, so that a block which isn't there any more goes.
 """
 import argparse
 import os
@@ -200,16 +201,31 @@ def keep(blocks, kept):
     copy(TOP / "crates", kept, crates, *SOURCES, "out/incremental", "out/rlib")
 
 
-def write(lines):
-    """Writes what was printed of each block into the table of `tests/REFUSED.md`: by what was rejected the blocks' names."""
-    rows = {}
-    for name, line in lines:
-        rows.setdefault(line, []).append(f"`{name}`")
-    table = "".join(f"| `{line}` | {', '.join(names)} |\n" for line, names in sorted(rows.items()))
-    page = TOP / "tests/REFUSED.md"
+def counts(blocks):
+    """What `tests/REFUSED.md` says of how many blocks there are."""
+    of_specs = sum(any(kind == "file" and "/specs/" in said for kind, said in block.changes) for block in blocks)
+    return f"{len(blocks)} blocks: {of_specs} change"
+
+
+def write(lines, some):
+    """Writes what was printed of each block, or of some, into the table of `tests/REFUSED.md`: a row for what was rejected.
+
+    The rows of the other blocks stay, without those that aren't there any more.
+    """
+    blocks, page = all_blocks(), TOP / "tests/REFUSED.md"
     head, mark, rest = page.read_text().partition("<!-- table -->\n")
-    head += f"{mark}\n| rejected | wrong code |\n|---|---|\n{table}\n"
-    page.write_text(head + rest[rest.index("<!-- end of table -->") :])
+    table, end, rest = rest.partition("<!-- end of table -->")
+    found = {}
+    for rejected, names in re.findall(r"^\| `(.*)` \| (`.*`) \|$", table, re.M) if some else []:
+        found.update(dict.fromkeys(re.findall(r"`([^`]+)`", names), rejected))
+    found.update(lines)
+    rows = {}
+    for block in blocks:
+        if block.name in found:
+            rows.setdefault(found[block.name], []).append(f"`{block.name}`")
+    text = "".join(f"| `{rejected}` | {', '.join(names)} |\n" for rejected, names in sorted(rows.items()))
+    head = re.sub(r"\d+ blocks: \d+ change", counts(blocks), head)
+    page.write_text(f"{head}{mark}\n| rejected | wrong code |\n|---|---|\n{text}\n{end}{rest}")
 
 
 def main():
@@ -234,8 +250,8 @@ def main():
             for ran in list(RUNNING):
                 ran.kill()
             raise
-    if given.write and are_rejected and not given.words:
-        write(lines)
+    if given.write and are_rejected:
+        write(lines, some=bool(given.words))
     sys.exit(not are_rejected)
 
 

@@ -116,10 +116,11 @@ class Machine {
     return dest === this.scratchAt + NEAR ? this.#nearWord : BigInt(dest);
   }
 
-  /** Encodes the bytes at the scratch place. */
-  encode(sourceLength, dest, room, sentinel, terminated) {
+  /** Encodes bytes, over the scratch place. */
+  encode(bytes, dest, room, sentinel, terminated) {
+    this.write(bytes, this.scratchAt);
     const call = terminated ? this.#calls.jcobs_encode_terminated_with_sentinel : this.#calls.jcobs_encode_with_sentinel;
-    call(this.#answerWord, this.#scratchWord, word(sourceLength), this.#destWord(dest), word(room), sentinel);
+    call(this.#answerWord, this.#scratchWord, word(bytes.length), this.#destWord(dest), word(room), sentinel);
     return this.#answer();
   }
 

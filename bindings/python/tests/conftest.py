@@ -2,9 +2,12 @@
 
 import os
 import signal
+import time
 
 import pytest
 from hypothesis import HealthCheck, settings
+
+from jcobs import _async, _readers
 
 settings.register_profile(
     "jcobs",
@@ -18,11 +21,20 @@ settings.load_profile("jcobs")
 
 @pytest.fixture(autouse=True)
 def limit():
-    """Ends a test that hangs, as one that waits for a frame which never comes."""
+    """Ends a test that hangs: one that computes for five minutes, or that waits so long and does nothing.
+
+    A test that a busy machine keeps from its processors does neither.
+    """
+    begun = last = time.process_time()
 
     def late(number, frame):
+        nonlocal last
+        used, last = time.process_time() - last, time.process_time()
+        if used > 1 and last - begun < 300:
+            signal.alarm(300)
+            return
         signal.signal(signal.SIGALRM, too_late)
-        signal.alarm(30)
+        signal.alarm(60)
         raise TimeoutError("the test took more than five minutes")
 
     def too_late(number, frame):
@@ -34,6 +46,14 @@ def limit():
     yield
     signal.alarm(0)
     signal.signal(signal.SIGALRM, before)
+
+
+@pytest.fixture
+def patient(monkeypatch):
+    """Waits of `discard` that a busy machine doesn't outlast."""
+    for module in (_readers, _async):
+        monkeypatch.setattr(module, "LONGEST_DISCARD", 250.0)
+    monkeypatch.setattr(_async, "SHORTEST", 0.5)
 
 
 @pytest.fixture

@@ -8,6 +8,7 @@ import shutil
 import subprocess
 import sys
 import threading
+import time
 from pathlib import Path
 
 import pytest
@@ -56,11 +57,14 @@ def test_readme_examples():
     assert runner.summarize(verbose=False) == (0, 5)
 
 
+@pytest.mark.usefixtures("patient")
 def test_readme_request_and_reply(terminals, monkeypatch, capsys):
     """The first block, with a device at a pseudo-terminal that is asked for its state and replies."""
     serial = pytest.importorskip("serial")
     descriptor, end = terminals
-    port = serial.Serial(os.ttyname(descriptor), timeout=2)  # which ends the loop
+    port, got = serial.Serial(os.ttyname(descriptor)), []
+    own = port.read
+    monkeypatch.setattr(port, "read", lambda size: got.append(own(size)) or got[-1])
     monkeypatch.setattr(serial, "Serial", lambda name, baud: port)
     device = jcobs.FrameReader(end)
     block = readme_blocks("python")[0]
@@ -73,6 +77,9 @@ def test_readme_request_and_reply(terminals, monkeypatch, capsys):
         assert device.read(timeout=60) == jcobs.Message(b"status?")
         for part in (b"\x03o", b"k\0", b"\x05a\0"):
             end.write(part)
+        while not b"".join(got).endswith(b"\x05a\0"):
+            time.sleep(0.001)
+        port.cancel_read()  # which ends the loop
 
     thread = threading.Thread(target=reply)
     thread.start()

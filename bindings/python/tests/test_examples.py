@@ -71,7 +71,7 @@ def test_trio(terminals):
     found = []
 
     async def run():
-        with trio.fail_after(60):
+        with trio.fail_after(1200):
             async with jcobs.AsyncFrameReader(trio.lowlevel.FdStream(os.dup(device))) as reader:
                 for at in range(len(STREAM)):
                     end.write(STREAM[at : at + 1])

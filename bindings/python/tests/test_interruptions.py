@@ -1,5 +1,7 @@
 """Readers that threads share, and exceptions of signal handlers while a reader is at work."""
 
+import contextlib
+import io
 import os
 import signal
 import socket
@@ -139,11 +141,106 @@ def alarms(limit):
     signal.signal(signal.SIGALRM, made.before)
 
 
+# The functions that take an object and free it, as `alone` does.
+TAKE_AND_FREE = {"call", "begins", "is_at_work", "read", "__next__", "_send"}
+
+
+def interrupts(step, call, functions=None):
+    """Runs a call, and raises an exception before the step of that number in these functions of the package, or in any.
+
+    Returns whether it has so many steps.
+    """
+    left = [step]
+
+    def trace(frame, event, argument):
+        if os.path.dirname(frame.f_code.co_filename) != os.path.dirname(jcobs.__file__):
+            return None
+        if functions and frame.f_code.co_name not in functions:
+            return None
+        frame.f_trace_opcodes = True
+        left[0] -= event == "opcode"
+        if not left[0]:
+            sys.settrace(None)
+            raise Interruption
+        return trace
+
+    before = sys.gettrace()
+    sys.settrace(trace)
+    try:
+        call()
+    except Interruption:
+        return True
+    finally:
+        sys.settrace(before)
+    return False
+
+
+class Sink:
+    """A stream as those of trio, which takes all at once."""
+
+    async def receive_some(self, size):
+        return b""
+
+    async def send_all(self, data):
+        pass
+
+
+def awaited(coroutine):
+    with contextlib.suppress(StopIteration):
+        coroutine.send(None)
+
+
+CALLS = {
+    "AsyncFrameReader.write": lambda: (jcobs.AsyncFrameReader(Sink()), lambda it: awaited(it.write(b"hi"))),
+    "Decoder.feed": lambda: (jcobs.Decoder(9), lambda it: it.feed(b"\x03hi\0\x02")),
+    "Decoder.unfinished": lambda: (jcobs.Decoder(9), lambda it: it.unfinished),
+    "Encoder.feed": lambda: (jcobs.Encoder(9), lambda it: it.feed(b"a")),
+    "Encoder.finish": lambda: (jcobs.Encoder(9), lambda it: it.finish()),
+    "FrameReader.read": lambda: (jcobs.frames(b"\x01\0" * 3), lambda it: it.read()),
+    "FrameReader.write": lambda: (jcobs.FrameReader(io.BytesIO()), lambda it: it.write(b"hi")),
+    "FrameReader.discard": lambda: (jcobs.frames(b"\x03hi\0"), lambda it: it.discard()),
+    "list(FrameReader)": lambda: (jcobs.frames(b"\x03hi\0"), list),
+}
+
+
+@pytest.mark.filterwarnings("ignore:coroutine .* was never awaited")
+@pytest.mark.parametrize("call", CALLS)
+def test_an_exception_at_any_step_of_a_call_leaves_its_object_free(call):
+    make, step = CALLS[call], 1
+    while True:
+        made, work = make()
+        interrupted, done = interrupts(step, lambda: work(made), TAKE_AND_FREE), []
+        # raises if the interrupted call is still taken for one at work
+        worker = threading.Thread(target=lambda: done.append(work(made)))
+        worker.start()
+        worker.join()
+        assert len(done) == 1
+        work(made)
+        if not interrupted:
+            break
+        step += 1
+    assert step > 10
+
+
+def test_an_exception_at_any_step_makes_no_other_message():
+    stream = b"\x03hi\0\x02\x02\0\x02a\0"
+    wanted = list(jcobs.frames(stream))
+    step, interrupted = 1, True
+    while interrupted:
+        reader = jcobs.FrameReader(io.BufferedReader(io.BytesIO(stream), 4))
+        reader._read = lambda file, timeout, kept: kept.append(file.read(4)) or True
+        found = []
+        interrupted = interrupts(step, lambda: found.extend(reader))
+        found.extend(reader)
+        at = 0
+        for outcome in found:
+            if outcome != jcobs.Broken(b""):
+                at = wanted.index(outcome, at) + 1
+        step += 1 if sys.implementation.name == "cpython" else 17  # PyPy is slow while it is traced
+    assert found == wanted and step > 100
+
+
 @pytest.mark.skipif(not hasattr(signal, "setitimer"), reason="there is no setitimer")
-@pytest.mark.skipif(
-    sys.implementation.name == "pypy",
-    reason="PyPy runs signal handlers between any two steps, also in the clause that ends a use: README.md says so",
-)
 @pytest.mark.parametrize("kind", KINDS)
 def test_an_exception_of_a_signal_handler_makes_no_other_message(kind, alarms):
     """No message is lost. If the code that reads or decodes is Python, one may be reported as `Broken`."""

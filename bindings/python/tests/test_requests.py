@@ -40,6 +40,7 @@ def test_request():
             replies.join()
 
 
+@pytest.mark.usefixtures("patient")
 def test_a_late_reply_is_not_taken_for_the_next():
     with link() as (reader, device):
         with pytest.raises(TimeoutError, match="no reply came in time"):
@@ -54,6 +55,7 @@ def test_a_late_reply_is_not_taken_for_the_next():
         assert reader.request(b"ask", timeout=60) == b"late again"
 
 
+@pytest.mark.usefixtures("patient")
 def test_a_late_reply_over_a_serial_port(pair):
     port, end = pair
     reader, device = jcobs.FrameReader(port), jcobs.FrameReader(end)
@@ -62,7 +64,8 @@ def test_a_late_reply_over_a_serial_port(pair):
     device.write(b"late")
     end.write(b"\x05ha")
     assert device.read(60) == jcobs.Message(b"first")
-    time.sleep(0.1)  # the terminal passes them on
+    while port.in_waiting < 9:  # until the terminal has passed them on
+        time.sleep(0.001)
     replies = in_background(lambda: device.read(60), lambda: device.write(b"second"))
     assert reader.request(b"second", timeout=60, discard=True) == b"second"
     replies.join()
@@ -91,6 +94,7 @@ def test_what_a_request_raises():
                 reader.request(b"ask", 60)
 
 
+@pytest.mark.usefixtures("patient")
 def test_discard_drops_what_has_come():
     with link() as (reader, device):
         raw(device, b"\x03hi\0\x03ho\0\x05a")
@@ -106,15 +110,16 @@ def test_discard_drops_what_has_come():
             reader.discard(quiet=-1)
 
 
+@pytest.mark.usefixtures("patient")
 def test_discard_drops_the_rest_of_a_frame_that_is_on_its_way():
     """Without that the rest would be read as a message: it begins with a block."""
     with link() as (reader, device):
         frame = jcobs.encode(b"set\0speed\0to\x0099", terminated=True)
         raw(device, frame[:4])
         rest = in_background(
-            *(lambda at=at: (time.sleep(0.002), raw(device, frame[at : at + 1])) for at in range(4, 16))
+            *(lambda at=at: (time.sleep(0.002), raw(device, frame[at : at + 1])) for at in range(4, len(frame)))
         )
-        reader.discard(quiet=5)
+        reader.discard(quiet=60)
         rest.join()
         device.write(b"next")
         assert reader.read(60) == jcobs.Message(b"next")
@@ -199,6 +204,7 @@ async def connection():
     server.close()
 
 
+@pytest.mark.usefixtures("patient")
 def test_requests_over_asyncio():
     async def run():
         async with connection() as (reader, device):
@@ -230,6 +236,7 @@ def test_requests_over_asyncio():
     asyncio.run(run())
 
 
+@pytest.mark.usefixtures("patient")
 def test_discard_over_asyncio_drops_the_rest_of_a_frame_that_is_on_its_way():
     async def run():
         stream = asyncio.StreamReader()
@@ -243,7 +250,7 @@ def test_discard_over_asyncio_drops_the_rest_of_a_frame_that_is_on_its_way():
 
         stream.feed_data(b"\x03hi\0" * 3 + frame[:4])
         assert await reader.read() == jcobs.Message(b"hi")
-        await asyncio.gather(reader.discard(quiet=5), rest())
+        await asyncio.gather(reader.discard(quiet=60), rest())
         stream.feed_data(b"\x03ho\0\x05a")
         assert await reader.read(timeout=60) == jcobs.Message(b"ho")
         assert await reader.read(timeout=0) is None
@@ -255,6 +262,7 @@ def test_discard_over_asyncio_drops_the_rest_of_a_frame_that_is_on_its_way():
 
 
 @pytest.mark.skipif(os.name != "posix", reason="it needs a pipe")
+@pytest.mark.usefixtures("patient")
 def test_a_pipe_is_drained():
     source, sink = os.pipe()
     with jcobs.FrameReader(os.fdopen(source, "rb")) as reader, os.fdopen(sink, "wb", 0) as end:

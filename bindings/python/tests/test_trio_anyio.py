@@ -59,7 +59,7 @@ def over(request):
 
     def run(test):
         async def main():
-            with anyio.fail_after(120):
+            with anyio.fail_after(1200):
                 streams = await make()
                 async with jcobs.AsyncFrameReader(streams[0]) as reader, jcobs.AsyncFrameReader(streams[1]) as device:
                     await test(reader, device)
@@ -94,6 +94,7 @@ def test_frames_and_the_end(over):
     over(test)
 
 
+@pytest.mark.usefixtures("patient")
 def test_requests(over):
     async def test(reader, device):
         async def reply(message):
@@ -108,7 +109,7 @@ def test_requests(over):
         await reply(b"late")
         async with anyio.create_task_group() as group:
             group.start_soon(reply, b"second")
-            await anyio.sleep(0.1)
+            await anyio.sleep(0.5)  # a terminal passes it on
             assert await reader.request(b"ask", timeout=60, discard=True) == b"second"
 
     over(test)

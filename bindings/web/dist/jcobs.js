@@ -117,10 +117,11 @@ class Machine {
     return dest === this.scratchAt + NEAR ? this.#nearWord : BigInt(dest);
   }
 
-  /** Encodes the bytes at the scratch place. */
-  encode(sourceLength, dest, room, sentinel, terminated) {
+  /** Encodes bytes, over the scratch place. */
+  encode(bytes, dest, room, sentinel, terminated) {
+    this.write(bytes, this.scratchAt);
     const call = terminated ? this.#calls.jcobs_encode_terminated_with_sentinel : this.#calls.jcobs_encode_with_sentinel;
-    call(this.#answerWord, this.#scratchWord, word(sourceLength), this.#destWord(dest), word(room), sentinel);
+    call(this.#answerWord, this.#scratchWord, word(bytes.length), this.#destWord(dest), word(room), sentinel);
     return this.#answer();
   }
 
@@ -414,29 +415,31 @@ function maxEncodedLength(length) {
   return loaded().machine.maxLength(length);
 }
 
-/** Encodes a message within a machine, over as much room as `limit` allows. */
-function encoded(message, limit, { sentinel, terminated }) {
-  const bytes = bytesOf(message);
-  const room = Math.min(limit, bytes.length + Math.floor(bytes.length / 128) + 2); // one byte for each 254, a code and a sentinel fit
-  const machine = machineFor(bytes.length + room + NEAR);
-  const at = machine.placeAfter(bytes.length);
-  machine.write(bytes, machine.scratchAt);
-  const { status, length } = machine.encode(bytes.length, at, room, sentinel, terminated);
-  return { machine, at, status, length };
-}
+/** The longest frame of a message of `length` bytes, with a sentinel: one byte for each 254, a code and a sentinel fit. */
+const roomFor = (length) => length + Math.floor(length / 128) + 2;
 
 /** Returns the frame of a message, with a sentinel after it if `terminated` is true. */
 function encode(message, options) {
-  const { machine, at, length } = encoded(message, Infinity, optionsOf(options, ENCODING));
+  const { sentinel, terminated } = optionsOf(options, ENCODING);
+  const bytes = bytesOf(message);
+  const room = roomFor(bytes.length);
+  const machine = machineFor(bytes.length + room + NEAR);
+  const at = machine.placeAfter(bytes.length);
+  const { length } = machine.encode(bytes, at, room, sentinel, terminated);
   return machine.read(at, length);
 }
 
 /** Encodes a message to the front of `dest` and returns the frame's length. If it doesn't fit, nothing is changed. */
 function encodeInto(message, dest, options) {
-  const room = bytesOf(dest);
-  const { machine, at, status, length } = encoded(message, room.length, optionsOf(options, ENCODING));
-  if (status === TOO_SMALL) throw new RangeError(`the frame is longer than the ${room.length} bytes that it may have`);
-  machine.readInto(room, at, length);
+  const front = bytesOf(dest);
+  const { sentinel, terminated } = optionsOf(options, ENCODING);
+  const bytes = bytesOf(message);
+  const room = Math.min(front.length, roomFor(bytes.length));
+  const machine = machineFor(bytes.length + room + NEAR);
+  const at = machine.placeAfter(bytes.length);
+  const { status, length } = machine.encode(bytes, at, room, sentinel, terminated);
+  if (status === TOO_SMALL) throw new RangeError(`the frame is longer than the ${front.length} bytes that it may have`);
+  machine.readInto(front, at, length);
   return length;
 }
 

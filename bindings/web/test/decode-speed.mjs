@@ -47,7 +47,7 @@ function ratioOf(frame) {
 }
 
 // A long message without zeros is one search and a few copies for plain JavaScript, which the engine does in vectors. The module has
-// none: tables of PAGE.md show what that costs.
+// none: PAGE.md says what that costs.
 const isFair = (length, share) => share > 0 || length < 1000;
 
 const cases = [...LENGTHS.flatMap((length) => SHARES.filter((share) => isFair(length, share))

@@ -3,9 +3,40 @@
 from __future__ import annotations
 
 import functools
-from typing import Any, Callable, Optional, TypeVar, cast
+import sys
+from contextlib import suppress
+from types import FrameType
+from typing import Any, Callable, Dict, List, Optional, TypeVar, cast
 
 _Method = TypeVar("_Method", bound=Callable[..., Any])
+
+# The calls of an object that have begun and not ended, by their use, each by its frame.
+Calls = Dict[str, List[FrameType]]
+
+
+def is_at_work(frame: FrameType) -> bool:
+    """Returns whether the call of a frame hasn't ended: only then its variables can't be cleared."""
+    try:
+        frame.clear()
+    except RuntimeError:
+        return True
+    return False
+
+
+def begins(calls: List[FrameType], mine: FrameType) -> bool:
+    """Adds the frame of a call to those of the same use, and returns whether it is the first one at work.
+
+    If it isn't, it is taken out again. A call that has ended may still be there: a signal handler raised an exception
+    before it could take itself out. Only such a call is taken out by others.
+    """
+    calls.append(mine)
+    while (first := calls[0]) is not mine:
+        if is_at_work(first):
+            calls.remove(mine)
+            return False
+        with suppress(ValueError):  # another thread has taken it out
+            calls.remove(first)
+    return True
 
 
 def alone(what: str, use: Optional[str] = None) -> Callable[[_Method], _Method]:
@@ -13,26 +44,26 @@ def alone(what: str, use: Optional[str] = None) -> Callable[[_Method], _Method]:
 
     Methods with different uses don't exclude each other. The object has an empty dictionary `_calls`.
 
-    The lock is `setdefault`, which no other thread can interrupt. The finally clause compares whose it is, so a signal
-    handler may raise an exception before it was taken or after; and it calls nothing, as CPython from 3.11 on runs
-    signal handlers after calls.
+    The finally clause calls nothing, as CPython from 3.11 on runs signal handlers after calls. Before, and on PyPy, a
+    handler may raise an exception there too: then the next call finds that this one has ended.
     """
     use = use or what
 
     def made(method: _Method) -> _Method:
         @functools.wraps(method)
         def call(self: Any, *arguments: Any, **named: Any) -> Any:
-            mine = object()
+            calls, mine = self._calls.setdefault(use, []), sys._getframe()
             try:
-                if self._calls.setdefault(use, mine) is not mine:
+                if not begins(calls, mine):
                     raise RuntimeError(f"the {what} is in use by another call")
                 return method(self, *arguments, **named)
             finally:
                 try:
-                    if self._calls[use] is mine:
-                        del self._calls[use]
-                except KeyError:  # not taken, or another thread's, which has just ended
+                    if calls[0] is mine:
+                        del calls[0]
+                except IndexError:  # not begun, and the other call has just ended
                     pass
+                del mine  # or the frame would refer to itself
 
         return cast(_Method, call)
 

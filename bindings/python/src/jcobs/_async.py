@@ -4,7 +4,7 @@ from __future__ import annotations
 
 import importlib
 import time
-from typing import TYPE_CHECKING, Any, AsyncIterator, Optional, Protocol, Union
+from typing import TYPE_CHECKING, Any, AsyncIterator, Coroutine, Optional, Protocol, Union
 
 from jcobs._files import CHUNK
 from jcobs._readers import LONGEST_DISCARD, Deadline, Frames, reply_of
@@ -78,6 +78,7 @@ class AsyncFrameReader(Frames):
         self._stream: Any = stream
         self._name = names[0]
         self._writer: Any = stream if writer is None and self._name != "read" else writer
+        self._sending: Optional[Coroutine[Any, Any, None]] = None  # the last call that sends to trio or anyio
 
     def __repr__(self) -> str:
         return f"<{type(self).__name__} of {self._stream!r}>"
@@ -200,15 +201,15 @@ class AsyncFrameReader(Frames):
         await self._writer.drain()
 
     async def _send(self, message: ReadableBuffer) -> None:
-        """Sends a message to a stream of trio or anyio."""
-        mine = object()
-        if self._calls.setdefault("writer", mine) is not mine:
+        """Sends a message to a stream of trio or anyio. Whether a call is at work is known by its coroutine."""
+        if self._sending is not None and (self._sending.cr_running or self._sending.cr_await is not None):
             raise RuntimeError("the writer is in use by another call")
-        try:
-            await getattr(self._writer, "send_all" if hasattr(self._writer, "send_all") else "send")(self._out(message))
-            self._sent()
-        finally:
-            del self._calls["writer"]
+        self._sending = self._send_alone(message)
+        await self._sending
+
+    async def _send_alone(self, message: ReadableBuffer) -> None:
+        await getattr(self._writer, "send_all" if hasattr(self._writer, "send_all") else "send")(self._out(message))
+        self._sent()
 
     async def request(self, message: ReadableBuffer, timeout: Optional[float], *, discard: bool = False) -> bytes:
         """Sends a message, and returns the next one that comes, its reply.

@@ -8,10 +8,10 @@ from __future__ import annotations
 import functools
 import operator
 import sys
-from typing import TYPE_CHECKING, Any, Callable, Dict, List, Tuple, Type, TypeVar
+from typing import TYPE_CHECKING, Any, Callable, List, Tuple, Type, TypeVar
 
 from jcobs import __version__ as version
-from jcobs._alone import alone
+from jcobs._alone import Calls, alone
 
 if TYPE_CHECKING:
     from _typeshed import ReadableBuffer
@@ -213,7 +213,7 @@ class Decoder:
     def __init__(self, max_length: int, sentinel: int) -> None:
         self._buffer = bytearray(length_of(max_length, "max_length"))
         self._sentinel = sentinel_of(sentinel)
-        self._calls: Dict[str, object] = {}
+        self._calls: Calls = {}
         self._clear()
 
     def _clear(self) -> None:
@@ -290,7 +290,7 @@ class Encoder:
     def __init__(self, max_length: int, sentinel: int) -> None:
         self._message = bytearray(length_of(max_length, "max_length"))
         self._sentinel = sentinel_of(sentinel)
-        self._calls: Dict[str, object] = {}
+        self._calls: Calls = {}
         self._taken = 0
 
     @alone("encoder")

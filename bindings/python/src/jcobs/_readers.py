@@ -2,13 +2,15 @@
 
 from __future__ import annotations
 
+import io
 import operator
+import sys
 import time
 from collections import deque
 from itertools import chain, compress, starmap
-from typing import TYPE_CHECKING, Any, Callable, Deque, Dict, Iterator, List, Optional, Union
+from typing import TYPE_CHECKING, Any, Callable, Deque, Iterator, List, Optional, Union
 
-from jcobs._alone import alone
+from jcobs._alone import Calls, alone, begins
 from jcobs._files import GAP, Readable, Receivable, read_of, send
 from jcobs._frames import DecodeError, encode
 from jcobs._streams import CLASSES, Broken, Coder, Decoder, Message, Outcome
@@ -73,7 +75,6 @@ class Frames(Coder):
         self._headless = False  # whether the next bytes are the rest of a frame whose beginning is lost
         self._lead = bytes([self._sentinel]) if sync else b""  # what is sent in front of the first frame
         self._cut = 0  # how many bytes it takes to end a frame that was cut, or none
-        self._calls: Dict[str, object] = {}
 
     @property
     def unfinished(self) -> bool:
@@ -177,6 +178,7 @@ class FrameReader(Frames):
     ) -> None:
         self._read = read_of(file)
         self._file: Any = file
+        self._calls: Calls = {}
         super().__init__(max_length, sentinel, sync)
 
     def __repr__(self) -> str:
@@ -222,9 +224,10 @@ class FrameReader(Frames):
         EOFError: the stream ended
         """
         deadline = Deadline(timeout)
-        mine = object()  # as in `alone`, by which the outcome would be the value of a call: see below
+        # as in `alone`, by which the outcome would be the value of a call: see below
+        calls, mine = self._calls.setdefault("reader", []), sys._getframe()
         try:
-            if self._calls.setdefault("reader", mine) is not mine:
+            if not begins(calls, mine):
                 raise RuntimeError(IN_USE)
             while not self._pending:
                 left = deadline.left()
@@ -239,18 +242,19 @@ class FrameReader(Frames):
             return outcome
         finally:
             try:
-                if self._calls["reader"] is mine:
-                    del self._calls["reader"]
-            except KeyError:
+                if calls[0] is mine:
+                    del calls[0]
+            except IndexError:
                 pass
+            del mine
 
     def __iter__(self) -> FrameReader:
         return self
 
     def __next__(self) -> Outcome:
-        mine = object()  # as in `read`
+        calls, mine = self._calls.setdefault("reader", []), sys._getframe()  # as in `read`
         try:
-            if self._calls.setdefault("reader", mine) is not mine:
+            if not begins(calls, mine):
                 raise RuntimeError(IN_USE)
             while not self._pending:
                 if not self._take(None) and not self._pending:
@@ -260,10 +264,11 @@ class FrameReader(Frames):
             return outcome
         finally:
             try:
-                if self._calls["reader"] is mine:
-                    del self._calls["reader"]
-            except KeyError:
+                if calls[0] is mine:
+                    del calls[0]
+            except IndexError:
                 pass
+            del mine
 
     def messages(self) -> Iterator[bytes]:
         """Yields the bytes of each message, and skips broken and too long frames.
@@ -349,20 +354,9 @@ def frames(
     Message(b'hello')
     """
     if not hasattr(source, "read") and not hasattr(source, "recv"):
-        source = InMemory(source)
-    return FrameReader(source, max_length, sentinel)
-
-
-class InMemory:
-    """Reads bytes as a file, without a copy of them all."""
-
-    def __init__(self, data: Any) -> None:
         try:
-            self._left = memoryview(data).cast("B")
+            source = io.BytesIO(source if isinstance(source, bytes) else memoryview(source).cast("B"))
         except TypeError:
-            kind = type(data).__name__
+            kind = type(source).__name__
             raise TypeError(f"source must be a contiguous bytes-like object or a binary file, not {kind}") from None
-
-    def read(self, size: int, /) -> bytes:
-        chunk, self._left = bytes(self._left[:size]), self._left[size:]
-        return chunk
+    return FrameReader(source, max_length, sentinel)

@@ -1,0 +1,102 @@
+"""The public calls of crates/cobs, for tests/docs.py: which rows the documents must have of each."""
+import re
+from pathlib import Path
+
+import prose
+import wrong_code
+
+TOP = Path(__file__).resolve().parent.parent
+SRC = TOP / "crates/cobs/src"
+# The calls of the crate `cobs` 0.5.1, by their names. docs/DIFFERENCES.md has every other one.
+OF_THE_CRATE = set("""encode try_encode encode_with_sentinel encode_including_sentinels try_encode_including_sentinels
+    encode_vec encode_vec_with_sentinel encode_vec_including_sentinels max_encoding_length max_encoding_overhead
+    decode decode_with_sentinel decode_vec decode_vec_with_sentinel
+    decode_in_place decode_in_place_report decode_in_place_with_sentinel
+    EncoderState::push EncoderState::finalize EncoderState::default EncoderState::clone DecoderState::feed
+    DecoderState::default CobsEncoder::new CobsEncoder::push CobsEncoder::finalize
+    CobsDecoder::new CobsDecoder::feed CobsDecoder::push CobsDecoder::dest CobsDecoder::dest_mut
+    CobsDecoderOwned::new CobsDecoderOwned::feed CobsDecoderOwned::push CobsDecoderOwned::dest
+    CobsDecoderOwned::dest_mut CobsDecoderOwned::reset CobsDecoderHeapless::new CobsDecoderHeapless::new_with_vec
+    CobsDecoderHeapless::default CobsDecoderHeapless::feed CobsDecoderHeapless::push CobsDecoderHeapless::dest
+    CobsDecoderHeapless::dest_mut CobsDecoderHeapless::reset DecodeReport::parsed_size DecodeReport::frame_size""".split())
+# The methods that a type has from a trait. A row of the trait is one of theirs.
+OF_TRAITS = {"FrameSource": ("read_some",), "FrameDecoder": ("feed_byte", "feed_piece", "buffer"), "WriteBuffer": ("dest_mut", "write_dest")}
+
+
+def exported():
+    """The public names of the library, as lib.rt gives them."""
+    text = (SRC / "lib.rt").read_text()
+    names = re.findall(r"^pub fn (\w+)", text, re.M)
+    for listed in re.findall(r"^pub use [\w:]+::(?:\{(.*?)\}|(\w+));", text, re.S | re.M):
+        names += re.findall(r"\w+", " ".join(listed))
+    return set(names)
+
+
+def public_calls():
+    """The public functions, and the methods of public types and traits, as (TYPE or "", NAME). The laws are left out."""
+    names, found = exported(), set()
+    for path in sorted(SRC.rglob("*.rt")):
+        owner = block = ""
+        for line in path.read_text().splitlines():
+            head = re.match(r"(?:pub )?(?:impl|trait)\b(?:<[^{]*?>)? *(?:\w+(?:<.*>)? for )?(\w+).*\{$", line)
+            function = re.match(r" *(pub )?fn (\w+)", line)
+            if head:
+                owner, block = head[1], line
+            elif line == "}":
+                owner = block = ""
+            elif function and (function[1] or " for " in block or block.startswith("pub trait")):
+                if (owner or function[2]) in names:
+                    found.add((owner, function[2]))
+    traits = {(owner, name) for owner, name in found for of in OF_TRAITS if owner != of and name in OF_TRAITS[of]}
+    own = {("CobsDecoder", "dest_mut"), ("CobsDecoderOwned", "dest_mut"), ("CobsDecoderHeapless", "dest_mut")}
+    return sorted(found - traits | own & found)
+
+
+def rows(page, section=None):
+    """The lines of a document, or of one section of it: a row of a table, an item of a list or a paragraph each."""
+    text = (TOP / page).read_text()
+    if section:
+        text = text.partition(f"\n## {section}\n")[2].partition("\n## ")[0]
+    return text.splitlines()
+
+
+def is_named(line, name):
+    """Whether a line has the name in backticks, alone or before its clauses or its arguments."""
+    return any(re.search(rf"(?<![\w:]){re.escape(name)}(?!\w)(?!::)", code) for code in re.findall(r"`([^`]+)`", line))
+
+
+def has(lines, owner, name):
+    """Whether a line has a call: `OWNER::NAME`, or both names apart."""
+    call = f"{owner}::{name}" if owner else name
+    return any(is_named(line, call) or owner and is_named(line, owner) and is_named(line, name) for line in lines)
+
+
+def without_row():
+    """A line for each public call that a document has no row for."""
+    promised, chosen = rows("docs/PROMISES.md"), rows("crates/cobs/CALLING.md", "Which call")
+    added = rows("docs/DIFFERENCES.md", "What this library has in addition")
+    for owner, name in public_calls():
+        call = f"{owner}::{name}" if owner else name
+        if not has(promised, owner, name):
+            yield f"docs/PROMISES.md: it has no row of {call}"
+        if not has(chosen, "", owner or name):
+            yield f"crates/cobs/CALLING.md: “Which call” has no row of {owner or name}"
+        if call not in OF_THE_CRATE and not has(added, "", call) and not has(added, "", owner or call):
+            yield f"docs/DIFFERENCES.md: “What this library has in addition” has no {call}, which the crate doesn't have"
+
+
+def without_function():
+    """A line for each block of tests/wrong_code.txt whose function isn't there: `CRATE::MODULE::TYPE::TRAIT::NAME`."""
+    known = {}
+    for block in wrong_code.all_blocks():
+        if block.crate not in known:
+            paths = (TOP / "crates" / block.crate / "src").rglob("*.rt")
+            known[block.crate] = {(owner, name) for path in paths for owner, name, _ in prose.contracts(path)}
+        *place, name = block.function.split("::")
+        # In a method's path the name of its trait, if it is of one, follows that of its type.
+        if not any(fn == name and (place or [""])[-1].startswith(owner or "") for owner, fn in known[block.crate]):
+            yield f"tests/wrong_code.txt: {block.name}: there is no {block.only}"
+
+
+def complaints():
+    return [*without_row(), *without_function()]
