@@ -64,9 +64,9 @@ REWORDED = {
 BY_TARGET = {"cobs_bytes::has_vectors": {"true": "crate::simd::HAS_VECTORS"}}
 # Calls that are `const fn` in the crate `cobs`, or called by one.
 CONST = {"max_encoding_overhead", "max_encoding_length", "UnbufferedDecoder::new", "UnbufferedEncoder::new"}
-# Calls for one byte, which are to be compiled into the caller's loop.
+# Calls for one byte or a short frame, which are to be compiled into the caller's loop.
 INLINE = set(
-    "UnbufferedDecoder::feed_piece DecoderState::feed EncoderState::push UnbufferedEncoder::progress"
+    "decode_with_sentinel UnbufferedDecoder::feed_piece DecoderState::feed EncoderState::push UnbufferedEncoder::progress"
     " UnbufferedEncoder::from_progress cobs_abi::done cobs_abi::too_small has_room".split()
 )
 # The feature that an item needs, if its code has this word.

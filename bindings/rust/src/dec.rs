@@ -4,8 +4,6 @@ mod decoder;
 
 #[cfg(not(feature = "small"))]
 use crate::proved as engine;
-#[cfg(not(feature = "small"))]
-use crate::proved::cobs_bytes::lanes::copy_xored_short;
 #[cfg(feature = "small")]
 use crate::small as engine;
 
@@ -129,23 +127,7 @@ pub fn decode_with_sentinel(
     dest: &mut [u8],
     sentinel: u8,
 ) -> Result<usize, DecodeError> {
-    #[cfg(not(feature = "small"))]
-    if let Some(len) = decode_block(source, dest, sentinel) {
-        return Ok(len);
-    }
     crate::proved::decode_with_sentinel(source, dest, sentinel)
-}
-
-/// Decodes a frame of one block of up to 15 bytes that has room, in the caller: the proved call decodes it beside, and
-/// copies the message by one more call.
-#[cfg(not(feature = "small"))]
-#[inline(always)]
-fn decode_block(source: &[u8], dest: &mut [u8], sentinel: u8) -> Option<usize> {
-    let code = usize::from(source.first()? ^ sentinel);
-    let is_block = (2..=dest.len().min(16)).contains(&code)
-        && (code == source.len() || source.get(code) == Some(&sentinel))
-        && copy_xored_short(&source[1..code], dest, sentinel);
-    is_block.then_some(code.wrapping_sub(1))
 }
 
 /// As [`decode_in_place`], for the given sentinel. Each byte of `buff`, those after the frame too, is first XORed with

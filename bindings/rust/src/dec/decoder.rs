@@ -228,12 +228,9 @@ impl<const N: usize> CobsDecoderHeapless<N> {
     /// ```
     #[must_use]
     pub fn new_with_vec(vec: impl Into<ArrayVec<u8, N>>) -> Self {
-        let mut vec = vec.into();
-        for _ in 0..vec.remaining_capacity() {
-            vec.push(0);
-        }
+        let vec = vec.into();
         let mut decoder = Self::new();
-        decoder.dest.copy_from_slice(vec.as_slice());
+        decoder.dest[..vec.as_slice().len()].copy_from_slice(vec.as_slice());
         decoder
     }
 

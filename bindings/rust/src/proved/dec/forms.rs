@@ -50,6 +50,7 @@ fn decode_blocks(source: &[u8], dest: &mut [u8], sentinel: u8) -> Result<usize, 
 /// assert_eq!(len, Ok(4));
 /// assert_eq!(dest, [10, 11, 0, 12, 170]);
 /// ```
+#[inline]
 pub fn decode_with_sentinel(
     source: &[u8],
     dest: &mut [u8],
