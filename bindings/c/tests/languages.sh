@@ -116,3 +116,12 @@ END
     compiles_cpp clang++ 'jcobs::view v(kept); (void)v; (void)jcobs::frame_kind(text());' -Wall -Wextra -Werror || return 1
     ! compiles_cpp clang++ 'jcobs::view v = text(); (void)v;' -Wall -Wextra -Werror && grep -q 'Wdangling' "$work/said.compiler"
 }
+
+# The proved module, compiled by the toolchain's own clang, and jcobs.c in one program.
+beside_module() {
+    kit=$(dirname "$(dirname "$(readlink -f "$(command -v rt)")")")
+    sed 's/@jcobs_/@module_jcobs_/g' source/cobs_small.ll >"$work/module.ll"
+    "$kit/toolchain/bin/clang" --no-default-config --target=x86_64-unknown-linux-gnu -Wno-override-module -O1 -fPIC -c -x ir "$work/module.ll" \
+        -o "$work/module.o" &&
+        "${CC:-cc}" -std=c99 -O2 $flags -Iinclude tests/module.c source/jcobs.c "$work/module.o" -o "$work/module" && "$work/module"
+}
