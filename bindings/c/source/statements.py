@@ -81,13 +81,10 @@ class Statements(Expressions):
     def do_assign(self, statement):
         _, sign, left, right = statement
         to = self.value(left)
-        if (
-            right[0] == "call"
-            and right[1].endswith("::at")
-            and right[2][0][0] == "method"
-            and right[2][0][2][1].endswith("::new")
-        ):
-            right = ("path", f"{right[1][:-4].upper()}_START")  # what it comes to
+        # A state that is made of the start of another: a phase has more numbers than an outcome, so the start stands for it.
+        if right[0] == "call" and right[1].endswith("::at") and right[2][0][0] == "method":
+            if right[2][0][2][0] == "call" and right[2][0][2][1].endswith("::new"):
+                right = ("path", f"{right[1][:-4].upper()}_START")
         value = self.value(right, to.kind)
         if fields := getattr(value, "fields", None):
             # One by one, as a copy of a struct may be a call of memcpy.
