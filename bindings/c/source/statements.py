@@ -37,6 +37,11 @@ class Statements(Expressions):
     def tail(self, tree, returns, keep):
         if tree[0] == "match":
             return self.matched(tree, returns, keep)
+        if tree[0] == "block" and any(it[0] == "let" for it in tree[1]):
+            self.put("{")
+            self.inside(tree[1], returns, keep)
+            self.put("}")
+            return None
         if tree[0] == "block":
             return self.block(tree[1], returns, keep)
         if tree[0] == "if" and not ((returns or keep) and self.is_simple(tree)):

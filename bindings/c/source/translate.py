@@ -67,7 +67,10 @@ class Output:
             if not made.is_exported and (name in self.calls or name in self.names.values()):
                 name += "_inside"  # of the call that has this name
             self.names[key] = name
-            self.texts.append(made.written())
+            try:
+                self.texts.append(made.written())
+            except (AttributeError, IndexError, KeyError, TypeError, ValueError) as what:
+                raise Unknown(f"{path.name}, {item[1]}: {what!r}") from what
         return self.names[key]
 
     def kind(self, name):

@@ -369,6 +369,7 @@ if has clang-format clang-format 'layout'; then
 fi
 if has python3 python3 'jcobs.c is made of the crates'; then
     part 'jcobs.c is what translate.py makes of the crates' python3 source/translate.py --check
+    part 'translate.py refuses what it does not know' translator_refuses
 fi
 if [ "$machine" = x86_64 ] && command -v rt >/dev/null; then
     part 'jcobs.c beside the proved module' beside_module
