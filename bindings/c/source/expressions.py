@@ -183,7 +183,7 @@ class Expressions(Kinds):
                 return self.outcome_text(f"{end.text[17:-1]}, {count.text}")
             self.want_simple(end)
             return self.outcome_text(f"{end.at(20)}.kind, {end.at(20)}.count, {count.text}")
-        if tree[0] == "path" and tree[1] not in self.env and self.is_unit(tree[1]):
+        if tree[0] == "path" and tree[1] not in (*self.env, "None") and self.is_unit(tree[1]):
             return self.outcome(tree[1], [])
         of = self.value(tree)
         return of if of.kind == OUTCOME else self.outcome(name, [of.text])
@@ -218,8 +218,8 @@ class Expressions(Kinds):
                 words.append(given.text)
         made = Value(f"{name}({', '.join(words)})", there.kind_of(item[3]))
         body = item[4]
-        if not item[2] and isinstance(body, list) and len(body) == 1 and body[0][1][0] == "struct":
-            made.fields = there.value(body[0][1]).fields  # a start
+        if not item[2] and isinstance(body, list) and len(body) == 1 and body[0][1][0] in ("struct", "path"):
+            made.fields = getattr(there.value(body[0][1]), "fields", None)  # a start
         return made
 
     def on_method(self, tree, expected):

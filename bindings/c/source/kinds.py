@@ -87,8 +87,9 @@ class Kinds:
         """The enum of which a path names a variant."""
         if "::" not in name:
             return None
+        owner, _, last = name.rpartition("::")
         try:
-            item = self.find(name.rsplit("::", 1)[0])[2]
+            item = self.find(owner)[2]
         except Unknown:
             return None
-        return item if item[0] == "enum" else None
+        return item if item[0] == "enum" and last in dict(item[2]) else None

@@ -246,25 +246,25 @@ class Statements(Expressions):
         if not is_plain and not re.fullmatch(r"\w+", text):
             self.put(f"{self.declare('found', value.kind)} = {text};")
             text = "found"
-        if len(arms) == 2 and not is_plain:
+        if len(arms) == 2 and not is_plain and arms[0][0][0] != "or":
             return self.either(arms, text, returns, keep)
         self.put(f"switch ({text}{'' if is_plain else '.kind'}) {{")
         for i, (pattern, body) in enumerate(arms):
-            pattern = self.innermost(pattern)
+            patterns = [self.innermost(it) for it in (pattern[1] if pattern[0] == "or" else [pattern])]
+            for each in patterns if i < len(arms) - 1 else []:
+                name = each[1].rsplit("::", 1)[-1]
+                self.put(f"case {self.value(('path', each[1])).text if is_plain else self.out.kind(name)}:")
             if i == len(arms) - 1:
                 self.put("default:")
-            elif is_plain:
-                self.put(f"case {self.value(('path', pattern[1])).text}:")
-            else:
-                self.put(f"case {self.out.kind(pattern[1].rsplit('::', 1)[-1])}:")
-            self.arm(pattern, body, text, returns, keep)
+            self.arm(patterns[0], body, text, returns, keep)
             if not self.lines[-1].strip().startswith("return"):
                 self.put(f"{INDENT}break;")
         self.put("}")
         return None
 
     def innermost(self, pattern):
-        while pattern[0] == "variant" and pattern[1] in ("Some", "Err") and pattern[2][0][0] in ("variant", "struct"):
+        wrappers = ("Some", "Ok", "Err")
+        while pattern[0] == "variant" and pattern[1] in wrappers and pattern[2][0][0] in ("variant", "struct"):
             pattern = pattern[2][0]
         return pattern
 

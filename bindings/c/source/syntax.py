@@ -238,9 +238,16 @@ class Syntax(Tokens):
         arms = []
         while not self.take("}"):
             comments = self.tokens[self.at][2]
-            pattern = self.pattern()
+            patterns = [self.pattern()]
+            while self.take("|"):
+                patterns.append(self.pattern())
             self.want("=>")
             body = self.block() if self.peek() == "{" else [self.statement()]
-            arms.append((pattern, ([("comment", comments)] if comments else []) + body))
+            arms.append(
+                (
+                    ("or", patterns) if len(patterns) > 1 else patterns[0],
+                    ([("comment", comments)] if comments else []) + body,
+                )
+            )
             self.take(",")
         return ("match", value, arms)

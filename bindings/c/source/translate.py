@@ -62,7 +62,7 @@ class Output:
         if key not in self.names:
             made = Function(self, crate, path, item)
             owner, _, method = item[1].rpartition("::")
-            of = self.struct(self.program.find(owner, path, crate)[2], made) if owner else "jcobs"
+            of = self.owner(self.program.find(owner, path, crate)[2], made) if owner else "jcobs"
             name = item[1] if made.is_exported else f"{of}_{snake(method)}"
             if not made.is_exported and (name in self.calls or name in self.names.values()):
                 name += "_inside"  # of the call that has this name
@@ -93,6 +93,10 @@ class Output:
         name = self.given.get(tuple(field for field, _ in item[2])) or f"jcobs_{snake(item[1]).rsplit('_', 1)[-1]}"
         self.structs.setdefault(name, (item, function))
         return name
+
+    def owner(self, item, function):
+        """The word that the name of a method begins with."""
+        return self.struct(item, function) if item[0] == "struct" else f"jcobs_{snake(item[1])}"
 
     def constructor(self, item, function):
         name = self.struct(item, function)
