@@ -26,6 +26,8 @@ typedef char jcobs_size_t_is_no_shorter_than_int[sizeof(size_t) >= sizeof(unsign
 /* Functions that a loop over bytes calls become part of it. */
 #ifdef __GNUC__
 #define JCOBS_INLINE __inline__ __attribute__((always_inline))
+#elif defined(__cplusplus) || (defined(__STDC_VERSION__) && __STDC_VERSION__ >= 199901L)
+#define JCOBS_INLINE inline
 #else
 #define JCOBS_INLINE
 #endif
