@@ -367,8 +367,14 @@ fi
 if has clang-format clang-format 'layout'; then
     part 'layout' clang-format --dry-run -Werror include/jcobs.h include/jcobs.hpp examples/*.c examples/*.cpp tests/*.c tests/*.cpp
 fi
-if has python3 python3 'jcobs.c is made of cobs_small.ll'; then
-    part 'jcobs.c is what translate.py makes of cobs_small.ll' python3 source/translate.py --check
+if has python3 python3 'jcobs.c is made of the crates'; then
+    part 'jcobs.c is what translate.py makes of the crates' python3 source/translate.py --check
+    part 'translate.py refuses what it does not know' translator_refuses
+fi
+if [ "$machine" = x86_64 ] && command -v rt >/dev/null; then
+    part 'jcobs.c beside the proved module' beside_module
+else
+    skip 'jcobs.c beside the proved module' "needs Rattle's toolchain, whose clang reads cobs_small.ll, on x86-64"
 fi
 part 'jcobs.c by gcc and clang, C99 to C23, C++98 to C++20' source_compiles
 if has cppcheck cppcheck 'jcobs.c by cppcheck'; then
