@@ -16,6 +16,8 @@ cd "$c" || exit 1
 . tests/languages.sh
 # shellcheck source=SCRIPTDIR/builds.sh
 . tests/builds.sh
+# shellcheck source=SCRIPTDIR/archive.sh
+. tests/archive.sh
 machine=$(uname -m)
 here=build/$machine-unknown-linux-gnu
 flags='-Wall -Wextra -Wpedantic -Wconversion -Werror'
@@ -298,6 +300,14 @@ part 'calls: constants, texts, NULL, loops' "$at/calls"
 part 'calls by the shared library' shared
 if [ "$(uname -m)" = x86_64 ] && has qemu-x86_64 qemu-user 'a processor without SSE4.2'; then
     part 'a processor without SSE4.2' old_processor
+fi
+if has gdb gdb 'a crash inside a call'; then
+    part 'a crash inside a call: gdb names who made it' crash_names_caller
+fi
+[ "$machine" != x86_64 ] || part 'landing pads on x86-64: IBT and SHSTK' hardened_x86_64
+if has aarch64-linux-gnu-gcc gcc-aarch64-linux-gnu 'landing pads on aarch64' &&
+    links aarch64-linux-gnu-gcc libc6-dev-arm64-cross 'landing pads on aarch64'; then
+    part 'landing pads on aarch64: BTI' hardened_aarch64
 fi
 part 'jcobs.hpp' "$at/cpp"
 part 'jcobs.hpp, if a callback throws' throws
