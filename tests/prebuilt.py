@@ -22,7 +22,7 @@ BUILDS = {
     "c": (
         "cobs_c",
         "make -C bindings/c prebuilt",
-        ["bindings/c/prebuilt.sh", "bindings/c/kit.sh"],
+        ["bindings/c/prebuilt.sh", "bindings/c/hardened.sh", "bindings/c/kit.sh"],
         ["bindings/c/prebuilt/*-linux/libjcobs.a"],
     ),
     "device": (

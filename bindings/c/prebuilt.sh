@@ -6,18 +6,15 @@
 set -eu
 cd "$(dirname "$0")"
 command -v rt >/dev/null || { echo "prebuilt.sh: it needs the toolchain's rt" >&2; exit 1; }
+here=$PWD
 crate=../../crates/cobs_c
 folder=${1:-prebuilt}
 
-# Intel's processors from Skylake to Cascade Lake decode a jump anew each time if it touches a multiple of 32 bytes, so that a
-# loop may take a fifth longer, as it happens to lie. For x86-64 clang keeps jumps off these places.
-./kit.sh build/flags/kit <<'SCRIPT'
-exec "$CLANG" -mbranches-within-32B-boundaries "$@"
+./kit.sh build/flags/kit <<SCRIPT
+exec "$here/hardened.sh" "\$CLANG" "\$@"
 SCRIPT
 for arch in x86_64 aarch64; do
-    rt=rt
-    [ "$arch" = aarch64 ] || rt=$PWD/build/flags/kit/bin/rt
-    (cd "$crate" && "$rt" lib --target "$arch-unknown-linux-gnu")
+    (cd "$crate" && "$here/build/flags/kit/bin/rt" lib --target "$arch-unknown-linux-gnu")
     install -D -m 644 "$crate/out/libcobs_c.a" "$folder/$arch-linux/libjcobs.a"
 done
 rm -rf build/flags

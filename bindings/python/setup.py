@@ -2,7 +2,7 @@
 
 The built library libjcobs.a is looked for, in this order, in the folder that JCOBS_LIB_DIR names; where bindings/c of the
 repository builds it; where bindings/c keeps it built; and in libjcobs/, where a source distribution has it. On a system
-that none of them fits, the C source that was made from the proved module, jcobs.c, is compiled in its place.
+that none of them fits, the C source that was written from the proved functions, jcobs.c, is compiled in its place.
 
 JCOBS_BACKEND asks for one of these ways: prebuilt, compiled, or python, which compiles nothing.
 """

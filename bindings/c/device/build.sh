@@ -38,14 +38,14 @@ rm -rf "$build/keep"
     sed -e 's/@jcobs_/@proved_jcobs_/g' -e '/^target /d' \
         -e 's/ *"target-cpu"="[^"]*"//; s/ *"probe-stack"="[^"]*"//; s/ *"stack-probe-size"="[^"]*"//' >"$build/module.ll"
 
-# The same module as C.
+# The same module as text, which the tests compare jcobs.c with.
 source=$here/../source
 "$source/simplify.py" "$build/module.ll" "$clang" "$build/cobs_small.ll"
 if [ "${PREBUILT:-}" = 1 ]; then
     cp "$build/cobs_small.ll" "$source/"
     "$source/translate.py"
 elif ! cmp "$build/cobs_small.ll" "$source/cobs_small.ll" || ! "$source/translate.py" --check; then
-    echo 'build.sh: jcobs.c is another one: PREBUILT=1 build.sh' >&2
+    echo 'build.sh: jcobs.c or its module is another one: PREBUILT=1 build.sh' >&2
     exit 1
 fi
 

@@ -1,124 +1,262 @@
-"""C expressions for the values of a module, with no more parentheses than C needs or a compiler warns without."""
+"""The expressions of Rattle as those of C."""
 
 import re
-from dataclasses import dataclass
 
-from llvm import Unknown
+from kinds import BOOL, BYTE, FOUND, NUMBERS, OUTCOME, SCALARS, USIZE, Kinds, Slice, Value, snake
+from rattle import Unknown
 
-C_TYPES = {"i1": "int", "i8": "unsigned char", "i32": "unsigned int", "i64": "size_t"}
-PRIMARY, UNARY, MUL, ADD, RELATION, EQUAL, BITS, AND, OR, CHOICE = range(15, 5, -1)
-COMPARE = {"eq": "==", "ne": "!=", "ult": "<", "ule": "<=", "ugt": ">", "uge": ">="}
-INVERSE = {"==": "!=", "!=": "==", "<": ">=", ">=": "<", ">": "<=", "<=": ">"}
-ARITHMETIC = {"add": ("+", ADD), "sub": ("-", ADD), "mul": ("*", MUL), "udiv": ("/", MUL), "urem": ("%", MUL)}
-ARITHMETIC |= {"lshr": (">>", BITS), "and": ("&", BITS), "or": ("|", BITS), "xor": ("^", BITS)}
-LARGEST = 255  # so that a constant is the same in every width of a length
-
-
-@dataclass
-class Expression:
-    text: str
-    level: int = PRIMARY
-    parts: tuple = ()  # of a condition: its operator and its two sides
-
-    def reads(self):
-        return set(re.findall(r"[A-Za-z_]\w*", self.text))
-
-    def within(self, level):
-        return self.text if self.level >= level else f"({self.text})"
+# What jcobs.h calls these.
+CONSTANTS = {it: f"JCOBS_{it}" for it in "OK MORE TOO_SMALL BROKEN EMPTY NOT_A_FRAME CANONICAL LONGER".split()}
+COMPARED = ("==", "!=", "<", ">", "<=", ">=")
+# How strongly C's operators bind; unary ones and casts are 15, and what has no operator 20.
+LEVELS = {"||": 1, "&&": 2, "|": 3, "^": 4, "&": 5, "==": 6, "!=": 6, "<": 7, ">": 7, "<=": 7, ">=": 7, "+": 9, "-": 9}
+LEVELS |= {"*": 10, "/": 10, "%": 10}
+SIMPLE = ("path", "number", "bool", "field", "index", "binary")
 
 
-def constant(kind, text):
-    """A constant of this type; a negative one as what it is without a sign."""
-    value = {"true": 1, "false": 0}.get(text)
-    value = int(text) if value is None else value
-    if kind == "i8":
-        value %= 256
-    if not 0 <= value <= LARGEST:
-        raise Unknown(f"constant {kind} {text}")
-    return Expression(str(value))
+class Expressions(Kinds):
+    """The expressions of a function; env has what each name stands for."""
 
+    def value(self, tree, expected=None):
+        method = getattr(self, f"on_{tree[0]}", None)
+        if not method:
+            raise Unknown(f"{self.name}: {tree[0]}")
+        return method(tree, expected)
 
-def cast(kind, value):
-    return Expression(f"({C_TYPES[kind]}){value.within(UNARY)}", UNARY)
+    def on_number(self, tree, expected):
+        if int(tree[1], 0) > 255:
+            raise Unknown(f"{self.name}: {tree[1]} may not fit a size_t")
+        return Value(tree[1], expected or USIZE, literal=True)
 
+    def on_bool(self, tree, expected):
+        return Value("1" if tree[1] == "true" else "0", BOOL, literal=True)
 
-def arithmetic(op, kind, left, right, constants):
-    """An operation on numbers that wraps at the width of its type."""
-    if kind == "i1":
-        return logic(op, left, right, constants)
-    sign, level = ARITHMETIC[op]
-    if level == BITS:
-        text = f"{left.within(UNARY)} {sign} {right.within(UNARY)}"
-    else:
-        text = f"{left.within(level)} {sign} {right.within(level + 1)}"
-    made = Expression(text, level)
-    return made if kind in ("i64", "i32") else cast(kind, made)
+    def on_path(self, tree, expected):
+        name = tree[1]
+        if name in self.env:
+            return self.env[name]
+        if name == "None":
+            return self.outcome("None", [], expected)
+        if item := self.variant(name):
+            return self.constructed(name, [], item)
+        crate, path, item = self.find(name)
+        if item[0] != "const":
+            raise Unknown(f"{self.name}: {name}")
+        there = self.other(crate, path, name)
+        if item[3][0] == "struct":
+            return there.value(item[3])
+        text = CONSTANTS.get(name) or self.out.constant(name, there.number(item[3]))
+        return Value(text, item[2], literal=True)
 
+    def number(self, tree):
+        """The value of a constant expression."""
+        if tree[0] == "number":
+            return int(tree[1])
+        if tree[0] == "as":
+            return self.number(tree[1])
+        if tree[0] == "path":
+            crate, path, item = self.find(tree[1])
+            return self.other(crate, path, tree[1]).number(item[3])
+        if tree[0] == "binary" and tree[1] in "+-*":
+            a, b = self.number(tree[2]), self.number(tree[3])
+            return {"+": a + b, "-": a - b, "*": a * b}[tree[1]]
+        raise Unknown(f"{self.name}: constant {tree}")
 
-def less(op, kind, left, negative):
-    """A negative constant added, or -1 XORed, which inverts all bits."""
-    if op == "add":
-        return arithmetic("sub", kind, left, constant(kind, negative[1:]), [None, None])
-    if negative != "-1" or kind != "i64":
-        raise Unknown(f"{op} {kind} {negative}")
-    return Expression(f"~{left.within(UNARY)}", UNARY)
+    def outcome(self, kind, words, expected=OUTCOME):
+        words = [*words, *["0"] * (1 + (expected == FOUND) - len(words))]
+        name = "jcobs_found_of" if expected == FOUND else "jcobs_outcome_of"
+        self.out.helpers.add(name)
+        return Value(f"{name}({self.out.kind(kind)}, {', '.join(words)})", FOUND if expected == FOUND else OUTCOME)
 
+    def constructed(self, name, values, item):
+        """A variant of an enum."""
+        kind = name.rsplit("::", 1)[1]
+        if not any(fields for _, fields in item[2]):
+            return Value(self.out.variant(item, kind), ("path", item[1], []))
+        return self.outcome(kind, [it.text for it in values])
 
-def logic(op, left, right, constants):
-    if op == "xor" and constants[1] == "true":
-        return negated(left)
-    if op == "xor":
-        return Expression(f"{left.within(ADD)} != {right.within(ADD)}", EQUAL, ("!=", left, right))
-    return {"and": both, "or": either}[op](left, right)
+    def on_struct(self, tree, expected):
+        if item := self.variant(tree[1]):
+            return self.constructed(tree[1], [self.value(it) for _, it in tree[2]], item)
+        item = self.find(tree[1])[2]
+        fields = dict(tree[2])
+        made = Value("", ("path", item[1], []))
+        made.fields = [(name, self.value(fields[name], kind)) for name, kind in item[2]]
+        made.text = f"{self.out.constructor(item, self)}({', '.join(it.text for _, it in made.fields)})"
+        return made
 
+    def on_field(self, tree, expected):
+        of = self.value(tree[2])
+        sign = "->" if of.kind[0] == "ref" else "."
+        return Value(f"{of.at(20)}{sign}{tree[1]}", dict(self.item(of.kind)[2])[tree[1]])
 
-def compared(sign, left, right):
-    level = EQUAL if sign in ("==", "!=") else RELATION
-    return Expression(f"{left.within(ADD)} {sign} {right.within(ADD)}", level, (sign, left, right))
+    def on_index(self, tree, expected):
+        of = self.value(tree[1])
+        if not isinstance(of, Slice):
+            raise Unknown(f"{self.name}: index of {of.text}")
+        if tree[2][0] == "range":
+            return self.part(of, tree[2])
+        return Value(f"{of.pointer}[{self.value(tree[2], USIZE).text}]", BYTE)
 
+    def part(self, of, tree):
+        begin = self.value(tree[1], USIZE) if tree[1] else None
+        end = self.value(tree[2], USIZE) if tree[2] else None
+        if not begin:
+            return Slice(of.pointer, end.text if end else of.length, of.mutable)
+        length = f"{end.at(9) if end else of.length} - {begin.at(10)}"
+        return Slice(f"{of.pointer} + {begin.at(10)}", length, of.mutable)
 
-def both(left, right):
-    return joined("&&", AND, left, right)
+    def on_borrow(self, tree, expected):
+        if tree[2][0] == "array" and len(tree[2][1]) == 1:  # one byte, by its address
+            return Slice(f"&{self.value(tree[2][1][0]).at(15)}", "1", False)
+        of = self.value(tree[2], expected)
+        return of if isinstance(of, Slice) else Value(f"&{of.at(15)}", ("ref", tree[1], of.kind), 15)
 
+    def on_deref(self, tree, expected):
+        of = self.value(tree[1])
+        return Value(f"*{of.at(15)}", of.kind[2], 15)
 
-def either(left, right):
-    return joined("||", OR, left, right)
+    def on_not(self, tree, expected):
+        of = self.value(tree[1])
+        return Value(of.text[1:] if of.text.startswith("!") and of.level == 15 else f"!{of.at(15)}", BOOL, 15)
 
+    def on_as(self, tree, expected):
+        of = self.value(tree[1])
+        if of.literal or self.c_type(of.kind) == self.c_type(tree[2]):
+            return Value(of.text, tree[2], of.level, of.literal)
+        return Value(f"({self.c_type(tree[2])}){of.at(15)}", tree[2], 15)
 
-def joined(sign, level, *sides):
-    texts = [it.text if it.level == level else it.within(EQUAL) for it in sides]
-    return Expression(f" {sign} ".join(texts), level, (sign, *sides))
+    def on_binary(self, tree, expected):
+        _, sign, left, right = tree
+        logical = sign in ("&&", "||")
+        wanted = None if logical or sign in COMPARED else expected
+        a = self.value(left, wanted)
+        b = self.value(right, wanted)
+        if a.literal != b.literal:
+            a.kind = b.kind = b.kind if a.literal else a.kind
+        level = LEVELS[sign]
+        # Compilers ask for brackets round && in ||.
+        text = f"{a.at(2 if logical and a.level > 2 else level + (a.level == 2 and sign == '||') * 9)} {sign} "
+        text += b.at(level + 1 + (b.level == 2 and sign == "||") * 9)
+        if logical or sign in COMPARED:
+            return Value(text, BOOL, level)
+        if a.kind == BYTE and not (a.literal and b.literal):
+            return Value(f"(unsigned char)({text})", BYTE, 15)
+        return Value(text, a.kind, level)
 
+    def is_simple(self, tree):
+        """Whether an if is a value of C."""
+        _, condition, then, other = tree
+        if condition[0] == "let" or not other:
+            return False
+        return all(len(it) == 1 and it[0][0] == "value" and it[0][1][0] in SIMPLE for it in (then, other))
 
-def negated(value):
-    if value.parts and value.parts[0] in INVERSE:
-        return compared(INVERSE[value.parts[0]], *value.parts[1:])
-    if value.parts and value.parts[0] in ("&&", "||"):
-        join = either if value.parts[0] == "&&" else both
-        return join(negated(value.parts[1]), negated(value.parts[2]))
-    if value.text in ("0", "1"):
-        return Expression("0" if value.text == "1" else "1")
-    if value.text.startswith("!"):
-        return Expression(value.text[1:])
-    return Expression(f"!{value.within(UNARY)}", UNARY, ("!", value))
+    def on_if(self, tree, expected):
+        if not self.is_simple(tree):
+            raise Unknown(f"{self.name}: if as a value")
+        a, b = (self.value(it[0][1], expected) for it in tree[2:])
+        if (a.text, b.text) == ("1", "0") and a.kind == BOOL:
+            return self.value(tree[1])
+        return Value(f"{self.value(tree[1]).at(1)} ? {a.at(1)} : {b.at(0)}", b.kind if a.literal else a.kind, 0)
 
+    def on_tuple(self, tree, expected):
+        if tree[1]:
+            raise Unknown(f"{self.name}: a tuple")
+        return Value("", None)
 
-def chosen(kind, condition, yes, no):
-    """A selection, which for conditions is one of && and ||: the side that isn't chosen isn't evaluated."""
-    if kind == "i1":
-        if yes.text == "1":
-            return either(condition, no)
-        if no.text == "0":
-            return both(condition, yes)
-        if yes.text == "0":
-            return both(negated(condition), no)
-        if no.text == "1":
-            return either(negated(condition), yes)
-    if condition.parts and condition.parts[0] == "!=" and condition.parts[2].text == "0":
-        condition, yes, no = negated(condition), no, yes
-    made = Expression(f"{condition.within(OR)} ? {yes.within(CHOICE + 1)} : {no.within(CHOICE + 1)}", CHOICE)
-    if kind == "i8":
-        if yes.text.isdigit() and no.text.isdigit():
-            return cast(kind, made)
-        made = cast(kind, made)
-    return made
+    def on_call(self, tree, expected):
+        _, name, args = tree
+        if name in ("Some", "Ok", "Err"):
+            return self.wrapped(name, args[0], expected)
+        if item := self.variant(name):
+            return self.constructed(name, [self.value(it) for it in args], item)
+        if re.fullmatch(r"(\w+::)*law_\d+", name):
+            return Value("", None)
+        return self.called(self.find(name), args)
+
+    def wrapped(self, name, tree, expected):
+        if expected == BOOL:  # a Result of nothing
+            return Value("1" if name == "Ok" else "0", BOOL, literal=True)
+        if name == "Some" and tree[0] == "tuple":
+            end, count = (self.value(it) for it in tree[1])
+            if end.text.startswith("jcobs_outcome_of("):
+                return self.outcome_text(f"{end.text[17:-1]}, {count.text}")
+            self.want_simple(end)
+            return self.outcome_text(f"{end.at(20)}.kind, {end.at(20)}.count, {count.text}")
+        if tree[0] == "path" and tree[1] not in (*self.env, "None") and self.is_unit(tree[1]):
+            return self.outcome(tree[1], [])
+        of = self.value(tree)
+        return of if of.kind == OUTCOME else self.outcome(name, [of.text])
+
+    def want_simple(self, *values):
+        """These are written twice, so none calls anything."""
+        for value in values:
+            if re.search(r"\w\(", value.text):
+                raise Unknown(f"{self.name}: {value.text} twice")
+
+    def is_unit(self, name):
+        if self.variant(name):
+            return False
+        return self.find(name)[2][0] == "struct"
+
+    def outcome_text(self, text):
+        self.out.helpers.add("jcobs_found_of")
+        return Value(f"jcobs_found_of({text})", FOUND)
+
+    def called(self, found, args, receiver=None):
+        crate, path, item = found
+        name = self.out.function(found)
+        there = self.other(crate, path, item[1])
+        words = []
+        for i, (param, kind) in enumerate(item[2]):
+            given = receiver if receiver and i == 0 else self.value(args[i - bool(receiver)], there.kind_of(kind))
+            if isinstance(given, Slice):
+                words += [given.pointer] + [given.length] * ((path, item[1], param) not in self.out.unused)
+            elif kind[0] == "path" and given.kind and given.kind[0] == "ref":
+                words.append(f"*{given.at(15)}")
+            else:
+                words.append(given.text)
+        made = Value(f"{name}({', '.join(words)})", there.kind_of(item[3]))
+        body = item[4]
+        if not item[2] and isinstance(body, list) and len(body) == 1 and body[0][1][0] in ("struct", "path"):
+            made.fields = getattr(there.value(body[0][1]), "fields", None)  # a start
+        return made
+
+    def on_method(self, tree, expected):
+        _, name, of, args = tree
+        if name == "unwrap_or" and of[0] == "method" and of[1] == "checked_add":
+            self.out.helpers.add("jcobs_sum_or")
+            words = [self.value(it).text for it in (of[2], of[3][0], args[0])]
+            return Value(f"jcobs_sum_or({', '.join(words)})", USIZE)
+        value = self.value(of)
+        if isinstance(value, Slice):
+            if name == "len":
+                return Value(value.length, USIZE, 20 if re.fullmatch(r"\w+", value.length) else 9)
+            if name == "is_empty":
+                return Value(f"{value.length} == 0", BOOL, 6)
+            raise Unknown(f"{self.name}: {name} of a slice")
+        if name in ("is_err", "is_ok"):
+            text = value.text if value.kind == BOOL else f"{value.at(20)}.kind == {self.out.kind('Ok')}"
+            return Value(text, BOOL, 20 if value.kind == BOOL else 6) if name == "is_ok" else self.negated(text, value)
+        kind = value.kind[2] if value.kind[0] == "ref" else value.kind
+        if kind[0] == "path" and kind[1] in NUMBERS:
+            return self.of_number(name, value, kind, args)
+        receiver = value if value.kind[0] == "ref" else Value(f"&{value.at(15)}", ("ref", True, kind), 15)
+        return self.called(self.find(f"{kind[1]}::{name}"), args, receiver)
+
+    def negated(self, text, value):
+        return Value(f"!{text}", BOOL, 15) if value.kind == BOOL else Value(text.replace("==", "!="), BOOL, 6)
+
+    def of_number(self, name, value, kind, args):
+        other = self.value(args[0], kind)
+        self.want_simple(value, other)
+        if name == "min":
+            return Value(f"{value.at(8)} < {other.at(8)} ? {value.text} : {other.text}", kind, 0)
+        if name == "div_ceil":
+            by = other.at(11)
+            return Value(f"{value.at(10)} / {by} + ({value.at(10)} % {by} != 0 ? 1 : 0)", kind, 9)
+        if name in ("wrapping_add", "wrapping_sub"):
+            sign = "+" if name.endswith("add") else "-"
+            text = f"{value.at(9)} {sign} {other.at(10)}"
+            return Value(f"({SCALARS[kind[1]]})({text})", kind, 15) if kind == BYTE else Value(text, kind, 9)
+        raise Unknown(f"{self.name}: {name} of a number")

@@ -3,7 +3,7 @@
 import re
 from dataclasses import dataclass
 
-from llvm import Unknown
+from rattle import Unknown
 
 SIZES = {"size_t": 8, "unsigned char": 1, "JCOBS_STATUS": 4}
 # What a clause says, by its first words: a sentence for those who read jcobs.c alone.

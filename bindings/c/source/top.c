@@ -8,11 +8,11 @@
  * says what its contract says, in short, and names the file of crates/cobs_small/src in which it is. The words of the
  * contracts are defined in crates/cobs_abi/specs and crates/cobs/specs.
  *
- * What is not proved, but tested: that this text does the same. The toolchain's clang simplified the proved module
- * (cobs_small.ll), translate.py wrote its instructions as C, and your compiler compiles them. Lengths have the width of
- * your size_t. tests/device.sh and bindings/c/tests/run.sh run this file on processors with 16, 32 and 64 bits and both byte
- * orders: the vectors of conformance/ (but on the one with 16 bits), and random calls compared with plain C, with states of
- * random bytes. The calls from jcobs_xor on are written by hand, and tested in the same way.
+ * What is not proved, but tested: that this text does the same. translate.py wrote each function from the one in Rattle,
+ * and your compiler compiles it. Lengths have the width of your size_t. bindings/c/tests/run.sh compares two million
+ * calls with those of the proved module itself. It and tests/device.sh run this file on processors with 16, 32 and 64
+ * bits and both byte orders: the vectors of conformance/ (but on the one with 16 bits), and random calls compared with
+ * plain C, with states of random bytes. The calls from jcobs_xor on are written by hand, and tested in the same way.
  */
 #include "jcobs.h"
 
@@ -23,8 +23,17 @@
 typedef char jcobs_bytes_have_8_bits[CHAR_BIT == 8 ? 1 : -1];
 typedef char jcobs_size_t_is_no_shorter_than_int[sizeof(size_t) >= sizeof(unsigned int) ? 1 : -1];
 
+/* Functions that a loop over bytes calls become part of it. */
+#ifdef __GNUC__
+#define JCOBS_INLINE __inline__ __attribute__((always_inline))
+#elif defined(__cplusplus) || (defined(__STDC_VERSION__) && __STDC_VERSION__ >= 199901L)
+#define JCOBS_INLINE inline
+#else
+#define JCOBS_INLINE
+#endif
+
 /* Makes a result. It is written by hand. */
-static jcobs_answer jcobs_answered(JCOBS_STATUS status, size_t consumed, size_t length)
+static JCOBS_INLINE jcobs_answer jcobs_answered(JCOBS_STATUS status, size_t consumed, size_t length)
 {
     jcobs_answer answer;
 

@@ -2,7 +2,7 @@
 #
 # $work, $at, $flags, messages, calls and prints are those of run.sh.
 # shellcheck shell=sh
-# shellcheck disable=SC2016,SC2086,SC2154
+# shellcheck disable=SC2016,SC2046,SC2086,SC2154
 
 # The examples by find_package, over a folder that CMAKE_PREFIX_PATH names; version 2 isn't found.
 found_by_cmake() { # PREFIX TARGET

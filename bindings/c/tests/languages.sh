@@ -116,3 +116,50 @@ END
     compiles_cpp clang++ 'jcobs::view v(kept); (void)v; (void)jcobs::frame_kind(text());' -Wall -Wextra -Werror || return 1
     ! compiles_cpp clang++ 'jcobs::view v = text(); (void)v;' -Wall -Wextra -Werror && grep -q 'Wdangling' "$work/said.compiler"
 }
+
+# The proved module, compiled by the toolchain's own clang, and jcobs.c in one program.
+beside_module() {
+    kit=$(dirname "$(dirname "$(readlink -f "$(command -v rt)")")")
+    sed 's/@jcobs_/@module_jcobs_/g' source/cobs_small.ll >"$work/module.ll"
+    "$kit/toolchain/bin/clang" --no-default-config --target=x86_64-unknown-linux-gnu -Wno-override-module -O1 -fPIC -c -x ir "$work/module.ll" \
+        -o "$work/module.o" &&
+        "${CC:-cc}" -std=c99 -O2 $flags -Iinclude tests/module.c source/jcobs.c "$work/module.o" -o "$work/module" && "$work/module"
+}
+
+# What translate.py makes of a crate with this body of jcobs_max_length: it only says so, and writes nothing.
+translated() { # BODY
+    mkdir -p "$work/crates/cobs_small/src"
+    cat >"$work/crates/cobs_small/src/lib.rt" <<END
+/// Returns a number.
+#[unsafe(no_mangle)]
+pub extern "C" fn jcobs_max_length(message_len: usize) -> usize
+    ensures fits { max_encoded_len message_len < 2 ^ 64 → result ≡ max_encoded_len message_len }
+{
+    $1
+}
+END
+    python3 source/translate.py --check "$work/crates" 2>&1
+}
+
+# A form that it doesn't know, or whose meaning could be another in C, is an error.
+translator_refuses() {
+    translated 'message_len / 254' | grep -q "isn't what" || { translated 'message_len / 254'; return 1; }
+    while read -r body; do
+        translated "$body" | grep -q '^translate.py: unknown: ' || { echo "$body"; translated "$body"; return 1; }
+    done <<'END'
+message_len / 256
+message_len.pow(2)
+message_len.isqrt().min(7)
+let next = |n| n + 1; next(message_len)
+'outer: loop { loop { break 'outer; } } message_len
+loop { let mut message_len = message_len; message_len += 1; return message_len; }
+if message_len > 7 { let n = 1; { let n = 2; } } message_len
+while let Some(n) = next(message_len) { return n; } 0
+match message_len { 0 => 1, n if n > 7 => 2, _ => 3 }
+let (a, b) = pair(message_len); a
+message_len as f32
+unsafe { message_len }
+other(message_len)
+message_len?
+END
+}

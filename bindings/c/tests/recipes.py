@@ -92,41 +92,50 @@ def check_vcpkg(work):
     use(work / "installed", work)
 
 
-def load_recipe(work, shared):
+class CMake:
+    """Conan's CMake, for one recipe."""
+
+    def __init__(self, recipe):
+        self.recipe = recipe
+
+    def configure(self):
+        flags = [f"-D{name}={value}" for name, value in self.recipe.variables.items()]
+        flags.append(f"-DCMAKE_INSTALL_PREFIX={self.recipe.package_folder}")
+        run("cmake", "-S", self.recipe.source_folder, "-B", self.recipe.build_folder, *flags)
+
+    def build(self):
+        run("cmake", "--build", self.recipe.build_folder)
+
+    def install(self):
+        run("cmake", "--install", self.recipe.build_folder)
+
+
+class CMakeToolchain:
+    """Conan's file of variables for CMake."""
+
+    def __init__(self, recipe):
+        self.recipe = recipe
+        self.cache_variables = {"BUILD_SHARED_LIBS": recipe.shared}
+
+    def generate(self):
+        self.recipe.variables = self.cache_variables
+
+
+def copy(recipe, pattern, source, to):
+    Path(to).mkdir(parents=True, exist_ok=True)
+    for path in Path(source).glob(pattern):
+        shutil.copy(path, to)
+
+
+def load_recipe(work, is_shared):
     """The recipe as a class over what stands for Conan here."""
-
-    class CMake:
-        def __init__(self, recipe):
-            self.recipe = recipe
-
-        def configure(self):
-            flags = [f"-D{name}={value}" for name, value in self.recipe.variables.items()]
-            flags += [f"-DBUILD_SHARED_LIBS={shared}", f"-DCMAKE_INSTALL_PREFIX={self.recipe.package_folder}"]
-            run("cmake", "-S", self.recipe.source_folder, "-B", work / "build", *flags)
-
-        def build(self):
-            run("cmake", "--build", work / "build")
-
-        def install(self):
-            run("cmake", "--install", work / "build")
-
-    class CMakeToolchain:
-        def __init__(self, recipe):
-            self.recipe = recipe
-            self.cache_variables = {}
-
-        def generate(self):
-            self.recipe.variables = self.cache_variables
 
     class ConanFile:
         recipe_folder = str(TOP)
         source_folder = str(work / "source")
+        build_folder = str(work / "build")
         package_folder = str(work / "package")
-
-    def copy(recipe, pattern, source, to):
-        Path(to).mkdir(parents=True, exist_ok=True)
-        for path in Path(source).glob(pattern):
-            shutil.copy(path, to)
+        shared = is_shared
 
     modules = {
         "conan": {"ConanFile": ConanFile},
@@ -156,7 +165,7 @@ def export(recipe):
 
 
 def check_conan(work, shared):
-    recipe = load_recipe(work, "ON" if shared else "OFF")
+    recipe = load_recipe(work, shared)
     recipe.set_version()
     assert recipe.version == (TOP / "VERSION").read_text().strip()
     export(recipe)

@@ -16,6 +16,8 @@ cd "$c" || exit 1
 . tests/languages.sh
 # shellcheck source=SCRIPTDIR/builds.sh
 . tests/builds.sh
+# shellcheck source=SCRIPTDIR/archive.sh
+. tests/archive.sh
 machine=$(uname -m)
 here=build/$machine-unknown-linux-gnu
 flags='-Wall -Wextra -Wpedantic -Wconversion -Werror'
@@ -299,6 +301,14 @@ part 'calls by the shared library' shared
 if [ "$(uname -m)" = x86_64 ] && has qemu-x86_64 qemu-user 'a processor without SSE4.2'; then
     part 'a processor without SSE4.2' old_processor
 fi
+if has gdb gdb 'a crash inside a call'; then
+    part 'a crash inside a call: gdb names who made it' crash_names_caller
+fi
+[ "$machine" != x86_64 ] || part 'landing pads on x86-64: IBT and SHSTK' hardened_x86_64
+if has aarch64-linux-gnu-gcc gcc-aarch64-linux-gnu 'landing pads on aarch64' &&
+    links aarch64-linux-gnu-gcc libc6-dev-arm64-cross 'landing pads on aarch64'; then
+    part 'landing pads on aarch64: BTI' hardened_aarch64
+fi
 part 'jcobs.hpp' "$at/cpp"
 part 'jcobs.hpp, if a callback throws' throws
 part 'jcobs.hpp without an allocator' no_allocator
@@ -367,8 +377,14 @@ fi
 if has clang-format clang-format 'layout'; then
     part 'layout' clang-format --dry-run -Werror include/jcobs.h include/jcobs.hpp examples/*.c examples/*.cpp tests/*.c tests/*.cpp
 fi
-if has python3 python3 'jcobs.c is made of cobs_small.ll'; then
-    part 'jcobs.c is what translate.py makes of cobs_small.ll' python3 source/translate.py --check
+if has python3 python3 'jcobs.c is made of the crates'; then
+    part 'jcobs.c is what translate.py makes of the crates' python3 source/translate.py --check
+    part 'translate.py refuses what it does not know' translator_refuses
+fi
+if [ "$machine" = x86_64 ] && command -v rt >/dev/null; then
+    part 'jcobs.c beside the proved module' beside_module
+else
+    skip 'jcobs.c beside the proved module' "needs Rattle's toolchain, whose clang reads cobs_small.ll, on x86-64"
 fi
 part 'jcobs.c by gcc and clang, C99 to C23, C++98 to C++20' source_compiles
 if has cppcheck cppcheck 'jcobs.c by cppcheck'; then

@@ -8,11 +8,11 @@
  * says what its contract says, in short, and names the file of crates/cobs_small/src in which it is. The words of the
  * contracts are defined in crates/cobs_abi/specs and crates/cobs/specs.
  *
- * What is not proved, but tested: that this text does the same. The toolchain's clang simplified the proved module
- * (cobs_small.ll), translate.py wrote its instructions as C, and your compiler compiles them. Lengths have the width of
- * your size_t. tests/device.sh and bindings/c/tests/run.sh run this file on processors with 16, 32 and 64 bits and both byte
- * orders: the vectors of conformance/ (but on the one with 16 bits), and random calls compared with plain C, with states of
- * random bytes. The calls from jcobs_xor on are written by hand, and tested in the same way.
+ * What is not proved, but tested: that this text does the same. translate.py wrote each function from the one in Rattle,
+ * and your compiler compiles it. Lengths have the width of your size_t. bindings/c/tests/run.sh compares two million
+ * calls with those of the proved module itself. It and tests/device.sh run this file on processors with 16, 32 and 64
+ * bits and both byte orders: the vectors of conformance/ (but on the one with 16 bits), and random calls compared with
+ * plain C, with states of random bytes. The calls from jcobs_xor on are written by hand, and tested in the same way.
  */
 #include "jcobs.h"
 
@@ -23,8 +23,17 @@
 typedef char jcobs_bytes_have_8_bits[CHAR_BIT == 8 ? 1 : -1];
 typedef char jcobs_size_t_is_no_shorter_than_int[sizeof(size_t) >= sizeof(unsigned int) ? 1 : -1];
 
+/* Functions that a loop over bytes calls become part of it. */
+#ifdef __GNUC__
+#define JCOBS_INLINE __inline__ __attribute__((always_inline))
+#elif defined(__cplusplus) || (defined(__STDC_VERSION__) && __STDC_VERSION__ >= 199901L)
+#define JCOBS_INLINE inline
+#else
+#define JCOBS_INLINE
+#endif
+
 /* Makes a result. It is written by hand. */
-static jcobs_answer jcobs_answered(JCOBS_STATUS status, size_t consumed, size_t length)
+static JCOBS_INLINE jcobs_answer jcobs_answered(JCOBS_STATUS status, size_t consumed, size_t length)
 {
     jcobs_answer answer;
 
@@ -34,77 +43,277 @@ static jcobs_answer jcobs_answered(JCOBS_STATUS status, size_t consumed, size_t 
     return answer;
 }
 
-/* Takes one byte of the stream, as a push of that byte.
- * Proved, by the contract in decoder.rt: the result, the state and the buffer are those that the definition of the
- * stream has after these bytes, however it is cut into calls. In every state consumed and length are within bytes
- * and buffer. */
-jcobs_answer jcobs_decoder_feed(jcobs_decoder *decoder, void *buffer, size_t buffer_len, unsigned char byte)
-{
-    unsigned char *const to = (unsigned char *)buffer;
-    size_t written;
-    unsigned char missing, joint, too_long;
-    int status;
+enum {
+    JCOBS_FULL = 255,
+    JCOBS_FULL_BLOCK_BYTES = 254,
+    JCOBS_FULL_CODE = 255
+};
 
-    if (byte == 0) {
-        written = decoder->written;
-        missing = decoder->missing;
-        joint = decoder->joint;
-        too_long = decoder->too_long;
-        decoder->written = 0;
-        decoder->missing = 0;
-        decoder->joint = 0;
-        decoder->too_long = 0;
-        if (too_long != 0) {
-            return jcobs_answered(JCOBS_TOO_SMALL, 1, buffer_len);
-        }
-        if (missing != 0) {
-            return jcobs_answered(JCOBS_BROKEN, 1, buffer_len < written ? buffer_len : written);
-        }
-        if (buffer_len < written) {
-            return jcobs_answered(JCOBS_TOO_SMALL, 1, buffer_len);
-        }
-        status = written == 0 && joint == 0;
-        return jcobs_answered((unsigned int)status, 1, status ? 0 : written);
-    }
-    if (decoder->too_long != 0) {
-        return jcobs_answered(JCOBS_MORE, 1, buffer_len);
-    }
-    written = decoder->written;
-    if (decoder->missing == 0) {
-        if (decoder->joint != 0) {
-            if (buffer_len <= written) {
-                decoder->too_long = 1;
-                return jcobs_answered(JCOBS_MORE, 1, buffer_len);
-            }
-            to[written] = 0;
-            decoder->written = written + 1;
-        }
-        decoder->missing = (unsigned char)(byte - 1);
-        decoder->joint = (unsigned char)(byte != 255);
-    } else {
-        if (buffer_len <= written) {
-            decoder->too_long = 1;
-            return jcobs_answered(JCOBS_MORE, 1, buffer_len);
-        }
-        to[written] = byte;
-        decoder->written = written + 1;
-        decoder->missing = (unsigned char)(decoder->missing - 1);
-    }
-    if (decoder->too_long != 0) {
-        return jcobs_answered(JCOBS_MORE, 1, buffer_len);
-    }
-    written = decoder->written;
-    return jcobs_answered(JCOBS_MORE, 1, buffer_len < written ? buffer_len : written);
+enum jcobs_frame_kind { JCOBS_FRAME_KIND_NOT_A_FRAME, JCOBS_FRAME_KIND_CANONICAL, JCOBS_FRAME_KIND_LONGER };
+
+/* What a step came to. */
+enum {
+    JCOBS_IS_NONE,
+    JCOBS_IS_EMPTY_FRAME,
+    JCOBS_IS_SOME,
+    JCOBS_IS_MESSAGE,
+    JCOBS_IS_INVALID_FRAME,
+    JCOBS_IS_BROKEN,
+    JCOBS_IS_TOO_LONG,
+    JCOBS_IS_TARGET_BUF_TOO_SMALL,
+    JCOBS_IS_DEST_BUF_TOO_SMALL_ERROR,
+    JCOBS_IS_OK
+};
+
+typedef struct jcobs_outcome {
+    int kind;     /* one of these */
+    size_t count; /* its number, if it has one */
+} jcobs_outcome;
+
+typedef struct jcobs_found {
+    int kind;
+    size_t count;
+    size_t consumed; /* how many bytes it took */
+} jcobs_found;
+
+static JCOBS_INLINE jcobs_decoder jcobs_decoder_of(size_t written, unsigned char missing, unsigned char joint,
+                                                   unsigned char too_long)
+{
+    jcobs_decoder decoder;
+
+    decoder.written = written;
+    decoder.missing = missing;
+    decoder.joint = joint;
+    decoder.too_long = too_long;
+    return decoder;
 }
 
-/* Returns 1 if no piece is open, and 0 otherwise.
- * Proved, by the contract in decoder.rt: the result is 1 exactly if no piece is open. */
-unsigned int jcobs_decoder_is_idle(const jcobs_decoder *decoder)
+static JCOBS_INLINE jcobs_encoder jcobs_encoder_of(size_t index, unsigned char taken, unsigned char full)
 {
-    if (decoder->written != 0 || decoder->missing != 0 || decoder->joint != 0) {
-        return 0;
+    jcobs_encoder encoder;
+
+    encoder.index = index;
+    encoder.taken = taken;
+    encoder.full = full;
+    return encoder;
+}
+
+typedef struct jcobs_progress {
+    size_t index;
+    unsigned char code;
+    int is_full;
+} jcobs_progress;
+
+static JCOBS_INLINE jcobs_progress jcobs_progress_of(size_t index, unsigned char code, int is_full)
+{
+    jcobs_progress progress;
+
+    progress.index = index;
+    progress.code = code;
+    progress.is_full = is_full;
+    return progress;
+}
+
+/* The sum, or the other number if the sum doesn't fit. */
+static size_t jcobs_sum_or(size_t a, size_t b, size_t other)
+{
+    return b > (size_t)-1 - a ? other : a + b;
+}
+
+static JCOBS_INLINE jcobs_outcome jcobs_outcome_of(int kind, size_t count)
+{
+    jcobs_outcome outcome;
+
+    outcome.kind = kind;
+    outcome.count = count;
+    return outcome;
+}
+
+static JCOBS_INLINE jcobs_found jcobs_found_of(int kind, size_t count, size_t consumed)
+{
+    jcobs_found found;
+
+    found.kind = kind;
+    found.count = count;
+    found.consumed = consumed;
+    return found;
+}
+
+/* Makes an idle decoder, for a buffer of any length, also an empty one. */
+static jcobs_decoder jcobs_decoder_new(void)
+{
+    return jcobs_decoder_of(0, 0, 0, 0);
+}
+
+/* Returns what joint is for a block with this code. */
+static JCOBS_INLINE unsigned char jcobs_joint_after(unsigned char code)
+{
+    return code == JCOBS_FULL ? 0 : 1;
+}
+
+/* Takes a byte of a piece, over this buffer. */
+static JCOBS_INLINE void jcobs_decoder_take_byte(jcobs_decoder *decoder, unsigned char *dest, size_t dest_len,
+                                                 unsigned char byte)
+{
+    if (decoder->too_long != 0) {
+        return;
     }
-    return (unsigned int)(decoder->too_long == 0);
+    /* Read once, as compilers read it again after a byte of the buffer is written. Three branches, which a
+     * processor predicts, are faster than one write of a chosen byte. */
+    size_t at = decoder->written;
+    if (decoder->missing != 0) {
+        if (dest_len <= at) {
+            decoder->too_long = 1;
+            return;
+        }
+        dest[at] = byte;
+        decoder->written = at + 1;
+        decoder->missing--;
+        return;
+    }
+    if (decoder->joint != 0) {
+        if (dest_len <= at) {
+            decoder->too_long = 1;
+            return;
+        }
+        dest[at] = 0;
+        decoder->written = at + 1;
+    }
+    decoder->missing = (unsigned char)(byte - 1);
+    decoder->joint = jcobs_joint_after(byte);
+}
+
+/* Returns how a piece has ended, by the result of feed for the zero: None if no piece was open. */
+static JCOBS_INLINE jcobs_outcome jcobs_piece_end_reported(jcobs_outcome returned)
+{
+    switch (returned.kind) {
+    case JCOBS_IS_NONE:
+    case JCOBS_IS_EMPTY_FRAME:
+        return jcobs_outcome_of(JCOBS_IS_NONE, 0);
+    case JCOBS_IS_SOME:
+        return jcobs_outcome_of(JCOBS_IS_MESSAGE, returned.count);
+    case JCOBS_IS_INVALID_FRAME:
+        return jcobs_outcome_of(JCOBS_IS_BROKEN, returned.count);
+    default:
+        return jcobs_outcome_of(JCOBS_IS_TOO_LONG, 0);
+    }
+}
+
+/* Takes a zero, which ends a piece if one has begun, over a buffer of this length. */
+static JCOBS_INLINE jcobs_outcome jcobs_decoder_end(jcobs_decoder *decoder, size_t len)
+{
+    jcobs_decoder ended = *decoder;
+
+    decoder->written = 0;
+    decoder->missing = 0;
+    decoder->joint = 0;
+    decoder->too_long = 0;
+    if (ended.too_long != 0) {
+        return jcobs_outcome_of(JCOBS_IS_TARGET_BUF_TOO_SMALL, 0);
+    }
+    if (ended.missing != 0) {
+        return jcobs_outcome_of(JCOBS_IS_INVALID_FRAME, ended.written);
+    }
+    /* Only so in another buffer than the one that the piece began in, since no more is counted than was written. */
+    if (len < ended.written) {
+        return jcobs_outcome_of(JCOBS_IS_TARGET_BUF_TOO_SMALL, 0);
+    }
+    if (ended.written == 0 && ended.joint == 0) {
+        return jcobs_outcome_of(JCOBS_IS_NONE, 0);
+    }
+    return jcobs_outcome_of(JCOBS_IS_SOME, ended.written);
+}
+
+/* Takes bytes of a stream of frames for this sentinel, a step each, through the sentinel that ends the first
+ * piece, or all of them, as feed_piece does for the sentinel 0. It searches and copies nothing at once, so that it
+ * is small, and fast for a few bytes. (A choice of this library.) */
+static JCOBS_INLINE jcobs_found jcobs_decoder_feed_each(jcobs_decoder *decoder, unsigned char *dest, size_t dest_len,
+                                                        const unsigned char *bytes, size_t bytes_len,
+                                                        unsigned char sentinel)
+{
+    /* A copy, so that it stays in registers: compilers read the fields again after each byte that is written. */
+    jcobs_decoder here = *decoder;
+    size_t taken = 0;
+    if (here.too_long == 0) {
+        while (taken < bytes_len) {
+            unsigned char byte = (unsigned char)(bytes[taken] ^ sentinel);
+            taken++;
+            if (byte != 0) {
+                jcobs_decoder_take_byte(&here, dest, dest_len, byte);
+                if (here.too_long != 0) {
+                    break;
+                }
+            } else {
+                jcobs_outcome end = jcobs_piece_end_reported(jcobs_decoder_end(&here, dest_len));
+                if (end.kind != JCOBS_IS_NONE) {
+                    decoder->written = 0;
+                    decoder->missing = 0;
+                    decoder->joint = 0;
+                    decoder->too_long = 0;
+                    return jcobs_found_of(end.kind, end.count, taken);
+                }
+            }
+        }
+    }
+    /* If the message is too long, only its end counts. */
+    while (taken < bytes_len) {
+        unsigned char byte = (unsigned char)(bytes[taken] ^ sentinel);
+        taken++;
+        if (byte == 0) {
+            decoder->written = 0;
+            decoder->missing = 0;
+            decoder->joint = 0;
+            decoder->too_long = 0;
+            return jcobs_found_of(JCOBS_IS_TOO_LONG, 0, taken);
+        }
+    }
+    decoder->written = here.written;
+    decoder->missing = here.missing;
+    decoder->joint = here.joint;
+    decoder->too_long = here.too_long;
+    return jcobs_found_of(JCOBS_IS_NONE, 0, 0);
+}
+
+/* Returns how many bytes of an open message a buffer of room bytes holds. */
+static JCOBS_INLINE size_t jcobs_held(const jcobs_decoder *decoder, size_t room)
+{
+    if (decoder->too_long != 0) {
+        return room;
+    }
+    return decoder->written < room ? decoder->written : room;
+}
+
+/* The result of a call that did what it is for: this many bytes taken, and this many at the front of the buffer. */
+static jcobs_answer jcobs_done(size_t consumed, size_t length)
+{
+    return jcobs_answered(JCOBS_OK, consumed, length);
+}
+
+/* Returns the result of a call that took these of len bytes, into a buffer of room bytes. */
+static JCOBS_INLINE jcobs_answer jcobs_result_of(const jcobs_decoder *decoder, jcobs_found found, size_t len,
+                                                 size_t room)
+{
+    if (found.kind == JCOBS_IS_NONE) {
+        return jcobs_answered(JCOBS_MORE, len, jcobs_held(decoder, room));
+    }
+    switch (found.kind) {
+    case JCOBS_IS_MESSAGE:
+        return jcobs_done(found.consumed, found.count);
+    case JCOBS_IS_BROKEN:
+        /* No more than the buffer has, unless the state is corrupt. */
+        return jcobs_answered(JCOBS_BROKEN, found.consumed, found.count < room ? found.count : room);
+    default:
+        return jcobs_answered(JCOBS_TOO_SMALL, found.consumed, room);
+    }
+}
+
+/* Takes bytes of a stream of frames for this sentinel through the one that ends the first piece, or all of them. */
+static JCOBS_INLINE jcobs_answer jcobs_decode_each(jcobs_decoder *decoder, unsigned char *buffer, size_t buffer_len,
+                                                   const unsigned char *bytes, size_t bytes_len, unsigned char sentinel)
+{
+    jcobs_found found = jcobs_decoder_feed_each(decoder, buffer, buffer_len, bytes, bytes_len, sentinel);
+
+    return jcobs_result_of(decoder, found, bytes_len, buffer_len);
 }
 
 /* Takes bytes of the stream through the zero that ends the first piece, or all of them. Even if the state is
@@ -114,85 +323,70 @@ unsigned int jcobs_decoder_is_idle(const jcobs_decoder *decoder)
  * and buffer. */
 jcobs_answer jcobs_decoder_push(jcobs_decoder *decoder, void *buffer, size_t buffer_len, const void *bytes, size_t len)
 {
-    unsigned char *const to = (unsigned char *)buffer;
-    const unsigned char *const from = (const unsigned char *)bytes;
-    size_t written, consumed, consumed2;
-    unsigned char missing, joint, too_long, byte;
+    return jcobs_decode_each(decoder, (unsigned char *)buffer, buffer_len, (const unsigned char *)bytes, len, 0);
+}
 
-    written = decoder->written;
-    missing = decoder->missing;
-    joint = decoder->joint;
-    too_long = decoder->too_long;
-    consumed = 0;
-    if (too_long == 0) {
-        while (consumed != len) {
-            byte = from[consumed];
-            consumed++;
-            if (byte == 0) {
-                if (missing != 0) {
-                    decoder->written = 0;
-                    decoder->missing = 0;
-                    decoder->joint = 0;
-                    decoder->too_long = 0;
-                    return jcobs_answered(JCOBS_BROKEN, consumed, buffer_len < written ? buffer_len : written);
-                }
-                if (buffer_len < written) {
-                    decoder->written = 0;
-                    decoder->missing = 0;
-                    decoder->joint = 0;
-                    decoder->too_long = 0;
-                    return jcobs_answered(JCOBS_TOO_SMALL, consumed, buffer_len);
-                }
-                if (written != 0 || joint != 0) {
-                    decoder->written = 0;
-                    decoder->missing = 0;
-                    decoder->joint = 0;
-                    decoder->too_long = 0;
-                    return jcobs_answered(JCOBS_OK, consumed, written);
-                }
-            } else {
-                if (missing != 0) {
-                    if (buffer_len <= written) {
-                        too_long = 1;
-                        break;
-                    }
-                    to[written] = byte;
-                    written++;
-                    missing = (unsigned char)(missing - 1);
-                    continue;
-                }
-                if (joint != 0) {
-                    if (buffer_len <= written) {
-                        too_long = 1;
-                        break;
-                    }
-                    to[written] = 0;
-                    written++;
-                }
-                missing = (unsigned char)(byte - 1);
-                joint = (unsigned char)(byte != 255);
-            }
-        }
+/* Takes the next byte of the stream, over this buffer. */
+static JCOBS_INLINE jcobs_outcome jcobs_decoder_step(jcobs_decoder *decoder, unsigned char *dest, size_t dest_len,
+                                                     unsigned char byte)
+{
+    if (byte == 0) {
+        return jcobs_decoder_end(decoder, dest_len);
     }
-    while (consumed < len) {
-        consumed2 = consumed + 1;
-        if (from[consumed] == 0) {
-            decoder->written = 0;
-            decoder->missing = 0;
-            decoder->joint = 0;
-            decoder->too_long = 0;
-            return jcobs_answered(JCOBS_TOO_SMALL, consumed2, buffer_len);
-        }
-        consumed = consumed2;
+    jcobs_decoder_take_byte(decoder, dest, dest_len, byte);
+    if (decoder->too_long != 0) {
+        return jcobs_outcome_of(JCOBS_IS_TARGET_BUF_TOO_SMALL, 0);
     }
-    decoder->written = written;
-    decoder->missing = missing;
-    decoder->joint = joint;
-    decoder->too_long = too_long;
-    if (too_long == 0) {
-        return jcobs_answered(JCOBS_MORE, len, buffer_len < written ? buffer_len : written);
+    return jcobs_outcome_of(JCOBS_IS_NONE, 0);
+}
+
+/* Takes the next byte of the stream, over this buffer, as CobsDecoder::feed does, with its errors. */
+static JCOBS_INLINE jcobs_outcome jcobs_decoder_feed_inside(jcobs_decoder *decoder, unsigned char *dest,
+                                                            size_t dest_len, unsigned char byte)
+{
+    return jcobs_decoder_step(decoder, dest, dest_len, byte);
+}
+
+/* Returns the result of a call that took these bytes, into a buffer of room bytes, by how the piece has ended. */
+static jcobs_answer jcobs_result_for_end(size_t consumed, size_t room, jcobs_outcome end)
+{
+    JCOBS_STATUS status;
+    size_t length;
+
+    switch (end.kind) {
+    case JCOBS_IS_NONE:
+        status = JCOBS_EMPTY;
+        length = 0;
+        break;
+    case JCOBS_IS_MESSAGE:
+        return jcobs_done(consumed, end.count);
+    case JCOBS_IS_BROKEN:
+        status = JCOBS_BROKEN;
+        length = end.count;
+        break;
+    default:
+        status = JCOBS_TOO_SMALL;
+        length = room;
+        break;
     }
-    return jcobs_answered(JCOBS_MORE, len, buffer_len);
+    return jcobs_answered(status, consumed, length);
+}
+
+/* Decodes the first frame of the source to the front of message.
+ * Proved, by the contract in decode.rt: the result and every byte of the buffer depend only on the source and
+ * message_len, as COBS is defined; a buffer as long as the source is never too small. */
+jcobs_answer jcobs_decode(const void *source, size_t source_len, void *message, size_t message_len)
+{
+    unsigned char *const to = (unsigned char *)message;
+    jcobs_decoder decoder = jcobs_decoder_new();
+    jcobs_answer pushed = jcobs_decoder_push(&decoder, to, message_len, (const unsigned char *)source, source_len);
+
+    if (pushed.status != JCOBS_MORE) {
+        return jcobs_answered(pushed.status, pushed.consumed, pushed.length);
+    }
+    /* The source ends the piece, as a zero would. */
+    jcobs_outcome end = jcobs_piece_end_reported(jcobs_decoder_feed_inside(&decoder, to, message_len, 0));
+    return jcobs_result_for_end(source_len, message_len, end);
 }
 
 /* Makes the decoder one that has taken nothing, even if its state is corrupt.
@@ -205,153 +399,250 @@ void jcobs_decoder_reset(jcobs_decoder *decoder)
     decoder->too_long = 0;
 }
 
+/* Returns whether no piece has begun, so that the next byte that isn't a zero begins one. */
+static JCOBS_INLINE int jcobs_decoder_is_idle_inside(const jcobs_decoder *decoder)
+{
+    return decoder->written == 0 && decoder->missing == 0 && decoder->joint == 0 && decoder->too_long == 0;
+}
+
+/* Returns 1 if no piece is open, and 0 otherwise.
+ * Proved, by the contract in decoder.rt: the result is 1 exactly if no piece is open. */
+unsigned int jcobs_decoder_is_idle(const jcobs_decoder *decoder)
+{
+    return jcobs_decoder_is_idle_inside(decoder) ? 1 : 0;
+}
+
+/* Takes the next byte of a stream of frames, whose sentinel is zero. */
+static JCOBS_INLINE jcobs_answer jcobs_decode_byte(jcobs_decoder *decoder, unsigned char *buffer, size_t buffer_len,
+                                                   unsigned char byte)
+{
+    size_t room = buffer_len;
+    jcobs_outcome returned = jcobs_decoder_feed_inside(decoder, buffer, buffer_len, byte);
+
+    if (byte != 0) {
+        return jcobs_result_of(decoder, jcobs_found_of(JCOBS_IS_NONE, 0, 0), 1, room);
+    }
+    jcobs_outcome end = jcobs_piece_end_reported(returned);
+    if (end.kind == JCOBS_IS_NONE) {
+        return jcobs_result_of(decoder, jcobs_found_of(JCOBS_IS_NONE, 0, 0), 1, room);
+    }
+    return jcobs_result_of(decoder, jcobs_found_of(end.kind, end.count, 1), 1, room);
+}
+
+/* Takes one byte of the stream, as a push of that byte.
+ * Proved, by the contract in decoder.rt: the result, the state and the buffer are those that the definition of the
+ * stream has after these bytes, however it is cut into calls. In every state consumed and length are within bytes
+ * and buffer. */
+jcobs_answer jcobs_decoder_feed(jcobs_decoder *decoder, void *buffer, size_t buffer_len, unsigned char byte)
+{
+    return jcobs_decode_byte(decoder, (unsigned char *)buffer, buffer_len, byte);
+}
+
+/* Returns how many bytes longer than its message an encoded frame is at most, for a message of source_len bytes. */
+static size_t jcobs_max_encoding_overhead(size_t source_len)
+{
+    if (source_len == 0) {
+        return 1;
+    }
+    return source_len / 254 + (source_len % 254 != 0 ? 1 : 0);
+}
+
+/* Returns how many bytes the longest frame of a message of message_len bytes has, or 0 if that number doesn't fit.
+ * Proved, by the contract in encode.rt: the result is that number if it is below 2 to the 64th, and 0 if not. */
+size_t jcobs_max_length(size_t message_len)
+{
+    return jcobs_sum_or(message_len, jcobs_max_encoding_overhead(message_len), 0);
+}
+
+/* Makes an encoder that has taken nothing yet, for a buffer of one byte at least: the frame of the empty message
+ * has one. */
+static jcobs_encoder jcobs_encoder_new(void)
+{
+    return jcobs_encoder_of(0, 0, 0);
+}
+
+/* Whether a frame can have come so far in a buffer of this length. */
+static JCOBS_INLINE int jcobs_encoder_is_within(const jcobs_encoder *encoder, size_t len)
+{
+    if (253 < encoder->taken || len < encoder->index) {
+        return 0;
+    }
+    return encoder->full != 0 || (size_t)encoder->taken < len - encoder->index;
+}
+
+/* Returns true only if spare bytes cover the overhead of every message of len bytes. It divides by 128 instead of
+ * 254, because small processors shift but don't divide. So it may return false if spare is just enough. */
+static JCOBS_INLINE int jcobs_covers_overhead(size_t len, size_t spare)
+{
+    return len < JCOBS_FULL_CODE || len / 128 < spare;
+}
+
+/* Whether room bytes, from the code of an open block, are enough once the block has taken these bytes: counted
+ * block by block. */
+static int jcobs_fits_each(unsigned char code, const unsigned char *bytes, size_t bytes_len, size_t room)
+{
+    size_t left = room;
+
+    for (size_t i = 0; i < bytes_len; i++) {
+        if (code == JCOBS_FULL) {
+            if (left < JCOBS_FULL) {
+                return 0;
+            }
+            left -= JCOBS_FULL;
+            code = 1;
+        }
+        if (bytes[i] != 0) {
+            code++;
+        } else {
+            if (left < (size_t)code) {
+                return 0;
+            }
+            left -= (size_t)code;
+            code = 1;
+        }
+    }
+    return (size_t)code <= left;
+}
+
+/* Whether room bytes, from the code of an open block, are enough once the block has taken these bytes. It reads
+ * the bytes only if their number doesn't decide that. */
+static int jcobs_has_room(unsigned char code, const unsigned char *bytes, size_t bytes_len, size_t room)
+{
+    size_t held = (size_t)code - 1;
+
+    if (room <= held || room - held <= bytes_len) {
+        return 0;
+    }
+    size_t spare = room - held - bytes_len;
+    return jcobs_covers_overhead(held + bytes_len, spare) || jcobs_fits_each(code, bytes, bytes_len, room);
+}
+
+/* Takes the next byte of the message, for which there is room. */
+static JCOBS_INLINE void jcobs_encoder_append_byte(jcobs_encoder *encoder, unsigned char *dest, unsigned char byte)
+{
+    unsigned char code = (unsigned char)(encoder->taken + 1);
+    size_t next = encoder->index + (size_t)code;
+
+    if (byte == 0) {
+        dest[encoder->index] = code;
+        encoder->index = next;
+        encoder->taken = 0;
+        encoder->full = 0;
+        return;
+    }
+    dest[next] = byte;
+    if ((size_t)code == JCOBS_FULL_BLOCK_BYTES) {
+        dest[encoder->index] = JCOBS_FULL_CODE;
+        encoder->index = next + 1;
+        encoder->taken = 0;
+        encoder->full = 1;
+    } else {
+        encoder->taken = code;
+        encoder->full = 0;
+    }
+}
+
+/* Takes the next bytes of the message, for which there is room, one at a time. */
+static JCOBS_INLINE void jcobs_encoder_append_each(jcobs_encoder *self, unsigned char *dest, const unsigned char *bytes,
+                                                   size_t bytes_len)
+{
+    /* A copy, so that the numbers stay in registers. */
+    jcobs_encoder encoder = *self;
+    for (size_t i = 0; i < bytes_len; i++) {
+        jcobs_encoder_append_byte(&encoder, dest, bytes[i]);
+    }
+    self->index = encoder.index;
+    self->taken = encoder.taken;
+    self->full = encoder.full;
+}
+
+/* Takes the next bytes of the message, one at a time. */
+static int jcobs_encoder_push_each(jcobs_encoder *encoder, unsigned char *dest, size_t dest_len,
+                                   const unsigned char *bytes, size_t bytes_len)
+{
+    if (!jcobs_encoder_is_within(encoder, dest_len)) {
+        return 0;
+    }
+    if (bytes_len == 0) {
+        return 1;
+    }
+    if (!jcobs_has_room((unsigned char)(encoder->taken + 1), bytes, bytes_len, dest_len - encoder->index)) {
+        return 0;
+    }
+    jcobs_encoder_append_each(encoder, dest, bytes, bytes_len);
+    return 1;
+}
+
+/* The result of a call that took and left nothing, since the buffer is too short. */
+static jcobs_answer jcobs_too_small(void)
+{
+    return jcobs_answered(JCOBS_TOO_SMALL, 0, 0);
+}
+
+/* Writes the open block's code, if that is part of the frame, and returns where the frame ends. Its place is free
+ * before. */
+static JCOBS_INLINE size_t jcobs_close(unsigned char *dest, size_t dest_len, jcobs_progress progress)
+{
+    size_t index = progress.index;
+    unsigned char code = progress.code;
+
+    if (index < dest_len) {
+        dest[index] = progress.is_full ? dest[index] : code;
+    }
+    if (progress.is_full) {
+        return index;
+    }
+    return index + (size_t)code;
+}
+
+/* Returns how far the encoder has come. */
+static jcobs_progress jcobs_encoder_progress(const jcobs_encoder *encoder)
+{
+    return jcobs_progress_of(encoder->index, (unsigned char)(encoder->taken + 1), encoder->full != 0);
+}
+
+/* Makes the encoder one that has taken nothing. */
+static void jcobs_encoder_reset_inside(jcobs_encoder *encoder)
+{
+    encoder->index = 0;
+    encoder->taken = 0;
+    encoder->full = 0;
+}
+
+/* Ends the message, and returns the length of its encoded frame in bytes. The buffer begins with that frame, and
+ * the encoder has taken nothing. Every byte after the frame is as it was. */
+static jcobs_outcome jcobs_encoder_finalize(jcobs_encoder *encoder, unsigned char *dest, size_t dest_len)
+{
+    if (!jcobs_encoder_is_within(encoder, dest_len)) {
+        return jcobs_outcome_of(JCOBS_IS_DEST_BUF_TOO_SMALL_ERROR, 0);
+    }
+    size_t len = jcobs_close(dest, dest_len, jcobs_encoder_progress(encoder));
+    jcobs_encoder_reset_inside(encoder);
+    return jcobs_outcome_of(JCOBS_IS_OK, len);
+}
+
+/* Writes the frame of the message to the front of the buffer, if it fits. Otherwise nothing is written. */
+static jcobs_answer jcobs_encode_message(const unsigned char *message, size_t message_len, unsigned char *buffer,
+                                         size_t buffer_len)
+{
+    jcobs_encoder encoder = jcobs_encoder_new();
+
+    if (!jcobs_encoder_push_each(&encoder, buffer, buffer_len, message, message_len)) {
+        return jcobs_too_small();
+    }
+    jcobs_outcome found = jcobs_encoder_finalize(&encoder, buffer, buffer_len);
+    if (found.kind == JCOBS_IS_OK) {
+        return jcobs_done(message_len, found.count);
+    }
+    return jcobs_too_small();
+}
+
 /* Writes the frame of the message to the front of the buffer frame, if it fits. Otherwise nothing is written.
  * Proved, by the contract in encode.rt: if the frame fits, it is the message's, and bytes after it are as they
  * were; if it doesn't, the status is TOO_SMALL, and the buffer is as it was. */
 jcobs_answer jcobs_encode(const void *message, size_t message_len, void *frame, size_t frame_len)
 {
-    const unsigned char *const from = (const unsigned char *)message;
-    unsigned char *const to = (unsigned char *)frame;
-    size_t at, i, left, at2;
-    unsigned char code, code2, byte, code3;
-
-    if (frame_len == 0) {
-        return jcobs_answered(JCOBS_TOO_SMALL, 0, 0);
-    }
-    if (message_len == 0) {
-        at = 0;
-        code = 0;
-        code2 = 0;
-    } else {
-        if (frame_len <= message_len) {
-            return jcobs_answered(JCOBS_TOO_SMALL, 0, 0);
-        }
-        if (message_len >= 255 && (message_len >> 7) >= frame_len - message_len) {
-            code = 1;
-            left = frame_len;
-            for (i = 0; i != message_len; i++) {
-                if (code == 255) {
-                    if (left < 255) {
-                        return jcobs_answered(JCOBS_TOO_SMALL, 0, 0);
-                    }
-                    code = 1;
-                    left -= 255;
-                }
-                if (from[i] == 0) {
-                    if (left < (size_t)code) {
-                        return jcobs_answered(JCOBS_TOO_SMALL, 0, 0);
-                    }
-                    left -= (size_t)code;
-                    code = 1;
-                } else {
-                    code = (unsigned char)(code + 1);
-                }
-            }
-            if (left < (size_t)code) {
-                return jcobs_answered(JCOBS_TOO_SMALL, 0, 0);
-            }
-        }
-        at = 0;
-        code = 0;
-        code2 = 0;
-        for (i = 0; i != message_len; i++) {
-            byte = from[i];
-            code = (unsigned char)(code + 1);
-            at2 = at + (size_t)code;
-            if (byte == 0) {
-                to[at] = code;
-                at = at2;
-                code = 0;
-                code2 = 0;
-            } else {
-                to[at2] = byte;
-                if (code == 254) {
-                    to[at] = 255;
-                    at = at2 + 1;
-                    code = 0;
-                    code2 = 1;
-                } else {
-                    code2 = 0;
-                }
-            }
-        }
-        if (code > 253 || frame_len < at) {
-            return jcobs_answered(JCOBS_TOO_SMALL, 0, 0);
-        }
-    }
-    if (code2 == 0 && frame_len - at <= (size_t)code) {
-        return jcobs_answered(JCOBS_TOO_SMALL, 0, 0);
-    }
-    code = (unsigned char)(code + 1);
-    if (at < frame_len) {
-        if (code2 == 0) {
-            code3 = code;
-        } else {
-            code3 = to[at];
-        }
-        to[at] = code3;
-    }
-    return jcobs_answered(JCOBS_OK, message_len, at + (size_t)(unsigned char)(code2 == 0 ? code : 0));
-}
-
-/* Encodes the message of message_len bytes that lies in the buffer, behind the room for the longest frame's other
- * bytes, to the front of the buffer, if the longest frame fits. Otherwise nothing is written.
- * Proved, by the contract in encode.rt: if the longest frame fits, the buffer begins with the message's, and bytes
- * after that are as they were; if it doesn't, the status is TOO_SMALL, and the buffer is as it was. */
-jcobs_answer jcobs_encode_in_place(void *buffer, size_t buffer_len, size_t message_len)
-{
-    unsigned char *const to = (unsigned char *)buffer;
-    size_t start, index, i, next;
-    unsigned char code, last, byte, code3;
-
-    if (buffer_len < message_len) {
-        return jcobs_answered(JCOBS_TOO_SMALL, 0, 0);
-    }
-    if (message_len == 0) {
-        if (buffer_len == message_len) {
-            return jcobs_answered(JCOBS_TOO_SMALL, 0, 0);
-        }
-        start = 1;
-    } else {
-        if (buffer_len - message_len < message_len / 254 + (size_t)(message_len % 254 != 0)) {
-            return jcobs_answered(JCOBS_TOO_SMALL, 0, 0);
-        }
-        start = message_len / 254 + (size_t)(message_len % 254 != 0);
-    }
-    index = 0;
-    code = 0;
-    last = 0;
-    for (i = 0; i != message_len; i++) {
-        byte = to[start + i];
-        code = (unsigned char)(code + 1);
-        next = index + (size_t)code;
-        if (byte == 0) {
-            to[index] = code;
-            index = next;
-            code = 0;
-            last = 0;
-        } else {
-            to[next] = byte;
-            if (code == 254) {
-                to[index] = 255;
-                index = next + 1;
-                code = 0;
-                last = 1;
-            } else {
-                last = 0;
-            }
-        }
-    }
-    code = (unsigned char)(code + 1);
-    if (index < buffer_len) {
-        if (last == 0) {
-            code3 = code;
-        } else {
-            code3 = to[index];
-        }
-        to[index] = code3;
-    }
-    return jcobs_answered(JCOBS_OK, message_len, index + (size_t)(unsigned char)(last == 0 ? code : 0));
+    return jcobs_encode_message((const unsigned char *)message, message_len, (unsigned char *)frame, frame_len);
 }
 
 /* Writes the frame of the message and a zero after it to the front of the buffer frame, if both fit. Otherwise
@@ -361,240 +652,52 @@ jcobs_answer jcobs_encode_in_place(void *buffer, size_t buffer_len, size_t messa
 jcobs_answer jcobs_encode_terminated(const void *message, size_t message_len, void *frame, size_t frame_len)
 {
     unsigned char *const to = (unsigned char *)frame;
-    jcobs_answer pushed;
-    JCOBS_STATUS status;
-    size_t length;
 
     if (frame_len == 0) {
-        return jcobs_answered(JCOBS_TOO_SMALL, 0, 0);
+        return jcobs_too_small();
     }
-    pushed = jcobs_encode(message, message_len, frame, frame_len - 1);
-    status = pushed.status;
-    if (status != JCOBS_OK) {
-        return jcobs_answered(status, pushed.consumed, pushed.length);
+    size_t last = frame_len - 1;
+    jcobs_answer returned = jcobs_encode((const unsigned char *)message, message_len, to, last);
+    if (returned.status != JCOBS_OK) {
+        return jcobs_answered(returned.status, returned.consumed, returned.length);
     }
-    length = pushed.length;
-    to[length] = 0;
-    return jcobs_answered(JCOBS_OK, pushed.consumed, length + 1);
+    to[returned.length] = 0;
+    return jcobs_done(returned.consumed, returned.length + 1);
 }
 
-/* Takes the next byte of a message, as a push of that byte.
- * Proved, by the contract in encoder.rt: the status is OK exactly if the frame of all that was taken and these
- * bytes fits. If it isn't OK, the state and the buffer are as they were. In every state consumed and length are
- * within bytes and buffer. */
-jcobs_answer jcobs_encoder_feed(jcobs_encoder *encoder, void *buffer, size_t buffer_len, unsigned char byte)
+/* Encodes a message in its own buffer, and returns the length of its frame in bytes. */
+static size_t jcobs_encode_in_place_inside(unsigned char *buffer, size_t buffer_len, size_t len)
 {
-    unsigned char *const to = (unsigned char *)buffer;
-    unsigned char taken, taken2;
-    size_t index, next, n;
+    size_t before = jcobs_max_encoding_overhead(len);
+    jcobs_encoder encoder = jcobs_encoder_new();
 
-    taken = encoder->taken;
-    if (taken > 253) {
-        return jcobs_answered(JCOBS_TOO_SMALL, 0, 0);
+    for (size_t taken = 0; taken < len; taken++) {
+        unsigned char byte = buffer[before + taken];
+        jcobs_encoder_append_byte(&encoder, buffer, byte);
     }
-    index = encoder->index;
-    if (buffer_len < index || buffer_len - index <= (size_t)taken + 1) {
-        return jcobs_answered(JCOBS_TOO_SMALL, 0, 0);
-    }
-    taken2 = (unsigned char)(taken + 1);
-    next = index + (size_t)taken2;
-    if (byte == 0) {
-        to[index] = taken2;
-        encoder->index = next;
-        encoder->taken = 0;
-        encoder->full = 0;
-        n = 1;
-    } else {
-        to[next] = byte;
-        if (taken2 == 254) {
-            to[encoder->index] = 255;
-            next++;
-            encoder->index = next;
-            encoder->taken = 0;
-            encoder->full = 1;
-            n = 0;
-        } else {
-            encoder->taken = taken2;
-            encoder->full = 0;
-            n = (size_t)(unsigned char)(taken + 2);
-            next = encoder->index;
-        }
-    }
-    return jcobs_answered(JCOBS_OK, 1, next + n);
+    return jcobs_close(buffer, buffer_len, jcobs_encoder_progress(&encoder));
 }
 
-/* Ends the message, if its frame fits the buffer. Even if the state is corrupt, the buffer keeps its length, and
- * the returned length is within it.
- * Proved, by the contract in encoder.rt: if the frame of all that was taken fits, the buffer begins with it, and
- * the encoder has taken nothing; if it doesn't, the status is TOO_SMALL, and the state and the buffer are as they
- * were. */
-jcobs_answer jcobs_encoder_finish(jcobs_encoder *encoder, void *buffer, size_t buffer_len)
+/* Encodes the message of message_len bytes that lies in the buffer, in its own place, if the longest frame of such
+ * a message fits. */
+static jcobs_answer jcobs_encode_within(unsigned char *buffer, size_t buffer_len, size_t message_len)
 {
-    unsigned char *const to = (unsigned char *)buffer;
-    unsigned char taken, full, code, code2;
-    size_t index, length;
+    size_t room = buffer_len;
 
-    if (buffer_len == 0) {
-        return jcobs_answered(JCOBS_TOO_SMALL, 0, 0);
+    if (room < message_len || room - message_len < jcobs_max_encoding_overhead(message_len)) {
+        return jcobs_too_small();
     }
-    taken = encoder->taken;
-    if (taken > 253) {
-        return jcobs_answered(JCOBS_TOO_SMALL, 0, 0);
-    }
-    index = encoder->index;
-    if (buffer_len < index) {
-        return jcobs_answered(JCOBS_TOO_SMALL, 0, 0);
-    }
-    full = encoder->full;
-    if (full == 0 && buffer_len - index <= (size_t)taken) {
-        return jcobs_answered(JCOBS_TOO_SMALL, 0, 0);
-    }
-    code = (unsigned char)(taken + 1);
-    if (index < buffer_len) {
-        if (full == 0) {
-            code2 = code;
-        } else {
-            code2 = to[index];
-        }
-        to[index] = code2;
-    }
-    length = index + (size_t)(unsigned char)(full == 0 ? code : 0);
-    encoder->index = 0;
-    encoder->taken = 0;
-    encoder->full = 0;
-    return jcobs_answered(JCOBS_OK, 0, length);
+    size_t length = jcobs_encode_in_place_inside(buffer, buffer_len, message_len);
+    return jcobs_done(message_len, length);
 }
 
-/* Ends the message, as jcobs_encoder_finish does, and writes a zero after its frame, if both fit.
- * Proved, by the contract in encoder.rt: if the frame of all that was taken and the zero fit, the buffer begins
- * with them, and the encoder has taken nothing; if they don't, the status is TOO_SMALL, and the state and the
- * buffer are as they were. */
-jcobs_answer jcobs_encoder_finish_terminated(jcobs_encoder *encoder, void *buffer, size_t buffer_len)
+/* Encodes the message of message_len bytes that lies in the buffer, behind the room for the longest frame's other
+ * bytes, to the front of the buffer, if the longest frame fits. Otherwise nothing is written.
+ * Proved, by the contract in encode.rt: if the longest frame fits, the buffer begins with the message's, and bytes
+ * after that are as they were; if it doesn't, the status is TOO_SMALL, and the buffer is as it was. */
+jcobs_answer jcobs_encode_in_place(void *buffer, size_t buffer_len, size_t message_len)
 {
-    unsigned char *const to = (unsigned char *)buffer;
-    size_t room, index, at;
-    unsigned char taken, full, code, code2;
-
-    if (buffer_len == 0) {
-        return jcobs_answered(JCOBS_TOO_SMALL, 0, 0);
-    }
-    room = buffer_len - 1;
-    if (room == 0) {
-        return jcobs_answered(JCOBS_TOO_SMALL, 0, 0);
-    }
-    taken = encoder->taken;
-    if (taken > 253) {
-        return jcobs_answered(JCOBS_TOO_SMALL, 0, 0);
-    }
-    index = encoder->index;
-    if (room < index) {
-        return jcobs_answered(JCOBS_TOO_SMALL, 0, 0);
-    }
-    full = encoder->full;
-    if (full == 0 && room - index <= (size_t)taken) {
-        return jcobs_answered(JCOBS_TOO_SMALL, 0, 0);
-    }
-    code = (unsigned char)(taken + 1);
-    if (index < room) {
-        if (full == 0) {
-            code2 = code;
-        } else {
-            code2 = to[index];
-        }
-        to[index] = code2;
-    }
-    at = index + (size_t)(unsigned char)(full == 0 ? code : 0);
-    encoder->index = 0;
-    encoder->taken = 0;
-    encoder->full = 0;
-    to[at] = 0;
-    return jcobs_answered(JCOBS_OK, 0, at + 1);
-}
-
-/* Takes the next bytes of a message, if the frame of all that was taken fits the buffer. Even if the state is
- * corrupt, the buffer keeps its length, and the counts are within the bytes and the buffer.
- * Proved, by the contract in encoder.rt: the status is OK exactly if the frame of all that was taken and these
- * bytes fits. If it isn't OK, the state and the buffer are as they were. In every state consumed and length are
- * within bytes and buffer. */
-jcobs_answer jcobs_encoder_push(jcobs_encoder *encoder, void *buffer, size_t buffer_len, const void *bytes, size_t len)
-{
-    unsigned char *const to = (unsigned char *)buffer;
-    const unsigned char *const from = (const unsigned char *)bytes;
-    unsigned char taken, full, code, byte;
-    size_t index, left, room, held, i, at;
-
-    taken = encoder->taken;
-    if (taken > 253) {
-        return jcobs_answered(JCOBS_TOO_SMALL, 0, 0);
-    }
-    index = encoder->index;
-    if (buffer_len < index) {
-        return jcobs_answered(JCOBS_TOO_SMALL, 0, 0);
-    }
-    full = encoder->full;
-    left = buffer_len - index;
-    if (full == 0 && left <= (size_t)taken) {
-        return jcobs_answered(JCOBS_TOO_SMALL, 0, 0);
-    }
-    if (len != 0) {
-        code = (unsigned char)(taken + 1);
-        if (left <= (size_t)taken) {
-            return jcobs_answered(JCOBS_TOO_SMALL, 0, 0);
-        }
-        room = left - (size_t)taken;
-        if (room <= len) {
-            return jcobs_answered(JCOBS_TOO_SMALL, 0, 0);
-        }
-        held = len + (size_t)taken;
-        if (held >= 255 && (held >> 7) >= room - len) {
-            for (i = 0; i != len; i++) {
-                if (code == 255) {
-                    if (left < 255) {
-                        return jcobs_answered(JCOBS_TOO_SMALL, 0, 0);
-                    }
-                    code = 1;
-                    left -= 255;
-                }
-                if (from[i] == 0) {
-                    if (left < (size_t)code) {
-                        return jcobs_answered(JCOBS_TOO_SMALL, 0, 0);
-                    }
-                    left -= (size_t)code;
-                    code = 1;
-                } else {
-                    code = (unsigned char)(code + 1);
-                }
-            }
-            if (left < (size_t)code) {
-                return jcobs_answered(JCOBS_TOO_SMALL, 0, 0);
-            }
-        }
-        for (i = 0; i != len; i++) {
-            byte = from[i];
-            taken = (unsigned char)(taken + 1);
-            at = index + (size_t)taken;
-            if (byte == 0) {
-                to[index] = taken;
-                index = at;
-                taken = 0;
-                full = 0;
-            } else {
-                to[at] = byte;
-                if (taken == 254) {
-                    to[index] = 255;
-                    index = at + 1;
-                    taken = 0;
-                    full = 1;
-                } else {
-                    full = 0;
-                }
-            }
-        }
-        encoder->index = index;
-        encoder->taken = taken;
-        encoder->full = full;
-    }
-    return jcobs_answered(JCOBS_OK, len, index + (size_t)(unsigned char)(full == 0 ? (unsigned char)(taken + 1) : 0));
+    return jcobs_encode_within((unsigned char *)buffer, buffer_len, message_len);
 }
 
 /* Makes the encoder one that has taken nothing, even if its state is corrupt.
@@ -606,52 +709,181 @@ void jcobs_encoder_reset(jcobs_encoder *encoder)
     encoder->full = 0;
 }
 
-/* Returns how many bytes the longest frame of a message of message_len bytes has, or 0 if that number doesn't fit.
- * Proved, by the contract in encode.rt: the result is that number if it is below 2 to the 64th, and 0 if not. */
-size_t jcobs_max_length(size_t message_len)
+/* Returns where the frame ends that an encoder has written so far. */
+static JCOBS_INLINE size_t jcobs_end_of(const jcobs_encoder *encoder)
 {
-    size_t overhead;
+    jcobs_progress progress = jcobs_encoder_progress(encoder);
 
-    if (message_len == 0) {
-        overhead = 1;
-    } else {
-        overhead = message_len / 254 + (size_t)(message_len % 254 != 0);
-    }
-    return message_len > ~overhead ? 0 : overhead + message_len;
+    return progress.is_full ? progress.index : progress.index + (size_t)progress.code;
 }
 
-/* Returns whether the bytes are a frame, and which one of its message.
- * Proved, by the contract in kind.rt: the result is NOT_A_FRAME exactly if the bytes are no frame, and CANONICAL
- * exactly if they are the one that encoders write. */
-unsigned int jcobs_frame_kind(const void *bytes, size_t len)
+/* Takes the next bytes of a message, if the frame of all that was taken fits the buffer. */
+static jcobs_answer jcobs_encode_each(jcobs_encoder *encoder, unsigned char *buffer, size_t buffer_len,
+                                      const unsigned char *bytes, size_t bytes_len)
 {
-    const unsigned char *const from = (const unsigned char *)bytes;
-    size_t i, at, left;
-    int is_full;
-    unsigned char byte;
+    if (!jcobs_encoder_push_each(encoder, buffer, buffer_len, bytes, bytes_len)) {
+        return jcobs_too_small();
+    }
+    return jcobs_done(bytes_len, jcobs_end_of(encoder));
+}
 
-    if (len == 0) {
-        return JCOBS_NOT_A_FRAME;
+/* Takes the next bytes of a message, if the frame of all that was taken fits the buffer. Even if the state is
+ * corrupt, the buffer keeps its length, and the counts are within the bytes and the buffer.
+ * Proved, by the contract in encoder.rt: the status is OK exactly if the frame of all that was taken and these
+ * bytes fits. If it isn't OK, the state and the buffer are as they were. In every state consumed and length are
+ * within bytes and buffer. */
+jcobs_answer jcobs_encoder_push(jcobs_encoder *encoder, void *buffer, size_t buffer_len, const void *bytes, size_t len)
+{
+    return jcobs_encode_each(encoder, (unsigned char *)buffer, buffer_len, (const unsigned char *)bytes, len);
+}
+
+/* Takes the next byte of the message. */
+static JCOBS_INLINE int jcobs_encoder_feed_inside(jcobs_encoder *encoder, unsigned char *dest, size_t dest_len,
+                                                  unsigned char byte)
+{
+    size_t room = dest_len;
+    unsigned char taken = encoder->taken;
+
+    if (253 < taken || room < encoder->index || room - encoder->index <= (size_t)taken + 1) {
+        return 0;
     }
-    for (i = 0; i != len; i++) {
-        if (from[i] == 0) {
-            return JCOBS_NOT_A_FRAME;
+    jcobs_encoder_append_byte(encoder, dest, byte);
+    return 1;
+}
+
+/* Takes the next byte of a message, if the frame of all that was taken fits the buffer. */
+static jcobs_answer jcobs_encode_byte(jcobs_encoder *encoder, unsigned char *buffer, size_t buffer_len,
+                                      unsigned char byte)
+{
+    if (!jcobs_encoder_feed_inside(encoder, buffer, buffer_len, byte)) {
+        return jcobs_too_small();
+    }
+    return jcobs_done(1, jcobs_end_of(encoder));
+}
+
+/* Takes the next byte of a message, as a push of that byte.
+ * Proved, by the contract in encoder.rt: the status is OK exactly if the frame of all that was taken and these
+ * bytes fits. If it isn't OK, the state and the buffer are as they were. In every state consumed and length are
+ * within bytes and buffer. */
+jcobs_answer jcobs_encoder_feed(jcobs_encoder *encoder, void *buffer, size_t buffer_len, unsigned char byte)
+{
+    return jcobs_encode_byte(encoder, (unsigned char *)buffer, buffer_len, byte);
+}
+
+/* Ends the message, if its frame fits the buffer. */
+static jcobs_answer jcobs_finish(jcobs_encoder *encoder, unsigned char *buffer, size_t buffer_len)
+{
+    if (buffer_len == 0) {
+        return jcobs_too_small();
+    }
+    jcobs_outcome found = jcobs_encoder_finalize(encoder, buffer, buffer_len);
+    if (found.kind == JCOBS_IS_OK) {
+        return jcobs_done(0, found.count);
+    }
+    return jcobs_too_small();
+}
+
+/* Ends the message, if its frame fits the buffer. Even if the state is corrupt, the buffer keeps its length, and
+ * the returned length is within it.
+ * Proved, by the contract in encoder.rt: if the frame of all that was taken fits, the buffer begins with it, and
+ * the encoder has taken nothing; if it doesn't, the status is TOO_SMALL, and the state and the buffer are as they
+ * were. */
+jcobs_answer jcobs_encoder_finish(jcobs_encoder *encoder, void *buffer, size_t buffer_len)
+{
+    return jcobs_finish(encoder, (unsigned char *)buffer, buffer_len);
+}
+
+/* Ends the message, and writes a zero after its frame, if both fit the buffer. */
+static jcobs_answer jcobs_finish_terminated(jcobs_encoder *encoder, unsigned char *buffer, size_t buffer_len)
+{
+    if (buffer_len == 0) {
+        return jcobs_too_small();
+    }
+    size_t last = buffer_len - 1;
+    jcobs_answer returned = jcobs_finish(encoder, buffer, last);
+    if (returned.status != JCOBS_OK) {
+        return jcobs_answered(returned.status, returned.consumed, returned.length);
+    }
+    buffer[returned.length] = 0;
+    return jcobs_done(returned.consumed, returned.length + 1);
+}
+
+/* Ends the message, as jcobs_encoder_finish does, and writes a zero after its frame, if both fit.
+ * Proved, by the contract in encoder.rt: if the frame of all that was taken and the zero fit, the buffer begins
+ * with them, and the encoder has taken nothing; if they don't, the status is TOO_SMALL, and the state and the
+ * buffer are as they were. */
+jcobs_answer jcobs_encoder_finish_terminated(jcobs_encoder *encoder, void *buffer, size_t buffer_len)
+{
+    return jcobs_finish_terminated(encoder, (unsigned char *)buffer, buffer_len);
+}
+
+/* The result of a decoding call that took this many bytes, into a buffer of room bytes, by the message's length or
+ * the error. */
+static jcobs_answer jcobs_result_by(size_t consumed, size_t room, jcobs_outcome size)
+{
+    JCOBS_STATUS status;
+    size_t length;
+
+    switch (size.kind) {
+    case JCOBS_IS_OK:
+        status = JCOBS_OK;
+        length = size.count;
+        break;
+    case JCOBS_IS_EMPTY_FRAME:
+        status = JCOBS_EMPTY;
+        length = 0;
+        break;
+    case JCOBS_IS_INVALID_FRAME:
+        status = JCOBS_BROKEN;
+        length = size.count;
+        break;
+    default:
+        status = JCOBS_TOO_SMALL;
+        length = room;
+        break;
+    }
+    return jcobs_answered(status, consumed, length);
+}
+
+/* Returns how many bytes are in front of the first zero. */
+static size_t jcobs_len_to_zero(const unsigned char *bytes, size_t bytes_len)
+{
+    for (size_t i = 0; i < bytes_len; i++) {
+        if (bytes[i] == 0) {
+            return i;
         }
     }
-    is_full = 0;
-    at = 0;
-    for (;;) {
-        byte = from[at];
-        left = len - at;
-        if (left < (size_t)byte) {
-            return JCOBS_NOT_A_FRAME;
-        }
-        if (left == (size_t)byte) {
-            return is_full && byte == 1 ? JCOBS_LONGER : JCOBS_CANONICAL;
-        }
-        is_full = byte == 255;
-        at += (size_t)byte;
+    return bytes_len;
+}
+
+/* Moves len bytes of the buffer, which begin at from, to its front. */
+static void jcobs_move_to_front(unsigned char *buffer, size_t from, size_t len)
+{
+    for (size_t i = 0; i < len; i++) {
+        buffer[i] = buffer[from + i];
     }
+}
+
+/* Decodes the blocks in the first end bytes of the buffer, and returns how many bytes they give. */
+static jcobs_outcome jcobs_decode_blocks(unsigned char *buffer, size_t end)
+{
+    size_t read = 0;
+    size_t written = 0;
+
+    while (read < end) {
+        size_t code = (size_t)buffer[read];
+        if (end - read < code) {
+            return jcobs_outcome_of(JCOBS_IS_INVALID_FRAME, written);
+        }
+        jcobs_move_to_front(buffer + written, read + 1 - written, code - 1);
+        read += code;
+        written += code - 1;
+        if (code != JCOBS_FULL && read < end) {
+            buffer[written] = 0;
+            written++;
+        }
+    }
+    return jcobs_outcome_of(JCOBS_IS_OK, written);
 }
 
 /* Decodes the frame at the front of the buffer in its own place.
@@ -660,80 +892,51 @@ unsigned int jcobs_frame_kind(const void *bytes, size_t len)
 jcobs_answer jcobs_decode_in_place(void *buffer, size_t buffer_len)
 {
     unsigned char *const to = (unsigned char *)buffer;
-    size_t end, length, read, count, i, next, consumed;
-    unsigned char byte;
-    JCOBS_STATUS status;
+    size_t room = buffer_len;
 
     if (buffer_len == 0) {
-        return jcobs_answered(JCOBS_EMPTY, 0, 0);
+        return jcobs_result_by(0, room, jcobs_outcome_of(JCOBS_IS_EMPTY_FRAME, 0));
     }
-    end = 0;
-    while (end != buffer_len && to[end] != 0) {
-        end++;
-    }
-    length = 0;
-    read = 0;
-    for (;;) {
-        if (read >= end) {
-            status = JCOBS_OK;
-            break;
-        }
-        byte = to[read];
-        if (end - read < (size_t)byte) {
-            status = JCOBS_BROKEN;
-            break;
-        }
-        count = (size_t)byte - 1;
-        for (i = 0; i != count; i++) {
-            to[length + i] = to[read + i + 1];
-        }
-        read += (size_t)byte;
-        next = count + length;
-        if (byte != 255 && read < end) {
-            to[next] = 0;
-            length += (size_t)byte;
-        } else {
-            length = next;
-        }
-    }
-    consumed = end + 1;
-    return jcobs_answered(status, consumed < buffer_len ? consumed : buffer_len, length);
+    size_t end = jcobs_len_to_zero(to, buffer_len);
+    jcobs_outcome size = jcobs_decode_blocks(to, end);
+    return jcobs_result_by(room < end + 1 ? room : end + 1, room, size);
 }
 
-/* Decodes the first frame of the source to the front of message.
- * Proved, by the contract in decode.rt: the result and every byte of the buffer depend only on the source and
- * message_len, as COBS is defined; a buffer as long as the source is never too small. */
-jcobs_answer jcobs_decode(const void *source, size_t source_len, void *message, size_t message_len)
+/* Returns which frame the bytes are, block by block. */
+static enum jcobs_frame_kind jcobs_kind_of(const unsigned char *bytes, size_t bytes_len)
 {
-    jcobs_decoder decoder;
-    jcobs_answer pushed;
-    JCOBS_STATUS status;
-    size_t written;
-    unsigned char joint;
-    int is_empty;
+    if (bytes_len == 0 || jcobs_len_to_zero(bytes, bytes_len) < bytes_len) {
+        return JCOBS_FRAME_KIND_NOT_A_FRAME;
+    }
+    size_t read = 0;
+    int after_full = 0;
+    for (;;) {
+        size_t code = (size_t)bytes[read];
+        size_t left = bytes_len - read;
+        if (left < code) {
+            return JCOBS_FRAME_KIND_NOT_A_FRAME;
+        }
+        if (left == code) {
+            return after_full && code == 1 ? JCOBS_FRAME_KIND_LONGER : JCOBS_FRAME_KIND_CANONICAL;
+        }
+        after_full = code == JCOBS_FULL;
+        read += code;
+    }
+}
 
-    decoder.written = 0;
-    decoder.missing = 0;
-    decoder.joint = 0;
-    decoder.too_long = 0;
-    pushed = jcobs_decoder_push(&decoder, message, message_len, source, source_len);
-    status = pushed.status;
-    if (status != JCOBS_MORE) {
-        return jcobs_answered(status, pushed.consumed, pushed.length);
+/* Returns whether the bytes are a frame, and which one of its message.
+ * Proved, by the contract in kind.rt: the result is NOT_A_FRAME exactly if the bytes are no frame, and CANONICAL
+ * exactly if they are the one that encoders write. */
+unsigned int jcobs_frame_kind(const void *bytes, size_t len)
+{
+    switch (jcobs_kind_of((const unsigned char *)bytes, len)) {
+    case JCOBS_FRAME_KIND_NOT_A_FRAME:
+        return JCOBS_NOT_A_FRAME;
+    case JCOBS_FRAME_KIND_CANONICAL:
+        return JCOBS_CANONICAL;
+    default:
+        return JCOBS_LONGER;
     }
-    written = decoder.written;
-    joint = decoder.joint;
-    if (decoder.too_long != 0) {
-        return jcobs_answered(JCOBS_TOO_SMALL, source_len, message_len);
-    }
-    if (decoder.missing != 0) {
-        return jcobs_answered(JCOBS_BROKEN, source_len, written);
-    }
-    if (message_len < written) {
-        return jcobs_answered(JCOBS_TOO_SMALL, source_len, message_len);
-    }
-    is_empty = written == 0 && joint == 0;
-    return jcobs_answered(is_empty ? JCOBS_EMPTY : JCOBS_OK, source_len, is_empty ? 0 : written);
 }
 
 /* The calls from here on are written by hand, around those above. */

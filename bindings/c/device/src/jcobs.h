@@ -95,7 +95,9 @@
  * at its sentinel. COBS has no checksum: damage that turns a frame into another one isn't noticed.
  *
  * Built for x86-64, the library needs x86-64-v2 (SSE4.2 and POPCNT: Intel since 2009, AMD since 2011); for
- * aarch64, ARMv8-A. It has no unwind tables, and no call throws or unwinds. It calls only memcpy and memmove.
+ * aarch64, ARMv8-A. It has call frame information for debuggers, but no unwind tables, and no call throws or unwinds.
+ * Its calls begin with landing pads, so that a program which is hardened by IBT, SHSTK or BTI stays so. It calls only
+ * memcpy and memmove.
  */
 #ifndef JCOBS_H
 #define JCOBS_H
@@ -120,7 +122,8 @@ extern "C" {
 #endif
 
 /* The type of a status in jcobs_answer has the size of unsigned int in every language, on every target and with
- * -fshort-enums. It is jcobs_status where that has this size, so that -Wswitch checks a switch over it. */
+ * -fshort-enums. It is jcobs_status if the compiler can tell that this has that size: then -Wswitch checks a switch
+ * over it. */
 #if (defined(__cplusplus) && __cplusplus >= 201103L) || (defined(__STDC_VERSION__) && __STDC_VERSION__ >= 202311L)
 #define JCOBS_ENUM(name) enum name : unsigned int
 #define JCOBS_STATUS jcobs_status

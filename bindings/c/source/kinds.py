@@ -1,0 +1,95 @@
+"""The types of Rattle as those of C.
+
+A struct is one of C, and so is a slice's pointer and length. An enum without fields is one of C too. An enum with fields, an Option
+or a Result is a jcobs_outcome, a kind and a number; with a second number it is a jcobs_found. A Result of nothing is an int, whether
+it is Ok.
+"""
+
+import re
+
+from rattle import Unknown
+
+SCALARS = {"usize": "size_t", "u8": "unsigned char", "u32": "unsigned int", "bool": "int"}
+NUMBERS = ("usize", "u8", "u32")
+USIZE, BYTE, BOOL = (("path", it, []) for it in ("usize", "u8", "bool"))
+OUTCOME, FOUND = ("outcome",), ("found",)
+
+
+def snake(name):
+    name = name.replace("::", "_")
+    return re.sub(r"(?<=[a-z0-9])(?=[A-Z])|(?<=[A-Z])(?=[A-Z][a-z])", "_", name).lower()
+
+
+class Value:
+    """An expression of C: its text, its type, how strongly it binds, and whether it is a constant."""
+
+    def __init__(self, text, kind, level=20, literal=False):
+        self.text, self.kind, self.level, self.literal = text, kind, level, literal
+
+    def at(self, level):
+        return self.text if self.level >= level else f"({self.text})"
+
+
+class Slice:
+    """A slice: its pointer and its length."""
+
+    def __init__(self, pointer, length, mutable):
+        self.pointer, self.length, self.mutable = pointer, length, mutable
+
+
+class Kinds:
+    """What a function knows of types."""
+
+    def find(self, name):
+        return self.out.program.find(name, self.path, self.crate)
+
+    def item(self, kind):
+        """The struct or the enum of a type, through a reference."""
+        kind = kind[2] if kind[0] == "ref" else kind
+        return self.find(kind[1])[2] if kind[0] == "path" else None
+
+    def kind_of(self, kind):
+        """A type as values have it: that of C, for an enum with fields, an Option or a Result."""
+        if kind is None or kind[0] != "path" or kind[1] in SCALARS:
+            return kind
+        if kind[1] == "Result" and kind[2][0] == ("tuple", []):
+            return BOOL
+        if kind[1] == "Option" and kind[2][0][0] == "tuple":
+            return FOUND
+        if kind[1] in ("Option", "Result"):
+            return OUTCOME
+        item = self.find(kind[1])[2]
+        return OUTCOME if item[0] == "enum" and any(fields for _, fields in item[2]) else kind
+
+    def c_type(self, kind, name=""):
+        kind = self.kind_of(kind)
+        if kind is None:
+            return "void"
+        if kind in (OUTCOME, FOUND):
+            return f"jcobs_{kind[0]}"
+        if kind[0] == "ref":
+            return f"{'' if kind[1] else 'const '}{self.c_type(kind[2])} *"
+        if kind[0] != "path":
+            raise Unknown(f"{self.name}: type {kind}")
+        if kind[1] == "u32" and name == "status":
+            return "JCOBS_STATUS"
+        if kind[1] in SCALARS:
+            return SCALARS[kind[1]]
+        if self.item(kind)[0] == "enum":
+            return f"enum jcobs_{snake(kind[1])}"
+        return self.out.struct(self.item(kind), self)
+
+    def declared(self, kind, name):
+        text = self.c_type(kind, name)
+        return f"{text}{'' if text.endswith('*') else ' '}{name}"
+
+    def variant(self, name):
+        """The enum of which a path names a variant."""
+        if "::" not in name:
+            return None
+        owner, _, last = name.rpartition("::")
+        try:
+            item = self.find(owner)[2]
+        except Unknown:
+            return None
+        return item if item[0] == "enum" and last in dict(item[2]) else None

@@ -1,0 +1,56 @@
+"""The items of the crates that jcobs.c is made of, and what each name means in a file."""
+
+import re
+
+import rattle
+from rattle import Unknown
+
+CRATES = ["cobs_small", "cobs_abi", "cobs"]
+
+
+class Program:
+    """All items of the crates: each as its crate, its file and what rattle.py has read."""
+
+    def __init__(self, crates):
+        self.files, self.named = {}, {}
+        for crate in CRATES:
+            for path in sorted((crates / crate / "src").rglob("*.rt")):
+                if "laws" not in (*path.parts, path.stem):
+                    self.add(crate, path)
+
+    def add(self, crate, path):
+        try:
+            items = rattle.read(path)
+        except Unknown:
+            if crate != "cobs":
+                raise
+            items = []  # a file that the coder for devices has nothing of, or a name of it isn't found
+        for item in items:
+            if item[0] != "use":
+                self.named.setdefault((crate, item[1]), []).append((crate, path, item))
+        uses = [it[1] for it in items if it[0] == "use"]
+        self.files[path] = ({it[1]: (crate, path, it) for it in items if it[0] != "use"}, uses)
+
+    def find(self, name, path, crate):
+        """What the name means in this file of this crate."""
+        names, uses = self.files[path]
+        if name in names:
+            return names[name]
+        first = name.split("::")[0]
+        for use in uses:
+            if re.search(rf"(?<!\w){first}(?!\w)", use):
+                words = re.findall(r"\w+", use)
+                found = self.named.get((crate if words[0] == "crate" else words[0], name), [])
+                if found:
+                    return self.nearest(name, found, words[1:])
+        for other in CRATES:
+            if found := self.named.get((other, name), []):
+                return self.nearest(name, found, [])
+        raise Unknown(f"{path.name}: {name} isn't found")
+
+    def nearest(self, name, found, words):
+        """The one of these whose path has the most words of the import."""
+        near = [sum(word in (*path.parts, path.stem) for word in words) for _, path, _ in found]
+        if near.count(max(near)) > 1:
+            raise Unknown(f"{name} is more than one item")
+        return found[near.index(max(near))]
