@@ -4,8 +4,9 @@ use crate::workload::messages;
 use crate::{c, crates, simd};
 use std::hint::black_box;
 
-/// The columns. A number is how many bytes each call takes; "feed" takes one.
-pub const CALLS: [&str; 14] = [
+/// The columns. A number is how many bytes each call takes; "feed" takes one. The last ones are of the Rust crates alone, in loops
+/// that handle errors: they are counted, or returned by `?`, or each byte is a call of a method.
+pub const CALLS: [&str; 23] = [
     "encode",
     "encode sentinel",
     "encoder feed",
@@ -20,6 +21,15 @@ pub const CALLS: [&str; 14] = [
     "push 8",
     "push 64",
     "push whole",
+    "counted feed",
+    "method feed",
+    "counted push 1",
+    "counted push 4",
+    "counted push 8",
+    "tried encoder 1",
+    "tried encoder 4",
+    "tried encoder 8",
+    "encoder state",
 ];
 
 /// What ships, then what someone would take instead, then the limit.

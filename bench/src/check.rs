@@ -15,16 +15,17 @@ fn check_call(call: &str, who: &str, work: &mut Work) {
     work.lay_out(call);
     let (message, frame) = (work.messages[0].clone(), work.frames[0].clone());
     let Some(sum) = once(call, who, work) else { return };
+    let encodes = call.contains("encode");
     let wanted = match call {
-        "encode" if who == "limit" => return,
-        "encode" | "encoder feed" | "encoder 8" | "encoder 64" | "encoder whole" => frame,
         "encode sentinel" => frame.iter().map(|byte| byte ^ SENTINEL).collect(),
+        _ if encodes && who == "limit" => return,
+        _ if encodes => frame,
         _ => message,
     };
     let found = if call == "in place" && who != "limit" { &work.copies[0] } else { &work.room };
     assert_eq!(&found[..wanted.len()], &wanted, "{who}: {call}");
     // Some rivals end a frame whose last block is full with one more block.
-    let is_longer = sum == wanted.len() + 1 && found[wanted.len()] == 1 && call.starts_with("encode");
+    let is_longer = sum == wanted.len() + 1 && found[wanted.len()] == 1 && encodes;
     assert!(sum == wanted.len() || is_longer, "{who}: the length of {call}");
 }
 

@@ -8,7 +8,7 @@ macro_rules! calls_of {
     ($by:ident) => {
         pub mod $by {
             use super::*;
-            use ::$by::{CobsDecoder, CobsEncoder};
+            use ::$by::{CobsDecoder, CobsEncoder, DestBufTooSmallError, EncoderState, PushResult};
 
             #[inline(never)]
             fn encode(messages: &[Vec<u8>], room: &mut [u8]) -> usize {
@@ -83,6 +83,115 @@ macro_rules! calls_of {
                 })
             }
 
+            // The same with errors that are handled, as receivers and senders do. A loop over `unwrap` drops the state where
+            // there is one, so that the compiler keeps all of it in registers.
+            #[inline(never)]
+            fn counted_feed(stream: &[u8], room: &mut [u8]) -> usize {
+                let mut decoder = CobsDecoder::new(room);
+                let (mut sum, mut errors) = (0, 0);
+                for byte in black_box(stream) {
+                    match decoder.feed(*byte) {
+                        Ok(None) => {}
+                        Ok(Some(len)) => sum += len,
+                        Err(_) => errors += 1,
+                    }
+                }
+                sum + black_box(errors)
+            }
+
+            /// A receiver that gets each byte by a call, as from an interrupt.
+            struct Receiver<'a> {
+                decoder: CobsDecoder<'a>,
+                sum: usize,
+                errors: usize,
+            }
+
+            impl Receiver<'_> {
+                #[inline(never)]
+                fn on_byte(&mut self, byte: u8) {
+                    match self.decoder.feed(byte) {
+                        Ok(None) => {}
+                        Ok(Some(len)) => self.sum += len,
+                        Err(_) => self.errors += 1,
+                    }
+                }
+            }
+
+            #[inline(never)]
+            fn method_feed(stream: &[u8], room: &mut [u8]) -> usize {
+                let mut receiver = Receiver { decoder: CobsDecoder::new(room), sum: 0, errors: 0 };
+                for byte in black_box(stream) {
+                    receiver.on_byte(*byte);
+                }
+                receiver.sum + black_box(receiver.errors)
+            }
+
+            #[inline(never)]
+            fn counted_push(stream: &[u8], chunk: usize, room: &mut [u8]) -> usize {
+                let mut decoder = CobsDecoder::new(room);
+                let mut errors = 0;
+                let sum = through(stream, chunk, |piece| match decoder.push(piece) {
+                    Ok(Some(report)) => (report.parsed_size(), Some(report.frame_size())),
+                    Ok(None) => (piece.len(), None),
+                    Err(_) => {
+                        errors += 1;
+                        (piece.len(), None)
+                    }
+                });
+                sum + black_box(errors)
+            }
+
+            fn encode_in_pieces(message: &[u8], chunk: usize, room: &mut [u8]) -> Result<usize, DestBufTooSmallError> {
+                let mut encoder = CobsEncoder::new(room);
+                for piece in message.chunks(chunk) {
+                    encoder.push(piece)?;
+                }
+                Ok(encoder.finalize())
+            }
+
+            #[inline(never)]
+            fn tried_encoder(messages: &[Vec<u8>], chunk: usize, room: &mut [u8]) -> usize {
+                let (mut sum, mut errors) = (0, 0);
+                for message in messages {
+                    match encode_in_pieces(message, chunk, room) {
+                        Ok(len) => sum += len,
+                        Err(_) => errors += 1,
+                    }
+                }
+                sum + black_box(errors)
+            }
+
+            /// The state machine alone, over a buffer of one's own, as serializers have it.
+            #[inline(never)]
+            fn encoder_state(messages: &[Vec<u8>], room: &mut [u8]) -> usize {
+                let mut sum = 0;
+                for message in messages {
+                    let mut state = EncoderState::default();
+                    let mut end = 1;
+                    for byte in message {
+                        end += match state.push(*byte) {
+                            PushResult::AddSingle(byte) => {
+                                room[end] = byte;
+                                1
+                            }
+                            PushResult::ModifyFromStartAndSkip((at, code)) => {
+                                room[at] = code;
+                                1
+                            }
+                            PushResult::ModifyFromStartAndPushAndSkip((at, code, byte)) => {
+                                room[at] = code;
+                                room[end] = byte;
+                                2
+                            }
+                        };
+                    }
+                    let (at, code) = state.finalize();
+                    room[at] = code;
+                    sum += end;
+                }
+                sum
+            }
+
             pub fn once(call: &str, work: &mut Work) -> Option<usize> {
                 let chunk = chunk_of(call, work);
                 let Work { messages, frames, sentinel_frames, stream, room, copies, .. } = work;
@@ -97,6 +206,11 @@ macro_rules! calls_of {
                     "feed" => feed(stream, room),
                     "push 1" => push_1(stream, room),
                     "push 8" | "push 64" | "push whole" => push(stream, chunk, room),
+                    "counted feed" => counted_feed(stream, room),
+                    "method feed" => method_feed(stream, room),
+                    "counted push 1" | "counted push 4" | "counted push 8" => counted_push(stream, chunk, room),
+                    "tried encoder 1" | "tried encoder 4" | "tried encoder 8" => tried_encoder(messages, chunk, room),
+                    "encoder state" => encoder_state(messages, room),
                     _ => return None,
                 })
             }

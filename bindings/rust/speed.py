@@ -12,6 +12,10 @@ NAMES = {
     "encoder 8": "of 8 bytes", "encoder 64": "of 64 bytes", "decode": "`decode`", "decode sentinel": "`decode_with_sentinel`",
     "in place": "`decode_in_place`", "feed": "`CobsDecoder::feed`", "push 1": "`CobsDecoder::push` of 1 byte",
     "push 8": "of 8 bytes", "push 64": "of 64 bytes", "push whole": "of all frames",
+    "counted feed": "errors counted: `feed`", "method feed": "`feed` in a method a byte", "counted push 1": "`push` of 1 byte",
+    "counted push 4": "of 4 bytes", "counted push 8": "of 8 bytes",
+    "tried encoder 1": "errors by `?`: `CobsEncoder::push` of 1 byte", "tried encoder 4": "of 4 bytes", "tried encoder 8": "of 8 bytes",
+    "encoder state": "`EncoderState::push`",
 }  # fmt: skip
 
 
@@ -35,12 +39,25 @@ def ratios(found, call, other):
     return f"{statistics.median(row[0] for row in rows):.1f}; {least:.2f} ({kind})"
 
 
+def slower(found):
+    """Where the crate `cobs` is faster: each call, with the kinds of messages, or how many if they are many."""
+    parts, base = [], ""
+    for call, name in NAMES.items():
+        base = base if name.startswith("of ") else name.partition(" of ")[0]
+        kinds = [kind for (of, kind), speeds in found.items() if of == call and speeds[2] and speeds[1] < speeds[2]]
+        if kinds:
+            full = f"{base} {name}" if name.startswith("of ") else name
+            parts.append(f"{full} ({', '.join(kinds) if len(kinds) < 4 else f'{len(kinds)} kinds'})")
+    return "; ".join(parts) or "nowhere"
+
+
 def main():
     dashes = sys.argv.index("--")
     plain, linked = best(sys.argv[1:dashes]), best(sys.argv[dashes + 1 :])
     print("| call | / `cobs` | / `cobs`, with LTO | / `libjcobs` |\n|---|---|---|---|")
     for call, name in NAMES.items():
         print(f"| {name} | {ratios(plain, call, 2)} | {ratios(linked, call, 2)} | {ratios(plain, call, 0)} |")
+    print(f"\n`cobs` is faster here: without LTO {slower(plain)}; with LTO {slower(linked)}.")
 
 
 if __name__ == "__main__":

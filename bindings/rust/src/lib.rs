@@ -71,7 +71,8 @@
 //! | a recorded stream | [`frames`], [`decode_stream_in_place`], [`decode_stream`]; [`encode_frames`] makes one |
 //! | a buffer to make | [`max_encoding_length`] |
 //!
-//! The folder `examples` has a codec for tokio, a receiver over embedded-io, and one whose bytes come by an interrupt.
+//! The folder `examples` of the repository has a codec for tokio, a receiver over embedded-io, and one whose bytes come by an
+//! interrupt.
 //!
 //! # What is proved
 //!

@@ -1,0 +1,71 @@
+#!/bin/sh
+# Runs the crate's tests as programs for other targets: targets.sh [TARGET..] [-- FLAG..]
+#
+# aarch64 (NEON), armv7, i686 and s390x (big-endian) by qemu-user, with the tests that come with the package and the cases of
+# conformance/; wasm32 in Node, with SIMD and without, on random messages and streams (wasm/). Each needs a compiler that has
+# the target's library: rustup's, Debian's /usr/bin/rustc, or the one that RUSTC names. A target that lacks something is
+# skipped by name. FLAG.. choose tests, as those of cargo test: targets.sh s390x -- --test model
+#
+# Prints a line for each part; the last line counts them. Not a part of run.sh: it takes minutes.
+#
+# The functions are called by 'part'. Lists of flags are meant to be split.
+# shellcheck disable=SC2086,SC2317
+set -u
+rust=$(cd "$(dirname "$0")/.." && pwd)
+root=$(cd "$rust/../.." && pwd)
+PATH=$PATH:$HOME/.cargo/bin
+export PATH
+# shellcheck source=SCRIPTDIR/../../../tests/count.sh
+. "$root/tests/count.sh"
+# shellcheck source=SCRIPTDIR/linux.sh
+. "$rust/tests/linux.sh"
+
+chosen=
+while [ $# -gt 0 ]; do
+    [ "$1" != -- ] || { shift && break; }
+    chosen="$chosen $1"
+    shift
+done
+chosen=${chosen:-aarch64 armv7 i686 s390x wasm32}
+flags=${*:---lib --test vectors --test differences --test steps --test pushes --test model --test ports}
+if ! missing=$("$rust/tests/offline.sh" "$work"); then
+    skip 'other targets' "$missing"
+    finish
+fi
+# A copy, as cargo writes beside what it builds.
+mkdir -p "$work/tree/bindings" && cp -R "$rust" "$work/tree/bindings/rust" && rm -rf "$work/tree/bindings/rust/target" &&
+    ln -s "$root/conformance" "$root/bench" "$work/tree" && cd "$work/tree/bindings/rust" || exit
+
+# Optimized a little: qemu takes ten times as long. The checks of a debug build stay, and so do the tests' smaller numbers.
+tests() { # NAME TARGET LINKER RUNNER
+    in_cargo=$(echo "$2" | tr 'a-z-' 'A-Z_')
+    export "CARGO_TARGET_${in_cargo}_LINKER=$3" "CARGO_TARGET_${in_cargo}_RUNNER=$4" "RUSTC=$compiler"
+    export "CARGO_TARGET_DIR=$work/target" CARGO_PROFILE_TEST_OPT_LEVEL=1
+    cargo test --target "$2" $flags && cargo test --target "$2" $flags --features small
+}
+
+# Built for WebAssembly, and run in Node beside a loop over single bytes in JavaScript.
+in_node() { # NAME FLAG..
+    called=$1
+    shift
+    export "RUSTC=$compiler"
+    RUSTFLAGS="$*" CARGO_TARGET_DIR=$work/$called cargo build --release --target wasm32-unknown-unknown \
+        --manifest-path tests/wasm/Cargo.toml $features &&
+        node tests/wasm/run.mjs "$work/$called/wasm32-unknown-unknown/release/jcobs_in_node.wasm" >"$work/in-node" &&
+        sed 's/^/= /' "$work/in-node"
+}
+
+each_linux tests $chosen
+case " $chosen " in *' wasm32 '*)
+    if ! compiler=$(compiler_for wasm32-unknown-unknown); then
+        skip 'on wasm32' 'needs rustup target add wasm32-unknown-unknown'
+    elif has node nodejs 'on wasm32'; then
+        features=
+        part 'on wasm32' in_node plain -C target-feature=-simd128
+        part 'on wasm32, with SIMD' in_node simd -C target-feature=+simd128
+        features='--features small'
+        part 'on wasm32, byte by byte' in_node small -C target-feature=-simd128
+    fi
+    ;;
+esac
+finish
