@@ -59,7 +59,19 @@ REWORDED = {
     " Contracts see it as its decoder and the bytes that it has read and not yet fed to the decoder.": "",
     "Contracts see it as the bytes of its buffer and its phase. ": "",
     "[`decode_short`](crate::decode_short)": "`decode_short`",
+    " (A choice of this library.)": "",
+    " (The names are this library's own.)": "",
+    "(The trait is this library's own.)": "",
+    "Precondition: the decoder is idle, as it is when new, after a reset, and after each zero.": "The decoder is idle, as it is"
+    " when new, after a reset, and after each zero. Otherwise the first\noutcome is that of the piece that it has begun.",
+    "Precondition: the sum of [`max_encoding_length`](crate::max_encoding_length) plus 1 over the messages fits a `usize`, as"
+    " [`encode_frames_room`] says. Memory is allocated once, for that many bytes.": "Memory is allocated once, for"
+    " [`encode_frames_room`] of the messages.\n\n# Panics\n\nIf that many bytes don't fit a `usize`.",
+    "Precondition: [`can_push`](EncoderState::can_push) is true. Indices count bytes from the start of the output.": "Indices count"
+    " bytes from the start of the output.\n\n# Panics\n\nWith overflow checks, if [`can_push`](EncoderState::can_push) is false.",
 }
+# The traits whose methods an example calls. `UnbufferedDecoder` has `feed_piece` itself.
+TRAITS = {"FrameDecoder": "feed_byte|feed_piece|buffer", "FrameSource": "read_some"}
 # Functions whose result depends on the target, and that result here. No proof rests on it.
 BY_TARGET = {"cobs_bytes::has_vectors": {"true": "crate::simd::HAS_VECTORS"}}
 # Calls that are `const fn` in the crate `cobs`, or called by one.
@@ -117,12 +129,12 @@ def doc(source, lines):
         pattern = re.escape(words).replace("\\ ", r"\s+")
         text, count = re.subn(pattern, others.replace("\\", "\\\\"), text)
         reworded.update([words] * count)
-    out, example = [], None
+    out, example, shown = [], None, is_shown(source, sign)
     for line in text.split("\n"):
         if line == "```" and example is None:
             example = []
         elif line == "```":
-            out += ["```", *doctest(example), "```"]
+            out += ["```", *doctest(example, shown), "```"]
             example = None
         elif example is not None:
             example.append(line)
@@ -130,6 +142,7 @@ def doc(source, lines):
             out.append(line)
     # A link to what another file has.
     text = re.sub(r"\[`(\w+)`\](?![(\[])", lambda found: linked(source, found[1]), "\n".join(out))
+    text = re.sub(r"\n{3,}", "\n\n", text)
     # A paragraph, or an item of a list, about what isn't here.
     parts = re.split(r"\n(?=\n|- )", text)
     out = "\n".join(part for part in parts if "rt.alloc()" not in part and "[`laws`]" not in part).split("\n")
@@ -142,14 +155,40 @@ def linked(source, name):
     return f"[`{name}`]" if known else f"[`{name}`](crate::proved::{name})"
 
 
-def doctest(example):
-    """An example, with the lines round it that aren't shown."""
+def exported():
+    """The names that the crate exports, and those of them that are translated."""
+    text = "".join((HERE / "src" / name).read_text() for name in ("lib.rs", "dec.rs", "enc.rs"))
+    of_proved = " ".join(re.findall(r"^pub use crate::proved::(.*?);", text, re.M | re.S))
+    others = " ".join(re.findall(r"^pub use (?:crate::)?(?!proved)\w+::([^*;]*);", text, re.M | re.S))
+    functions = re.findall(r"^pub (?:const )?fn (\w+)", text, re.M)
+    translated = set(re.findall(r"\w+", of_proved))
+    return translated | set(re.findall(r"\w+", others)) | set(functions), translated
+
+
+def is_shown(source, sign):
+    """Whether the comment that ends before this line is one of a translated item that the crate exports, or in one."""
+    head = next((line for line in source.lines[source.at :] if line.strip() and not line.strip().startswith(("//", "#"))), "")
+    named = re.match(rf"{ITEM}|pub (?:struct|enum|trait|type) (\w+)", head)
+    name = (named[1] or named[2]) if named else source.owner
+    return sign == "///" and name in exported()[1]
+
+
+def doctest(example, shown):
+    """An example, with the lines round it that aren't shown. Of a shown item it imports the names that the crate exports."""
     text = "\n".join(example)
     text = re.sub(r"(assert(?:_eq|_ne)?!\()rt; ?", r"\1", text)
     text = re.sub(r"\.(to_vec|to_string)\(alloc\)\?", r".\1()", text)
     text = re.sub(r"\.clone\(\)\?", ".clone()", text)
     text = without_allocator(text).replace("cobs::", "jcobs::proved::")
     lines = ["# use jcobs::proved::*;"] + ["# use jcobs::ArrayVec;"] * ("ArrayVec" in text)
+    if shown:
+        text = re.sub(r"^use jcobs::proved::.*;\n+", "", text, flags=re.M)
+        code = "\n".join(bare(line) for line in text.split("\n"))
+        names = {name for name in exported()[0] if re.search(rf"(?<![\w.]){name}\b(?!:[^:])", code)}
+        own = "UnbufferedDecoder" in code
+        names |= {trait for trait, method in TRAITS.items() if re.search(rf"\.({method})\(", code) and not (own and trait == "FrameDecoder")}
+        names = sorted(names)
+        lines, text = [], f"use jcobs::{{{', '.join(names)}}};\n\n{text}" if len(names) > 1 else f"use jcobs::{names[0]};\n\n{text}"
     feature = next((f for f in ("std", "alloc") if any(re.search(rf"\b{name}\b", text) for name in needing[f])), None)
     lines += [f'# #[cfg(feature = "{feature}")] {{', *text.split("\n"), "# }"] if feature else text.split("\n")
     if re.search(r"\)\?|\w\?", text):

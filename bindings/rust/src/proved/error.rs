@@ -6,7 +6,8 @@ use crate::memory::AllocError;
 /// The frame is longer than the slice that was to hold it.
 ///
 /// ```
-/// # use jcobs::proved::*;
+/// use jcobs::DestBufTooSmallError;
+///
 /// let text = DestBufTooSmallError.to_string();
 /// assert_eq!(text.as_str(), "out of bounds error during encoding");
 /// ```
@@ -28,7 +29,8 @@ impl core::error::Error for DestBufTooSmallError {}
 /// Why a frame is rejected. The names are those of the crate `cobs`.
 ///
 /// ```
-/// # use jcobs::proved::*;
+/// use jcobs::{DecodeError, decode};
+///
 /// assert_eq!(decode(&[], &mut [0; 4]), Err(DecodeError::EmptyFrame));
 /// let rejected = decode(&[3, 1, 2], &mut [0; 1]);
 /// assert_eq!(rejected, Err(DecodeError::TargetBufTooSmall));
@@ -65,12 +67,13 @@ impl core::fmt::Display for DecodeError {
 
 impl core::error::Error for DecodeError {}
 
-/// Why a `push` of a streaming decoder found no message, and after how many bytes. (A choice of this library.)
+/// Why a `push` of a streaming decoder found no message, and after how many bytes.
 ///
 /// The decoder has taken these bytes and none after them, so the caller goes on by pushing the others.
 ///
 /// ```
-/// # use jcobs::proved::*;
+/// use jcobs::{DecodeError, PushError, UnbufferedDecoder};
+///
 /// let mut buffer = [0; 4];
 /// let mut decoder = UnbufferedDecoder::new();
 /// let rejected = PushError {
@@ -130,7 +133,8 @@ impl core::error::Error for DecodeVecError {}
 /// The sizes of a decoded message: how many bytes were consumed for it, and how many it has, named as in the crate `cobs`.
 ///
 /// ```
-/// # use jcobs::proved::*;
+/// use jcobs::decode;
+///
 /// let report = decode(&[0, 3, 1, 2, 0, 1], &mut [0; 4])?;
 /// assert_eq!(report.parsed_size(), 5);
 /// assert_eq!(report.frame_size(), 2);
@@ -149,7 +153,8 @@ impl DecodeReport {
     /// and the one after the frame are among them.
     ///
     /// ```
-    /// # use jcobs::proved::*;
+    /// use jcobs::decode;
+    ///
     /// assert_eq!(decode(&[0, 1, 0], &mut [])?.parsed_size(), 3);
     /// # Ok::<(), Box<dyn std::error::Error>>(())
     /// ```
@@ -160,7 +165,8 @@ impl DecodeReport {
     /// Returns how many bytes the message has; they are at the front of the buffer.
     ///
     /// ```
-    /// # use jcobs::proved::*;
+    /// use jcobs::decode;
+    ///
     /// assert_eq!(decode(&[0, 2, 7], &mut [0; 4])?.frame_size(), 1);
     /// # Ok::<(), Box<dyn std::error::Error>>(())
     /// ```

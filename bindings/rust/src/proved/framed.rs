@@ -13,8 +13,9 @@ use std::io::Read;
 /// What a call of [`next_frame`](FrameReader::next_frame) found.
 ///
 /// ```
-/// # use jcobs::proved::*;
 /// # #[cfg(feature = "std")] {
+/// use jcobs::{CobsDecoderHeapless, FrameReader, Next, Recorded};
+///
 /// let mut source = Recorded::new([3, 7, 0].as_slice());
 /// let mut reader = FrameReader::new(CobsDecoderHeapless::<8>::new());
 /// assert_eq!(reader.next_frame(&mut source), Ok(Next::Broken(1)));
@@ -42,7 +43,8 @@ pub enum Next {
 /// Why a call of `next_frame` found nothing. No byte is lost by it: a later call goes on from there.
 ///
 /// ```
-/// # use jcobs::proved::*;
+/// use jcobs::{FrameDecoder, FrameReader, FrameSource, Next, ReadFault};
+///
 /// fn next_or_more<D: FrameDecoder, S: FrameSource>(
 ///     reader: &mut FrameReader<D>,
 ///     source: &mut S,
@@ -68,8 +70,9 @@ pub enum ReadFault {
 /// [`FrameReader::next_frame`] panics if a read says that it gave more than 64 bytes.
 ///
 /// ```
-/// # use jcobs::proved::*;
 /// # #[cfg(feature = "std")] {
+/// use jcobs::{FrameSource, Recorded};
+///
 /// let mut source = Recorded::new([2, 7].as_slice());
 /// let mut chunk = [0; 64];
 /// assert_eq!(source.read_some(&mut chunk), Some(2));
@@ -84,8 +87,9 @@ pub trait FrameSource {
     /// and `None` that it failed.
     ///
     /// ```
-    /// # use jcobs::proved::*;
     /// # #[cfg(feature = "std")] {
+    /// use jcobs::{FrameSource, Recorded};
+    ///
     /// let mut source = Recorded::new([7; 100].as_slice());
     /// let mut chunk = [0; 64];
     /// assert_eq!(source.read_some(&mut chunk), Some(64));
@@ -98,8 +102,9 @@ pub trait FrameSource {
 /// Any reader as a source of bytes: one `read` a call, and each error of it is a failed read.
 ///
 /// ```
-/// # use jcobs::proved::*;
 /// # #[cfg(feature = "std")] {
+/// use jcobs::{CobsDecoderHeapless, FrameReader, Next, Recorded};
+///
 /// let mut source = Recorded::new([1, 0, 2].as_slice());
 /// let mut reader = FrameReader::new(CobsDecoderHeapless::<8>::new());
 /// assert_eq!(reader.next_frame(&mut source), Ok(Next::Message(0)));
@@ -116,8 +121,9 @@ impl<R: Read> Recorded<R> {
     /// Makes a source that reads from this reader.
     ///
     /// ```
-    /// # use jcobs::proved::*;
     /// # #[cfg(feature = "std")] {
+    /// use jcobs::{CobsDecoderHeapless, FrameReader, Next, Recorded};
+    ///
     /// let mut source = Recorded::new([2, 7, 0].as_slice());
     /// let mut reader = FrameReader::new(CobsDecoderHeapless::<8>::new());
     /// assert_eq!(reader.next_frame(&mut source), Ok(Next::Message(1)));
@@ -130,8 +136,9 @@ impl<R: Read> Recorded<R> {
     /// Returns the reader, as the reads so far have left it.
     ///
     /// ```
-    /// # use jcobs::proved::*;
     /// # #[cfg(feature = "std")] {
+    /// use jcobs::Recorded;
+    ///
     /// let source = Recorded::new([1, 0].as_slice());
     /// assert_eq!(source.into_inner(), [1, 0].as_slice());
     /// # }
@@ -177,8 +184,9 @@ const MOST_READS: usize = 65536;
 /// The source isn't part of it but given to each call, so a stream may go on in another source.
 ///
 /// ```
-/// # use jcobs::proved::*;
 /// # #[cfg(feature = "std")] {
+/// use jcobs::{CobsDecoderHeapless, FrameReader, Next, Recorded};
+///
 /// let mut source = Recorded::new(b"\x06hello\0\x03h".as_slice());
 /// let mut reader = FrameReader::new(CobsDecoderHeapless::<8>::new());
 /// assert_eq!(reader.next_frame(&mut source), Ok(Next::Message(5)));
@@ -197,11 +205,13 @@ pub struct FrameReader<D: FrameDecoder> {
 impl<D: FrameDecoder> FrameReader<D> {
     /// Makes a reader with this decoder, which has read nothing yet.
     ///
-    /// Precondition: the decoder is idle, as it is when new, after a reset, and after each zero.
+    /// The decoder is idle, as it is when new, after a reset, and after each zero. Otherwise the first
+    /// outcome is that of the piece that it has begun.
     ///
     /// ```
-    /// # use jcobs::proved::*;
     /// # #[cfg(feature = "std")] {
+    /// use jcobs::{CobsDecoderHeapless, FrameReader, Next, Recorded};
+    ///
     /// let mut source = Recorded::new(b"".as_slice());
     /// let mut reader = FrameReader::new(CobsDecoderHeapless::<8>::new());
     /// let end = Next::End { unfinished: false };
@@ -221,7 +231,8 @@ impl<D: FrameDecoder> FrameReader<D> {
     /// Returns the decoder. After a `Next::Message(n)` the message is the first n bytes of its buffer.
     ///
     /// ```
-    /// # use jcobs::proved::*;
+    /// use jcobs::{CobsDecoderHeapless, FrameReader};
+    ///
     /// let reader = FrameReader::new(CobsDecoderHeapless::<2>::new());
     /// assert_eq!(reader.decoder().dest(), [0, 0].as_slice());
     /// ```
@@ -255,8 +266,9 @@ impl<D: FrameDecoder> FrameReader<D> {
     /// bytes. In both no piece ended, the decoder has taken all bytes that were read, and the next call goes on.
     ///
     /// ```
-    /// # use jcobs::proved::*;
     /// # #[cfg(feature = "std")] {
+    /// use jcobs::{CobsDecoderHeapless, FrameReader, Next, Recorded};
+    ///
     /// let mut reader = FrameReader::new(CobsDecoderHeapless::<8>::new());
     /// let mut first = Recorded::new([2].as_slice());
     /// let end = reader.next_frame(&mut first);

@@ -16,8 +16,9 @@ use alloc::vec::Vec;
 /// What became of a piece of a stream: a nonempty stretch of bytes that a zero ended.
 ///
 /// ```
-/// # use jcobs::proved::*;
 /// # #[cfg(feature = "alloc")] {
+/// use jcobs::{CobsDecoderHeapless, FrameOutcome, decode_stream};
+///
 /// let mut decoder = CobsDecoderHeapless::<4>::new();
 /// let found = decode_stream(&mut decoder, &[2, 7, 0])?;
 /// let message = FrameOutcome::Message([7].to_vec());
@@ -63,8 +64,9 @@ fn frame_outcome(end: PieceEnd, buffer: &[u8]) -> Result<FrameOutcome, AllocErro
 /// ends, the result is `Ok`.
 ///
 /// ```
-/// # use jcobs::proved::*;
 /// # #[cfg(feature = "alloc")] {
+/// use jcobs::{CobsDecoder, FrameOutcome, decode_stream};
+///
 /// let mut buffer = [0; 4];
 /// let mut decoder = CobsDecoder::new(&mut buffer);
 /// let found = decode_stream(&mut decoder, b"\x03hi\0\x03a\0\x06hello\0\x02")?;
@@ -94,15 +96,19 @@ pub fn decode_stream<D: FrameDecoder>(
 /// Whoever feeds these bytes to an idle decoder whose buffer holds each message gets exactly the messages back. For
 /// no messages the stream is empty.
 ///
-/// Precondition: the sum of [`max_encoding_length`](crate::max_encoding_length) plus 1 over the messages fits a
-/// `usize`, as [`encode_frames_room`] says. Memory is allocated once, for that many bytes.
+/// Memory is allocated once, for [`encode_frames_room`] of the messages.
+///
+/// # Panics
+///
+/// If that many bytes don't fit a `usize`.
 ///
 /// # Errors
 /// `AllocError` if that memory runs out.
 ///
 /// ```
-/// # use jcobs::proved::*;
 /// # #[cfg(feature = "alloc")] {
+/// use jcobs::{encode_frames, encode_frames_room};
+///
 /// let messages = [b"hi".to_vec(), Vec::new()];
 /// if encode_frames_room(&messages).is_some() {
 ///     let stream = encode_frames(&messages)?;
@@ -128,8 +134,9 @@ pub fn encode_frames(messages: &[Vec<u8>]) -> Result<Vec<u8>, AllocError> {
 /// No memory is taken here.
 ///
 /// ```
-/// # use jcobs::proved::*;
 /// # #[cfg(feature = "alloc")] {
+/// use jcobs::encode_frames_room;
+///
 /// let messages = [b"hi".to_vec(), Vec::new()];
 /// assert_eq!(encode_frames_room(&messages), Some(6));
 /// # }

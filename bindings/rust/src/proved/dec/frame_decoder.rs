@@ -3,10 +3,11 @@
 
 use crate::proved::error::DecodeError;
 
-/// How a piece of a stream ended. (The names are this library's own.)
+/// How a piece of a stream ended.
 ///
 /// ```
-/// # use jcobs::proved::*;
+/// use jcobs::{CobsDecoderHeapless, FrameDecoder, PieceEnd};
+///
 /// let mut decoder = CobsDecoderHeapless::<1>::new();
 /// let end = decoder.feed_piece(&[2, 7, 0]);
 /// assert_eq!(end, Some((PieceEnd::Message(1), 3)));
@@ -27,7 +28,8 @@ impl PieceEnd {
     /// Returns how a piece has ended, by the result of `feed` for the zero: `None` if no piece was open.
     ///
     /// ```
-    /// # use jcobs::proved::*;
+    /// use jcobs::{PieceEnd, UnbufferedDecoder};
+    ///
     /// let mut decoder = UnbufferedDecoder::new();
     /// let mut buffer = [0; 4];
     /// assert_eq!(decoder.push(&mut buffer, &[3, 7]), Ok(None));
@@ -49,10 +51,9 @@ impl PieceEnd {
 
 /// A decoder that is fed one byte of a stream after another, and owns or borrows the buffer of its output.
 ///
-/// (The trait is this library's own.)
-///
 /// ```
-/// # use jcobs::proved::*;
+/// use jcobs::{CobsDecoderHeapless, FrameDecoder, PieceEnd};
+///
 /// let mut decoder = CobsDecoderHeapless::<4>::new();
 /// let stream = [3, 7, 0, 2, 9, 0];
 /// assert_eq!(decoder.feed_piece(&stream), Some((PieceEnd::Broken(1), 3)));
@@ -61,7 +62,8 @@ pub trait FrameDecoder {
     /// Takes the next byte of the stream, as [`CobsDecoder::feed`](crate::CobsDecoder::feed) does, with its errors.
     ///
     /// ```
-    /// # use jcobs::proved::*;
+    /// use jcobs::{CobsDecoderHeapless, FrameDecoder};
+    ///
     /// let mut decoder = CobsDecoderHeapless::<1>::new();
     /// assert_eq!(decoder.feed_byte(1), Ok(None));
     /// assert_eq!(decoder.feed_byte(0), Ok(Some(0)));
@@ -79,7 +81,8 @@ pub trait FrameDecoder {
     /// library copy whole blocks instead.
     ///
     /// ```
-    /// # use jcobs::proved::*;
+    /// use jcobs::{CobsDecoderHeapless, FrameDecoder, PieceEnd};
+    ///
     /// let mut decoder = CobsDecoderHeapless::<1>::new();
     /// assert_eq!(decoder.feed_piece(&[2]), None);
     /// let end = decoder.feed_piece(&[7, 0, 1]);
@@ -100,7 +103,8 @@ pub trait FrameDecoder {
     /// Returns the whole buffer.
     ///
     /// ```
-    /// # use jcobs::proved::*;
+    /// use jcobs::{CobsDecoderHeapless, FrameDecoder};
+    ///
     /// assert_eq!(CobsDecoderHeapless::<2>::new().buffer(), [0, 0].as_slice());
     /// ```
     fn buffer(&self) -> &[u8];
@@ -114,8 +118,7 @@ pub trait FrameDecoder {
 ///
 /// Each streaming decoder has a method `dest_mut` of its own too. Of a `CobsDecoder`, whose slice is itself borrowed, a
 /// caller's proof learns through that method only what is in the slice meanwhile. Such a caller writes by
-/// [`write_dest`](WriteBuffer::write_dest), or in code that is generic over this trait. (The trait is this library's
-/// own.)
+/// [`write_dest`](WriteBuffer::write_dest), or in code that is generic over this trait.
 ///
 /// ```
 /// # use jcobs::proved::*;

@@ -163,7 +163,7 @@ pub fn decode_in_place_report(buf: &mut [u8]) -> Result<DecodeReport, DecodeErro
 ///
 /// A buffer is taken if it has 2 to 65 bytes before its first zero, which are a whole frame, and at most this zero after them.
 /// [`decode_in_place_report`] asks this first. If the target has vectors, it calls nothing, as
-/// `decode_short`. (A choice of this library.)
+/// `decode_short`.
 ///
 /// ```
 /// # use jcobs::proved::*;

@@ -4,10 +4,11 @@
 use crate::proved::block::FULL_CODE;
 use crate::proved::find::position_or_len;
 
-/// What bytes are to a decoder. (The names are this library's own.)
+/// What bytes are to a decoder.
 ///
 /// ```
-/// # use jcobs::proved::*;
+/// use jcobs::{FrameKind, frame_kind};
+///
 /// assert_eq!(frame_kind(&[]), FrameKind::NotAFrame);
 /// assert_eq!(frame_kind(&[1]), FrameKind::Canonical);
 /// ```

@@ -8,7 +8,8 @@ use crate::proved::error::DecodeError;
 /// The state holds no output, so a caller can stream the decoded bytes into a container of its own.
 ///
 /// ```
-/// # use jcobs::proved::*;
+/// use jcobs::{DecodeResult, DecoderState};
+///
 /// let mut state = DecoderState::default();
 /// assert!(matches!(state.feed(2), Ok(DecodeResult::DataStart)));
 /// assert!(matches!(state.feed(7), Ok(DecodeResult::DataContinue(7))));
@@ -30,7 +31,8 @@ pub enum DecoderState {
 /// What a byte brought that is no error.
 ///
 /// ```
-/// # use jcobs::proved::*;
+/// use jcobs::{DecodeResult, DecoderState};
+///
 /// let mut state = DecoderState::default();
 /// assert!(matches!(state.feed(0), Ok(DecodeResult::NoData)));
 /// assert!(matches!(state.feed(1), Ok(DecodeResult::DataStart)));
@@ -55,7 +57,8 @@ impl Default for DecoderState {
     /// Makes the start: no byte has come.
     ///
     /// ```
-    /// # use jcobs::proved::*;
+    /// use jcobs::DecoderState;
+    ///
     /// assert!(matches!(DecoderState::default(), DecoderState::Idle));
     /// ```
     fn default() -> Self {
@@ -120,7 +123,8 @@ impl DecoderState {
     /// output.
     ///
     /// ```
-    /// # use jcobs::proved::*;
+    /// use jcobs::{DecodeResult, DecoderState};
+    ///
     /// let mut state = DecoderState::GrabChain(1);
     /// assert!(matches!(state.feed(7), Ok(DecodeResult::DataContinue(7))));
     /// assert!(matches!(state.feed(9), Ok(DecodeResult::NoData)));

@@ -86,10 +86,11 @@ impl UnbufferedDecoder {
 
     /// Takes bytes of a stream of frames for this sentinel, a step each, through the sentinel that ends the first piece, or
     /// all of them, as [`feed_piece`](Self::feed_piece) does for the sentinel 0. It searches and copies nothing at once, so
-    /// that it is small, and fast for a few bytes. (A choice of this library.)
+    /// that it is small, and fast for a few bytes.
     ///
     /// ```
-    /// # use jcobs::proved::*;
+    /// use jcobs::{PieceEnd, UnbufferedDecoder};
+    ///
     /// let mut decoder = UnbufferedDecoder::new();
     /// let mut buffer = [0; 4];
     /// let frame = [2 ^ 10, 7 ^ 10, 1 ^ 10, 10];

@@ -6,10 +6,11 @@ use crate::proved::dec::frame_decoder::PieceEnd;
 use crate::proved::error::{DecodeError, DecodeReport, PushError};
 use crate::proved::find::position_or_len;
 
-/// The state of an [`UnbufferedDecoder`]. (A choice of this library.)
+/// The state of an [`UnbufferedDecoder`].
 ///
 /// ```
-/// # use jcobs::proved::*;
+/// use jcobs::{DecoderPhase, UnbufferedDecoder};
+///
 /// let mut buffer = [0; 8];
 /// let mut decoder = UnbufferedDecoder::new();
 /// assert_eq!(decoder.phase(), DecoderPhase::Idle);
@@ -49,7 +50,8 @@ pub enum DecoderPhase {
 /// that is longer than the buffer. But the results for the piece then, and the bytes of the buffer, are not specified.
 ///
 /// ```
-/// # use jcobs::proved::*;
+/// use jcobs::UnbufferedDecoder;
+///
 /// let mut decoder = UnbufferedDecoder::new();
 /// let mut buffer = [0; 64];
 /// let report = decoder.push(&mut buffer, b"\x06hello\0")?;
@@ -90,7 +92,8 @@ impl UnbufferedDecoder {
     /// Makes an idle decoder, for a buffer of any length, also an empty one.
     ///
     /// ```
-    /// # use jcobs::proved::*;
+    /// use jcobs::UnbufferedDecoder;
+    ///
     /// let mut decoder = UnbufferedDecoder::new();
     /// let report = decoder.push(&mut [], &[1, 0])?;
     /// assert_eq!(report.map(|report| report.frame_size()), Some(0));
@@ -104,7 +107,8 @@ impl UnbufferedDecoder {
     /// written, is the state of an idle decoder.
     ///
     /// ```
-    /// # use jcobs::proved::*;
+    /// use jcobs::UnbufferedDecoder;
+    ///
     /// let mut buffer = [0; 8];
     /// let mut first = UnbufferedDecoder::new();
     /// assert_eq!(first.push(&mut buffer, &[4, 7, 8]), Ok(None));
@@ -136,7 +140,8 @@ impl UnbufferedDecoder {
     /// Returns the decoder's state.
     ///
     /// ```
-    /// # use jcobs::proved::*;
+    /// use jcobs::{DecoderPhase, UnbufferedDecoder};
+    ///
     /// assert_eq!(UnbufferedDecoder::new().phase(), DecoderPhase::Idle);
     /// ```
     pub fn phase(&self) -> DecoderPhase {
@@ -156,7 +161,8 @@ impl UnbufferedDecoder {
     /// Returns whether no piece has begun, so that the next byte that isn't a zero begins one.
     ///
     /// ```
-    /// # use jcobs::proved::*;
+    /// use jcobs::UnbufferedDecoder;
+    ///
     /// let mut decoder = UnbufferedDecoder::new();
     /// assert!(decoder.is_idle());
     /// assert_eq!(decoder.push(&mut [0; 4], &[2]), Ok(None));
@@ -170,7 +176,8 @@ impl UnbufferedDecoder {
     /// Makes the decoder idle, so that the next byte begins a new piece.
     ///
     /// ```
-    /// # use jcobs::proved::*;
+    /// use jcobs::{DecoderPhase, UnbufferedDecoder};
+    ///
     /// let mut decoder = UnbufferedDecoder::new();
     /// assert_eq!(decoder.push(&mut [0; 4], &[9, 9]), Ok(None));
     /// decoder.reset();
@@ -184,7 +191,8 @@ impl UnbufferedDecoder {
     /// errors.
     ///
     /// ```
-    /// # use jcobs::proved::*;
+    /// use jcobs::UnbufferedDecoder;
+    ///
     /// let mut buffer = [0; 2];
     /// let mut decoder = UnbufferedDecoder::new();
     /// assert_eq!(decoder.feed(&mut buffer, 2), Ok(None));
@@ -201,7 +209,8 @@ impl UnbufferedDecoder {
     /// The error says how many bytes were taken.
     ///
     /// ```
-    /// # use jcobs::proved::*;
+    /// use jcobs::UnbufferedDecoder;
+    ///
     /// let mut buffer = [0; 2];
     /// let mut decoder = UnbufferedDecoder::new();
     /// let rejected = decoder.push(&mut buffer, &[4, 7, 8, 9, 0]);
@@ -246,10 +255,11 @@ impl UnbufferedDecoder {
     }
 
     /// Takes bytes of the stream, over this buffer, through the first zero that ends a piece, as
-    /// [`FrameDecoder::feed_piece`](crate::FrameDecoder::feed_piece) does. (A choice of this library.)
+    /// [`FrameDecoder::feed_piece`](crate::FrameDecoder::feed_piece) does.
     ///
     /// ```
-    /// # use jcobs::proved::*;
+    /// use jcobs::{PieceEnd, UnbufferedDecoder};
+    ///
     /// let mut decoder = UnbufferedDecoder::new();
     /// let mut buffer = [0; 4];
     /// let end = decoder.feed_piece(&mut buffer, b"\x06hello\0\x03hi\0");

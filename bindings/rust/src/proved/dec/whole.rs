@@ -71,7 +71,7 @@ fn decode_long(source: &[u8], dest: &mut [u8]) -> Result<DecodeReport, DecodeErr
 ///
 /// A source is taken if it has 2 to 65 bytes before its first zero, at most this zero after them, and `dest` has room for one
 /// byte fewer than the frame has. [`decode`] asks this first. It calls nothing, to be compiled into the code of a function
-/// that decodes small frames. (A choice of this library.)
+/// that decodes small frames.
 ///
 /// ```
 /// # use jcobs::proved::*;

@@ -1,11 +1,11 @@
 // Made by bindings/rust/translate.py from `crates/cobs/src/enc/progress.rt`: change that file, and run it again.
 //! How far a frame that is being written has come.
 
-/// How far the frame in a buffer has come, in plain numbers: where an [`UnbufferedEncoder`](crate::proved::UnbufferedEncoder) is. (A choice of this
-/// library.)
+/// How far the frame in a buffer has come, in plain numbers: where an [`UnbufferedEncoder`](crate::proved::UnbufferedEncoder) is.
 ///
 /// ```
-/// # use jcobs::proved::*;
+/// use jcobs::UnbufferedEncoder;
+///
 /// let mut buffer = [0; 64];
 /// let mut encoder = UnbufferedEncoder::new();
 /// encoder.push(&mut buffer, b"hello")?;

@@ -5,7 +5,8 @@
 /// the crate `cobs`.
 ///
 /// ```
-/// # use jcobs::proved::*;
+/// use jcobs::{EncoderState, PushResult};
+///
 /// let mut state = EncoderState::default();
 /// assert!(matches!(state.push(7), PushResult::AddSingle(7)));
 /// assert!(matches!(state.push(0), PushResult::ModifyFromStartAndSkip((0, 2))));
@@ -32,7 +33,8 @@ pub enum PushResult {
 /// frame, the encoded one with a `1` after it.
 ///
 /// ```
-/// # use jcobs::proved::*;
+/// use jcobs::{EncoderState, PushResult};
+///
 /// let mut output = [0; 3];
 /// let mut state = EncoderState::default();
 /// if let PushResult::AddSingle(byte) = state.push(7) {
@@ -55,7 +57,8 @@ impl Default for EncoderState {
     /// Makes the start: the open block is the placeholder at index 0, and has no bytes yet.
     ///
     /// ```
-    /// # use jcobs::proved::*;
+    /// use jcobs::EncoderState;
+    ///
     /// let state = EncoderState::default();
     /// assert_eq!(state.finalize(), (0, 1));
     /// ```
@@ -72,7 +75,8 @@ impl EncoderState {
     /// byte. (This call is this library's own.)
     ///
     /// ```
-    /// # use jcobs::proved::*;
+    /// use jcobs::EncoderState;
+    ///
     /// assert!(EncoderState::default().can_push());
     /// ```
     pub fn can_push(&self) -> bool {
@@ -81,10 +85,15 @@ impl EncoderState {
 
     /// Takes the next byte of the message, and returns what it changes in the output.
     ///
-    /// Precondition: [`can_push`](EncoderState::can_push) is true. Indices count bytes from the start of the output.
+    /// Indices count bytes from the start of the output.
+    ///
+    /// # Panics
+    ///
+    /// With overflow checks, if [`can_push`](EncoderState::can_push) is false.
     ///
     /// ```
-    /// # use jcobs::proved::*;
+    /// use jcobs::{EncoderState, PushResult};
+    ///
     /// let mut state = EncoderState::default();
     /// assert!(matches!(state.push(0), PushResult::ModifyFromStartAndSkip((0, 1))));
     /// assert!(matches!(state.push(9), PushResult::AddSingle(9)));
@@ -110,7 +119,8 @@ impl EncoderState {
     /// Ends the message: the index at which the last code belongs in the output, and that code.
     ///
     /// ```
-    /// # use jcobs::proved::*;
+    /// use jcobs::EncoderState;
+    ///
     /// assert_eq!(EncoderState::default().finalize(), (0, 1));
     /// ```
     pub fn finalize(self) -> (usize, u8) {

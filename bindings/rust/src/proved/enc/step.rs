@@ -41,7 +41,8 @@ impl UnbufferedEncoder {
     /// `DestBufTooSmallError` if the byte doesn't fit. Then neither the encoder nor the buffer has changed.
     ///
     /// ```
-    /// # use jcobs::proved::*;
+    /// use jcobs::{DestBufTooSmallError, UnbufferedEncoder};
+    ///
     /// let mut buffer = [170; 2];
     /// let mut encoder = UnbufferedEncoder::new();
     /// assert_eq!(encoder.feed(&mut buffer, 7), Ok(()));
@@ -67,7 +68,8 @@ impl UnbufferedEncoder {
     /// by field, take less time then if zeros come by chance, and more if they come seldom.
     ///
     /// ```
-    /// # use jcobs::proved::*;
+    /// use jcobs::UnbufferedEncoder;
+    ///
     /// let mut buffer = [170; 7];
     /// let mut encoder = UnbufferedEncoder::new();
     /// assert!(encoder.push_few(&mut buffer, b"hello"));
@@ -95,7 +97,8 @@ impl UnbufferedEncoder {
     /// Those of [`push`](UnbufferedEncoder::push).
     ///
     /// ```
-    /// # use jcobs::proved::*;
+    /// use jcobs::UnbufferedEncoder;
+    ///
     /// let mut buffer = [170; 7];
     /// let mut encoder = UnbufferedEncoder::new();
     /// encoder.push_each(&mut buffer, b"hello")?;

@@ -17,7 +17,8 @@ use crate::proved::error::DestBufTooSmallError;
 /// than the buffer's. But what the buffer holds then isn't said.
 ///
 /// ```
-/// # use jcobs::proved::*;
+/// use jcobs::UnbufferedEncoder;
+///
 /// let mut encoder = UnbufferedEncoder::new();
 /// let mut buffer = [0; 64];
 /// encoder.push(&mut buffer, b"hel")?;
@@ -44,7 +45,8 @@ impl UnbufferedEncoder {
     /// has one.
     ///
     /// ```
-    /// # use jcobs::proved::*;
+    /// use jcobs::UnbufferedEncoder;
+    ///
     /// let mut buffer = [170; 2];
     /// assert_eq!(UnbufferedEncoder::new().finalize(&mut buffer), Ok(1));
     /// assert_eq!(buffer, [1, 170]);
@@ -60,7 +62,8 @@ impl UnbufferedEncoder {
     /// Makes an encoder in this state, whatever the numbers are.
     ///
     /// ```
-    /// # use jcobs::proved::*;
+    /// use jcobs::UnbufferedEncoder;
+    ///
     /// let mut buffer = [0; 64];
     /// let mut first = UnbufferedEncoder::new();
     /// first.push(&mut buffer, b"hel")?;
@@ -82,7 +85,8 @@ impl UnbufferedEncoder {
     /// Returns how far the encoder has come.
     ///
     /// ```
-    /// # use jcobs::proved::*;
+    /// use jcobs::UnbufferedEncoder;
+    ///
     /// let progress = UnbufferedEncoder::new().progress();
     /// assert_eq!((progress.index, progress.code), (0, 1));
     /// ```
@@ -98,7 +102,8 @@ impl UnbufferedEncoder {
     /// Makes the encoder one that has taken nothing.
     ///
     /// ```
-    /// # use jcobs::proved::*;
+    /// use jcobs::UnbufferedEncoder;
+    ///
     /// let mut buffer = [170; 2];
     /// let mut encoder = UnbufferedEncoder::new();
     /// encoder.push(&mut buffer, &[7])?;
@@ -131,7 +136,8 @@ impl UnbufferedEncoder {
     /// `DestBufTooSmallError` if the bytes don't fit.
     ///
     /// ```
-    /// # use jcobs::proved::*;
+    /// use jcobs::{DestBufTooSmallError, UnbufferedEncoder};
+    ///
     /// let mut buffer = [170; 3];
     /// let mut encoder = UnbufferedEncoder::new();
     /// let rejected = encoder.push(&mut buffer, &[7, 8, 9]);
@@ -176,7 +182,8 @@ impl UnbufferedEncoder {
     /// encoder nor the buffer has changed.
     ///
     /// ```
-    /// # use jcobs::proved::*;
+    /// use jcobs::{DestBufTooSmallError, UnbufferedEncoder};
+    ///
     /// let rejected = UnbufferedEncoder::new().finalize(&mut []);
     /// assert_eq!(rejected, Err(DestBufTooSmallError));
     /// ```
