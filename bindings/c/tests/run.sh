@@ -391,7 +391,7 @@ if has clang-format clang-format 'layout'; then
     part 'layout' clang-format --dry-run -Werror include/jcobs.h include/jcobs.hpp examples/*.c examples/*.cpp tests/*.c tests/*.cpp
 fi
 if has python3 python3 'jcobs.c is made of cobs_small.ll'; then
-    part 'jcobs.c is what translate.py makes of cobs_small.ll' python3 source/translate.py --check
+    part 'jcobs.c is what translate.py makes of cobs_small.ll' python3 -B source/translate.py --check
 fi
 part 'jcobs.c by gcc and clang, C99 to C23, C++98 to C++20' source_compiles
 if has cppcheck cppcheck 'jcobs.c by cppcheck'; then

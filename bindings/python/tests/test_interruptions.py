@@ -236,7 +236,7 @@ def test_an_exception_at_any_step_makes_no_other_message():
         for outcome in found:
             if outcome != jcobs.Broken(b""):
                 at = wanted.index(outcome, at) + 1
-        step += 1 if sys.implementation.name == "cpython" else 17  # PyPy is slow while it is traced
+        step += 3 if sys.implementation.name == "cpython" else 17  # each one goes through all before it, traced
     assert found == wanted and step > 100
 
 
