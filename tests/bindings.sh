@@ -29,5 +29,5 @@ for run in "$root"/bindings/*/tests/run.sh; do
     counted "bindings/$(basename "$(dirname "$(dirname "$run")")")" "$run"
 done
 counted 'the commands of the READMEs' "$root/tests/readme.sh" bindings/c/README.md bindings/c/examples/firmware/README.md bindings/rust/README.md \
-    bindings/python/README.md bindings/web/README.md README.md
+    bindings/python/README.md bindings/web/README.md README.md docs/PROGRAMS.md
 finish

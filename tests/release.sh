@@ -6,7 +6,7 @@
 #   jcobs-VERSION-{x86_64,aarch64}-linux.tar.gz     the library for C, as `make dist` packs it
 #   jcobs-VERSION-c-source.tar.gz          jcobs.c, for every other system
 #   jcobs-VERSION-device.tar.gz            the library for microcontrollers
-#   jcobs-VERSION-programs-x86_64-linux.tar.gz      cobs_tool and cobs_watch, with their manual pages
+#   jcobs-VERSION-programs-x86_64-linux.tar.gz      cobs_tool and cobs_watch, with manual pages, completions and a README
 #   jcobs-VERSION.tar.gz, jcobs-VERSION-*.whl       the package for Python: source distribution, wheel
 #   jcobs-VERSION.tgz                      the package for Node and browsers, by npm
 #   jcobs-VERSION.crate                    the crate for Rust
@@ -118,11 +118,11 @@ readme_installs() { # ARCHIVE README TOOL
 programs_archive() {
     there=$work/programs/$name_of-programs-x86_64-linux
     (cd "$tree/bindings/programs/x86_64-linux" && sha256sum -c SHA256SUMS) || return 1
-    mkdir -p "$there/bin" "$there/share/man/man1" && cp "$tree"/LICENSE-* "$there" &&
-        for program in cobs_tool cobs_watch; do
-            cp "$tree/bindings/programs/x86_64-linux/$program" "$there/bin" &&
-                cp "$tree/crates/$program/$program.1" "$there/share/man/man1" || return 1
-        done &&
+    mkdir -p "$there" && cp "$tree"/LICENSE-* "$there" &&
+        make -s -C "$tree/bindings/programs" install BUILT=x86_64-linux DESTDIR="$there" PREFIX= &&
+        sed -e 's|make -C bindings/programs install PREFIX="$HOME/.local"|mkdir -p "$HOME/.local" \&\& cp -R bin share "$HOME/.local"|' \
+            -e 's| Without `PREFIX` they go .* the proved crates\.||' -e 's|\[\(crates[^]]*\)\]([^)]*)|`\1` of the repository|' \
+            "$tree/docs/PROGRAMS.md" >"$there/README.md" && ! grep -q 'bindings/\|](' "$there/README.md" &&
         packed "$folder/$name_of-programs-x86_64-linux.tar.gz" "$work/programs" "$name_of-programs-x86_64-linux"
 }
 
@@ -209,7 +209,9 @@ c_source_runs() {
 programs_run() {
     there=$work/programs-unpacked
     unpacked "$folder/$name_of-programs-x86_64-linux.tar.gz" "$there" &&
-        printf hello | writes '06 68 65 6c 6c 6f 00\n' "$there/bin/cobs_tool" &&
+        (cd "$there" && HOME=$work/programs-home && export HOME &&
+            sed -n '/^    mkdir/,/decode$/s/^    //p' README.md >"$work/programs-readme" && sh -eux "$work/programs-readme") &&
+        test -x "$work/programs-home/.local/bin/cobs_watch" && printf hello | writes '06 68 65 6c 6c 6f 00\n' "$there/bin/cobs_tool" &&
         printf 'hello\n' | "$there/bin/cobs_watch" send >"$work/frames" &&
         writes 'message 5 68656c6c6f\n' "$there/bin/cobs_watch" <"$work/frames" &&
         for program in cobs_tool cobs_watch; do

@@ -378,7 +378,7 @@ if has clang-format clang-format 'layout'; then
     part 'layout' clang-format --dry-run -Werror include/jcobs.h include/jcobs.hpp examples/*.c examples/*.cpp tests/*.c tests/*.cpp
 fi
 if has python3 python3 'jcobs.c is made of the crates'; then
-    part 'jcobs.c is what translate.py makes of the crates' python3 source/translate.py --check
+    part 'jcobs.c is what translate.py makes of the crates' python3 -B source/translate.py --check
     part 'translate.py refuses what it does not know' translator_refuses
 fi
 if [ "$machine" = x86_64 ] && command -v rt >/dev/null; then

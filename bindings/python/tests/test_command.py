@@ -42,18 +42,22 @@ def test_show():
 def test_show_hex():
     lines = b"message 5 68656c6c6f\nmessage 0\nmessage 2 ff07\nbroken 1\nmessage 3 616263\nunfinished\n"
     assert run("--hex", data=STREAM) == lines
-    assert run("--hex", "--max-length", "3", data=STREAM).startswith(b"too long\nmessage 0\n")
+    for option in ("--length", "--max-length"):
+        assert run("--hex", option, "3", data=STREAM).startswith(b"too long\nmessage 0\n")
     assert run("--hex", "--sentinel", "7", data=bytes(byte ^ 7 for byte in STREAM)) == lines
 
 
 def test_show_json():
     lines = [json.loads(line) for line in run("--json", data=STREAM).splitlines()]
-    assert lines[0] == {"outcome": "message", "hex": "68656c6c6f"}
-    assert lines[3:] == [
-        {"outcome": "broken", "hex": "07"},
-        {"outcome": "message", "hex": "616263"},
-        {"outcome": "unfinished"},
+    assert lines[0] == {"kind": "message", "length": 5, "hex": "68656c6c6f", "text": "hello"}
+    assert lines[2:] == [
+        {"kind": "message", "length": 2, "hex": "ff07"},
+        {"kind": "broken", "length": 1, "hex": "07"},
+        {"kind": "message", "length": 3, "hex": "616263", "text": "abc"},
+        {"kind": "unfinished"},
     ]
+    too_long = {"kind": "too-long", "length": 3, "hex": "68656c"}
+    assert json.loads(run("--json", "--length", "3", data=STREAM).splitlines()[0]) == too_long
 
 
 def test_control_characters_are_not_shown_as_text():
@@ -73,7 +77,7 @@ def test_lines_that_cannot_be_sent(style, line):
 
 
 def test_wrong_options():
-    for words in (["--sentinel", "256"], ["--max-length", "-1"], ["--hex", "--json"], ["listen"], ["--baud", "fast"]):
+    for words in (["--sentinel", "256"], ["--length", "-1"], ["--hex", "--json"], ["listen"], ["--baud", "fast"]):
         assert "usage: python -m jcobs" in run(*words, status=2)
 
 
@@ -84,7 +88,7 @@ def test_what_cannot_be_shown_or_held():
     finally:
         del os.environ["PYTHONIOENCODING"]
     for length in ("9" * 14, "9" * 20):
-        said = run("--max-length", length, status=1)
+        said = run("--length", length, status=1)
         assert said.startswith("jcobs: ") and len(said) > len("jcobs: \n") and "Traceback" not in said
     assert "line 1 is not" in run("send", "--json", data=b"[" * 100_000, status=1)
 

@@ -1,6 +1,7 @@
 """Readers that threads share, and exceptions of signal handlers while a reader is at work."""
 
 import contextlib
+import gc
 import io
 import os
 import signal
@@ -135,10 +136,13 @@ class Alarms:
 
 @pytest.fixture
 def alarms(limit):
+    gc.collect()  # an exception in what garbage calls back would be dropped
+    gc.disable()
     made = Alarms()
     yield made
     signal.setitimer(signal.ITIMER_REAL, 0)
     signal.signal(signal.SIGALRM, made.before)
+    gc.enable()
 
 
 # The functions that take an object and free it, as `alone` does.
@@ -192,15 +196,19 @@ def awaited(coroutine):
 
 CALLS = {
     "AsyncFrameReader.write": lambda: (jcobs.AsyncFrameReader(Sink()), lambda it: awaited(it.write(b"hi"))),
-    "Decoder.feed": lambda: (jcobs.Decoder(9), lambda it: it.feed(b"\x03hi\0\x02")),
-    "Decoder.unfinished": lambda: (jcobs.Decoder(9), lambda it: it.unfinished),
-    "Encoder.feed": lambda: (jcobs.Encoder(9), lambda it: it.feed(b"a")),
-    "Encoder.finish": lambda: (jcobs.Encoder(9), lambda it: it.finish()),
     "FrameReader.read": lambda: (jcobs.frames(b"\x01\0" * 3), lambda it: it.read()),
     "FrameReader.write": lambda: (jcobs.FrameReader(io.BytesIO()), lambda it: it.write(b"hi")),
     "FrameReader.discard": lambda: (jcobs.frames(b"\x03hi\0"), lambda it: it.discard()),
     "list(FrameReader)": lambda: (jcobs.frames(b"\x03hi\0"), list),
 }
+CALLS_IN_PYTHON = {
+    "Decoder.feed": lambda: (jcobs.Decoder(9), lambda it: it.feed(b"\x03hi\0\x02")),
+    "Decoder.unfinished": lambda: (jcobs.Decoder(9), lambda it: it.unfinished),
+    "Encoder.feed": lambda: (jcobs.Encoder(9), lambda it: it.feed(b"a")),
+    "Encoder.finish": lambda: (jcobs.Encoder(9), lambda it: it.finish()),
+}
+if jcobs.backend == "python":
+    CALLS.update(CALLS_IN_PYTHON)
 
 
 @pytest.mark.filterwarnings("ignore:coroutine .* was never awaited")
@@ -236,7 +244,7 @@ def test_an_exception_at_any_step_makes_no_other_message():
         for outcome in found:
             if outcome != jcobs.Broken(b""):
                 at = wanted.index(outcome, at) + 1
-        step += 1 if sys.implementation.name == "cpython" else 17  # PyPy is slow while it is traced
+        step += 3 if sys.implementation.name == "cpython" else 17  # each one goes through all before it, traced
     assert found == wanted and step > 100
 
 

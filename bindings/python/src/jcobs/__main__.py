@@ -7,7 +7,7 @@ import io
 import json
 import os
 import sys
-from typing import TYPE_CHECKING, Any, BinaryIO, Iterator, List, Optional, TextIO, cast
+from typing import TYPE_CHECKING, Any, BinaryIO, Dict, Iterator, List, Optional, TextIO, cast
 
 import jcobs
 from jcobs import Message, Outcome
@@ -34,7 +34,8 @@ def arguments() -> argparse.ArgumentParser:
     style.add_argument("--json", action="store_true", help="a JSON object a line, with the digits as its member hex")
     parser = argparse.ArgumentParser("python -m jcobs", description=__doc__, parents=[common])
     parser.add_argument("--version", action="version", version=f"jcobs {jcobs.__version__}, backend {jcobs.backend}")
-    parser.add_argument("--max-length", metavar="N", type=int, default=65536, help="the longest message that is shown")
+    parser.add_argument("--length", metavar="N", type=int, default=65536, help="the longest message that is shown")
+    parser.add_argument("--max-length", dest="length", metavar="N", type=int, help=argparse.SUPPRESS)
     parser.add_argument("command", nargs="?", choices=["show", "send"], default="show", help="(default: %(default)s)")
     return parser
 
@@ -59,11 +60,22 @@ def text_of(message: bytes) -> str:
     return text if text.isprintable() else message.hex()
 
 
+def members_of(outcome: Outcome) -> Dict[str, Any]:
+    """Returns what JSON says of an outcome, besides its kind: for a damaged frame, of what was decoded."""
+    members = {"length": len(outcome.data), "hex": outcome.data.hex()}
+    if not isinstance(outcome, Message):
+        return members
+    try:
+        return {**members, "text": outcome.data.decode()}
+    except UnicodeDecodeError:
+        return members
+
+
 def line_of(outcome: Outcome, options: argparse.Namespace) -> str:
-    """Returns the line that shows an outcome."""
+    """Returns the line that shows an outcome. The members of its JSON object are those of the program cobs_watch."""
     name = NAMES[type(outcome)]
     if options.json:
-        return json.dumps({"outcome": name, "hex": outcome.data.hex()})
+        return json.dumps({"kind": name.replace(" ", "-"), **members_of(outcome)})
     if isinstance(outcome, Message):
         shown = outcome.data.hex() if options.hex else text_of(outcome.data)
         return f"{name} {len(outcome.data)} {shown}" if shown else f"{name} 0"
@@ -71,11 +83,11 @@ def line_of(outcome: Outcome, options: argparse.Namespace) -> str:
 
 
 def show(source: Readable, output: TextIO, options: argparse.Namespace) -> None:
-    reader = jcobs.FrameReader(source, options.max_length, options.sentinel)
+    reader = jcobs.FrameReader(source, options.length, options.sentinel)
     for outcome in reader:
         print(line_of(outcome, options), file=output, flush=True)
     if reader.unfinished:
-        print(json.dumps({"outcome": "unfinished"}) if options.json else "unfinished", file=output, flush=True)
+        print(json.dumps({"kind": "unfinished"}) if options.json else "unfinished", file=output, flush=True)
 
 
 def messages(lines: BinaryIO, options: argparse.Namespace) -> Iterator[bytes]:
@@ -117,8 +129,8 @@ def main(words: Optional[List[str]] = None) -> int:
     options = parser.parse_args(words)
     if not 0 <= options.sentinel <= 255:
         parser.error("--sentinel: must be in 0 to 255")
-    if options.max_length < 0:
-        parser.error("--max-length: must not be negative")
+    if options.length < 0:
+        parser.error("--length: must not be negative")
     try:
         run(options)
     except BrokenPipeError:
