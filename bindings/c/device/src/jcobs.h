@@ -122,7 +122,7 @@ extern "C" {
 #endif
 
 /* The type of a status in jcobs_answer has the size of unsigned int in every language, on every target and with
- * -fshort-enums. It is jcobs_status if the compiler can tell that this has that size: then -Wswitch checks a switch
+ * -fshort-enums. It is jcobs_status if the compiler knows that this has that size: then -Wswitch checks a switch
  * over it. */
 #if (defined(__cplusplus) && __cplusplus >= 201103L) || (defined(__STDC_VERSION__) && __STDC_VERSION__ >= 202311L)
 #define JCOBS_ENUM(name) enum name : unsigned int
