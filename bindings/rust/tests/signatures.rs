@@ -102,6 +102,6 @@ fn traits() {
         DecoderState::default(),
         CobsDecoderHeapless::<4>::default(),
         UnbufferedDecoder::default(),
-        UnbufferedEncoder::default().clone(),
+        UnbufferedEncoder::default(),
     );
 }

@@ -90,11 +90,11 @@ fn check_decoder(phase: DecoderPhase, len: usize, piece: &[u8]) {
 fn decoder_from_any_state() {
     let pieces = pieces();
     let mut phases = vec![DecoderPhase::Idle, DecoderPhase::TooLong];
-    for lacking in [0, 1, 2, 14, 15, 16, 17, 31, 253, 254, 255] {
+    for missing in [0, 1, 2, 14, 15, 16, 17, 31, 253, 254, 255] {
         for written in INDICES {
             phases.extend([false, true].map(|is_full| DecoderPhase::Within {
                 is_full,
-                lacking,
+                missing,
                 written,
             }));
         }

@@ -18,7 +18,7 @@ pub const EMPTY: u32 = 4;
 #[repr(C)]
 pub struct Decoder {
     pub written: usize,
-    pub lacking: u8,
+    pub missing: u8,
     pub joint: u8,
     pub too_long: u8,
 }

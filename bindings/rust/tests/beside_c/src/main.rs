@@ -208,18 +208,18 @@ fn decoding(seen: &mut Compared, random: &mut Random) {
 fn phase_of(decoder: Decoder) -> DecoderPhase {
     let Decoder {
         written,
-        lacking,
+        missing,
         joint,
         too_long,
     } = decoder;
     if too_long != 0 {
         DecoderPhase::TooLong
-    } else if (written, lacking, joint) == (0, 0, 0) {
+    } else if (written, missing, joint) == (0, 0, 0) {
         DecoderPhase::Idle
     } else {
         DecoderPhase::Within {
             is_full: joint == 0,
-            lacking,
+            missing,
             written,
         }
     }
@@ -242,7 +242,7 @@ fn decoder(seen: &mut Compared, random: &mut Random) {
     let mut c = if random.below(2) == 0 {
         Decoder {
             written: 0,
-            lacking: 0,
+            missing: 0,
             joint: 0,
             too_long: 0,
         }
@@ -250,7 +250,7 @@ fn decoder(seen: &mut Compared, random: &mut Random) {
         Decoder {
             // Of more bytes than the buffer has each says something else.
             written: random.below(buffer.len() + 1),
-            lacking: random.below(256) as u8,
+            missing: random.below(256) as u8,
             joint: random.below(2) as u8,
             too_long: u8::from(random.below(8) == 0),
         }
