@@ -46,7 +46,7 @@ LIMITS = {
     ("jcobs.c", "Cortex-M4"): {"all": 2100, "decoder": 540, "stack": 200},
     ("jcobs.c", "ATmega1284P"): {"decoder and encode_terminated": 2100},
     ("archive", "Cortex-M4"): {
-        "decoder": 450, "encoder": 700, "decoder and encode_terminated": 1000, "all": 2900, "stack": 96,
+        "decoder": 450, "encoder": 700, "decoder and encode_terminated": 1000, "all": 3000, "stack": 96,
     },
     ("archive", "Cortex-M0+"): {"stack": 104},
     ("archive", "RV32IMAC"): {"stack": 96},
