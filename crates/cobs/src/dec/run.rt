@@ -1,6 +1,6 @@
 //! What every decoder takes at once: bytes up to a sentinel, copied as slices, and then a zero written at each code.
 ghost use Rattle.std.specs.Prelude.{IsTrue, ◌++◌, drop, ◌≡◌, ◌≢◌, ◌<◌, ◌≤◌, ◌+◌, ◌-◌, ◌∷◌, [], length, take, slice_index, false, List, ℕ};
-ghost use Rattle.cobs.specs.Feed.{Overlong};
+ghost use Rattle.cobs.specs.Feed.{Idle, Overlong};
 ghost use Rattle.cobs.specs.Fields.Decoders.{phase_of};
 ghost use Rattle.cobs.specs.Grammar.{HasNoZero};
 ghost use Rattle.cobs.specs.Internal.FeedsQuietly.{FeedsQuietly};
@@ -161,18 +161,16 @@ impl UnbufferedDecoder {
         true
     }
 
-    /// Takes a frame of 2 to 65 bytes up to the zero that is the last byte, if no piece has begun and the message has room, and
-    /// says whether it did. That zero isn't taken.
+    /// Takes the code at the front of a piece and the bytes after it at once, if they are 2 to 65 bytes, none is a zero and they
+    /// have room, and says whether it did.
     #[inline(always)]
-    pub(crate) fn take_frame(&mut self, dest: &mut [u8], bytes: &[u8]) -> bool
-        ensures some { IsTrue result → 0 < length bytes.now }
-        ensures fed { IsTrue result → FeedsQuietly dest.old (phase_of self.old)
-            (take (length bytes.now - 1) bytes.now) dest.new (phase_of self.new) }
-        ensures ends { IsTrue result → slice_index bytes.now (length bytes.now - 1) ≡ 0 }
+    pub(crate) fn take_begun(&mut self, dest: &mut [u8], bytes: &[u8]) -> bool
+        requires idle { phase_of self.old ≡ Idle }
+        ensures fed { IsTrue result → FeedsQuietly dest.old (phase_of self.old) bytes.now dest.new (phase_of self.new) }
         ensures kept { result ≡ false → (dest.new ≡ dest.old) × (self.new ≡ self.old) }
     {
         let len = bytes.len();
-        if !self.is_idle() || len < 3 || WIDE_WINDOW + 2 < len || dest.len() < len - 2 {
+        if len < 2 || WIDE_WINDOW + 1 < len || dest.len() < len - 1 {
             return false;
         }
         let code = bytes[0];
@@ -180,13 +178,13 @@ impl UnbufferedDecoder {
         if code == 1 && WINDOW <= len && is_all(bytes, 0, 1) {
             return false;
         }
-        if code == 0 || bytes[len - 1] != 0 || !copy_xored_short(&bytes[1..len - 1], dest, 0) {
+        if code == 0 || !copy_xored_short(&bytes[1..], dest, 0) {
             return false;
         }
         let mut begun = START;
         begun.joint = joint_after(code);
         begun.missing = code - 1;
-        begun.take_copied(dest, len - 2);
+        begun.take_copied(dest, len - 1);
         *self = begun;
         true
     }

@@ -104,12 +104,12 @@ impl UnbufferedDecoder {
         true
     }
 
-    /// Takes a frame of 2 to 65 bytes up to the zero that is the last byte, if no piece has begun and the message has room, and
-    /// says whether it did. That zero isn't taken.
+    /// Takes the code at the front of a piece and the bytes after it at once, if they are 2 to 65 bytes, none is a zero and they
+    /// have room, and says whether it did.
     #[inline(always)]
-    pub(crate) fn take_frame(&mut self, dest: &mut [u8], bytes: &[u8]) -> bool {
+    pub(crate) fn take_begun(&mut self, dest: &mut [u8], bytes: &[u8]) -> bool {
         let len = bytes.len();
-        if !self.is_idle() || len < 3 || WIDE_WINDOW + 2 < len || dest.len() < len - 2 {
+        if len < 2 || WIDE_WINDOW + 1 < len || dest.len() < len - 1 {
             return false;
         }
         let code = bytes[0];
@@ -117,13 +117,13 @@ impl UnbufferedDecoder {
         if code == 1 && WINDOW <= len && is_all(bytes, 0, 1) {
             return false;
         }
-        if code == 0 || bytes[len - 1] != 0 || !copy_xored_short(&bytes[1..len - 1], dest, 0) {
+        if code == 0 || !copy_xored_short(&bytes[1..], dest, 0) {
             return false;
         }
         let mut begun = START;
         begun.joint = joint_after(code);
         begun.missing = code - 1;
-        begun.take_copied(dest, len - 2);
+        begun.take_copied(dest, len - 1);
         *self = begun;
         true
     }

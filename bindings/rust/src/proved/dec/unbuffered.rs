@@ -4,7 +4,7 @@
 use crate::proved::cobs_bytes::window::has_vectors;
 use crate::proved::dec::frame_decoder::PieceEnd;
 use crate::proved::error::{DecodeError, DecodeReport, PushError};
-use crate::proved::find::position_or_len;
+use crate::proved::find::{len_without_end, position_or_len};
 
 /// The state of an [`UnbufferedDecoder`].
 ///
@@ -79,6 +79,9 @@ pub struct UnbufferedDecoder {
 
 /// Up to this many bytes cost less a step each than a search among them does.
 const FEW: usize = 16;
+
+/// Up to this many bytes cost less a step each than the questions before a copy in vectors.
+const VERY_FEW: usize = 4;
 
 /// No piece has begun.
 pub(crate) const START: UnbufferedDecoder = UnbufferedDecoder {
@@ -267,12 +270,17 @@ impl UnbufferedDecoder {
     /// ```
     #[inline]
     pub fn feed_piece(&mut self, dest: &mut [u8], bytes: &[u8]) -> Option<(PieceEnd, usize)> {
-        if has_vectors() {
-            if self.take_frame(dest, bytes) {
-                let end = PieceEnd::reported(self.feed(dest, 0))?;
-                return Some((end, bytes.len()));
-            }
-            if self.take_short(dest, bytes) {
+        if has_vectors() && VERY_FEW < bytes.len() {
+            if self.is_idle() {
+                let len = len_without_end(bytes, 0);
+                if self.take_begun(dest, &bytes[..len]) {
+                    if len == bytes.len() {
+                        return None;
+                    }
+                    let end = PieceEnd::reported(self.feed(dest, 0))?;
+                    return Some((end, bytes.len()));
+                }
+            } else if self.take_short(dest, bytes) {
                 return None;
             }
         }
