@@ -19,7 +19,7 @@ HERE = Path(__file__).resolve().parent
 SOURCES = {
     "cobs": ("crate::proved", ("laws.rt", "laws/")),
     "cobs_bytes": ("crate::proved::cobs_bytes", ()),
-    "cobs_abi": ("crate::proved::cobs_abi", ("text.rt", "source.rt")),
+    "cobs_abi": ("crate::proved::cobs_abi", ("text.rt",)),
     "cobs_small": ("crate::proved::cobs_small", ()),
 }
 PATHS = {
@@ -31,7 +31,7 @@ PATHS = {
     "memchr": "memchr",
 }
 # Names that Rust has no use for.
-DROPPED = ("std::alloc::Global", "std::marker::Model", "serde::", "thiserror::", "cobs::laws", "text::", "source::")
+DROPPED = ("std::alloc::Global", "std::marker::Model", "serde::", "thiserror::", "cobs::laws", "text::")
 DERIVES = ("Debug", "Clone", "Copy", "PartialEq", "Eq")
 NOT_DERIVED = ("Drop", "Error", "Serialize", "Deserialize")
 # What Rust programs expect of a type beside what its source derives.

@@ -902,15 +902,14 @@ jcobs_answer jcobs_decode_in_place(void *buffer, size_t buffer_len)
     return jcobs_result_by(room < end + 1 ? room : end + 1, room, size);
 }
 
-/* Returns which frame the bytes are, block by block. */
-static enum jcobs_frame_kind jcobs_kind_of(const unsigned char *bytes, size_t bytes_len)
+/* Returns which frame the bytes are, as frame_kind does, from one code to the next, without a search for a zero
+ * among them. (A choice of this library.) */
+static enum jcobs_frame_kind jcobs_kind_by_blocks(const unsigned char *bytes, size_t bytes_len)
 {
-    if (bytes_len == 0 || jcobs_len_to_zero(bytes, bytes_len) < bytes_len) {
-        return JCOBS_FRAME_KIND_NOT_A_FRAME;
-    }
     size_t read = 0;
     int after_full = 0;
-    for (;;) {
+
+    while (read < bytes_len) {
         size_t code = (size_t)bytes[read];
         size_t left = bytes_len - read;
         if (left < code) {
@@ -919,9 +918,10 @@ static enum jcobs_frame_kind jcobs_kind_of(const unsigned char *bytes, size_t by
         if (left == code) {
             return after_full && code == 1 ? JCOBS_FRAME_KIND_LONGER : JCOBS_FRAME_KIND_CANONICAL;
         }
-        after_full = code == JCOBS_FULL;
+        after_full = code == JCOBS_FULL_CODE;
         read += code;
     }
+    return JCOBS_FRAME_KIND_NOT_A_FRAME;
 }
 
 /* Returns whether the bytes are a frame, and which one of its message.
@@ -929,7 +929,12 @@ static enum jcobs_frame_kind jcobs_kind_of(const unsigned char *bytes, size_t by
  * exactly if they are the one that encoders write. */
 unsigned int jcobs_frame_kind(const void *bytes, size_t len)
 {
-    switch (jcobs_kind_of((const unsigned char *)bytes, len)) {
+    const unsigned char *const from = (const unsigned char *)bytes;
+
+    if (jcobs_len_to_zero(from, len) < len) {
+        return JCOBS_NOT_A_FRAME;
+    }
+    switch (jcobs_kind_by_blocks(from, len)) {
     case JCOBS_FRAME_KIND_NOT_A_FRAME:
         return JCOBS_NOT_A_FRAME;
     case JCOBS_FRAME_KIND_CANONICAL:

@@ -1,6 +1,5 @@
 //! Where pieces begin and end.
 ghost use Rattle.std.specs.Prelude.{All, ◌≢◌, ◌≡◌, ◌<◌, ◌≤◌, ◌+◌, ◌-◌, length, take, slice_index};
-ghost use Rattle.cobs.specs.Decode.{leading_zeros};
 ghost use Rattle.cobs.specs.Grammar.{HasNoZero};
 
 use cobs_bytes::window::{WIDE_WINDOW, first_zero, has_vectors};
@@ -44,17 +43,4 @@ pub(crate) fn len_without_end(source: &[u8], sentinel: u8) -> usize
     } else {
         source.len()
     }
-}
-
-/// How many zeros the source begins with.
-pub(crate) fn leading_zeros(source: &[u8]) -> usize
-    ensures count { result ≡ leading_zeros source.now }
-    ensures within { result ≤ length source.now }
-{
-    'by_byte: for i in 0..source.len() {
-        if source[i] != 0 {
-            return i;
-        }
-    }
-    source.len()
 }

@@ -9,7 +9,6 @@ mod decoding;
 mod encoding;
 mod kind;
 mod message;
-mod source;
 mod text;
 
 pub use answer::{Answer, BROKEN, EMPTY, MORE, OK, TOO_SMALL, done, result_by, too_small};
@@ -17,5 +16,4 @@ pub use decoding::{decode_byte, decode_each, result_of};
 pub use encoding::{encode_byte, encode_each, encode_within, end_of, finish, finish_terminated};
 pub use kind::{CANONICAL, LONGER, NOT_A_FRAME};
 pub use message::encode_message;
-pub use source::leading_zeros;
 pub use text::{VERSION, words};

@@ -1,7 +1,7 @@
 //! Whole frames to messages.
 ghost use Rattle.std.specs.Prelude.{◌≡◌, ◌≢◌, ◌+◌, ◌≤◌, ◌<◌, ℕ, List, length, min, take, slice_index, IfSome, Some, None, Err};
 ghost use Rattle.std.specs.List.{All};
-ghost use Rattle.cobs.specs.Decode.{first_output, len_through_piece, leading_zeros, result_of_decode};
+ghost use Rattle.cobs.specs.Decode.{first_output, len_through_piece, result_of_decode};
 ghost use Rattle.cobs.specs.Overwritten.{overwritten};
 ghost use Rattle.cobs.specs.Sentinel.{xor_each};
 ghost use Rattle.cobs.specs.Stream.{first_piece};
@@ -9,7 +9,7 @@ ghost use Rattle.cobs_abi.specs.Answer.{head_end};
 ghost use Rattle.cobs_abi.specs.Decode.{Decodes, DecodesFor, DecodesInPlace, DecodesInPlaceFor, IsKindOf};
 
 use cobs::laws::{law_1, law_6, law_12};
-use cobs::{DecodeError, FrameKind, decode_short, decode_short_in_place};
+use cobs::{DecodeError, FrameKind, decode_short, decode_short_in_place, leading_zeros};
 use cobs_abi::{Answer, CANONICAL, EMPTY, LONGER, NOT_A_FRAME, OK, done, result_by};
 use memchr::memchr;
 
@@ -29,19 +29,6 @@ fn head_end(bytes: &[u8], sentinel: u8) -> usize
     law_12();
     let end = first_sentinel(bytes, sentinel);
     if end < bytes.len() { end + 1 } else { end }
-}
-
-/// How many zeros the source begins with.
-fn leading_zeros(source: &[u8]) -> usize
-    ensures count { result ≡ leading_zeros source.now }
-    ensures within { result ≤ length source.now }
-{
-    'by_byte: for i in 0..source.len() {
-        if source[i] != 0 {
-            return i;
-        }
-    }
-    source.len()
 }
 
 /// How many bytes the source has up to the end of its first piece, with the zero after it if there is one, or

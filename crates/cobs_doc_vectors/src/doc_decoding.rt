@@ -8,7 +8,8 @@ use cobs::{
     CobsDecoder, DecodeError, DecodeResult, DecodeVecError, DecoderState, DecodingResult,
     DestBufTooSmallError, FrameKind, PushError, decode, decode_in_place, decode_in_place_report,
     decode_in_place_with_sentinel, decode_short, decode_short_in_place, decode_vec,
-    decode_vec_with_sentinel, decode_with_sentinel, frame_kind,
+    decode_vec_with_sentinel, decode_with_sentinel, frame_kind, kind_by_blocks,
+    leading_zeros,
 };
 use std::test::Fail;
 
@@ -148,6 +149,12 @@ fn frame_kind_example_2(rt: HostRuntime) {
 }
 
 #[test]
+fn kind_by_blocks_example(rt: HostRuntime) {
+    assert_eq!(rt; kind_by_blocks(&[3, 7, 8, 1]), FrameKind::Canonical);
+    assert_eq!(rt; kind_by_blocks(&[3, 7]), FrameKind::NotAFrame);
+}
+
+#[test]
 fn decoder_state_example(rt: HostRuntime) {
     let mut state = DecoderState::default();
     assert!(rt; matches!(state.feed(2), Ok(DecodeResult::DataStart)));
@@ -197,4 +204,11 @@ fn decode_short_example(rt: HostRuntime) {
     assert!(rt; decode_short(b"\x03hi\0", &mut dest).is_some());
     assert_eq!(rt; &dest, b"hi\xaa");
     assert_eq!(rt; decode_short(b"\x03hi\0\x02", &mut dest), None);
+}
+
+#[test]
+fn leading_zeros_example(rt: HostRuntime) {
+    assert_eq!(rt; leading_zeros(&[0, 0, 2, 7, 0]), 2);
+    assert_eq!(rt; leading_zeros(&[0]), 1);
+    assert_eq!(rt; leading_zeros(&[]), 0);
 }

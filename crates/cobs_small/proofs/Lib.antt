@@ -1,5 +1,4 @@
 mod BlockLemmas
 mod InPlaceLemmas
-mod KindLemmas
 mod LeadLemmas
 mod PieceLemmas

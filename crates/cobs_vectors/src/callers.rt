@@ -14,15 +14,17 @@ ghost use Rattle.cobs.specs.Length.{encoded_len, max_encoded_len};
 ghost use Rattle.cobs.specs.Sentinel.{IsFreeOf, xor_each};
 ghost use Rattle.cobs.specs.Messages.{AreFrames, messages_in};
 ghost use Rattle.cobs.specs.Piece.{last_part, missing};
+ghost use Rattle.cobs.specs.Stream.{first_piece};
 ghost use Rattle.cobs.specs.Table.{data_of};
 
 use cobs::laws::{law_2, law_4, law_12};
 use cobs::{
     CobsDecoder, CobsDecoderHeapless, CobsDecoderOwned, DecodeError, DecodeReport, DecodeResult,
-    DecoderState, DestBufTooSmallError, PushError, WriteBuffer, decode, decode_in_place_report,
-    decode_short, decode_short_in_place, decode_with_sentinel, encode_frames, encode_frames_room,
-    encode_in_place, encode_including_sentinels, encode_vec, encode_vec_including_sentinels,
-    encode_vec_with_sentinel, encode_with_sentinel, try_encode_including_sentinels,
+    DecoderState, DestBufTooSmallError, FrameKind, PushError, WriteBuffer, decode,
+    decode_in_place_report, decode_short, decode_short_in_place, decode_with_sentinel, encode,
+    encode_frames, encode_frames_room, encode_in_place, encode_including_sentinels, encode_vec,
+    encode_vec_including_sentinels, encode_vec_with_sentinel, encode_with_sentinel, kind_by_blocks,
+    leading_zeros, try_encode_including_sentinels,
 };
 use std::alloc::{AllocError, Global};
 
@@ -91,6 +93,23 @@ pub fn decode_known_short_in_place(frame: &mut [u8]) -> bool
 {
     law_12();
     decode_short_in_place(frame).is_some()
+}
+
+/// Returns the source from its first nonzero byte on: its first piece is the same.
+pub fn skip_zeros<'a>(source: &'a [u8]) -> &'a [u8]
+    ensures { first_piece result.now ≡ first_piece source.now }
+{
+    law_12();
+    &source[leading_zeros(source)..]
+}
+
+/// Encodes the message, and asks which frame it is: the canonical one.
+pub fn encode_canonically(message: &[u8], dest: &mut [u8]) -> bool
+    requires { encoded_len message.now ≤ length dest.old }
+    ensures { IsTrue result }
+{
+    let len = encode(message, dest);
+    kind_by_blocks(&dest[..len]) == FrameKind::Canonical
 }
 
 /// Writes the frame of the message for the sentinel, and the sentinel after it, and returns its place: it is

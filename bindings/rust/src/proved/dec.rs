@@ -25,7 +25,7 @@ pub use heapless::CobsDecoderHeapless;
 pub use in_place::{
     decode_in_place, decode_in_place_report, decode_in_place_with_sentinel, decode_short_in_place,
 };
-pub use kind::{FrameKind, frame_kind};
+pub use kind::{FrameKind, frame_kind, kind_by_blocks};
 pub use state::{DecodeResult, DecoderState};
 pub use unbuffered::{DecoderPhase, UnbufferedDecoder};
-pub use whole::{decode, decode_short};
+pub use whole::{decode, decode_short, leading_zeros};

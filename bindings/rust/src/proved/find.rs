@@ -29,13 +29,3 @@ pub(crate) fn len_without_end(source: &[u8], sentinel: u8) -> usize {
         source.len()
     }
 }
-
-/// How many zeros the source begins with.
-pub(crate) fn leading_zeros(source: &[u8]) -> usize {
-    'by_byte: for i in 0..source.len() {
-        if source[i] != 0 {
-            return i;
-        }
-    }
-    source.len()
-}

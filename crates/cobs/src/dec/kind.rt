@@ -1,6 +1,6 @@
 //! Whether bytes are a frame, and which one.
 ghost use Rattle.std.specs.Prelude.{◌≡◌, ◌↔◌};
-ghost use Rattle.cobs.specs.Grammar.{IsCanonical, IsFrame};
+ghost use Rattle.cobs.specs.Grammar.{HasNoZero, IsCanonical, IsFrame};
 
 use crate::block::FULL_CODE;
 use crate::find::position_or_len;
@@ -49,14 +49,33 @@ pub fn frame_kind(bytes: &[u8]) -> FrameKind
     if position_or_len(bytes, 0) < bytes.len() {
         return FrameKind::NotAFrame;
     }
-    let mut rest = bytes;
+    kind_by_blocks(bytes)
+}
+
+/// Returns which frame the bytes are, as [`frame_kind`] does, from one code to the next, without a search for a zero among
+/// them. (A choice of this library.)
+///
+/// Precondition: no byte is a zero.
+///
+/// ```
+/// assert_eq!(rt; kind_by_blocks(&[3, 7, 8, 1]), FrameKind::Canonical);
+/// assert_eq!(rt; kind_by_blocks(&[3, 7]), FrameKind::NotAFrame);
+/// ```
+pub fn kind_by_blocks(bytes: &[u8]) -> FrameKind
+    requires nonzero { HasNoZero bytes.now }
+    ensures not_a_frame { (result ≡ FrameKind.NotAFrame) ↔ ¬ IsFrame bytes.now }
+    ensures canonical { (result ≡ FrameKind.Canonical) ↔ IsCanonical bytes.now }
+    ensures longer { (result ≡ FrameKind.Longer) ↔ (IsFrame bytes.now × ¬ IsCanonical bytes.now) }
+{
+    let mut read = 0;
     let mut after_full = false;
-    'by_block: while !rest.is_empty() {
-        let code = rest[0] as usize;
-        if rest.len() < code {
+    'by_block: while read < bytes.len() {
+        let code = bytes[read] as usize;
+        let left = bytes.len() - read;
+        if left < code {
             return FrameKind::NotAFrame;
         }
-        if rest.len() == code {
+        if left == code {
             return if after_full && code == 1 {
                 FrameKind::Longer
             } else {
@@ -64,7 +83,7 @@ pub fn frame_kind(bytes: &[u8]) -> FrameKind
             };
         }
         after_full = code == FULL_CODE;
-        rest = &rest[code..];
+        read += code;
     }
     FrameKind::NotAFrame
 }

@@ -47,14 +47,29 @@ pub fn frame_kind(bytes: &[u8]) -> FrameKind {
     if position_or_len(bytes, 0) < bytes.len() {
         return FrameKind::NotAFrame;
     }
-    let mut rest = bytes;
+    kind_by_blocks(bytes)
+}
+
+/// Returns which frame the bytes are, as [`frame_kind`] does, from one code to the next, without a search for a zero among
+/// them.
+///
+/// Precondition: no byte is a zero.
+///
+/// ```
+/// # use jcobs::proved::*;
+/// assert_eq!(kind_by_blocks(&[3, 7, 8, 1]), FrameKind::Canonical);
+/// assert_eq!(kind_by_blocks(&[3, 7]), FrameKind::NotAFrame);
+/// ```
+pub fn kind_by_blocks(bytes: &[u8]) -> FrameKind {
+    let mut read = 0;
     let mut after_full = false;
-    'by_block: while !rest.is_empty() {
-        let code = rest[0] as usize;
-        if rest.len() < code {
+    'by_block: while read < bytes.len() {
+        let code = bytes[read] as usize;
+        let left = bytes.len() - read;
+        if left < code {
             return FrameKind::NotAFrame;
         }
-        if rest.len() == code {
+        if left == code {
             return if after_full && code == 1 {
                 FrameKind::Longer
             } else {
@@ -62,7 +77,7 @@ pub fn frame_kind(bytes: &[u8]) -> FrameKind {
             };
         }
         after_full = code == FULL_CODE;
-        rest = &rest[code..];
+        read += code;
     }
     FrameKind::NotAFrame
 }

@@ -1,18 +1,15 @@
-use Rattle.std.proofs.Common.{arith, refl}
-use Rattle.cobs_small.proofs.KindLemmas.{frame_of}
+use Rattle.std.proofs.Common.{◌≢◌, List, ℕ, arith, refl}
+use Rattle.std.proofs.lemmas.List.Elements.{All-get_or}
+use Rattle.cobs.specs.Grammar.{IsCanonical, IsFrame, message_of}
 use Rattle.cobs_small.proofs.kind.jcobs_frame_kind.Goals as goal
 
-pub returns-in-NotAFrame : goal.returns-in-NotAFrame
-returns-in-NotAFrame c =
-    let is = c.in-NotAFrame.ensures in
-    record { kind = record { not_a_frame = (λ _. is, λ _. refl); canonical = (λ e. absurd (omega (arith, e)), λ other. absurd (is (frame_of c.args.bytes.now other))); longer = (λ e. absurd (omega (arith, e)), λ both. absurd (is both.0)) } }
+-- a canonical frame is a frame
+frame_of : (f : List ℕ) → IsCanonical f → IsFrame f
+frame_of f c = (message_of c.blocks, record { blocks = c.blocks; frame = c.frame; message = refl })
 
-pub returns-in-Canonical : goal.returns-in-Canonical
-returns-in-Canonical c =
-    let is = c.in-Canonical.ensures in
-    record { kind = record { not_a_frame = (λ e. absurd (omega (arith, e)), λ other. absurd (other (frame_of c.args.bytes.now is))); canonical = (λ _. is, λ _. refl); longer = (λ e. absurd (omega (arith, e)), λ both. absurd (both.1 is)) } }
-
-pub returns-in-Longer : goal.returns-in-Longer
-returns-in-Longer c =
-    let is = c.in-Longer.ensures in
-    record { kind = record { not_a_frame = (λ e. absurd (omega (arith, e)), λ other. absurd (other is.0)); canonical = (λ e. absurd (omega (arith, e)), λ other. absurd (is.1 other)); longer = (λ _. is, λ _. refl) } }
+pub returns-then-len_to_zero-bytes : goal.returns-then-len_to_zero-bytes
+returns-then-len_to_zero-bytes c =
+    let bytes : List ℕ = c.args.bytes.now in
+    let more = c.if-len_to_zero-bytes.true in
+    let none : ¬ IsFrame bytes = λ frame. All-get_or (λ b. b ≢ 0) bytes c.len_to_zero.result 0 more (c.law_1.ensures.only bytes frame.0 frame.1).1 (c.len_to_zero.ensures.stop more) in
+    record { kind = record { not_a_frame = (λ _. none, λ _. refl); canonical = (λ e. absurd (omega (arith, e)), λ other. absurd (none (frame_of bytes other))); longer = (λ e. absurd (omega (arith, e)), λ both. absurd (none both.0)) } }

@@ -1,6 +1,0 @@
-use Rattle.std.proofs.Common.{◌≡◌, ◌+◌, drop}
-use Rattle.cobs.specs.Decode.{leading_zeros}
-use Rattle.cobs_c.proofs.decode.leading_zeros.Given as goal
-
-abbrev pub invariant-by_byte : goal.invariant-by_byte
-invariant-by_byte l = leading_zeros l.source ≡ l.i + leading_zeros (drop l.i l.source)
