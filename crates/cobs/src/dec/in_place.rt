@@ -73,7 +73,7 @@ impl UnbufferedDecoder {
     }
 
     /// Takes the bytes of the buffer that it writes to, from `read` to `end`.
-    #[inline(always)]
+    #[inline]
     fn take_in_place(&mut self, buffer: &mut [u8], read: usize, end: usize)
         requires going { self.old.too_long ≡ 0 }
         requires behind { self.old.written ≤ read }

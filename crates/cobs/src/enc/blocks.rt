@@ -7,9 +7,10 @@ ghost use Rattle.cobs_bytes.specs.Mask.{lowest, without_lowest};
 ghost use Rattle.cobs.specs.Internal.Taking.{IsFirstRun, MarksZeros, TakesFront};
 
 use crate::block::FULL_CODE;
+use crate::enc::UnbufferedEncoder;
 use crate::enc::progress::EncoderProgress;
 use crate::find::position_or_len;
-use cobs_bytes::window::{WINDOW, copy_at, copy_window, write_row, zeros_at};
+use cobs_bytes::window::{WINDOW, copy_at, copy_window, has_vectors, write_row, zeros_at};
 
 /// Fewer bytes go one by one, in place of a window: in the Rust crate 1 byte takes .65 of the time, 4 bytes .61.
 pub(crate) const FEW: usize = 8;
@@ -122,7 +123,7 @@ pub(crate) fn append_short(
     ensures { TakesFront dest.old (reached_at progress) source.now (length source.now) dest.new (reached_at result) }
 {
     let len = source.len();
-    if len < FEW {
+    if len < FEW || !has_vectors() {
         return append_few(source, dest, progress);
     }
     let start = progress.index;
@@ -164,7 +165,7 @@ fn write_codes_of_zeros(source: &[u8], dest: &mut [u8], at: usize) -> usize
 /// for the next window. A row of zeros needs no copy. Nothing is written after the frame.
 #[inline(always)]
 #[tactic(auto, using(crate::proofs::encoding::TakingLemmas::next_steps))]
-pub(crate) fn append_windows(
+fn append_windows(
     source: &[u8],
     dest: &mut [u8],
     start: EncoderProgress,
@@ -255,7 +256,7 @@ fn append_long_run(
     (read + 1, progress_at(next, next + 1, false))
 }
 
-/// Takes a `source` whose first run has `run` bytes: by that run, then by windows up to the next long one, in turn.
+/// Takes a `source` whose first run has `run` bytes: by that run, then by a front up to the next long one, in turn.
 #[inline(never)]
 #[tactic(auto, using(crate::proofs::encoding::TakingLemmas::next_steps))]
 pub(crate) fn append_rest(
@@ -272,8 +273,8 @@ pub(crate) fn append_rest(
 {
     let (mut read, mut progress) = append_long_run(source, run, dest, progress);
     'by_run: while read < source.len() {
-        let (windows, behind) = append_windows(&source[read..], dest, progress);
-        read += windows;
+        let (front, behind) = append_front(&source[read..], dest, progress);
+        read += front;
         let left = &source[read..];
         let (next, behind) = append_long_run(left, position_or_len(left, 0), dest, behind);
         read += next;
@@ -282,10 +283,32 @@ pub(crate) fn append_rest(
     progress
 }
 
+/// Takes a front of `source`, but not all of it: by windows, or without vectors byte by byte. After a full block the caller
+/// goes on by slices. Returns how many bytes these are, and how far the frame has come.
+#[inline(always)]
+fn append_front(
+    source: &[u8],
+    dest: &mut [u8],
+    start: EncoderProgress,
+) -> (usize, EncoderProgress)
+    requires some { 0 < length source.now }
+    requires place { IsPlaceIn (length dest.old) (reached_at start) }
+    requires fits { end_after (reached_at start) source.now ≤ length dest.old }
+    ensures within { result.0 < length source.now }
+    ensures taken { TakesFront dest.old (reached_at start) source.now result.0 dest.new (reached_at result.1) }
+{
+    if has_vectors() {
+        return append_windows(source, dest, start);
+    }
+    let mut encoder = UnbufferedEncoder::from_progress(start);
+    let read = encoder.append_to_full(dest, source);
+    (read, encoder.progress())
+}
+
 /// Takes `source` into the frame that `dest` holds as far as `progress` says, and returns how far it has come then. The
 /// code of the open block is written only by [`close`]: what is in its place before that doesn't matter.
 ///
-/// Most of it goes by windows. What they leave is mostly short; a long run, or a full block, goes by [`append_rest`].
+/// Most of it goes by [`append_front`]. What that leaves is mostly short; a long run, or a full block, goes by [`append_rest`].
 #[inline(always)]
 pub(crate) fn append(source: &[u8], dest: &mut [u8], progress: EncoderProgress) -> EncoderProgress
     requires some { 0 < length source.now }
@@ -293,7 +316,7 @@ pub(crate) fn append(source: &[u8], dest: &mut [u8], progress: EncoderProgress) 
     requires fits { end_after (reached_at progress) source.now ≤ length dest.old }
     ensures { TakesFront dest.old (reached_at progress) source.now (length source.now) dest.new (reached_at result) }
 {
-    let (read, progress) = append_windows(source, dest, progress);
+    let (read, progress) = append_front(source, dest, progress);
     let left = &source[read..];
     if fits_window_and_block(progress, left.len()) {
         append_short(left, dest, progress, false)

@@ -45,7 +45,7 @@ impl UnbufferedDecoder {
     }
 
     /// Takes the bytes of the buffer that it writes to, from `read` to `end`.
-    #[inline(always)]
+    #[inline]
     fn take_in_place(&mut self, buffer: &mut [u8], read: usize, end: usize) {
         let mut at = read;
         'by_step: while at < end {

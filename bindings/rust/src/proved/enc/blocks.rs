@@ -2,7 +2,10 @@
 //! How a message is cut into blocks: the core that every encoder into a slice is built on.
 
 use crate::proved::block::FULL_CODE;
-use crate::proved::cobs_bytes::window::{WINDOW, copy_at, copy_window, write_row, zeros_at};
+use crate::proved::cobs_bytes::window::{
+    WINDOW, copy_at, copy_window, has_vectors, write_row, zeros_at,
+};
+use crate::proved::enc::UnbufferedEncoder;
 use crate::proved::enc::progress::EncoderProgress;
 use crate::proved::find::position_or_len;
 
@@ -82,7 +85,7 @@ pub(crate) fn append_short(
     test_for_none: bool,
 ) -> EncoderProgress {
     let len = source.len();
-    if len < FEW {
+    if len < FEW || !has_vectors() {
         return append_few(source, dest, progress);
     }
     let start = progress.index;
@@ -116,7 +119,7 @@ fn write_codes_of_zeros(source: &[u8], dest: &mut [u8], at: usize) -> usize {
 /// Otherwise each zero of the window gives its place to the code of the block that it begins, and the last block stays open
 /// for the next window. A row of zeros needs no copy. Nothing is written after the frame.
 #[inline(always)]
-pub(crate) fn append_windows(
+fn append_windows(
     source: &[u8],
     dest: &mut [u8],
     start: EncoderProgress,
@@ -192,7 +195,7 @@ fn append_long_run(
     (read + 1, progress_at(next, next + 1, false))
 }
 
-/// Takes a `source` whose first run has `run` bytes: by that run, then by windows up to the next long one, in turn.
+/// Takes a `source` whose first run has `run` bytes: by that run, then by a front up to the next long one, in turn.
 #[inline(never)]
 pub(crate) fn append_rest(
     source: &[u8],
@@ -202,8 +205,8 @@ pub(crate) fn append_rest(
 ) -> EncoderProgress {
     let (mut read, mut progress) = append_long_run(source, run, dest, progress);
     'by_run: while read < source.len() {
-        let (windows, behind) = append_windows(&source[read..], dest, progress);
-        read += windows;
+        let (front, behind) = append_front(&source[read..], dest, progress);
+        read += front;
         let left = &source[read..];
         let (next, behind) = append_long_run(left, position_or_len(left, 0), dest, behind);
         read += next;
@@ -212,13 +215,29 @@ pub(crate) fn append_rest(
     progress
 }
 
+/// Takes a front of `source`, but not all of it: by windows, or without vectors byte by byte. After a full block the caller
+/// goes on by slices. Returns how many bytes these are, and how far the frame has come.
+#[inline(always)]
+fn append_front(
+    source: &[u8],
+    dest: &mut [u8],
+    start: EncoderProgress,
+) -> (usize, EncoderProgress) {
+    if has_vectors() {
+        return append_windows(source, dest, start);
+    }
+    let mut encoder = UnbufferedEncoder::from_progress(start);
+    let read = encoder.append_to_full(dest, source);
+    (read, encoder.progress())
+}
+
 /// Takes `source` into the frame that `dest` holds as far as `progress` says, and returns how far it has come then. The
 /// code of the open block is written only by [`close`]: what is in its place before that doesn't matter.
 ///
-/// Most of it goes by windows. What they leave is mostly short; a long run, or a full block, goes by [`append_rest`].
+/// Most of it goes by [`append_front`]. What that leaves is mostly short; a long run, or a full block, goes by [`append_rest`].
 #[inline(always)]
 pub(crate) fn append(source: &[u8], dest: &mut [u8], progress: EncoderProgress) -> EncoderProgress {
-    let (read, progress) = append_windows(source, dest, progress);
+    let (read, progress) = append_front(source, dest, progress);
     let left = &source[read..];
     if fits_window_and_block(progress, left.len()) {
         append_short(left, dest, progress, false)

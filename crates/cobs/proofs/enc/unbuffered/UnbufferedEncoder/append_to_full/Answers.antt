@@ -1,0 +1,27 @@
+use Rattle.std.proofs.Common.{◌≤◌, List, ℕ, drop, length, length-drop, subst, sym, arith}
+use Rattle.std.proofs.lemmas.List.{drop_more}
+use Rattle.cobs.specs.Fields.Progress.{reached_by}
+use Rattle.cobs.specs.OpenBlock.{end_after}
+use Rattle.cobs.proofs.encoding.StepLemmas.{place-short}
+use Rattle.cobs.proofs.encoding.TakingLemmas.{front-next, front-none, next-least}
+use Rattle.cobs.proofs.enc.unbuffered.UnbufferedEncoder.append_to_full.Goals as goal
+
+pub by_byte-init : goal.by_byte-init
+by_byte-init c = (omega arith, front-none c.args.dest.now (reached_by c.args.self.now) c.args.bytes.now c.requires.place)
+
+pub append_byte-requires : goal.append_byte-requires
+append_byte-requires c =
+    let t = c.by_byte.invariant.1 in
+    let short = place-short c.by_byte.encoder (length c.by_byte.dest) t.place in
+    let long = length-drop c.by_byte.read c.args.bytes.now in
+    let least = next-least (reached_by c.by_byte.encoder) (drop c.by_byte.read c.args.bytes.now) t.place.some (omega arith) in
+    let end = t.end in
+    record { open_block = short; room = omega arith }
+
+pub by_byte-preserved : goal.by_byte-preserved
+by_byte-preserved c =
+    let t = c.by_byte.invariant.1 in
+    let end = t.end in
+    let left = drop_more c.args.bytes.now c.by_byte.read 0 (omega arith) in
+    (omega arith, front-next c.by_byte.read 1 (sym left) t
+    (c.append_byte.ensures _ (subst (λ (xs : List ℕ). end_after (reached_by c.by_byte.encoder) xs ≤ length c.by_byte.dest) left (omega arith))))
