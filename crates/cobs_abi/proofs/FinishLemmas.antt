@@ -3,7 +3,7 @@ use Rattle.std.proofs.Common.{◌≡◌, ◌≢◌, ◌∙◌, ◌++◌, ◌+◌
 use Rattle.std.proofs.lemmas.Bool.{leb-true, leb-false, cases_Bool}
 use Rattle.std.proofs.lemmas.List.{length-map, length-set, take-take}
 use Rattle.std.proofs.lemmas.Slice.{drop-append-drop}
-use Rattle.std.specs.Int.Bits.{bit_xor, xor_zero_r}
+use Rattle.std.specs.Int.Bits.{bit_xor}
 use Rattle.cobs.specs.Grammar.{IsEncodedFrame, IsFrame}
 use Rattle.cobs.specs.Fields.Encoders.{reached_by}
 use Rattle.cobs.specs.Length.{encoded_len}
@@ -16,11 +16,7 @@ use Rattle.cobs_abi.specs.Frames.{IsFrameOnWire, IsFrameOnWireFor}
 use Rattle.cobs_abi.specs.Stream.{Finishes}
 use Rattle.cobs_abi.specs.declared.answer.Answer.{Answer}
 use Rattle.cobs_abi.specs.declared.answer.TheConstants.{OK}
-
--- XOR with 0 changes nothing
-pub xor_each-zero : (xs : List ℕ) → xor_each 0 xs ≡ xs
-xor_each-zero [] = refl
-xor_each-zero (x ∷ xs) = ap (λ (y : ℕ). y ∷ xor_each 0 xs) (xor_zero_r x) ∙ ap (λ (ys : List ℕ). x ∷ ys) (xor_each-zero xs)
+pub use Rattle.cobs_bytes.proofs.bytes.XoredLemmas.{xor_each-zero}
 
 -- of `law_6`
 module _ (free : (f : List ℕ) (s : ℕ) → IsFrame f → All (λ byte. byte ≢ s) (xor_each s f)) (back : (f : List ℕ) (s : ℕ) → xor_each s (xor_each s f) ≡ f) where

@@ -1,4 +1,5 @@
 -- Bytes and windows, whatever they mean: masks of zeros, copies and moves in parts that overlap.
+pub mod ListLemmas
 pub mod MaskLemmas
 pub mod PartMasks
 pub mod NonzeroCopies

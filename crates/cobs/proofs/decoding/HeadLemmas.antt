@@ -80,7 +80,8 @@ unfolding first_piece
 first_piece_empty [] e = refl
 first_piece_empty (byte ∷ t) e = absurd (omega arith)
 
-first_piece_nonzero : (t : List ℕ) → 0 < length t → get_or t 0 0 ≢ 0 → first_piece t ≡ Some (head t)
+-- a source that begins with a code
+pub first_piece_nonzero : (t : List ℕ) → 0 < length t → get_or t 0 0 ≢ 0 → first_piece t ≡ Some (head t)
 first_piece_nonzero [] some other = absurd (omega arith)
 first_piece_nonzero (byte ∷ t) some other = first_piece_head byte t other
 

@@ -11,10 +11,10 @@ use Rattle.cobs.specs.Sentinel.{xor_each}
 use Rattle.cobs.specs.Stream.{head}
 use Rattle.cobs.specs.Decode.{head_result, head_result_within, result_of_sentinel_decode}
 use Rattle.cobs.specs.declared.error.DecodeError.TheVariants.{TargetBufTooSmall}
-use Rattle.cobs.proofs.format.SentinelLemmas.{xor_twice}
 use Rattle.cobs.proofs.decoding.HeadLemmas.{front_is_head}
 use Rattle.cobs.proofs.decoding.KeptLemmas.{kept_output-empty}
 use Rattle.cobs.proofs.decoding.OutcomeSteps.{overwritten-none}
+use Rattle.cobs_bytes.proofs.bytes.XoredLemmas.{xor_twice}
 
 -- RESULTS BY THE KEPT OUTPUT
 

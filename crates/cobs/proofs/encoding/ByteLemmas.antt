@@ -8,15 +8,16 @@ use Rattle.cobs.specs.OpenBlock.{CobsEncoderAfter, IsPlaceIn, Reached, end_after
 use Rattle.cobs.specs.Internal.Taking.{TakesFront}
 use Rattle.cobs.proofs.encoding.AfterLemmas.{at}
 use Rattle.cobs.proofs.encoding.CoreLemmas.{after-len}
-use Rattle.cobs.proofs.encoding.OpenLenLemmas.{length-ones, ones, same_start}
+use Rattle.cobs.proofs.encoding.OpenLenLemmas.{same_start}
 use Rattle.cobs.proofs.encoding.ReachLemmas.{Reaches, Reaches-at, Reaches-weaker, Reaches-zero}
 use Rattle.cobs.proofs.encoding.TakingLemmas.{after-place, front-filled, front-taken, joined, reaches-start, short_room}
+use Rattle.cobs_bytes.proofs.bytes.ListLemmas.{length-ones, ones-nonzero}
 
 -- how long the frame of a longer message is
 pub after-more : (slice m a bytes : List ℕ) (r : Reached) → CobsEncoderAfter slice r m → HasNoZero a → length a + 1 ≡ r.block.code → bytes ≢ [] → encoded_len (m ++ bytes) ≡ r.block.index + encoded_len (a ++ bytes)
 after-more slice m a bytes r h nonzero long some =
     let k = length-ones (r.block.code - 1) in
-    after-len slice m bytes r some h ∙ ap (λ (n : ℕ). r.block.index + n) (same_start (replicate (r.block.code - 1) 1) a bytes (ones (r.block.code - 1)) nonzero (omega arith))
+    after-len slice m bytes r some h ∙ ap (λ (n : ℕ). r.block.index + n) (same_start (replicate (r.block.code - 1) 1) a bytes (ones-nonzero (r.block.code - 1)) nonzero (omega arith))
 
 -- the first byte of a source is taken
 module _ (source slice : List ℕ) (r : Reached) (some : 0 < length source) (place : IsPlaceIn (length slice) r) (fits : end_after r source ≤ length slice) where

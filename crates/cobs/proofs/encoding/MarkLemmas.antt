@@ -1,9 +1,7 @@
 -- A window of a message that was copied behind the open block, and whose zeros give way to codes one by one.
-use Rattle.std.proofs.Common.{◌≡◌, ◌≢◌, ℕ, ◌+◌, ◌-◌, ◌<◌, ◌≤◌, Bool, false, true, List, ◌++◌, length, drop, take, get_or, replicate, min, suc, refl, sym, ap, ◌∙◌, subst, arith, append_assoc, take_at, drop_at, length-append, length-take-le, length-drop}
+use Rattle.std.proofs.Common.{◌≡◌, ◌≢◌, ℕ, ◌+◌, ◌-◌, ◌<◌, ◌≤◌, Bool, false, true, List, ◌++◌, length, drop, take, get_or, replicate, min, suc, refl, sym, ap, ◌∙◌, subst, arith, length-append, length-take-le, length-drop}
 use Rattle.std.proofs.Math.ListN.{set}
 use borrow.Rule.Slice.PartMut.{put_mid}
-use Rattle.std.proofs.lemmas.Slice.{drop-append-drop}
-use Rattle.std.proofs.lemmas.List.Elements.{All-drop, All-take}
 use Rattle.std.proofs.Math.Seq.{take-append-add}
 use Rattle.std.proofs.lemmas.List.{drop-drop, drop-take, take-take, get_or-take, get_or-drop, drop-set-lt, length-set, length-replicate, take-append-le, take-replicate}
 use lib.Count.{count_trailing_zeros}
@@ -13,31 +11,7 @@ use Rattle.cobs.specs.Grammar.{HasNoZero}
 use Rattle.cobs_bytes.specs.Mask.{zero_mask}
 use Rattle.cobs_bytes.proofs.bytes.MaskLemmas.{mask_behind, mask_behind-none, mask_behind-and, some_left, lowest_bit, lowest_left, nonzero_len, nonzero_len-lt, nonzero_len-before, nonzero_len-at, clear_front}
 use Rattle.cobs.proofs.encoding.ReachLemmas.{Reaches, Reaches-at, Reaches-same, Reaches-full, Reaches-join, Reaches-zero, Reaches-zeros, IsNotFull, least}
-
--- what is in a list that was made of three parts
-module _ (dest part : List ℕ) (at n : ℕ) (long : length part ≡ n) (fits : at ≤ length dest) where
-  length-front : length (take at dest) ≡ at
-  length-front = length-take-le at dest fits
-
-  pub front-three : take at (take at dest ++ (part ++ drop (at + n) dest)) ≡ take at dest
-  front-three = grind (arith, take_at, length-take-le)
-
-  pub mid-three : take n (drop at (take at dest ++ (part ++ drop (at + n) dest))) ≡ part
-  mid-three = grind (arith, drop_at, take_at, length-take-le)
-
-  pub behind-three : (r : ℕ) → at + n ≤ r → drop r (take at dest ++ (part ++ drop (at + n) dest)) ≡ drop r dest
-  behind-three r le =
-      let l = length-front in
-      ap (drop r) (sym (append_assoc (take at dest) part (drop (at + n) dest)))
-      ∙ drop-append-drop (at + n) dest (take at dest ++ part) r le (length-append (take at dest) part ∙ omega arith)
-
-  -- and what it is with more behind the part
-  pub three-next : (more : List ℕ) (k : ℕ) → let three = take at dest ++ (part ++ drop (at + n) dest) in take (at + n) three ++ (more ++ drop (at + n + k) three) ≡ take at dest ++ ((part ++ more) ++ drop (at + (n + k)) dest)
-  three-next more k =
-      let b = behind-three (at + n + k) (omega arith) in
-      let l = length-front in
-      let front : take (at + n) (take at dest ++ (part ++ drop (at + n) dest)) ≡ take at dest ++ part = grind (arith, append_assoc, take_at, length-append) in
-      grind (arith, append_assoc)
+use Rattle.cobs_bytes.proofs.bytes.ListLemmas.{behind-three, front-three, mid-three}
 
 -- A window of len bytes at `read` is copied to `next`; d bytes of it are taken, and the bits say where the zeros of the
 -- others are.
@@ -210,13 +184,6 @@ row-taken {H} {source} {old} {slice} {after} {end} {read} {index} {next} {P} r s
     let w : take (suc m) (drop read source) ≡ replicate (suc m) 0 = grind arith in
     let z = Reaches-zeros m H source old slice after end read index next P (omega arith) w fits short front back r in
     record { ordered = omega arith; open' = omega arith; reaches = grind (arith, Reaches-at) }
-
--- the next bytes of a run of nonzero bytes
-pub run-nonzero : (source : List ℕ) (run read k : ℕ) → HasNoZero (take run source) → read + k ≤ run → HasNoZero (take k (drop read source))
-run-nonzero source run read k clear le =
-    let sum : run ≡ read + (run - read) = omega arith in
-    let stretch : drop read (take run source) ≡ take (run - read) (drop read source) = ap (λ (i : ℕ). drop read (take i source)) sum ∙ drop-take read (run - read) source in
-    subst HasNoZero (ap (take k) stretch ∙ take-take k (run - read) (drop read source) (omega arith)) (All-take (λ byte. byte ≢ 0) k (drop read (take run source)) (All-drop (λ byte. byte ≢ 0) read (take run source) clear))
 
 -- the first k bytes, which aren't zeros and are copied as one slice, join the open block
 pub slice-joined : (H : List ℕ → Type 0) (source old slice : List ℕ) (end index next k n m : ℕ) (P : Bool → Type 0) → Reaches H source old slice end 0 index next P

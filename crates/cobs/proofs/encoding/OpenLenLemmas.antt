@@ -2,23 +2,18 @@
 use Rattle.std.proofs.Common.{◌≡◌, ◌≢◌, ℕ, ◌+◌, ◌-◌, ◌<◌, ◌≤◌, Bool, true, List, [], ◌∷◌, ◌++◌, length, drop, get_or, length-drop, replicate, All, refl, sym, ap, ◌∙◌, arith, append-nil, append_assoc, length-append}
 use Rattle.std.specs.List.{concat}
 use Rattle.std.proofs.lemmas.Bool.{cases_Bool, eqb-true, eqb-false}
-use Rattle.std.proofs.lemmas.List.{drop_all, drop_more, length-replicate, nil_from_length}
-use Rattle.std.proofs.lemmas.List.Elements.{All-append, All-cons, All-nil, All-replicate, All-head, All-tail}
+use Rattle.std.proofs.lemmas.List.{drop_all, drop_more, nil_from_length}
+use Rattle.std.proofs.lemmas.List.Elements.{All-append, All-cons, All-nil, All-head, All-tail}
 use Rattle.cobs.specs.Grammar.{HasNoZero, IsBlock, is_full, bytes_of, joint, last_of, message_of}
 use Rattle.cobs.specs.Length.{encoded_len, max_encoded_len, open_len}
 use Rattle.cobs.proofs.format.LengthLemmas.{stretches-append, encoded_len-zero, encoded_len-full, encoded_len-last, encoded_len-le}
 use Rattle.cobs.proofs.encoding.OpenLemmas.{append-some}
 use Rattle.cobs.proofs.encoding.OpenedLemmas.{Opened, ends_in_full}
+use Rattle.cobs_bytes.proofs.bytes.ListLemmas.{length-ones, ones-nonzero}
 
 -- which nonzero bytes begin a message is no matter
 pub same_start : (a b t : List ℕ) → HasNoZero a → HasNoZero b → length a ≡ length b → encoded_len (a ++ t) ≡ encoded_len (b ++ t)
 same_start a b t na nb e = grind (arith, stretches-append, length-append)
-
-pub length-ones : (n : ℕ) → length {A = ℕ} (replicate n 1) ≡ n
-length-ones n = length-replicate n 1
-
-pub ones : (n : ℕ) → HasNoZero (replicate n 1)
-ones n = All-replicate (λ byte. byte ≢ 0) n 1 (λ e. omega arith)
 
 -- nonzero bytes join the open block
 pub open_len-join : (code : ℕ) (more t : List ℕ) → 0 < code → HasNoZero more → open_len code (more ++ t) ≡ open_len (code + length more) t
@@ -27,12 +22,12 @@ open_len-join code more t some nonzero =
     let l = length-append front more in
     let k = length-ones (code - 1) in
     let n = length-ones (code + length more - 1) in
-    let s = same_start (front ++ more) (replicate (code + length more - 1) 1) t (All-append (λ byte. byte ≢ 0) front more (ones (code - 1)) nonzero) (ones (code + length more - 1)) (omega arith) in
+    let s = same_start (front ++ more) (replicate (code + length more - 1) 1) t (All-append (λ byte. byte ≢ 0) front more (ones-nonzero (code - 1)) nonzero) (ones-nonzero (code + length more - 1)) (omega arith) in
     grind (arith, append_assoc)
 
 -- a zero closes it
 pub open_len-zero : (code : ℕ) (t : List ℕ) → 0 < code → code < 255 → open_len code (0 ∷ t) ≡ code + open_len 1 t
-open_len-zero code t some short = grind (arith, length-ones, encoded_len-zero, ones)
+open_len-zero code t some short = grind (arith, length-ones, encoded_len-zero, ones-nonzero)
 
 -- each byte of the message takes one of the frame at the least
 pub open_len-least : (code : ℕ) (t : List ℕ) → 0 < code → code + length t ≤ open_len code t
@@ -68,7 +63,7 @@ len-blocks (b ∷ c ∷ front) code bytes t each some =
 
 -- the frame of a message that goes on
 pub Opened-len : (slice m : List ℕ) (index next : ℕ) (full : Bool) (t : List ℕ) → (full ≡ true → t ≢ []) → Opened slice m index next full → encoded_len (m ++ t) ≡ index + open_len (next - index) t
-Opened-len slice m index next full t more o = grind (arith, length-ones, len-blocks, same_start, ones, ends_in_full)
+Opened-len slice m index next full t more o = grind (arith, length-ones, len-blocks, same_start, ones-nonzero, ends_in_full)
 
 -- how long the frame gets, byte by byte
 module _ (bytes : List ℕ) (i : ℕ) where
@@ -76,12 +71,12 @@ module _ (bytes : List ℕ) (i : ℕ) where
   pub len-end : (code : ℕ) → 0 < code → code ≤ 255 → length bytes ≤ i → open_len code (drop i bytes) ≡ code
   len-end code some short last =
       let k = length-ones (code - 1) in
-      ap (open_len code) (drop_all i bytes last) ∙ ap encoded_len (append-nil (replicate (code - 1) 1)) ∙ encoded_len-last (replicate (code - 1) 1) (omega arith) (ones (code - 1)) ∙ omega arith
+      ap (open_len code) (drop_all i bytes last) ∙ ap encoded_len (append-nil (replicate (code - 1) 1)) ∙ encoded_len-last (replicate (code - 1) 1) (omega arith) (ones-nonzero (code - 1)) ∙ omega arith
 
   module _ (more : i < length bytes) where
     -- a full block is closed
     pub len-full : (code : ℕ) → code ≡ 255 → open_len code (drop i bytes) ≡ 255 + open_len 1 (drop i bytes)
-    len-full code is = encoded_len-full (replicate (code - 1) 1) (drop i bytes) (omega (arith, length-ones (code - 1))) (ones (code - 1)) (λ e. omega (arith, length-drop i bytes, ap length e))
+    len-full code is = encoded_len-full (replicate (code - 1) 1) (drop i bytes) (omega (arith, length-ones (code - 1))) (ones-nonzero (code - 1)) (λ e. omega (arith, length-drop i bytes, ap length e))
 
     -- a byte joins the block
     pub len-byte : (code : ℕ) → 0 < code → get_or bytes i 0 ≢ 0 → open_len code (drop i bytes) ≡ open_len (code + 1) (drop (i + 1) bytes)

@@ -7,8 +7,9 @@ use Rattle.std.proofs.lemmas.List.{drop-drop, drop_more, drop_all, drop-set-lt, 
 use Rattle.cobs.specs.Grammar.{HasNoZero}
 use Rattle.cobs.specs.Length.{open_len}
 use Rattle.cobs.proofs.encoding.OpenedLemmas.{Opened, Opened-code, Opened-same, Opened-same-empty, Opened-join, Opened-close}
-use Rattle.cobs.proofs.encoding.OpenLenLemmas.{open_len-join, open_len-zero, open_len-least, length-ones, ones}
+use Rattle.cobs.proofs.encoding.OpenLenLemmas.{open_len-join, open_len-zero, open_len-least}
 use Rattle.cobs.proofs.format.LengthLemmas.{encoded_len-full, encoded_len-last}
+use Rattle.cobs_bytes.proofs.bytes.ListLemmas.{length-ones, ones-nonzero}
 
 -- Of a message that had H before, the slice has the first `pos` bytes of the source too; `end` is where its frame is to end
 -- once it has them all, and behind that the slice is as it was. Of the last block P says whether it is full.
@@ -107,18 +108,18 @@ module _ (H : List ℕ → Type 0) (source old slice : List ℕ) (end pos index 
 
   pub Reaches-full : pos < length source → next ≡ index + 255 → end ≤ length slice → Q true → Reaches H source old slice end pos index next P → Reaches H source old (set slice index 255) end pos next (next + 1) Q
   Reaches-full more full fits is_full r =
-      grind (arith, length-drop, drop-set-lt, full-taken, length-ones, encoded_len-full, ones)
+      grind (arith, length-drop, drop-set-lt, full-taken, length-ones, encoded_len-full, ones-nonzero)
 
   -- the last byte fills the block
   pub ends-full : pos ≡ length source → next ≡ index + 255 → Reaches H source old slice end pos index next P → end ≡ next
-  ends-full last full r = grind (arith, drop_all, length-ones, append-nil, encoded_len-last, ones)
+  ends-full last full r = grind (arith, drop_all, length-ones, append-nil, encoded_len-last, ones-nonzero)
 
   pub taken-full : pos ≡ length source → next ≡ index + 255 → end ≤ length slice → Reaches H source old slice end pos index next P → (m : List ℕ) → H m → Opened (set slice index 255) (m ++ source) next (next + 1) true
   taken-full last full fits r m h = grind (arith, ends-full, full-taken, take_all)
 
   -- the last byte leaves the block open
   pub ends-open : pos ≡ length source → Reaches H source old slice end pos index next P → end ≡ next
-  ends-open last r = grind (arith, drop_all, length-ones, append-nil, encoded_len-last, ones)
+  ends-open last r = grind (arith, drop_all, length-ones, append-nil, encoded_len-last, ones-nonzero)
 
 -- what is known of the last block behind a step: it isn't full
 abbrev pub IsNotFull : Bool → Type 0

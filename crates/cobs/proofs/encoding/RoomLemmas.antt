@@ -7,7 +7,8 @@ use Rattle.std.proofs.lemmas.List.Splits.{slice_split_none, slice_split_at}
 use Rattle.cobs.specs.Grammar.{HasNoZero}
 use Rattle.cobs.specs.Length.{runs, full_blocks, encoded_len, open_len}
 use Rattle.cobs.proofs.format.LengthLemmas.{no_zero, some_stretch, encoded_len-le}
-use Rattle.cobs.proofs.encoding.OpenLenLemmas.{ones, length-ones, open_len-join, open_len-least, open_len-most}
+use Rattle.cobs.proofs.encoding.OpenLenLemmas.{open_len-join, open_len-least, open_len-most}
+use Rattle.cobs_bytes.proofs.bytes.ListLemmas.{length-ones, ones-nonzero}
 
 abbrev pub blocks_in : List ℕ → ℕ
 blocks_in m = full_blocks (runs m)
@@ -44,11 +45,11 @@ blocks-nonzero run b t other = blocks-more run (b ∷ []) t (All-cons (λ byte. 
 
 -- a zero ends it
 pub blocks-zero : (run : ℕ) (t : List ℕ) → blocks_in (behind run (0 ∷ t)) ≡ run / 254 + blocks_in t
-blocks-zero run t = grind (arith, length-ones, slice_split_at, no_zero, ones, blocks-cons, some_stretch, blocks_in)
+blocks-zero run t = grind (arith, length-ones, slice_split_at, no_zero, ones-nonzero, blocks-cons, some_stretch, blocks_in)
 
 -- the message ends
 pub blocks-end : (run : ℕ) → blocks_in (behind run []) ≡ (run - 1) / 254
-blocks-end run = grind (arith, length-ones, blocks_in, append-nil, slice_split_none, no_zero, ones)
+blocks-end run = grind (arith, length-ones, blocks_in, append-nil, slice_split_none, no_zero, ones-nonzero)
 
 -- bytes among which no run fills a block, and the zero behind them
 blocks-skip : (n : ℕ) (bytes t : List ℕ) → n + length bytes < 254 → blocks_in (behind n (bytes ++ 0 ∷ t)) ≡ blocks_in t

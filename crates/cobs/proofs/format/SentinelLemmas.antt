@@ -1,25 +1,17 @@
 -- Lemmas on frames for another sentinel, and on frames between sentinels.
 use Rattle.std.proofs.Common.{rules, get_or, ◌≡◌, ◌≢◌, ℕ, zero, suc, length-append, ◌+◌, ◌-◌, ◌<◌, ◌≤◌, List, [], ◌∷◌, length, drop, take, replicate, set, refl, sym, ap, ◌∙◌, subst, arith, take_at}
 use borrow.Rule.Slice.PartMut.{put_mid}
-use Rattle.std.specs.Int.Bits.{bit_xor, xor_assoc, xor_self, xor_zero_r}
+use Rattle.std.specs.Int.Bits.{bit_xor, xor_self}
 use Rattle.std.proofs.lemmas.List.{same_lists, places, take-map, take-take, drop-map, take_rest}
 use Rattle.std.proofs.lemmas.List.Elements.{All-map, All-weaker}
 use Rattle.cobs.specs.Grammar.{HasNoZero, IsEncodedFrame, IsFrame}
 use Rattle.cobs.specs.Sentinel.{xor_each, IsEncodedFrameFor, IsDelimitedFrame, IsFreeOf, between_ends}
 use Rattle.cobs.proofs.format.FrameLemmas.{frame_nonzero}
-
--- XOR with the same byte twice changes nothing
-pub xor_twice : (b s : ℕ) → bit_xor (bit_xor b s) s ≡ b
-xor_twice b s = xor_assoc b s s ∙ ap (bit_xor b) (xor_self s) ∙ xor_zero_r b
+use Rattle.cobs_bytes.proofs.bytes.XoredLemmas.{xor_twice}
 
 pub xor_each-twice : (s : ℕ) (f : List ℕ) → xor_each s (xor_each s f) ≡ f
 xor_each-twice s [] = refl
 xor_each-twice s (b ∷ f) = ap (λ (x : ℕ). x ∷ xor_each s (xor_each s f)) (xor_twice b s) ∙ ap (λ (l : List ℕ). b ∷ l) (xor_each-twice s f)
-
--- XOR with 0 changes nothing
-pub xor_each-zero : (f : List ℕ) → xor_each 0 f ≡ f
-xor_each-zero [] = refl
-xor_each-zero (b ∷ f) = ap (λ (x : ℕ). x ∷ xor_each 0 f) (xor_zero_r b) ∙ ap (λ (l : List ℕ). b ∷ l) (xor_each-zero f)
 
 -- parts of some bytes, XORed
 module _ (bytes : List ℕ) (s : ℕ) where

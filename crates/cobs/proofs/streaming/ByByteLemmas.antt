@@ -11,8 +11,9 @@ use Rattle.cobs.specs.Piece.{output}
 use Rattle.cobs.specs.declared.error.DecodeError.{DecodeError}
 use Rattle.cobs.specs.declared.dec.frame_decoder.PieceEnd.{PieceEnd}
 use Rattle.cobs.proofs.format.StreamLemmas.{fed-nonzero, unended-push, unended-no_zero, ended_pieces-no_zero}
-use Rattle.cobs.proofs.streaming.LastPiece.{begun, drop-later, output-longer, last_piece-unended, last_piece-zero, ended_pieces-nonzero}
+use Rattle.cobs.proofs.streaming.LastPiece.{begun, output-longer, last_piece-unended, last_piece-zero, ended_pieces-nonzero}
 use Rattle.cobs.proofs.streaming.SoFar.{SoFar-start, SoFar-more, TakesBytes-byte, outcome_reported, reported_by, count-within, here, nil-alike, no_outcomes}
+use Rattle.cobs_bytes.proofs.bytes.ListLemmas.{drop-later}
 
 -- THE RESULT FOR A ZERO
 

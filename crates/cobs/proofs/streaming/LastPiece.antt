@@ -1,6 +1,6 @@
 -- The last piece of a stream, and outputs that grow with it.
-use Rattle.std.proofs.Common.{◌≡◌, ◌≢◌, ℕ, ◌+◌, ◌-◌, ◌<◌, ◌≤◌, List, [], ◌∷◌, ◌++◌, length, take, drop, filter, refl, sym, ap, ◌∙◌, subst, arith, append_assoc, length-append}
-use Rattle.std.proofs.lemmas.List.{append-nil, take-append-drop, drop-drop}
+use Rattle.std.proofs.Common.{◌≡◌, ◌≢◌, ℕ, ◌<◌, ◌≤◌, List, [], ◌∷◌, ◌++◌, length, take, drop, filter, refl, ap, ◌∙◌, subst, arith, append_assoc, length-append}
+use Rattle.std.proofs.lemmas.List.{append-nil, take-append-drop}
 use Rattle.std.proofs.lemmas.List.Elements.{filter-append}
 use Rattle.cobs.specs.Grammar.{HasNoZero, last_of}
 use Rattle.cobs.specs.Piece.{output, parts, parts_after}
@@ -49,11 +49,6 @@ unfolding last_piece
 last_piece-zero t none = grind (arith, pieces, unended-zero, append-nil, ended_pieces-zero)
 
 -- WHAT IS WRITTEN OF IT
-
-pub drop-later : (to n : ℕ) (xs ys : List ℕ) → to ≤ n → drop to xs ≡ drop to ys → drop n xs ≡ drop n ys
-drop-later to n xs ys h e =
-    let k : to + (n - to) ≡ n = omega arith in
-    sym (ap (λ (m : ℕ). drop m xs) k) ∙ sym (drop-drop (n - to) to xs) ∙ ap (drop (n - to)) e ∙ drop-drop (n - to) to ys ∙ ap (λ (m : ℕ). drop m ys) k
 
 -- an output grows by each byte of its piece
 pub output-longer : (q : List ℕ) (b : ℕ) → length (output q) ≤ length (output (q ++ b ∷ []))

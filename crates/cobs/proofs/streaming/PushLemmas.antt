@@ -5,7 +5,7 @@ use Rattle.std.proofs.lemmas.Bool.{ne_eqb, eq-eqb}
 use borrow.Author.Count.{below_more}
 use Rattle.cobs.specs.Stream.{unended}
 use Rattle.cobs.specs.Feed.{Phase, Idle, PhaseAfter, result_for, Feeds}
-use Rattle.cobs.specs.FeedPiece.{TakesBytes, TakesPiece, end_reported}
+use Rattle.cobs.specs.FeedPiece.{TakesPiece, end_reported}
 use Rattle.cobs.specs.Internal.FeedsQuietly.{FeedsQuietly}
 use Rattle.cobs.specs.Push.{FeedsInTurn, result_at, IsQuiet, StopsAfter, error_outcomes, PushesBytes}
 use Rattle.cobs.specs.Fields.Report.{report_of}
@@ -62,12 +62,9 @@ module _ {buffer₀ buffer buffer' : List ℕ} {phase₀ phase phase' : Phase} {
   stops_here : (r : Result (Option ℕ) DecodeError) → result ≡ r → (p : List ℕ) → PhaseAfter (length buffer₀) phase₀ p → StopsAfter p bytes (length buffer₀) (i + 1) r
   stops_here r e p h = record { place = i; within = within; last = refl; quiet = s.quiet p h; result_there = result_here p h ∙ e }
 
-  takes : TakesBytes buffer₀ phase₀ (take (i + 1) bytes) (reported_by (get_or bytes i 0) result buffer') buffer' phase'
-  takes = takes_behind bytes i within s.piece f
-
   -- a message is reported
   pub pushed_some : (n : ℕ) → result ≡ Ok (Some n) → PushesBytes buffer₀ phase₀ bytes (Ok (Some (report_of (i + 1) n))) buffer' phase'
-  pushed_some n e = record {
+  pushed_some n e = let takes = takes_behind bytes i within s.piece f in record {
     push_returns = stops_here (Ok (Some n)) e;
     phased = takes.phased;
     after = takes.after;
@@ -83,7 +80,7 @@ module _ {buffer₀ buffer buffer' : List ℕ} {phase₀ phase phase' : Phase} {
 
   -- an error is returned
   pub pushed_error : (e : DecodeError) → result ≡ Err e → PushesBytes buffer₀ phase₀ bytes (Err (record { error = e; parsed_size = i + 1 })) buffer' phase'
-  pushed_error e is = record {
+  pushed_error e is = let takes = takes_behind bytes i within s.piece f in record {
     push_returns = stops_here (Err e) is;
     phased = takes.phased;
     after = takes.after;

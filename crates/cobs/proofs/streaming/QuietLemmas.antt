@@ -14,8 +14,9 @@ use Rattle.cobs.specs.Step.{next_phase, next_buffer, next_result}
 use Rattle.cobs.proofs.decoding.PieceLemmas.{output-push}
 use Rattle.cobs.proofs.format.StreamLemmas.{fed-nonzero}
 use Rattle.cobs.proofs.streaming.FeedLemmas.{Feeds-step, DecoderAfter-idle}
-use Rattle.cobs.proofs.streaming.LastPiece.{begun, drop-later, output-longer, output-grows}
+use Rattle.cobs.proofs.streaming.LastPiece.{begun, output-longer, output-grows}
 use Rattle.cobs.proofs.streaming.TableLemmas.{output-nil}
+use Rattle.cobs_bytes.proofs.bytes.ListLemmas.{drop-later}
 
 -- bytes that a decoder in a piece takes quietly have no zero, which would end the piece
 result-zero : (n : ℕ) (phase : Phase) → phase ≢ Idle → next_result n phase 0 ≢ Ok None

@@ -1,8 +1,8 @@
 -- Bytes of a block, taken at once, are as many feeds.
 use Rattle.std.proofs.Common.{◌≡◌, ◌≢◌, ℕ, zero, suc, ◌+◌, ◌-◌, ◌<◌, ◌≤◌, Bool, List, [], ◌∷◌, ◌++◌, length, take, drop, set, get_or, sym, ap, ◌∙◌, subst, refl, arith, append_assoc, None, Ok}
-use Rattle.std.proofs.lemmas.List.{drop_more, take_more_set, drop-set-lt, take-append-drop, take-take, drop-take, drop-drop}
+use Rattle.std.proofs.lemmas.List.{drop_more, take_more_set, drop-set-lt, take-append-drop, drop-drop}
 use Rattle.cobs.specs.declared.dec.unbuffered.UnbufferedDecoder.{UnbufferedDecoder}
-use Rattle.std.proofs.lemmas.List.Elements.{All-head, All-tail, All-take, All-drop}
+use Rattle.std.proofs.lemmas.List.Elements.{All-head, All-tail}
 use Rattle.std.proofs.lemmas.Bool.{ne_eqb, cases_lt}
 use Rattle.cobs.specs.Grammar.{HasNoZero}
 use Rattle.cobs.specs.Feed.{Phase, Within, Overlong, written_in}
@@ -12,6 +12,7 @@ use Rattle.cobs.specs.Internal.FeedsQuietly.{FeedsQuietly}
 use Rattle.cobs.specs.Step.{next_phase, next_buffer, next_result}
 use Rattle.cobs.proofs.streaming.FeedLemmas.{Feeds-step}
 use Rattle.cobs.proofs.streaming.ByByteLemmas.{piece-more}
+use Rattle.cobs_bytes.proofs.bytes.ListLemmas.{part-nonzero}
 
 -- the list with xs written over as many elements from the place on
 abbrev pub over : ℕ → List ℕ → List ℕ → List ℕ
@@ -80,13 +81,9 @@ written_by inner = grind arith
 pub rest_kept : (xs buffer buffer' : List ℕ) (inner inner' : UnbufferedDecoder) (k : ℕ) → HasNoZero xs → FeedsQuietly buffer (phase_of inner) xs buffer' (phase_of inner') → inner'.written ≤ k → drop k buffer' ≡ drop k buffer
 rest_kept xs buffer buffer' inner inner' k nz f past = (quiet_rest xs buffer buffer' (phase_of inner) (phase_of inner') nz f).1 k (omega (arith, written_by inner'))
 
--- part of some bytes
-pub part_nonzero : (i n m : ℕ) (bytes : List ℕ) → HasNoZero (take m bytes) → i + n ≤ m → HasNoZero (take n (drop i bytes))
-part_nonzero i n m bytes nz fewer = subst HasNoZero (drop-take i n bytes) (All-drop (λ b. b ≢ 0) i (take (i + n) bytes) (subst HasNoZero (take-take (i + n) m bytes fewer) (All-take (λ b. b ≢ 0) (i + n) (take m bytes) nz)))
-
 -- so do those from a place on, when a decoder has read those before it, from another place on
 pub rest_read : (buffer buffer' : List ℕ) (inner inner' : UnbufferedDecoder) (read at end : ℕ) → read ≤ at → at ≤ end → HasNoZero (take (end - read) (drop read buffer))
     → FeedsQuietly buffer (phase_of inner) (take (at - read) (drop read buffer)) buffer' (phase_of inner') → inner'.written ≤ at → drop at buffer' ≡ drop (at - read) (drop read buffer)
 rest_read buffer buffer' inner inner' read at end order within nz f past =
-    rest_kept _ buffer buffer' inner inner' at (part_nonzero 0 (at - read) (end - read) (drop read buffer) nz (omega arith)) f past
+    rest_kept _ buffer buffer' inner inner' at (part-nonzero 0 (at - read) (end - read) (drop read buffer) nz (omega arith)) f past
     ∙ ap (λ (k : ℕ). drop k buffer) (omega arith) ∙ sym (drop-drop (at - read) read buffer)

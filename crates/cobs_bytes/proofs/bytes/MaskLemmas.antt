@@ -2,7 +2,7 @@
 use Rattle.std.proofs.Common.{min, ◌≡◌, ◌≢◌, ℕ, ◌+◌, ◌-◌, ◌*◌, ◌/◌, ◌%◌, ◌^◌, ◌<◌, ◌≤◌, cond, eqb, not, List, [], ◌∷◌, ◌++◌, length, map, drop, take, get_or, replicate, All, if◌then◌else◌, ◌==◌, suc, zero, refl, sym, ap, ◌∙◌, subst, inl, inr, arith, length-take-le, length-append, w8, w64}
 use Rattle.std.proofs.Math.Nat.{pow-suc, pow-le-pow_right}
 use Rattle.std.proofs.lemmas.Bool.{ne_eqb, eq-eqb, eqb-true, not-true, not-false, cases_eq, cases_lt}
-use Rattle.std.proofs.lemmas.List.{get_or-take, drop-drop, length-map, length-replicate, take-take}
+use Rattle.std.proofs.lemmas.List.{get_or-take, drop-drop, length-map, take-take}
 use Rattle.std.proofs.Math.Seq.{drop-append-add}
 use Rattle.std.proofs.lemmas.List.Elements.{All-cons, All-from_get_or, All-head, All-nil, All-tail, All-take}
 use Rattle.std.proofs.lemmas.List.Sums.{prefix_len_passes, prefix_len_stops}
@@ -17,6 +17,7 @@ use Rattle.std.specs.Int.{bit_at}
 use Rattle.std.proofs.lemmas.Nat.Bits.{same_from_bits, bit_at_lowest, bit_at-suc, bit_at_and, bit_at_above, bit_at-trailing_zeros}
 use Rattle.cobs_bytes.specs.Bytes.{HasNoZero}
 use Rattle.cobs_bytes.specs.Mask.{zero_mask}
+use Rattle.cobs_bytes.proofs.bytes.ListLemmas.{length-ones}
 
 pub zero_mask-lanes : (bytes : List ℕ) → mask_l (map (λ b. eqb b 0) bytes) ≡ zero_mask bytes
 zero_mask-lanes [] = refl
@@ -133,9 +134,6 @@ mask-and (b ∷ bytes) some =
           less-even (zero_mask (b ∷ bytes)) (zero_mask bytes) rest (omega arith) ∙ ap (λ m. 2 * m) (mask-and bytes rest)
           ∙ sym (mask_behind-more (nonzero_len bytes + 1) (drop (nonzero_len bytes + 1) bytes)) ∙ ap (λ k. mask_behind k (drop k (b ∷ bytes))) more)
     ]
-
-length-ones : (n : ℕ) → length {A = ℕ} (replicate n 1) ≡ n
-length-ones n = length-replicate n 1
 
 -- a mask some of whose zeros have been taken from it
 module _ (d : ℕ) (bytes : List ℕ) (few : d + length bytes ≤ 64) (some : mask_behind d bytes ≢ 0) where

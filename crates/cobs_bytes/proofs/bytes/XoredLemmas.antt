@@ -34,7 +34,7 @@ xor_each-zero [] = refl
 xor_each-zero (b ∷ bytes) = ap (λ (x : ℕ). x ∷ xor_each 0 bytes) (xor_zero_r b) ∙ ap (λ (l : List ℕ). b ∷ l) (xor_each-zero bytes)
 
 -- XOR with the same byte twice changes nothing
-xor_twice : (b s : ℕ) → bit_xor (bit_xor b s) s ≡ b
+pub xor_twice : (b s : ℕ) → bit_xor (bit_xor b s) s ≡ b
 xor_twice b s = xor_assoc b s s ∙ ap (bit_xor b) (xor_self s) ∙ xor_zero_r b
 
 -- bytes of which none is s have no zero, each XORed with s

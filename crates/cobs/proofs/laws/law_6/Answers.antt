@@ -1,5 +1,6 @@
-use Rattle.cobs.proofs.format.SentinelLemmas.{coded_nonzero, no_sentinel, no_sentinel_for, xor_each-twice, xor_each-zero}
+use Rattle.cobs.proofs.format.SentinelLemmas.{coded_nonzero, no_sentinel, no_sentinel_for, xor_each-twice}
 use Rattle.cobs.proofs.laws.law_6.Goals as goal
+use Rattle.cobs_bytes.proofs.bytes.XoredLemmas.{xor_each-zero}
 
 pub returns : goal.returns
 returns c = record {

@@ -11,16 +11,17 @@ use Rattle.cobs.specs.Overwritten.{overwritten}
 use Rattle.cobs.specs.Piece.{last_part, missing, kept_output}
 use Rattle.cobs.specs.Sentinel.{xor_each}
 use Rattle.cobs.specs.Internal.FeedsQuietly.{FeedsQuietly}
-use Rattle.cobs.proofs.format.SentinelLemmas.{xor_each-zero}
 use Rattle.cobs.proofs.decoding.HeadlineLemmas.{bytes_below}
-use Rattle.cobs.proofs.streaming.RunLemmas.{part_nonzero, rest_read}
+use Rattle.cobs.proofs.streaming.RunLemmas.{rest_read}
 use Rattle.cobs.proofs.streaming.QuietLemmas.{quiet, quiet-at}
 use Rattle.cobs.proofs.streaming.KeptQuiet.{kept_fed, tail_left}
 use Rattle.cobs.proofs.dec.in_place.decode_blocks_in_place.Goals as goal
 use Rattle.cobs.proofs.dec.in_place.decode_blocks_in_place.Goals.{After-take_in_place}
+use Rattle.cobs_bytes.proofs.bytes.XoredLemmas.{xor_each-zero}
+use Rattle.cobs_bytes.proofs.bytes.ListLemmas.{part-nonzero}
 
 pub take_in_place-requires-clause-nonzero : goal.take_in_place-requires-clause-nonzero
-take_in_place-requires-clause-nonzero c = part_nonzero 0 _ _ _ c.requires.nonzero (omega arith)
+take_in_place-requires-clause-nonzero c = part-nonzero 0 _ _ _ c.requires.nonzero (omega arith)
 
 -- the first bytes are fed, and the last ones are as they were
 module _ (c : After-take_in_place) where
@@ -37,13 +38,13 @@ module _ (c : After-take_in_place) where
   phase = phase_of c.take_in_place.new.self
 
   first : HasNoZero (take tail old)
-  first = part_nonzero 0 tail c.args.end old c.requires.nonzero (omega arith)
+  first = part-nonzero 0 tail c.args.end old c.requires.nonzero (omega arith)
 
   fed : FeedsQuietly old Idle (take tail old) new phase
   fed = subst (λ (k : ℕ). FeedsQuietly old Idle (take k old) new phase) (omega arith) c.take_in_place.ensures.fed
 
   rest : drop tail new ≡ drop tail old
-  rest = rest_read old new START c.take_in_place.new.self 0 tail tail (omega arith) (omega arith) (part_nonzero 0 (tail - 0) c.args.end old c.requires.nonzero (omega arith)) c.take_in_place.ensures.fed c.take_in_place.ensures.behind
+  rest = rest_read old new START c.take_in_place.new.self 0 tail tail (omega arith) (omega arith) (part-nonzero 0 (tail - 0) c.args.end old c.requires.nonzero (omega arith)) c.take_in_place.ensures.fed c.take_in_place.ensures.behind
       ∙ ap (λ (k : ℕ). drop k old) (omega arith)
 
   left : c.take_in_place.new.self.missing ≡ missing (last_part (take tail old))
@@ -53,7 +54,7 @@ module _ (c : After-take_in_place) where
   bytes-are = xor_each-zero (take (c.args.end - tail) (drop tail new)) ∙ ap (take (c.args.end - tail)) rest
 
   last : HasNoZero (take (c.args.end - tail) (drop tail old))
-  last = part_nonzero tail (c.args.end - tail) c.args.end old c.requires.nonzero (omega arith)
+  last = part-nonzero tail (c.args.end - tail) c.args.end old c.requires.nonzero (omega arith)
 
 pub kept_len-len-requires-clause-left : goal.kept_len-len-requires-clause-left
 kept_len-len-requires-clause-left c =
@@ -68,7 +69,7 @@ pub take_in_place-requires-2-clause-nonzero : goal.take_in_place-requires-2-clau
 take_in_place-requires-2-clause-nonzero c =
     let at = (goal.at.take_in_place-requires-2-clause-nonzero c).After-take_in_place in
     let n = c.kept_len-len.ensures.within in
-    subst (λ (l : List ℕ). HasNoZero (take (tail at + c.kept_len-len.result.0 - tail at) l)) (sym (rest at)) (part_nonzero (tail at) _ c.args.end (old at) c.requires.nonzero (omega (arith, n, length-take (c.args.end - tail at) (drop (tail at) (new at)))))
+    subst (λ (l : List ℕ). HasNoZero (take (tail at + c.kept_len-len.result.0 - tail at) l)) (sym (rest at)) (part-nonzero (tail at) _ c.args.end (old at) c.requires.nonzero (omega (arith, n, length-take (c.args.end - tail at) (drop (tail at) (new at)))))
 
 pub returns : goal.returns
 returns c =

@@ -3,10 +3,10 @@ use Rattle.std.proofs.lemmas.List.Elements.{All-get_or}
 use Rattle.cobs.specs.Grammar.{HasNoZero}
 use Rattle.cobs.specs.Piece.{last_part, missing, output, parts, parts_after}
 use Rattle.cobs.specs.Sentinel.{xor_each}
-use Rattle.cobs.proofs.format.SentinelLemmas.{xor_each-zero}
 use Rattle.cobs.proofs.streaming.KeptQuiet.{whole_front, whole_result}
 use Rattle.cobs.proofs.dec.in_place.decode_by_byte_in_place.Goals as goal
 use Rattle.cobs.proofs.dec.in_place.decode_by_byte_in_place.Goals.{then-len-lt2-via-then-len-lt2, then-len-lt2-via-else-len-lt2+then-len, then-len-lt2-via-else-len-lt2+else-len+then-zero_or_len-len}
+use Rattle.cobs_bytes.proofs.bytes.XoredLemmas.{xor_each-zero}
 
 -- no block is open before the first byte
 none_open : missing (last_part []) ≡ 0

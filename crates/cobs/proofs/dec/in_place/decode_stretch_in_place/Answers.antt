@@ -4,12 +4,11 @@ use borrow.Rule.Slice.PartMut.{put_mid}
 use Rattle.cobs.specs.Grammar.{HasNoZero}
 use Rattle.cobs.specs.Piece.{last_part, missing, output}
 use Rattle.cobs.specs.Sentinel.{xor_each}
-use Rattle.cobs.proofs.format.SentinelLemmas.{xor_each-zero}
 use Rattle.cobs.proofs.streaming.KeptQuiet.{whole_front, whole_result}
-use Rattle.cobs.proofs.streaming.LastPiece.{drop-later}
-use Rattle.cobs.proofs.streaming.RunLemmas.{part_nonzero}
 use Rattle.cobs.proofs.dec.in_place.decode_stretch_in_place.Goals as goal
 use Rattle.cobs.proofs.dec.in_place.decode_stretch_in_place.Goals.{then-len-lt2-via-then-len-lt2, then-len-lt2-via-else-len-lt2+then-len, then-len-lt2-via-else-len-lt2+else-len+then-not-copy_xored_short}
+use Rattle.cobs_bytes.proofs.bytes.XoredLemmas.{xor_each-zero}
+use Rattle.cobs_bytes.proofs.bytes.ListLemmas.{drop-later, part-nonzero}
 
 -- the bytes of a buffer that were copied beside, behind its first one
 module _ (old copied rest : List ℕ) (len : ℕ) (some : 1 < len) (most : len ≤ 65) (within : len ≤ length old) (is : copied ≡ xor_each 0 (take (len - 1) (drop 1 old)) ++ rest) where
@@ -38,7 +37,7 @@ module _ (old copied rest : List ℕ) (len : ℕ) (some : 1 < len) (most : len �
 -- the bytes behind the first one have no zero either
 behind-nonzero : (old : List ℕ) (len : ℕ) → 1 < len → HasNoZero (take len old) → HasNoZero (xor_each 0 (take (len - 1) (drop 1 old)))
 behind-nonzero old len some nz =
-    subst HasNoZero (sym (xor_each-zero (take (len - 1) (drop 1 old)))) (part_nonzero 1 (len - 1) len old nz (omega arith))
+    subst HasNoZero (sym (xor_each-zero (take (len - 1) (drop 1 old)))) (part-nonzero 1 (len - 1) len old nz (omega arith))
 
 pub returns-then-len-lt2-clause-taken : goal.returns-then-len-lt2-clause-taken
 returns-then-len-lt2-clause-taken c few nz whole = elim c.then-len-lt2.branch [

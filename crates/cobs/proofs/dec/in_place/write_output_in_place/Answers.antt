@@ -5,11 +5,11 @@ use Rattle.std.proofs.Math.Seq.{set-append_seam}
 use Rattle.cobs.specs.Grammar.{HasNoZero}
 use Rattle.cobs.specs.Piece.{output}
 use Rattle.cobs.specs.Internal.Walk.{walked}
-use Rattle.cobs.proofs.streaming.RunLemmas.{part_nonzero}
 use Rattle.cobs.proofs.streaming.WalkLemmas.{as_piece, length-walked, walked-byte, walked-code}
 use Rattle.cobs.proofs.dec.in_place.write_output_in_place.Invariants.{so_far}
 use Rattle.cobs.proofs.dec.in_place.write_output_in_place.Goals as goal
 use Rattle.cobs.proofs.dec.in_place.write_output_in_place.Goals.{then-missing-eq0, else-missing-eq0}
+use Rattle.cobs_bytes.proofs.bytes.ListLemmas.{part-nonzero}
 
 -- the byte behind those so far
 module _ (old buffer : List ℕ) (i : ℕ) (more : i + 1 < length old) (is : buffer ≡ (so_far old i).0 ++ drop i old) where
@@ -47,7 +47,7 @@ overflow_sub-missing-then-missing-eq0 c =
     let i : ℕ = c.by_byte.i in
     let more : i + 1 < length old = omega arith in
     let one : take 1 (drop (i + 1) old) ≡ get_or old (i + 1) 0 ∷ [] = ap (take 1) (drop_more old (i + 1) 0 more) in
-    let nz : HasNoZero (get_or old (i + 1) 0 ∷ []) = subst HasNoZero one (part_nonzero (i + 1) 1 c.args.len old c.requires.nonzero (omega arith)) in
+    let nz : HasNoZero (get_or old (i + 1) 0 ∷ []) = subst HasNoZero one (part-nonzero (i + 1) 1 c.args.len old c.requires.nonzero (omega arith)) in
     omega (arith, same old c.by_byte.buffer i more c.by_byte.invariant.0, All-head (λ b. b ≢ 0) (get_or old (i + 1) 0) [] nz)
 
 pub by_byte-preserved : goal.by_byte-preserved

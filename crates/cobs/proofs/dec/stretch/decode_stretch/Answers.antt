@@ -6,9 +6,10 @@ use Rattle.cobs.specs.Grammar.{HasNoZero}
 use Rattle.cobs.specs.Internal.Walk.{walked}
 use Rattle.cobs.specs.Piece.{last_part, missing, output}
 use Rattle.cobs.specs.Sentinel.{xor_each}
-use Rattle.cobs.proofs.format.SentinelLemmas.{rest_xored, xor_twice}
+use Rattle.cobs.proofs.format.SentinelLemmas.{rest_xored}
 use Rattle.cobs.proofs.streaming.WalkLemmas.{as_piece, length-walked}
 use Rattle.cobs.proofs.dec.stretch.decode_stretch.Goals as goal
+use Rattle.cobs_bytes.proofs.bytes.XoredLemmas.{xor_twice}
 
 -- the bytes behind the first one, copied
 module _ (source dest rest : List ℕ) (s : ℕ) (some : 0 < length source) (copied : dest ≡ xor_each s (take (length source - 1) (drop 1 source)) ++ rest) where

@@ -7,16 +7,11 @@ use Rattle.cobs.specs.Overwritten.{overwritten}
 use Rattle.cobs.specs.Piece.{output}
 use Rattle.cobs.specs.Sentinel.{xor_each}
 use Rattle.cobs.specs.Stream.{first_piece, head, outcome_of}
-use Rattle.cobs.proofs.format.SentinelLemmas.{xor_each-zero}
-use Rattle.cobs.proofs.decoding.HeadLemmas.{front_is_head, head-front, short_head}
-use Rattle.cobs.proofs.decoding.OutcomeLemmas.{first_piece_head, head_nonzero, length-head}
+use Rattle.cobs.proofs.decoding.HeadLemmas.{first_piece_nonzero, front_is_head, head-front, short_head}
+use Rattle.cobs.proofs.decoding.OutcomeLemmas.{head_nonzero, length-head}
 use Rattle.cobs.proofs.decoding.OutcomeSteps.{answer-by, result-by, always, overwritten-front}
 use Rattle.cobs.proofs.dec.whole.decode_short.Goals as goal
-
--- a source that begins with a code
-at_once : (source : List ℕ) → 0 < length source → get_or source 0 0 ≢ 0 → first_piece source ≡ Some (head source)
-at_once [] some nz = absurd (omega arith)
-at_once (byte ∷ bytes) some nz = first_piece_head byte bytes nz
+use Rattle.cobs_bytes.proofs.bytes.XoredLemmas.{xor_each-zero}
 
 no_leading : (source : List ℕ) → get_or source 0 0 ≢ 0 → leading_zeros source ≡ 0
 no_leading [] nz = refl
@@ -67,7 +62,7 @@ module _ (c : goal.After-map) where
   first = nonzero_first source len c.in_ok-left.ensures.some (rw same at c.in_ok-left.ensures.nonzero)
 
   found : first_piece source ≡ Some (head source)
-  found = at_once source (omega (arith, c.in_ok-left.ensures.some, long, c.len_without_end-len.ensures.within)) first
+  found = first_piece_nonzero source (omega (arith, c.in_ok-left.ensures.some, long, c.len_without_end-len.ensures.within)) first
 
 pub returns-clause-returned : goal.returns-clause-returned
 returns-clause-returned c =

@@ -5,10 +5,11 @@ use Rattle.cobs.specs.OpenBlock.{CobsEncoderAfter, end_after, next_of}
 use Rattle.cobs.specs.Fields.Progress.{reached_at}
 use Rattle.cobs.proofs.encoding.ByteLemmas.{byte-zero}
 use Rattle.cobs.proofs.encoding.ReachLemmas.{IsNotFull, Reaches, Reaches-weaker}
-use Rattle.cobs.proofs.encoding.MarkLemmas.{run-nonzero, slice-joined}
+use Rattle.cobs.proofs.encoding.MarkLemmas.{slice-joined}
 use Rattle.cobs.proofs.encoding.TakingLemmas.{front-filled, front-next, front-none, front-taken, next-least, reaches-start}
 use Rattle.cobs.proofs.enc.blocks.append_long_run.Goals.{After-min-len, After-copy_from_slice}
 use Rattle.cobs.proofs.enc.blocks.append_long_run.Goals as goal
+use Rattle.cobs_bytes.proofs.bytes.ListLemmas.{part-nonzero}
 
 pub by_block-init : goal.by_block-init
 by_block-init c = record { within = omega arith; taken = front-none c.args.dest.now (reached_at c.args.progress) c.args.source.now c.requires.place }
@@ -37,7 +38,7 @@ joined c =
     let within = c.requires.run.within in
     let long = length-drop c.by_block.read c.args.source.now in
     let start = reaches-start left c.by_block.dest (reached_at c.by_block.progress) (omega arith) place.some place.not_full in
-    slice-joined _ _ _ _ _ _ _ c.min-len.result (_ + _ - _) (_ + _ - _) _ start (run-nonzero c.args.source.now c.args.run c.by_block.read c.min-len.result c.requires.run.nonzero (omega arith)) (omega arith) (omega arith) (omega arith) (omega arith) (omega arith) (omega arith) _ c.copy_from_slice.ensures.after
+    slice-joined _ _ _ _ _ _ _ c.min-len.result (_ + _ - _) (_ + _ - _) _ start (part-nonzero c.by_block.read c.min-len.result c.args.run c.args.source.now c.requires.run.nonzero (omega arith)) (omega arith) (omega arith) (omega arith) (omega arith) (omega arith) (omega arith) _ c.copy_from_slice.ensures.after
 
 pub by_block-preserved : goal.by_block-preserved
 by_block-preserved c =

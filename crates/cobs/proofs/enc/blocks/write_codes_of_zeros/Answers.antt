@@ -2,8 +2,8 @@ use Rattle.std.proofs.Common.{◌+◌, ◌++◌, List, ℕ, take, drop, replicat
 use Rattle.std.proofs.Math.Seq.{take-add}
 use Rattle.std.proofs.lemmas.List.{length-replicate, replicate-append-replicate}
 use Rattle.cobs_bytes.proofs.bytes.MaskLemmas.{window_all}
-use Rattle.cobs.proofs.encoding.MarkLemmas.{three-next}
 use Rattle.cobs.proofs.enc.blocks.write_codes_of_zeros.Goals as goal
+use Rattle.cobs_bytes.proofs.bytes.ListLemmas.{three-next}
 
 pub by_row-preserved : goal.by_row-preserved
 by_row-preserved c =

@@ -1,6 +1,6 @@
 use Rattle.std.proofs.Common.{◌≡◌, ◌<◌, ◌≤◌, ◌+◌, ◌-◌, ◌++◌, ℕ, List, [], ◌∷◌, drop, take, get_or, refl, sym, ap, ◌∙◌, subst, arith, length, length-drop, length-take}
 use Rattle.std.proofs.lemmas.Bool.{cases_Bool}
-use Rattle.std.proofs.lemmas.List.{drop-drop, get_or-drop, length_push, take_more}
+use Rattle.std.proofs.lemmas.List.{get_or-drop, length_push, take_more}
 use Rattle.cobs.specs.Fields.Progress.{reached_at, reached_by}
 use Rattle.cobs.specs.Length.{max_encoded_len}
 use Rattle.cobs.specs.OpenBlock.{CobsEncoderAfter, IsPlaceIn, Reached, end_after, end_of, next_of}
@@ -11,15 +11,10 @@ use Rattle.cobs.proofs.encoding.AfterLemmas.{end-is}
 use Rattle.cobs.proofs.encoding.StepLemmas.{room-only}
 use Rattle.cobs.proofs.encoding.TakingLemmas.{after-end, after-place, all-end, all-rest, next-least}
 use Rattle.cobs.proofs.enc.in_place.encode_in_place.Goals as goal
+use Rattle.cobs_bytes.proofs.bytes.ListLemmas.{drop-later}
 
 end-le : (r : Reached) → end_of r ≤ next_of r
 end-le r = grind (arith, cases_Bool)
-
--- lists that are the same from one index on are the same from a later one on
-further : (a b : ℕ) (x y : List ℕ) → a ≤ b → drop a x ≡ drop a y → drop b x ≡ drop b y
-further a b x y le e =
-    let s : a + (b - a) ≡ b = omega arith in
-    subst (λ (n : ℕ). drop n x ≡ drop n y) s (sym (drop-drop (b - a) a x) ∙ ap (drop (b - a)) e ∙ drop-drop (b - a) a y)
 
 there : (a k : ℕ) (x y : List ℕ) → a ≤ k → drop a x ≡ drop a y → get_or x k 0 ≡ get_or y k 0
 there a k x y le e =
@@ -67,7 +62,7 @@ by_byte-preserved c =
     let le = end-le r in
     let least = next-least r (get_or c.by_byte.buffer at 0 ∷ []) (after-place c.by_byte.buffer _ r i.after).some (omega arith) in
     let reached = all-end e in
-    record { after = rw more (e.after _ i.after); rest = all-rest e ∙ further (end_of r) (end_of r') c.by_byte.buffer old (omega arith) i.rest }
+    record { after = rw more (e.after _ i.after); rest = all-rest e ∙ drop-later (end_of r) (end_of r') c.by_byte.buffer old (omega arith) i.rest }
 
 pub close-requires : goal.close-requires
 close-requires c = subst (IsPlaceIn (length c.by_byte.buffer)) (sym c.progress.ensures.progress) (after-place c.by_byte.buffer _ (reached_by c.by_byte.encoder) c.by_byte.invariant.after)

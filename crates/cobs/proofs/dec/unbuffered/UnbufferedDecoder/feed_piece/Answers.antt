@@ -5,10 +5,10 @@ use Rattle.cobs.specs.FeedPiece.{TakesPiece, end_reported}
 use Rattle.cobs.specs.Internal.FeedsQuietly.{FeedsQuietly}
 use Rattle.cobs.specs.declared.dec.frame_decoder.PieceEnd.{PieceEnd}
 use Rattle.cobs.specs.declared.error.DecodeError.{DecodeError}
-use Rattle.cobs.proofs.format.SentinelLemmas.{xor_each-zero}
 use Rattle.cobs.proofs.streaming.ByByteLemmas.{piece-nothing, piece-more, piece-ended}
 use Rattle.cobs.proofs.streaming.RunLemmas.{piece-run}
 use Rattle.cobs.proofs.dec.unbuffered.UnbufferedDecoder.feed_piece.Goals as goal
+use Rattle.cobs_bytes.proofs.bytes.XoredLemmas.{xor_each-zero}
 use Rattle.cobs.proofs.dec.unbuffered.UnbufferedDecoder.feed_piece.Goals.{then-has_vectors+then-bytes-gt-VERY_FEW+then-is_idle+else-take_begun, then-has_vectors+then-bytes-gt-VERY_FEW+else-is_idle+else-take_short, else-has_vectors}
 
 -- bytes were fed of which none ends a piece

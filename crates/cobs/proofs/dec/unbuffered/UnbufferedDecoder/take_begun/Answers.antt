@@ -4,9 +4,9 @@ use Rattle.std.proofs.lemmas.List.{drop_more}
 use Rattle.cobs.specs.Feed.{Idle}
 use Rattle.cobs.specs.Fields.Decoders.{phase_of}
 use Rattle.cobs.specs.Internal.FeedsQuietly.{FeedsQuietly}
-use Rattle.cobs.proofs.format.SentinelLemmas.{xor_each-zero}
 use Rattle.cobs.proofs.streaming.StretchLemmas.{joined}
 use Rattle.cobs.proofs.dec.unbuffered.UnbufferedDecoder.take_begun.Goals as goal
+use Rattle.cobs_bytes.proofs.bytes.XoredLemmas.{xor_each-zero}
 
 -- the code at the front of a piece
 code_fed : (dest : List ℕ) (code joint : ℕ) → code ≢ 0 → (code ≡ 255 → joint ≡ 0) → (code ≢ 255 → joint ≡ 1)

@@ -2,16 +2,17 @@ use Rattle.std.proofs.Common.{◌-◌, ℕ, List, take, drop, sym, subst, arith}
 use Rattle.cobs.specs.Fields.Decoders.{phase_of}
 use Rattle.cobs.specs.Grammar.{HasNoZero}
 use Rattle.cobs.specs.Internal.FeedsQuietly.{FeedsQuietly}
-use Rattle.cobs.proofs.streaming.RunLemmas.{part_nonzero, rest_read}
+use Rattle.cobs.proofs.streaming.RunLemmas.{rest_read}
 use Rattle.cobs.proofs.streaming.StretchLemmas.{joined}
 use Rattle.cobs.proofs.dec.unbuffered.UnbufferedDecoder.take_in_place.Goals as goal
+use Rattle.cobs_bytes.proofs.bytes.ListLemmas.{part-nonzero}
 
 pub take_part_in_place-at-requires-clause-nonzero : goal.take_part_in_place-at-requires-clause-nonzero
 take_part_in_place-at-requires-clause-nonzero c =
     let a = c.args in
     let i = c.by_step.invariant in
     subst (λ (l : List ℕ). HasNoZero (take (a.end - c.by_step.at) l)) (sym (rest_read a.buffer.now c.by_step.buffer a.self.now c.by_step.self a.read c.by_step.at a.end i.started i.within c.requires.nonzero i.fed i.behind))
-    (part_nonzero (c.by_step.at - a.read) (a.end - c.by_step.at) (a.end - a.read) (drop a.read a.buffer.now) c.requires.nonzero (omega arith))
+    (part-nonzero (c.by_step.at - a.read) (a.end - c.by_step.at) (a.end - a.read) (drop a.read a.buffer.now) c.requires.nonzero (omega arith))
 
 pub by_step-preserved : goal.by_step-preserved
 by_step-preserved c =

@@ -2,17 +2,18 @@ use Rattle.std.proofs.Common.{get_or, ◌≤◌, ◌+◌, ◌≡◌, ◌∷◌, 
 use Rattle.std.proofs.lemmas.List.{length-take-le, drop_more, drop-drop}
 use Rattle.cobs.specs.Fields.Decoders.{phase_of}
 use Rattle.cobs.specs.Internal.FeedsQuietly.{FeedsQuietly}
-use Rattle.cobs.proofs.streaming.RunLemmas.{part_nonzero, rest_kept}
+use Rattle.cobs.proofs.streaming.RunLemmas.{rest_kept}
 use Rattle.cobs.proofs.streaming.StretchLemmas.{block_fed, joined, copied-there, row_fed}
 use Rattle.cobs.proofs.dec.unbuffered.UnbufferedDecoder.take_part_in_place.Goals as goal
 use Rattle.cobs.proofs.dec.unbuffered.UnbufferedDecoder.take_part_in_place.Goals.{then-self-eq0, else-self-eq0}
+use Rattle.cobs_bytes.proofs.bytes.ListLemmas.{part-nonzero}
 
 pub take_copied-requires-clause-nonzero : goal.take_copied-requires-clause-nonzero
 take_copied-requires-clause-nonzero c =
     let n : ℕ = c.stretch_len-len.result in
     let bytes : List ℕ = drop c.args.read c.args.buffer.now in
     let long = length-take-le n bytes (omega (arith, length-drop c.args.read c.args.buffer.now)) in
-    rw (sym (copied-there c.args.self.now.written n c.args.buffer.now c.move_back-2.new.buffer (take n bytes) (omega arith) long c.move_back-2.ensures)) at (part_nonzero 0 n _ bytes c.requires.nonzero (omega arith))
+    rw (sym (copied-there c.args.self.now.written n c.args.buffer.now c.move_back-2.new.buffer (take n bytes) (omega arith) long c.move_back-2.ensures)) at (part-nonzero 0 n _ bytes c.requires.nonzero (omega arith))
 
 pub returns-then-code-gt-WIDE_WINDOW-clause-fed : goal.returns-then-code-gt-WIDE_WINDOW-clause-fed
 returns-then-code-gt-WIDE_WINDOW-clause-fed c =
@@ -23,10 +24,10 @@ returns-then-code-gt-WIDE_WINDOW-clause-fed c =
     let f : FeedsQuietly c.args.buffer.now (phase_of c.args.self.now) (take 1 bytes) joint.dest (phase_of joint.self) = rw one c.take_joint.ensures.fed in
     let last : joint.self.written ≤ c.args.read = grind (arith, then-self-eq0, else-self-eq0) in
     let kept : drop (c.args.read + 1) joint.dest ≡ drop 1 bytes
-    = rest_kept (take 1 bytes) c.args.buffer.now joint.dest c.args.self.now joint.self (c.args.read + 1) (part_nonzero 0 1 _ bytes c.requires.nonzero (omega arith)) f (omega arith) ∙ sym (drop-drop 1 c.args.read c.args.buffer.now) in
+    = rest_kept (take 1 bytes) c.args.buffer.now joint.dest c.args.self.now joint.self (c.args.read + 1) (part-nonzero 0 1 _ bytes c.requires.nonzero (omega arith)) f (omega arith) ∙ sym (drop-drop 1 c.args.read c.args.buffer.now) in
     let moved : c.move_back.new.buffer ≡ take joint.self.written joint.dest ++ (take n (drop 1 bytes) ++ drop (joint.self.written + n) joint.dest) = rw (sym kept) c.move_back.ensures in
     joined bytes _ _ _ _ _ _ 1 n f (block_fed joint.self n joint.dest (drop 1 bytes) c.move_back.new.buffer c.take_joint.ensures.going (omega arith) (omega arith) (omega (arith, length-drop 1 bytes, length-drop c.args.read c.args.buffer.now))
-    (part_nonzero 1 n _ bytes c.requires.nonzero (omega arith)) moved)
+    (part-nonzero 1 n _ bytes c.requires.nonzero (omega arith)) moved)
 
 pub returns-then-is_all-clause-fed : goal.returns-then-is_all-clause-fed
 returns-then-is_all-clause-fed c = row_fed 32 c.args.self.now c.args.buffer.now _ _ (omega arith) (omega arith) c.requires.going c.if-missing-eq0-2.true (λ e. absurd (omega (arith, c.stretch_len-len.ensures.full e))) (omega arith) (c.is_all.ensures c.if-is_all.true) c.write_row.ensures

@@ -2,8 +2,8 @@ use Rattle.std.proofs.Common.{◌≡◌, ◌≤◌, ◌<◌, ℕ, List, sym, sub
 use Rattle.std.proofs.lemmas.Bool.{cases_lt}
 use Rattle.std.proofs.lemmas.List.{get_or-take, take-take}
 use Rattle.cobs.specs.Grammar.{HasNoZero}
-use Rattle.cobs.proofs.format.SentinelLemmas.{xor_each-zero}
 use Rattle.cobs.proofs.dec.unbuffered.UnbufferedDecoder.take_run.Goals as goal
+use Rattle.cobs_bytes.proofs.bytes.XoredLemmas.{xor_each-zero}
 
 pub take_blocks-requires-clause-nonzero : goal.take_blocks-requires-clause-nonzero
 take_blocks-requires-clause-nonzero c = subst HasNoZero (sym (xor_each-zero _)) c.zero_or_len-end.ensures.before

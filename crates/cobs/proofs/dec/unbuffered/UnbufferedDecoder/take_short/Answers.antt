@@ -1,7 +1,7 @@
 use Rattle.std.proofs.Common.{arith, length, refl}
-use Rattle.cobs.proofs.format.SentinelLemmas.{xor_each-zero}
 use Rattle.cobs.proofs.streaming.StretchLemmas.{part_put}
 use Rattle.cobs.proofs.dec.unbuffered.UnbufferedDecoder.take_short.Goals as goal
+use Rattle.cobs_bytes.proofs.bytes.XoredLemmas.{xor_each-zero}
 
 pub returns-clause-fed : goal.returns-clause-fed
 returns-clause-fed c done =

@@ -1,0 +1,50 @@
+-- Facts about lists of bytes for every crate above: ones, what is the same from one index on, parts without a zero, and the
+-- three parts of a list that was overwritten in its middle. Each follows from std's lemmas on `take`, `drop` and `++`.
+use Rattle.std.proofs.Common.{◌≡◌, ◌≢◌, ℕ, ◌+◌, ◌-◌, ◌≤◌, List, ◌++◌, length, drop, take, replicate, sym, ap, ◌∙◌, subst, arith, append_assoc, take_at, drop_at, length-append, length-take-le}
+use Rattle.std.proofs.lemmas.List.{drop-drop, drop-take, take-take, length-replicate}
+use Rattle.std.proofs.lemmas.List.Elements.{All-drop, All-replicate, All-take}
+use Rattle.std.proofs.lemmas.Slice.{drop-append-drop}
+use Rattle.cobs_bytes.specs.Bytes.{HasNoZero}
+
+pub length-ones : (n : ℕ) → length {A = ℕ} (replicate n 1) ≡ n
+length-ones n = length-replicate n 1
+
+pub ones-nonzero : (n : ℕ) → HasNoZero (replicate n 1)
+ones-nonzero n = All-replicate (λ byte. byte ≢ 0) n 1 (λ e. omega arith)
+
+-- lists that are the same from one index on are the same from a later one on
+pub drop-later : (a b : ℕ) (xs ys : List ℕ) → a ≤ b → drop a xs ≡ drop a ys → drop b xs ≡ drop b ys
+drop-later a b xs ys le e =
+    let sum : a + (b - a) ≡ b = omega arith in
+    subst (λ (n : ℕ). drop n xs ≡ drop n ys) sum (sym (drop-drop (b - a) a xs) ∙ ap (drop (b - a)) e ∙ drop-drop (b - a) a ys)
+
+-- n bytes from index i on, of the first m, in which there is no zero
+pub part-nonzero : (i n m : ℕ) (bytes : List ℕ) → HasNoZero (take m bytes) → i + n ≤ m → HasNoZero (take n (drop i bytes))
+part-nonzero i n m bytes nonzero within =
+    let front = subst HasNoZero (take-take (i + n) m bytes within) (All-take (λ b. b ≢ 0) (i + n) (take m bytes) nonzero) in
+    subst HasNoZero (drop-take i n bytes) (All-drop (λ b. b ≢ 0) i (take (i + n) bytes) front)
+
+-- what is in a list whose n elements from `at` on were overwritten with a part
+module _ (dest part : List ℕ) (at n : ℕ) (long : length part ≡ n) (fits : at ≤ length dest) where
+  length-front : length (take at dest) ≡ at
+  length-front = length-take-le at dest fits
+
+  pub front-three : take at (take at dest ++ (part ++ drop (at + n) dest)) ≡ take at dest
+  front-three = grind (arith, take_at, length-take-le)
+
+  pub mid-three : take n (drop at (take at dest ++ (part ++ drop (at + n) dest))) ≡ part
+  mid-three = grind (arith, drop_at, take_at, length-take-le)
+
+  pub behind-three : (r : ℕ) → at + n ≤ r → drop r (take at dest ++ (part ++ drop (at + n) dest)) ≡ drop r dest
+  behind-three r le =
+      let l = length-front in
+      ap (drop r) (sym (append_assoc (take at dest) part (drop (at + n) dest)))
+      ∙ drop-append-drop (at + n) dest (take at dest ++ part) r le (length-append (take at dest) part ∙ omega arith)
+
+  -- and what it is with more after the part
+  pub three-next : (more : List ℕ) (k : ℕ) → let three = take at dest ++ (part ++ drop (at + n) dest) in take (at + n) three ++ (more ++ drop (at + n + k) three) ≡ take at dest ++ ((part ++ more) ++ drop (at + (n + k)) dest)
+  three-next more k =
+      let b = behind-three (at + n + k) (omega arith) in
+      let l = length-front in
+      let front : take (at + n) (take at dest ++ (part ++ drop (at + n) dest)) ≡ take at dest ++ part = grind (arith, append_assoc, take_at, length-append) in
+      grind (arith, append_assoc)
