@@ -3,11 +3,10 @@ pub mod OpenLemmas
 pub mod OpenedLemmas
 pub mod OpenLenLemmas
 pub mod ReachLemmas
-pub mod MarkLemmas
 pub mod AfterLemmas
 pub mod CoreLemmas
-pub mod ShortSteps
 pub mod RoomLemmas
 pub mod TakingLemmas
+pub mod MarkLemmas
 pub mod ByteLemmas
 pub mod StepLemmas

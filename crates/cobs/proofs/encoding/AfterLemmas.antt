@@ -11,7 +11,7 @@ use Rattle.cobs.proofs.format.GrammarLemmas.{one_frame}
 use Rattle.cobs.proofs.format.UniqueLemmas.{one_encoded, length-encoded}
 use Rattle.cobs.proofs.encoding.OpenLemmas.{All-front, concat-push, message_of-close, frame_push}
 use Rattle.cobs.proofs.format.FrameLemmas.{last_of-push}
-use Rattle.cobs.proofs.encoding.OpenedLemmas.{Opened, ends_in_full}
+use Rattle.cobs.specs.Internal.Reaches.{Opened, ends_in_full}
 
 full-some : (front : List (List ℕ)) → is_full (last_of front) ≡ true → front ≢ []
 full-some front full none = true≢false (sym full ∙ ap (λ (l : List (List ℕ)). is_full (last_of l)) none)

@@ -9,9 +9,10 @@ use Rattle.cobs.specs.Internal.Taking.{TakesFront}
 use Rattle.cobs.proofs.encoding.AfterLemmas.{at}
 use Rattle.cobs.proofs.encoding.CoreLemmas.{after-len}
 use Rattle.cobs.proofs.encoding.OpenLenLemmas.{same_start}
-use Rattle.cobs.proofs.encoding.ReachLemmas.{Reaches, Reaches-at, Reaches-weaker, Reaches-zero}
+use Rattle.cobs.proofs.encoding.ReachLemmas.{Reaches-at, Reaches-weaker, Reaches-zero}
 use Rattle.cobs.proofs.encoding.TakingLemmas.{after-place, front-filled, front-taken, joined, reaches-start, short_room}
 use Rattle.cobs_bytes.proofs.bytes.ListLemmas.{length-ones, ones-nonzero}
+use Rattle.cobs.specs.Internal.Reaches.{Reaches, start_with}
 
 -- how long the frame of a longer message is
 pub after-more : (slice m a bytes : List ℕ) (r : Reached) → CobsEncoderAfter slice r m → HasNoZero a → length a + 1 ≡ r.block.code → bytes ≢ [] → encoded_len (m ++ bytes) ≡ r.block.index + encoded_len (a ++ bytes)
@@ -21,20 +22,20 @@ after-more slice m a bytes r h nonzero long some =
 
 -- the first byte of a source is taken
 module _ (source slice : List ℕ) (r : Reached) (some : 0 < length source) (place : IsPlaceIn (length slice) r) (fits : end_after r source ≤ length slice) where
-  start : Reaches (CobsEncoderAfter slice r) source slice slice (end_after r source) 0 r.block.index (next_of r) (λ _. Unit {0})
+  start : Reaches (start_with slice r source) slice 0 r.block.index (next_of r) (λ _. Unit {0})
   start = reaches-start source slice r some place.some place.not_full
 
   -- a zero closes the open block
   pub byte-zero : {r' : Reached} → get_or source 0 0 ≡ 0 → r' ≡ at (next_of r) (next_of r + 1 - next_of r) false → TakesFront slice r source 1 (set slice r.block.index r.block.code) r'
   byte-zero zero is =
-      let closed = Reaches-zero _ _ _ _ _ _ _ _ _ (λ full. full ≡ false) some zero (omega (arith, place.not_full)) fits refl start in
+      let closed = Reaches-zero _ slice 0 _ _ _ (λ full. full ≡ false) some zero (omega (arith, place.not_full)) fits refl start in
       let code : set slice r.block.index (next_of r - r.block.index) ≡ set slice r.block.index r.block.code = ap (λ (x : ℕ). set slice r.block.index x) (omega arith) in
       let n = length-set slice r.block.index r.block.code in
       front-taken (omega arith) {full = false} (Reaches-at code refl refl refl (λ full p. p) closed) (omega arith) (λ all. refl) is
 
   -- another byte joins it
-  more : get_or source 0 0 ≢ 0 → Reaches (CobsEncoderAfter slice r) source slice (set slice (next_of r) (get_or source 0 0)) (end_after r source) 1 r.block.index (next_of r + 1) (λ full. 0 < 1 → full ≡ false)
-  more other = joined _ _ _ _ _ _ _ _ _ _ some start refl other (omega (arith, place.not_full)) fits
+  more : get_or source 0 0 ≢ 0 → Reaches (start_with slice r source) (set slice (next_of r) (get_or source 0 0)) 1 r.block.index (next_of r + 1) (λ full. 0 < 1 → full ≡ false)
+  more other = joined _ slice 0 _ _ _ _ some start refl other (omega (arith, place.not_full)) fits
 
   pub byte-joins : {r' : Reached} → get_or source 0 0 ≢ 0 → r.block.code ≢ 254 → r' ≡ at r.block.index (next_of r + 1 - r.block.index) false → TakesFront slice r source 1 (set slice (next_of r) (get_or source 0 0)) r'
   byte-joins other open' is =

@@ -9,36 +9,37 @@ use Rattle.cobs.specs.Grammar.{IsEncodedFrame}
 use Rattle.cobs.specs.OpenBlock.{Reached, CobsEncoderAfter, next_of, end_of}
 use Rattle.cobs.specs.Length.{encoded_len, open_len}
 use Rattle.cobs.proofs.encoding.OpenLenLemmas.{Opened-len}
-use Rattle.cobs.proofs.encoding.ReachLemmas.{Reaches, least, taken-full, ends-full}
+use Rattle.cobs.proofs.encoding.ReachLemmas.{least, taken-full, ends-full}
 use Rattle.cobs.proofs.encoding.AfterLemmas.{at, from_after, to_after, end-is, whole-is}
 use Rattle.cobs.proofs.format.UniqueLemmas.{length-encoded}
+use Rattle.cobs.specs.Internal.Reaches.{HadTaken, Reaches, Start, whole_end}
 
 ends-within : (full : Bool) (index next n : ℕ) → index < next → next ≤ n → (if full then index else next) ≤ n
 ends-within full index next n h e = grind arith
 
 -- so far, of the bytes that were taken
-pub after-so-far : (H : List ℕ → Type 0) (source old slice : List ℕ) (end pos index next : ℕ) (full : Bool) → Reaches H source old slice end pos index next (λ noted. noted ≡ full) → next < index + 255 → end ≤ length slice
-    → (m : List ℕ) → H m → CobsEncoderAfter slice (at index (next - index) full) (m ++ take pos source)
-after-so-far H source old slice end pos index next full r short fits m h =
-    let l = least source end pos index next r.ordered r.within r.room in
+pub after-so-far : (s : Start) (slice : List ℕ) (pos index next : ℕ) (full : Bool) → Reaches s slice pos index next (λ noted. noted ≡ full) → next < index + 255 → whole_end s ≤ length slice
+    → (m : List ℕ) → HadTaken s m → CobsEncoderAfter slice (at index (next - index) full) (m ++ take pos s.source)
+after-so-far s slice pos index next full r short fits m h =
+    let l = least s pos index next r.ordered r.within r.room in
     grind (arith, to_after, ends-within)
 
 -- the last byte of the source filled its block
-module _ (H : List ℕ → Type 0) (source old slice : List ℕ) (end pos index : ℕ) (r : Reaches H source old slice end pos index (index + 255) (λ _. Unit {0})) (fits : end ≤ length slice) (last : pos ≡ length source) where
+module _ (s : Start) (slice : List ℕ) (pos index : ℕ) (r : Reaches s slice pos index (index + 255) (λ _. Unit {0})) (fits : whole_end s ≤ length slice) (last : pos ≡ length s.source) where
   abbrev P : Bool → Type 0
   P full = Unit {0}
 
-  pub full-after : (m : List ℕ) → H m → CobsEncoderAfter (set slice index 255) (at (index + 255) (index + 255 + 1 - (index + 255)) true) (m ++ source)
+  pub full-after : (m : List ℕ) → HadTaken s m → CobsEncoderAfter (set slice index 255) (at (index + 255) (index + 255 + 1 - (index + 255)) true) (m ++ s.source)
   full-after m h =
-      let e = ends-full H source old slice end pos index (index + 255) P P last (omega arith) r in
+      let e = ends-full s slice pos index (index + 255) P P last (omega arith) r in
       let l = length-set slice index 255 in
-      to_after (set slice index 255) (m ++ source) (index + 255) (index + 255 + 1) (index + 255 + 1 - (index + 255)) true (omega arith) (omega arith) (omega arith)
-      (taken-full H source old slice end pos index (index + 255) P P last (omega arith) fits r m h)
+      to_after (set slice index 255) (m ++ s.source) (index + 255) (index + 255 + 1) (index + 255 + 1 - (index + 255)) true (omega arith) (omega arith) (omega arith)
+      (taken-full s slice pos index (index + 255) P P last (omega arith) fits r m h)
 
-  pub full-end : end ≡ index + 255
-  full-end = ends-full H source old slice end pos index (index + 255) P P last (omega arith) r
+  pub full-end : whole_end s ≡ index + 255
+  full-end = ends-full s slice pos index (index + 255) P P last (omega arith) r
 
-  pub full-rest : drop (index + 255) (set slice index 255) ≡ drop (index + 255) old
+  pub full-rest : drop (index + 255) (set slice index 255) ≡ drop (index + 255) s.slice
   full-rest = grind (arith, full-end, drop-set-lt)
 
 -- the code of the open block completes the frame; a frame that ends in a full block is complete

@@ -8,8 +8,8 @@ use Rattle.cobs.specs.Grammar.{HasNoZero, IsBlock, is_full, bytes_of, joint, las
 use Rattle.cobs.specs.Length.{encoded_len, max_encoded_len, open_len}
 use Rattle.cobs.proofs.format.LengthLemmas.{stretches-append, encoded_len-zero, encoded_len-full, encoded_len-last, encoded_len-le}
 use Rattle.cobs.proofs.encoding.OpenLemmas.{append-some}
-use Rattle.cobs.proofs.encoding.OpenedLemmas.{Opened, ends_in_full}
 use Rattle.cobs_bytes.proofs.bytes.ListLemmas.{length-ones, ones-nonzero}
+use Rattle.cobs.specs.Internal.Reaches.{Opened, ends_in_full}
 
 -- which nonzero bytes begin a message is no matter
 pub same_start : (a b t : List ℕ) → HasNoZero a → HasNoZero b → length a ≡ length b → encoded_len (a ++ t) ≡ encoded_len (b ++ t)

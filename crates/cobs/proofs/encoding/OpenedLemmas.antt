@@ -1,33 +1,14 @@
 -- A slice that holds the open frame of a message but for the open block's code, and how it goes on.
-use Rattle.std.proofs.Common.{◌≡◌, ◌≢◌, ℕ, ◌+◌, ◌<◌, ◌≤◌, ◌==◌, Bool, false, if◌then◌else◌, List, [], ◌∷◌, ◌++◌, length, drop, take, suc, All, refl, sym, ap, ◌∙◌, arith, length-append, length-take-le, length-take}
+use Rattle.std.proofs.Common.{◌≡◌, ◌≢◌, ℕ, ◌+◌, ◌≤◌, ◌==◌, Bool, false, if◌then◌else◌, List, [], ◌∷◌, ◌++◌, length, drop, take, suc, refl, sym, ap, ◌∙◌, arith, length-append, length-take-le, length-take}
 use Rattle.std.specs.List.{concat}
 use Rattle.std.proofs.Math.ListN.{set}
 use Rattle.std.proofs.Math.Seq.{take-set-lt, take-add}
 use Rattle.std.proofs.lemmas.List.{take-take, take-set-le, drop-set-lt, set_split, drop-append-le, drop_all}
 use Rattle.std.proofs.lemmas.List.Elements.{All-append, All-push, All-nil}
-use Rattle.cobs.specs.Grammar.{HasNoZero, IsBlock, is_full, joint, lone_block, last_of, message_of}
+use Rattle.cobs.specs.Grammar.{HasNoZero, IsBlock, is_full, joint, lone_block, message_of}
 use Rattle.cobs.proofs.encoding.OpenLemmas.{append-some, concat-push, message_of-close, message_of-more}
 use Rattle.cobs.proofs.format.FrameLemmas.{last_of-push}
-
--- whether the frame's last block is full, so that the open one is a placeholder alone
-abbrev pub ends_in_full : List (List ℕ) → List ℕ → Bool
-ends_in_full front [] = is_full (last_of front)
-ends_in_full front (byte ∷ bytes) = false
-
--- The slice begins with the blocks of m before its open one, and has that block's bytes behind the place of its code.
--- The next byte goes to `next`. Unlike a public state this one may have 254 bytes in its block, before the block is closed.
-pub record Opened (slice m : List ℕ) (index next : ℕ) (full : Bool) : Type 0 where
-  pub front : List (List ℕ)
-  pub bytes : List ℕ
-  pub each : All IsBlock front
-  pub nonzero : HasNoZero bytes
-  pub few : length bytes < 255
-  pub message : m ≡ message_of (front ++ ((length bytes + 1) ∷ bytes) ∷ [])
-  pub begins : index ≡ length (concat front)
-  pub place : next ≡ index + (length bytes + 1)
-  pub written : take index slice ≡ concat front
-  pub bytes_there : drop (index + 1) (take next slice) ≡ bytes
-  pub noted : full ≡ ends_in_full front bytes
+use Rattle.cobs.specs.Internal.Reaches.{Opened, ends_in_full}
 
 -- the same blocks in another slice
 Opened-in : (slice slice' m : List ℕ) (index next : ℕ) (full : Bool) → take index slice' ≡ take index slice → drop (index + 1) (take next slice') ≡ drop (index + 1) (take next slice)

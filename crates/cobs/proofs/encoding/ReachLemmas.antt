@@ -6,119 +6,110 @@ use Rattle.std.proofs.lemmas.Bool.{cases_eq, ne_eqb}
 use Rattle.std.proofs.lemmas.List.{drop-drop, drop_more, drop_all, drop-set-lt, take_more, take_more_set, length-set}
 use Rattle.cobs.specs.Grammar.{HasNoZero}
 use Rattle.cobs.specs.Length.{open_len}
-use Rattle.cobs.proofs.encoding.OpenedLemmas.{Opened, Opened-code, Opened-same, Opened-same-empty, Opened-join, Opened-close}
+use Rattle.cobs.proofs.encoding.OpenedLemmas.{Opened-code, Opened-same, Opened-same-empty, Opened-join, Opened-close}
 use Rattle.cobs.proofs.encoding.OpenLenLemmas.{open_len-join, open_len-zero, open_len-least}
 use Rattle.cobs.proofs.format.LengthLemmas.{encoded_len-full, encoded_len-last}
 use Rattle.cobs_bytes.proofs.bytes.ListLemmas.{length-ones, ones-nonzero}
-
--- Of a message that had H before, the slice has the first `pos` bytes of the source too; `end` is where its frame is to end
--- once it has them all, and behind that the slice is as it was. Of the last block P says whether it is full.
-pub record Reaches (H : List ℕ → Type 0) (source old slice : List ℕ) (end pos index next : ℕ) (P : Bool → Type 0) : Type 0 where
-  pub ordered : index < next
-  pub short : next ≤ index + 255
-  pub within : pos ≤ length source
-  pub room : index + open_len (next - index) (drop pos source) ≡ end
-  pub rest : drop end slice ≡ drop end old
-  pub taken : (m : List ℕ) → H m → (full : Bool) × P full × Opened slice (m ++ take pos source) index next full
+use Rattle.cobs.specs.Internal.Reaches.{HadTaken, Opened, Reaches, Start, whole_end}
 
 -- what is left of the source needs as many bytes at the least
-pub least : (source : List ℕ) (end pos index next : ℕ) → index < next → pos ≤ length source → index + open_len (next - index) (drop pos source) ≡ end → next + (length source - pos) ≤ end
-least source end pos index next ordered within room = grind (arith, length-drop, open_len-least)
+pub least : (s : Start) (pos index next : ℕ) → index < next → pos ≤ length s.source → index + open_len (next - index) (drop pos s.source) ≡ whole_end s → next + (length s.source - pos) ≤ whole_end s
+least s pos index next ordered within room = grind (arith, length-drop, open_len-least)
 
 -- the same places, by other names
-pub Reaches-at : {H : List ℕ → Type 0} {source old slice slice' : List ℕ} {end pos pos' index index' next next' : ℕ} {P Q : Bool → Type 0} → slice ≡ slice' → pos ≡ pos' → index ≡ index' → next ≡ next'
-    → ((full : Bool) → P full → Q full) → Reaches H source old slice end pos index next P → Reaches H source old slice' end pos' index' next' Q
+pub Reaches-at : {s : Start} {slice slice' : List ℕ} {pos pos' index index' next next' : ℕ} {P Q : Bool → Type 0} → slice ≡ slice' → pos ≡ pos' → index ≡ index' → next ≡ next'
+    → ((full : Bool) → P full → Q full) → Reaches s slice pos index next P → Reaches s slice' pos' index' next' Q
 Reaches-at s p i n weaker r = grind arith
 
 -- less said of the last block
-pub Reaches-weaker : {H : List ℕ → Type 0} {source old slice : List ℕ} {end pos index next : ℕ} {P Q : Bool → Type 0} → ((full : Bool) → P full → Q full)
-    → Reaches H source old slice end pos index next P → Reaches H source old slice end pos index next Q
+pub Reaches-weaker : {s : Start} {slice : List ℕ} {pos index next : ℕ} {P Q : Bool → Type 0} → ((full : Bool) → P full → Q full)
+    → Reaches s slice pos index next P → Reaches s slice pos index next Q
 Reaches-weaker weaker r = Reaches-at refl refl refl refl weaker r
 
-module _ (H : List ℕ → Type 0) (source old slice : List ℕ) (end pos index next : ℕ) (P Q : Bool → Type 0) where
+module _ (s : Start) (slice : List ℕ) (pos index next : ℕ) (P Q : Bool → Type 0) where
   -- other bytes behind
-  pub Reaches-same : (slice' : List ℕ) → take next slice' ≡ take next slice → drop end slice' ≡ drop end slice → Reaches H source old slice end pos index next P → Reaches H source old slice' end pos index next P
+  pub Reaches-same : (slice' : List ℕ) → take next slice' ≡ take next slice → drop (whole_end s) slice' ≡ drop (whole_end s) slice → Reaches s slice pos index next P → Reaches s slice' pos index next P
   Reaches-same slice' front back r = grind (arith, Opened-same)
 
-  pub Reaches-same-empty : (slice' : List ℕ) → next ≡ index + 1 → take index slice' ≡ take index slice → drop end slice' ≡ drop end old → Reaches H source old slice end pos index next P → Reaches H source old slice' end pos index next P
+  pub Reaches-same-empty : (slice' : List ℕ) → next ≡ index + 1 → take index slice' ≡ take index slice → drop (whole_end s) slice' ≡ drop (whole_end s) s.slice → Reaches s slice pos index next P → Reaches s slice' pos index next P
   Reaches-same-empty slice' empty front back r = grind (arith, Opened-same-empty)
 
   -- another byte in the place of the open block's code
-  pub Reaches-code : (x : ℕ) → Reaches H source old slice end pos index next P → Reaches H source old (set slice index x) end pos index next P
+  pub Reaches-code : (x : ℕ) → Reaches s slice pos index next P → Reaches s (set slice index x) pos index next P
   Reaches-code x r =
-      let l = least source end pos index next r.ordered r.within r.room in
+      let l = least s pos index next r.ordered r.within r.room in
       grind (arith, drop-set-lt, Opened-code)
 
   -- k bytes that are in place join the open block
-  pub Reaches-join : (k : ℕ) → pos + k ≤ length source → next + k ≤ index + 255 → end ≤ length slice → HasNoZero (take k (drop pos source)) → take k (drop next slice) ≡ take k (drop pos source)
-      → ((full : Bool) → k ≡ 0 → P full → Q full) → (0 < k → Q false) → Reaches H source old slice end pos index next P → Reaches H source old slice end (pos + k) index (next + k) Q
+  pub Reaches-join : (k : ℕ) → pos + k ≤ length s.source → next + k ≤ index + 255 → whole_end s ≤ length slice → HasNoZero (take k (drop pos s.source)) → take k (drop next slice) ≡ take k (drop pos s.source)
+      → ((full : Bool) → k ≡ 0 → P full → Q full) → (0 < k → Q false) → Reaches s slice pos index next P → Reaches s slice (pos + k) index (next + k) Q
   Reaches-join k within short fits nonzero here none some r =
-      let l = length-drop pos source in
-      let bytes : List ℕ = take k (drop pos source) in
-      let long : length bytes ≡ k = length-take-le k (drop pos source) (omega arith) in
-      let least' = least source end pos index next r.ordered r.within r.room in
-      let split : drop pos source ≡ bytes ++ drop (pos + k) source = sym (take-append-drop k (drop pos source)) ∙ ap (λ (x : List ℕ). bytes ++ x) (drop-drop k pos source) in
-      let more = open_len-join (next - index) bytes (drop (pos + k) source) (omega arith) nonzero in
+      let l = length-drop pos s.source in
+      let bytes : List ℕ = take k (drop pos s.source) in
+      let long : length bytes ≡ k = length-take-le k (drop pos s.source) (omega arith) in
+      let least' = least s pos index next r.ordered r.within r.room in
+      let split : drop pos s.source ≡ bytes ++ drop (pos + k) s.source = sym (take-append-drop k (drop pos s.source)) ∙ ap (λ (x : List ℕ). bytes ++ x) (drop-drop k pos s.source) in
+      let more = open_len-join (next - index) bytes (drop (pos + k) s.source) (omega arith) nonzero in
       record {
         ordered = omega arith;
         short = short;
         within = within;
-        room = let e : open_len (next + k - index) (drop (pos + k) source) ≡ open_len (next - index) (drop pos source) = grind arith in omega arith;
+        room = let e : open_len (next + k - index) (drop (pos + k) s.source) ≡ open_len (next - index) (drop pos s.source) = grind arith in omega arith;
         rest = r.rest;
         taken = λ m h. by_count (cases_eq k 0) m (r.taken m h);
       }
     where
-      by_count : (k ≡ 0) ⊎ (k ≢ 0) → (m : List ℕ) → (full : Bool) × P full × Opened slice (m ++ take pos source) index next full → (full : Bool) × Q full × Opened slice (m ++ take (pos + k) source) index (next + k) full
+      by_count : (k ≡ 0) ⊎ (k ≢ 0) → (m : List ℕ) → (full : Bool) × P full × Opened slice (m ++ take pos s.source) index next full → (full : Bool) × Q full × Opened slice (m ++ take (pos + k) s.source) index (next + k) full
       by_count (inl is) m t = (t.0, none t.0 is t.1, grind arith)
       by_count (inr other) m t =
-          let least' = least source end pos index next r.ordered r.within r.room in
-          let d = length-drop pos source in
-          let long : length (take k (drop pos source)) ≡ k = length-take-le k (drop pos source) (omega arith) in
-          let here' : take (length (take k (drop pos source))) (drop next slice) ≡ take k (drop pos source) = grind arith in
-          let joined = Opened-join slice (m ++ take pos source) (take k (drop pos source)) index next t.0 (λ e. let z = ap length e in other (omega arith)) nonzero (omega arith)
+          let least' = least s pos index next r.ordered r.within r.room in
+          let d = length-drop pos s.source in
+          let long : length (take k (drop pos s.source)) ≡ k = length-take-le k (drop pos s.source) (omega arith) in
+          let here' : take (length (take k (drop pos s.source))) (drop next slice) ≡ take k (drop pos s.source) = grind arith in
+          let joined = Opened-join slice (m ++ take pos s.source) (take k (drop pos s.source)) index next t.0 (λ e. let z = ap length e in other (omega arith)) nonzero (omega arith)
           (omega arith) here' t.2 in
           (false, some (omega arith), grind (arith, append_assoc, take-add))
 
   -- a zero closes the open block
-  pub Reaches-zero : pos < length source → get_or source pos 0 ≡ 0 → next < index + 255 → end ≤ length slice → Q false → Reaches H source old slice end pos index next P
-      → Reaches H source old (set slice index (next - index)) end (pos + 1) next (next + 1) Q
+  pub Reaches-zero : pos < length s.source → get_or s.source pos 0 ≡ 0 → next < index + 255 → whole_end s ≤ length slice → Q false → Reaches s slice pos index next P
+      → Reaches s (set slice index (next - index)) (pos + 1) next (next + 1) Q
   Reaches-zero more is open' fits not_full r =
-      let least' = least source end pos index next r.ordered r.within r.room in
-      let left : drop pos source ≡ 0 ∷ drop (pos + 1) source = grind (arith, drop_more) in
-      let zero_len = open_len-zero (next - index) (drop (pos + 1) source) (omega arith) (omega arith) in
+      let least' = least s pos index next r.ordered r.within r.room in
+      let left : drop pos s.source ≡ 0 ∷ drop (pos + 1) s.source = grind (arith, drop_more) in
+      let zero_len = open_len-zero (next - index) (drop (pos + 1) s.source) (omega arith) (omega arith) in
       let apart : (next - index == 255) ≡ false = ne_eqb (next - index) 255 (λ e. omega arith) in
       record {
         ordered = omega arith;
         short = omega arith;
         within = omega arith;
         room = grind arith;
-        rest = drop-set-lt end slice index (next - index) (omega arith) ∙ r.rest;
+        rest = drop-set-lt (whole_end s) slice index (next - index) (omega arith) ∙ r.rest;
         taken = λ m h.
             let t = r.taken m h in
-            let closed = Opened-close slice (m ++ take pos source) index next (next - index) t.0 (omega arith) (omega arith) t.2 in
+            let closed = Opened-close slice (m ++ take pos s.source) index next (next - index) t.0 (omega arith) (omega arith) t.2 in
             (false, not_full, grind (arith, append_assoc, take_more));
       }
 
   -- what a full block leaves, once its code is written
-  full-taken : next ≡ index + 255 → next ≤ length slice → Reaches H source old slice end pos index next P → (m : List ℕ) → H m → Opened (set slice index 255) (m ++ take pos source) next (next + 1) true
+  full-taken : next ≡ index + 255 → next ≤ length slice → Reaches s slice pos index next P → (m : List ℕ) → HadTaken s m → Opened (set slice index 255) (m ++ take pos s.source) next (next + 1) true
   full-taken full fits r m h =
       let t = r.taken m h in
-      let closed = Opened-close slice (m ++ take pos source) index next 255 t.0 fits (sym full) t.2 in
+      let closed = Opened-close slice (m ++ take pos s.source) index next 255 t.0 fits (sym full) t.2 in
       grind (arith, append-nil)
 
-  pub Reaches-full : pos < length source → next ≡ index + 255 → end ≤ length slice → Q true → Reaches H source old slice end pos index next P → Reaches H source old (set slice index 255) end pos next (next + 1) Q
+  pub Reaches-full : pos < length s.source → next ≡ index + 255 → whole_end s ≤ length slice → Q true → Reaches s slice pos index next P → Reaches s (set slice index 255) pos next (next + 1) Q
   Reaches-full more full fits is_full r =
       grind (arith, length-drop, drop-set-lt, full-taken, length-ones, encoded_len-full, ones-nonzero)
 
   -- the last byte fills the block
-  pub ends-full : pos ≡ length source → next ≡ index + 255 → Reaches H source old slice end pos index next P → end ≡ next
+  pub ends-full : pos ≡ length s.source → next ≡ index + 255 → Reaches s slice pos index next P → whole_end s ≡ next
   ends-full last full r = grind (arith, drop_all, length-ones, append-nil, encoded_len-last, ones-nonzero)
 
-  pub taken-full : pos ≡ length source → next ≡ index + 255 → end ≤ length slice → Reaches H source old slice end pos index next P → (m : List ℕ) → H m → Opened (set slice index 255) (m ++ source) next (next + 1) true
+  pub taken-full : pos ≡ length s.source → next ≡ index + 255 → whole_end s ≤ length slice → Reaches s slice pos index next P → (m : List ℕ) → HadTaken s m → Opened (set slice index 255) (m ++ s.source) next (next + 1) true
   taken-full last full fits r m h = grind (arith, ends-full, full-taken, take_all)
 
   -- the last byte leaves the block open
-  pub ends-open : pos ≡ length source → Reaches H source old slice end pos index next P → end ≡ next
+  pub ends-open : pos ≡ length s.source → Reaches s slice pos index next P → whole_end s ≡ next
   ends-open last r = grind (arith, drop_all, length-ones, append-nil, encoded_len-last, ones-nonzero)
 
 -- what is known of the last block behind a step: it isn't full
@@ -126,33 +117,33 @@ abbrev pub IsNotFull : Bool → Type 0
 IsNotFull full = full ≡ false
 
 -- n blocks of no bytes behind a closed one
-pub Reaches-ones : (n : ℕ) (H : List ℕ → Type 0) (source old slice after : List ℕ) (end pos index : ℕ) → pos + n ≤ length source → take n (drop pos source) ≡ replicate n 0 → end ≤ length slice
-    → take (index + n) after ≡ take index slice ++ replicate n 1 → drop end after ≡ drop end old → Reaches H source old slice end pos index (index + 1) IsNotFull
-    → Reaches H source old after end (pos + n) (index + n) (index + n + 1) IsNotFull
-Reaches-ones zero H source old slice after end pos index within zeros fits front back r =
+pub Reaches-ones : (n : ℕ) (s : Start) (slice after : List ℕ) (pos index : ℕ) → pos + n ≤ length s.source → take n (drop pos s.source) ≡ replicate n 0 → whole_end s ≤ length slice
+    → take (index + n) after ≡ take index slice ++ replicate n 1 → drop (whole_end s) after ≡ drop (whole_end s) s.slice → Reaches s slice pos index (index + 1) IsNotFull
+    → Reaches s after (pos + n) (index + n) (index + n + 1) IsNotFull
+Reaches-ones zero s slice after pos index within zeros fits front back r =
     let same : take index after ≡ take index slice = grind (arith, append-nil) in
     Reaches-at refl (omega arith) (omega arith) (omega arith) (λ full p. p)
-    (Reaches-same-empty H source old slice end pos index (index + 1) IsNotFull IsNotFull after refl same back r)
-Reaches-ones (suc n) H source old slice after end pos index within zeros fits front back r =
-    let o = least source end pos index (index + 1) r.ordered r.within r.room in
+    (Reaches-same-empty s slice pos index (index + 1) IsNotFull IsNotFull after refl same back r)
+Reaches-ones (suc n) s slice after pos index within zeros fits front back r =
+    let o = least s pos index (index + 1) r.ordered r.within r.room in
     let l = length-set slice index 1 in
-    let left = drop_more source pos 0 (omega arith) in
-    let first : get_or source pos 0 ≡ 0 = cc in
-    let others : take n (drop (pos + 1) source) ≡ replicate n 0 = cc in
-    let z = Reaches-zero H source old slice end pos index (index + 1) IsNotFull IsNotFull (omega arith) first (omega arith) fits refl r in
+    let left = drop_more s.source pos 0 (omega arith) in
+    let first : get_or s.source pos 0 ≡ 0 = cc in
+    let others : take n (drop (pos + 1) s.source) ≡ replicate n 0 = cc in
+    let z = Reaches-zero s slice pos index (index + 1) IsNotFull IsNotFull (omega arith) first (omega arith) fits refl r in
     let front' : take (index + 1 + n) after ≡ take (index + 1) (set slice index 1) ++ replicate n 1 = grind (arith, append_assoc, take_more_set) in
-    let ih = Reaches-ones n H source old (set slice index 1) after end (pos + 1) (index + 1) (omega arith) others (omega arith) front' back (grind arith) in
+    let ih = Reaches-ones n s (set slice index 1) after (pos + 1) (index + 1) (omega arith) others (omega arith) front' back (grind arith) in
     Reaches-at refl (omega arith) (omega arith) (omega arith) (λ full p. p) ih
 
 -- zeros close the open block, and the ones behind it
-pub Reaches-zeros : (n : ℕ) (H : List ℕ → Type 0) (source old slice after : List ℕ) (end pos index next : ℕ) (P : Bool → Type 0) → pos + suc n ≤ length source → take (suc n) (drop pos source) ≡ replicate (suc n) 0 → end ≤ length slice
-    → next < index + 255 → take (next + n) after ≡ take next (set slice index (next - index)) ++ replicate n 1 → drop end after ≡ drop end old → Reaches H source old slice end pos index next P
-    → Reaches H source old after end (pos + suc n) (next + n) (next + n + 1) IsNotFull
-Reaches-zeros n H source old slice after end pos index next P within zeros fits short front back r =
+pub Reaches-zeros : (n : ℕ) (s : Start) (slice after : List ℕ) (pos index next : ℕ) (P : Bool → Type 0) → pos + suc n ≤ length s.source → take (suc n) (drop pos s.source) ≡ replicate (suc n) 0 → whole_end s ≤ length slice
+    → next < index + 255 → take (next + n) after ≡ take next (set slice index (next - index)) ++ replicate n 1 → drop (whole_end s) after ≡ drop (whole_end s) s.slice → Reaches s slice pos index next P
+    → Reaches s after (pos + suc n) (next + n) (next + n + 1) IsNotFull
+Reaches-zeros n s slice after pos index next P within zeros fits short front back r =
     let l = length-set slice index (next - index) in
-    let left = drop_more source pos 0 (omega arith) in
-    let first : get_or source pos 0 ≡ 0 = cc in
-    let others : take n (drop (pos + 1) source) ≡ replicate n 0 = cc in
-    let z = Reaches-zero H source old slice end pos index next P IsNotFull (omega arith) first short fits refl r in
-    let all = Reaches-ones n H source old (set slice index (next - index)) after end (pos + 1) next (omega arith) others (omega arith) front back z in
+    let left = drop_more s.source pos 0 (omega arith) in
+    let first : get_or s.source pos 0 ≡ 0 = cc in
+    let others : take n (drop (pos + 1) s.source) ≡ replicate n 0 = cc in
+    let z = Reaches-zero s slice pos index next P IsNotFull (omega arith) first short fits refl r in
+    let all = Reaches-ones n s (set slice index (next - index)) after (pos + 1) next (omega arith) others (omega arith) front back z in
     Reaches-at refl (omega arith) refl refl (λ full p. p) all

@@ -14,8 +14,8 @@ use Rattle.cobs.proofs.encoding.AfterLemmas.{at, end-is, from_after}
 use Rattle.cobs.proofs.encoding.OpenLemmas.{All-front}
 use Rattle.cobs.proofs.encoding.CoreLemmas.{after-fits, after-nothing, after-len, after-so-far, full-after, full-end, full-rest}
 use Rattle.cobs.proofs.encoding.OpenLenLemmas.{open_len-least, open_len-most}
-use Rattle.cobs.proofs.encoding.ReachLemmas.{Reaches, Reaches-at, Reaches-full, Reaches-join, Reaches-same, ends-open, least}
-use Rattle.cobs.proofs.encoding.OpenedLemmas.{Opened}
+use Rattle.cobs.proofs.encoding.ReachLemmas.{Reaches-at, Reaches-full, Reaches-join, Reaches-same, ends-open, least}
+use Rattle.cobs.specs.Internal.Reaches.{HadTaken, Opened, Reaches, Start, start_with, whole_end}
 
 pub after-some : (r : Reached) (bytes : List ℕ) → 0 < length bytes → end_after r bytes ≡ r.block.index + open_len r.block.code bytes
 after-some r bytes h = grind arith
@@ -46,7 +46,8 @@ none-fits n r (b ∷ bytes) e p = absurd (omega arith)
 pub next-least : (r : Reached) (source : List ℕ) → 0 < r.block.code → 0 < length source → next_of r + length source ≤ end_after r source
 next-least r source code some = let e = after-some r source some in let l = open_len-least r.block.code source code in omega arith
 
-pub reaches-start : (source old : List ℕ) (r : Reached) → 0 < length source → 0 < r.block.code → r.block.code < 255 → Reaches (CobsEncoderAfter old r) source old old (end_after r source) 0 r.block.index (next_of r) (λ _. Unit {0})
+pub reaches-start : (source old : List ℕ) (r : Reached) → 0 < length source → 0 < r.block.code → r.block.code < 255 → Reaches (start_with old r source) old 0 r.block.index (next_of r) (λ _. Unit {0})
+unfolding HadTaken
 reaches-start source old r some code short =
     let coded : next_of r - r.block.index ≡ r.block.code = omega arith in
     record {
@@ -59,30 +60,31 @@ reaches-start source old r some code short =
     }
 
 -- a byte is written behind the open block's
-module _ (H : List ℕ → Type 0) (source old slice : List ℕ) (end read index next byte : ℕ) (P : Bool → Type 0) (more : read < length source) (r : Reaches H source old slice end read index next P) where
-  pub written : Reaches H source old (set slice next byte) end read index next P
+module _ (s : Start) (slice : List ℕ) (read index next byte : ℕ) (P : Bool → Type 0) (more : read < length s.source) (r : Reaches s slice read index next P) where
+  pub written : Reaches s (set slice next byte) read index next P
   written =
-      let l = least source end read index next r.ordered r.within r.room in
-      Reaches-same H source old slice end read index next P P (set slice next byte) (take-set-le next slice next byte (omega arith)) (drop-set-lt end slice next byte (omega arith)) r
+      let l = least s read index next r.ordered r.within r.room in
+      Reaches-same s slice read index next P P (set slice next byte) (take-set-le next slice next byte (omega arith)) (drop-set-lt (whole_end s) slice next byte (omega arith)) r
 
   -- and joins them, unless it is a zero
-  pub joined : get_or source read 0 ≡ byte → byte ≢ 0 → next < index + 255 → end ≤ length slice → Reaches H source old (set slice next byte) end (read + 1) index (next + 1) (λ full. 0 < read + 1 → full ≡ false)
+  pub joined : get_or s.source read 0 ≡ byte → byte ≢ 0 → next < index + 255 → whole_end s ≤ length slice → Reaches s (set slice next byte) (read + 1) index (next + 1) (λ full. 0 < read + 1 → full ≡ false)
   joined is other short fits =
-      let l = least source end read index next r.ordered r.within r.room in
+      let l = least s read index next r.ordered r.within r.room in
       let after : List ℕ = set slice next byte in
       let k = length-set slice next byte in
-      let one : take 1 (drop read source) ≡ byte ∷ [] = grind (arith, drop_more) in
-      let here : take 1 (drop next after) ≡ take 1 (drop read source) = grind (arith, drop-set) in
-      let nonzero : HasNoZero (take 1 (drop read source)) = subst HasNoZero (sym one) (All-cons (λ byte. byte ≢ 0) byte [] other (All-nil (λ byte. byte ≢ 0))) in
-      Reaches-join H source old after end read index next P (λ full. 0 < read + 1 → full ≡ false) 1 (omega arith) (omega arith) (omega arith) nonzero here (λ full z p. absurd (omega arith)) (λ z lt. refl) written
+      let one : take 1 (drop read s.source) ≡ byte ∷ [] = grind (arith, drop_more) in
+      let here : take 1 (drop next after) ≡ take 1 (drop read s.source) = grind (arith, drop-set) in
+      let nonzero : HasNoZero (take 1 (drop read s.source)) = subst HasNoZero (sym one) (All-cons (λ byte. byte ≢ 0) byte [] other (All-nil (λ byte. byte ≢ 0))) in
+      Reaches-join s after read index next P (λ full. 0 < read + 1 → full ≡ false) 1 (omega arith) (omega arith) (omega arith) nonzero here (λ full z p. absurd (omega arith)) (λ z lt. refl) written
 
 -- where a step ends
 module _ {source old slice : List ℕ} {r r' : Reached} (fits : end_after r source ≤ length slice) where
   -- so far, which is not the whole source behind a full block
-  pub front-taken : {pos index next : ℕ} {full : Bool} → Reaches (CobsEncoderAfter old r) source old slice (end_after r source) pos index next (λ noted. noted ≡ full) → next < index + 255
+  pub front-taken : {pos index next : ℕ} {full : Bool} → Reaches (start_with old r source) slice pos index next (λ noted. noted ≡ full) → next < index + 255
       → (pos ≡ length source → full ≡ false) → r' ≡ at index (next - index) full → TakesFront old r source pos slice r'
+  unfolding HadTaken
   front-taken {pos} {index} {next} {full} s short last is =
-      let l = least source (end_after r source) pos index next s.ordered s.within s.room in
+      let l = least (start_with old r source) pos index next s.ordered s.within s.room in
       let d = length-drop pos source in
       let sum : index + (next - index) ≡ next = omega arith in
       let ends : end_of (at index (next - index) full) ≤ next = elim (cases_Bool full) [
@@ -92,39 +94,40 @@ module _ {source old slice : List ℕ} {r r' : Reached} (fits : end_after r sour
       let end : end_after (at index (next - index) full) (drop pos source) ≡ end_after r source = elim (cases_lt pos (length source)) [
         | inl more ↦ after-some (at index (next - index) full) (drop pos source) (omega arith) ∙ s.room
         | inr none ↦ (let all : pos ≡ length source = omega arith in
-            let e = ends-open (CobsEncoderAfter old r) source old slice (end_after r source) pos index next (λ noted. noted ≡ full) (λ noted. noted ≡ full) all s in
+            let e = ends-open (start_with old r source) slice pos index next (λ noted. noted ≡ full) (λ noted. noted ≡ full) all s in
             ap (end_after (at index (next - index) full)) (drop_all pos source (omega arith)) ∙ ap (λ (b : Bool). if b then index else index + (next - index)) (last all) ∙ sum ∙ sym e)
       ] in
       subst (TakesFront old r source pos slice) (sym is) (record {
         place = record { some = omega arith; not_full = omega arith; fits = omega arith };
-        after = λ m h. after-so-far (CobsEncoderAfter old r) source old slice (end_after r source) pos index next full s short fits m h;
+        after = λ m h. after-so-far (start_with old r source) slice pos index next full s short fits m h;
         end = end;
         rest = s.rest;
       })
 
   -- the last byte filled its block
-  front-full : {pos index : ℕ} → Reaches (CobsEncoderAfter old r) source old slice (end_after r source) pos index (index + 255) (λ _. Unit {0}) → pos ≡ length source
+  front-full : {pos index : ℕ} → Reaches (start_with old r source) slice pos index (index + 255) (λ _. Unit {0}) → pos ≡ length source
       → r' ≡ at (index + 255) 1 true → TakesFront old r source pos (set slice index 255) r'
+  unfolding HadTaken
   front-full {pos} {index} s last is =
       let l = length-set slice index 255 in
-      let e = full-end (CobsEncoderAfter old r) source old slice (end_after r source) pos index s fits last in
+      let e = full-end (start_with old r source) slice pos index s fits last in
       let one : index + 255 + 1 - (index + 255) ≡ 1 = omega arith in
       subst (TakesFront old r source pos (set slice index 255)) (sym is) (record {
         place = record { some = omega arith; not_full = omega arith; fits = omega arith };
         after = λ m h. subst (λ (x : List ℕ). CobsEncoderAfter (set slice index 255) (at (index + 255) 1 true) (m ++ x)) (sym (take_all pos source (omega arith)))
-            (subst (λ (k : ℕ). CobsEncoderAfter (set slice index 255) (at (index + 255) k true) (m ++ source)) one (full-after (CobsEncoderAfter old r) source old slice (end_after r source) pos index s fits last m h));
+            (subst (λ (k : ℕ). CobsEncoderAfter (set slice index 255) (at (index + 255) k true) (m ++ source)) one (full-after (start_with old r source) slice pos index s fits last m h));
         end = ap (end_after (at (index + 255) 1 true)) (drop_all pos source (omega arith)) ∙ sym e;
-        rest = subst (λ (n : ℕ). drop n (set slice index 255) ≡ drop n old) (sym e) (full-rest (CobsEncoderAfter old r) source old slice (end_after r source) pos index s fits last);
+        rest = subst (λ (n : ℕ). drop n (set slice index 255) ≡ drop n old) (sym e) (full-rest (start_with old r source) slice pos index s fits last);
       })
 
 -- a byte filled the open block
-pub front-filled : {source old slice : List ℕ} {r r' : Reached} {pos index next : ℕ} → end_after r source ≤ length slice → next ≡ index + 255 → Reaches (CobsEncoderAfter old r) source old slice (end_after r source) pos index next (λ _. Unit {0})
+pub front-filled : {source old slice : List ℕ} {r r' : Reached} {pos index next : ℕ} → end_after r source ≤ length slice → next ≡ index + 255 → Reaches (start_with old r source) slice pos index next (λ _. Unit {0})
     → r' ≡ at next (next + 1 - next) true → TakesFront old r source pos (set slice index 255) r'
 front-filled {source} {old} {slice} {r} {r'} {pos} {index} {next} fits full s is =
     let n = length-set slice index 255 in
     let place : at next (next + 1 - next) true ≡ at (index + 255) 1 true = grind arith in
     elim (cases_lt pos (length source)) [
-      | inl more ↦ front-taken (omega arith) (Reaches-full _ _ _ _ _ _ index next _ (λ noted. noted ≡ true) more full fits refl s) (omega arith) (λ all. absurd (omega arith)) is
+      | inl more ↦ front-taken (omega arith) (Reaches-full _ _ _ index next _ (λ noted. noted ≡ true) more full fits refl s) (omega arith) (λ all. absurd (omega arith)) is
       | inr none ↦ (let w = s.within in front-full fits (Reaches-at refl refl refl full (λ full p. p) s) (omega arith) (is ∙ place))
     ]
 

@@ -1,8 +1,7 @@
 -- What a step of the encoder makes of the front of a source.
-use Rattle.std.specs.Prelude.{◌≡◌, ◌≢◌, ◌<◌, ◌≤◌, ℕ, ◌+◌, ◌-◌, ◌%◌, List, ◌++◌, length, take, drop, slice_index, slice_set}
+use Rattle.std.specs.Prelude.{◌≡◌, ◌<◌, ◌≤◌, ℕ, List, ◌++◌, length, take, drop, slice_index}
 use Rattle.cobs.specs.Grammar.{HasNoZero}
 use Rattle.cobs.specs.OpenBlock.{Reached, CobsEncoderAfter, IsPlaceIn, end_after}
-use Rattle.cobs_bytes.specs.Mask.{lowest, without_lowest}
 
 -- From a slice, in which the frame had come so far, a step took n bytes of a source, and led to this slice and so far.
 -- The frame of the whole source ends where it would have, and the slice behind that is as it was.
@@ -17,12 +16,3 @@ pub record IsFirstRun (run : ℕ) (source : List ℕ) : Type 0 where
   pub within : run ≤ length source
   pub nonzero : HasNoZero (take run source)
   pub stop : run < length source → slice_index source run ≡ 0
-
--- A mask says which bytes from next on are zeros, and index is where the code of the open block belongs. Each zero in turn
--- closes the open block, whose code is written, and gives its place to the code of the next one. That leads to slice' and
--- index'.
-pub data MarksZeros (next index' : ℕ) (slice' : List ℕ) : ℕ → ℕ → List ℕ → Type 0 where
-  none_left : (zeros index : ℕ) (slice : List ℕ) → zeros ≡ 0 → index' ≡ index → slice' ≡ slice → MarksZeros next index' slice' zeros index slice
-  first_marked : (zeros index : ℕ) (slice : List ℕ) → zeros ≢ 0
-      → MarksZeros next index' slice' (without_lowest zeros) (next + lowest zeros) (slice_set slice index ((next + lowest zeros - index) % 256))
-      → MarksZeros next index' slice' zeros index slice

@@ -1,10 +1,11 @@
 //! How a message is cut into blocks: the core that every encoder into a slice is built on.
-ghost use Rattle.std.specs.Prelude.{◌≡◌, ◌≢◌, ◌<◌, ◌≤◌, ◌+◌, ◌-◌, ◌%◌, ◌^◌, ◌++◌, ◌∷◌, [], ℕ, IsTrue, List, length, take, drop, replicate, slice_index, slice_set};
+ghost use Rattle.std.specs.Prelude.{◌≡◌, ◌≢◌, ◌<◌, ◌≤◌, ◌+◌, ◌-◌, ◌%◌, ◌++◌, ℕ, IsTrue, List, length, take, drop, replicate};
 ghost use Rattle.cobs.specs.Grammar.{HasNoZero, IsEncodedFrame};
 ghost use Rattle.cobs.specs.OpenBlock.{CobsEncoderAfter, IsPlaceIn, end_after, end_of};
 ghost use Rattle.cobs.specs.Fields.Progress.{reached_at};
-ghost use Rattle.cobs_bytes.specs.Mask.{lowest, without_lowest};
-ghost use Rattle.cobs.specs.Internal.Taking.{IsFirstRun, MarksZeros, TakesFront};
+ghost use Rattle.cobs_bytes.specs.Mask.{without_lowest};
+ghost use Rattle.cobs.specs.Internal.Marks.{IsMask, Marks};
+ghost use Rattle.cobs.specs.Internal.Taking.{IsFirstRun, TakesFront};
 
 use crate::block::FULL_CODE;
 use crate::enc::UnbufferedEncoder;
@@ -46,12 +47,9 @@ pub(crate) fn fits_window_and_block(progress: EncoderProgress, len: usize) -> bo
 /// the mask without that zero. No branch asks whether there is one: if not, the open block's code doesn't matter.
 #[inline(always)]
 fn mark_first(dest: &mut [u8], index: usize, next: usize, zeros: u64) -> (usize, u64)
-    requires inside { index < length dest.old }
-    requires next { next ≤ length dest.old }
-    requires ordered { index ≤ next + lowest zeros }
-    ensures code { dest.new ≡ slice_set dest.old index ((next + lowest zeros - index) % 256) }
-    ensures none { zeros ≡ 0 → result ≡ (index, 0) }
-    ensures some { zeros ≢ 0 → result ≡ (next + lowest zeros, without_lowest zeros) }
+    requires { IsMask next zeros index dest.old }
+    ensures left { zeros ≢ 0 → result.1 ≡ without_lowest zeros }
+    ensures marks { Marks next zeros index dest.old result.1 result.0 dest.new }
 {
     let place = next + zeros.trailing_zeros() as usize;
     dest[index] = ((place - index) % 256) as u8;
@@ -62,11 +60,8 @@ fn mark_first(dest: &mut [u8], index: usize, next: usize, zeros: u64) -> (usize,
 /// Marks all zeros of the mask, two a turn, since every other byte may be one. Returns where the next code belongs.
 #[inline(always)]
 fn mark_zeros(dest: &mut [u8], index: usize, next: usize, zeros: u64) -> usize
-    requires inside { index < length dest.old }
-    requires next { next ≤ length dest.old }
-    requires ordered { index ≤ next + lowest zeros }
-    requires within { zeros < 2 ^ (length dest.old - next) }
-    ensures { MarksZeros next result dest.new zeros index dest.old }
+    requires { IsMask next zeros index dest.old }
+    ensures { Marks next zeros index dest.old 0 result dest.new }
 {
     let mut index = index;
     let mut zeros = zeros;

@@ -23,12 +23,12 @@ by_byte-preserved c =
     let k = length-set c.by_byte.dest next byte in
     elim c.if-byte-eq0.branch [
       | then-byte-eq0 b ↦ (let is = b.index-is in
-          let same = written _ _ _ c.by_byte.dest _ read index next byte _ (omega arith) r in
-          let closed = Reaches-zero _ _ _ after _ read index next _ (λ full. 0 < read + 1 → full ≡ false) (omega arith) b.if-byte-eq0.true (omega arith) (omega arith) (λ lt. refl) same in
+          let same = written _ c.by_byte.dest read index next byte _ (omega arith) r in
+          let closed = Reaches-zero _ after read index next _ (λ full. 0 < read + 1 → full ≡ false) (omega arith) b.if-byte-eq0.true (omega arith) (omega arith) (λ lt. refl) same in
           record { open' = omega arith; reaches = Reaches-at refl refl (sym is) refl (λ full p. p) closed })
       | else-byte-eq0 b ↦ (let is = b.index-is in
-          let more = joined _ _ _ c.by_byte.dest _ read index next byte _ (omega arith) r refl b.if-byte-eq0.false (omega arith) (omega arith) in
-          record { open' = omega arith; reaches = Reaches-at refl refl (sym is) refl (λ full p. p) (Reaches-code _ _ _ after _ (read + 1) index (next + 1) _ (λ full. 0 < read + 1 → full ≡ false) (next - index) more) })
+          let more = joined _ c.by_byte.dest read index next byte _ (omega arith) r refl b.if-byte-eq0.false (omega arith) (omega arith) in
+          record { open' = omega arith; reaches = Reaches-at refl refl (sym is) refl (λ full p. p) (Reaches-code _ after (read + 1) index (next + 1) _ (λ full. 0 < read + 1 → full ≡ false) (next - index) more) })
     ]
 
 pub returns : goal.returns

@@ -1,11 +1,10 @@
 use Rattle.std.proofs.Common.{◌≡◌, ◌<◌, ◌+◌, ◌-◌, false, length}
-use Rattle.cobs.specs.OpenBlock.{CobsEncoderAfter, end_after}
 use Rattle.cobs.specs.Fields.Progress.{reached_at}
-use Rattle.cobs.proofs.encoding.ReachLemmas.{Reaches}
+use Rattle.cobs.specs.Internal.Reaches.{Reaches, start_with}
 use Rattle.cobs.proofs.enc.blocks.append_few.Given as goal
 
 abbrev pub invariant-by_byte : goal.invariant-by_byte
 invariant-by_byte l = record {
   open' : l.next + (length l.source - l.read) < l.index + 255;
-  reaches : Reaches (CobsEncoderAfter l.fn.dest (reached_at l.fn.progress)) l.source l.fn.dest l.dest (end_after (reached_at l.fn.progress) l.source) l.read l.index l.next (λ full. 0 < l.read → full ≡ false);
+  reaches : Reaches (start_with l.fn.dest (reached_at l.fn.progress) l.source) l.dest l.read l.index l.next (λ full. 0 < l.read → full ≡ false);
 }

@@ -1,10 +1,11 @@
 use Rattle.std.proofs.Common.{◌≡◌, ◌≤◌, ◌+◌, ◌-◌, ◌∙◌, false, ℕ, List, ap, drop, get_or, length, refl, arith, length-drop}
 use borrow.Rule.Slice.PartMut.{put_mid}
 use Rattle.std.proofs.lemmas.List.{drop_more}
-use Rattle.cobs.specs.OpenBlock.{CobsEncoderAfter, end_after, next_of}
+use Rattle.cobs.specs.OpenBlock.{end_after, next_of}
+use Rattle.cobs.specs.Internal.Reaches.{Reaches, start_with}
 use Rattle.cobs.specs.Fields.Progress.{reached_at}
 use Rattle.cobs.proofs.encoding.ByteLemmas.{byte-zero}
-use Rattle.cobs.proofs.encoding.ReachLemmas.{IsNotFull, Reaches, Reaches-weaker}
+use Rattle.cobs.proofs.encoding.ReachLemmas.{IsNotFull, Reaches-weaker}
 use Rattle.cobs.proofs.encoding.MarkLemmas.{slice-joined}
 use Rattle.cobs.proofs.encoding.TakingLemmas.{front-filled, front-next, front-none, front-taken, next-least, reaches-start}
 use Rattle.cobs.proofs.enc.blocks.append_long_run.Goals.{After-min-len, After-copy_from_slice}
@@ -28,9 +29,9 @@ slice_bounds-copy_from_slice-end c =
 
 -- a stretch of the run joins the open block
 joined : (c : After-copy_from_slice)
-    → Reaches (CobsEncoderAfter c.by_block.dest (reached_at c.by_block.progress)) (drop c.by_block.read c.args.source.now) c.by_block.dest
+    → Reaches (start_with c.by_block.dest (reached_at c.by_block.progress) (drop c.by_block.read c.args.source.now))
     (put_mid (next_of (reached_at c.by_block.progress)) (next_of (reached_at c.by_block.progress) + c.min-len.result - next_of (reached_at c.by_block.progress)) c.by_block.dest c.copy_from_slice.new.self)
-    (end_after (reached_at c.by_block.progress) (drop c.by_block.read c.args.source.now)) c.min-len.result c.by_block.progress.index (next_of (reached_at c.by_block.progress) + c.min-len.result) IsNotFull
+    c.min-len.result c.by_block.progress.index (next_of (reached_at c.by_block.progress) + c.min-len.result) IsNotFull
 joined c =
     let left : List ℕ = drop c.by_block.read c.args.source.now in
     let place = c.by_block.invariant.taken.place in
@@ -38,7 +39,8 @@ joined c =
     let within = c.requires.run.within in
     let long = length-drop c.by_block.read c.args.source.now in
     let start = reaches-start left c.by_block.dest (reached_at c.by_block.progress) (omega arith) place.some place.not_full in
-    slice-joined _ _ _ _ _ _ _ c.min-len.result (_ + _ - _) (_ + _ - _) _ start (part-nonzero c.by_block.read c.min-len.result c.args.run c.args.source.now c.requires.run.nonzero (omega arith)) (omega arith) (omega arith) (omega arith) (omega arith) (omega arith) (omega arith) _ c.copy_from_slice.ensures.after
+    let nonzero = part-nonzero c.by_block.read c.min-len.result c.args.run c.args.source.now c.requires.run.nonzero (omega arith) in
+    slice-joined _ _ _ _ c.min-len.result (_ + _ - _) (_ + _ - _) _ start nonzero (omega arith) (omega arith) (omega arith) (omega arith) (omega arith) (omega arith) _ c.copy_from_slice.ensures.after
 
 pub by_block-preserved : goal.by_block-preserved
 by_block-preserved c =

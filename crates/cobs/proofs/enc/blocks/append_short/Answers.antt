@@ -1,62 +1,46 @@
-use Rattle.std.proofs.Common.{◌+◌, length, arith}
-use Rattle.cobs.specs.OpenBlock.{CobsEncoderAfter, end_after}
+use Rattle.std.proofs.Common.{length, refl, arith}
+use Rattle.cobs.specs.OpenBlock.{next_of}
 use Rattle.cobs.specs.Fields.Progress.{reached_at}
-use Rattle.cobs.proofs.encoding.MarkLemmas.{Copied, length-after, marks-start, marks-end}
-use Rattle.cobs.proofs.encoding.ShortSteps.{code-inside, code-ordered, marks-within, marks-zeros, one-fits, one-marks, short-copied, two-marks, window-front}
-use Rattle.cobs.proofs.encoding.TakingLemmas.{next-least}
-use Rattle.cobs.proofs.enc.blocks.append_short.Goals.{After-copy_window-mask}
+use Rattle.cobs.specs.Internal.Marks.{IsMasked}
+use Rattle.cobs.specs.Internal.Reaches.{start_with}
+use Rattle.cobs.proofs.encoding.MarkLemmas.{WindowTaken, masked-end, short-copied, window-front}
+use Rattle.cobs.proofs.enc.blocks.append_short.Goals.{After-copy_window-mask, After-mark_zeros-index}
 use Rattle.cobs.proofs.enc.blocks.append_short.Goals as goal
 
 -- the source as it was copied
 copied : (c : After-copy_window-mask)
-    → Copied (CobsEncoderAfter c.args.dest.now (reached_at c.args.progress)) c.args.source.now c.args.dest.now c.args.dest.now c.copy_window-mask.new.dest
-    (end_after (reached_at c.args.progress) c.args.source.now)
-    0 (length c.args.source.now) c.args.progress.index (c.args.progress.index + c.args.progress.code) c.copy_window-mask.result
+    → IsMasked (start_with c.args.dest.now (reached_at c.args.progress) c.args.source.now) 0 (length c.args.source.now) (next_of (reached_at c.args.progress))
+    c.copy_window-mask.result c.args.progress.index c.copy_window-mask.new.dest
 copied c = short-copied c.args.source.now c.args.dest.now c.copy_window-mask.new.dest
     (reached_at c.args.progress) c.copy_window-mask.result c.requires.code c.requires.some c.requires.few c.requires.open_block c.requires.fits
     c.copy_window-mask.ensures.copied c.copy_window-mask.ensures.zeros
 
-pub mark_first-index-requires-clause-inside : goal.mark_first-index-requires-clause-inside
-mark_first-index-requires-clause-inside c =
-    let w = copied (goal.at.mark_first-index-requires-clause-inside c).After-copy_window-mask in
-    let first = c.mark_first-first.ensures in
-    code-inside (one-marks w (omega arith) first.code first.none first.some) (one-fits w (omega arith) first.code first.none first.some)
+pub mark_first-first-requires : goal.mark_first-first-requires
+mark_first-first-requires c = (_, _, _, copied (goal.at.mark_first-first-requires c).After-copy_window-mask)
 
-pub mark_first-index-requires-clause-ordered : goal.mark_first-index-requires-clause-ordered
-mark_first-index-requires-clause-ordered c =
-    let w = copied (goal.at.mark_first-index-requires-clause-ordered c).After-copy_window-mask in
-    let first = c.mark_first-first.ensures in
-    code-ordered (one-marks w (omega arith) first.code first.none first.some)
+pub mark_first-index-requires : goal.mark_first-index-requires
+mark_first-index-requires c = (_, _, _, c.mark_first-first.ensures.marks _ _ _ (copied (goal.at.mark_first-index-requires c).After-copy_window-mask))
 
 pub mark_zeros-index-requires : goal.mark_zeros-index-requires
-mark_zeros-index-requires c =
-    let w = copied (goal.at.mark_zeros-index-requires c).After-copy_window-mask in
-    let fits = length-after w in
-    let l = next-least (reached_at c.args.progress) c.args.source.now c.requires.code c.requires.some in
-    let first = c.mark_first-first.ensures in
-    let second = c.mark_first-index.ensures in
-    let marks = two-marks w (omega arith) first.code first.none first.some second.code second.none second.some in
-    record { inside = code-inside marks (omega arith); next = omega arith; ordered = code-ordered marks; within = marks-within marks (omega arith) }
+mark_zeros-index-requires c = (_, _, _, c.mark_first-index.ensures.marks _ _ _ (c.mark_first-first.ensures.marks _ _ _ (copied (goal.at.mark_zeros-index-requires c).After-copy_window-mask)))
+
+-- all its zeros are marked
+marked : (c : After-mark_zeros-index)
+    → IsMasked (start_with c.args.dest.now (reached_at c.args.progress) c.args.source.now) 0 (length c.args.source.now) (next_of (reached_at c.args.progress))
+    c.copy_window-mask.result c.args.progress.index c.copy_window-mask.new.dest
+    → WindowTaken (start_with c.args.dest.now (reached_at c.args.progress) c.args.source.now) c.mark_zeros-index.new.dest 0 (length c.args.source.now) c.mark_zeros-index.result (next_of (reached_at c.args.progress))
+marked c w = masked-end (c.mark_zeros-index.ensures _ _ _ (c.mark_first-index.ensures.marks _ _ _ (c.mark_first-first.ensures.marks _ _ _ w))) refl
 
 pub progress_at-requires-2 : goal.progress_at-requires-2
 progress_at-requires-2 c =
-    let w = copied (goal.at.progress_at-requires-2 c).After-copy_window-mask in
-    let fits = length-after w in
-    let first = c.mark_first-first.ensures in
-    let second = c.mark_first-index.ensures in
-    let t = marks-zeros c.mark_zeros-index.ensures (two-marks w (omega arith) first.code first.none first.some second.code second.none second.some) (omega arith) in
+    let at = goal.at.progress_at-requires-2 c in
+    let t = marked at.After-mark_zeros-index (copied at.After-copy_window-mask) in
     record { ordered = t.ordered; open_block = t.open' }
 
 pub returns : goal.returns
 returns c =
-    let w = copied (goal.at.returns c).After-copy_window-mask in
-    let fits = length-after w in
-    let first = c.mark_first-first.ensures in
-    let second = c.mark_first-index.ensures in
-    let t = marks-zeros c.mark_zeros-index.ensures (two-marks w (omega arith) first.code first.none first.some second.code second.none second.some) (omega arith) in
-    window-front (omega arith) t (omega arith) c.progress_at-2.ensures
+    let at = goal.at.returns c in
+    window-front (marked at.After-mark_zeros-index (copied at.After-copy_window-mask)) (omega arith) c.progress_at-2.ensures
 
 pub returns-then-mask-eq0 : goal.returns-then-mask-eq0
-returns-then-mask-eq0 c =
-    let w = copied (goal.at.returns-then-mask-eq0 c).After-copy_window-mask in
-    window-front (length-after w) (marks-end (marks-start w (omega arith)) c.if-mask-eq0.true (length-after w)) (omega arith) c.progress_at.ensures
+returns-then-mask-eq0 c = window-front (masked-end (copied (goal.at.returns-then-mask-eq0 c).After-copy_window-mask) c.if-mask-eq0.true) (omega arith) c.progress_at.ensures

@@ -1,12 +1,14 @@
 use Rattle.std.proofs.Common.{◌≡◌, refl, ◌∙◌, ◌≢◌, ◌<◌, ◌≤◌, ◌+◌, ◌-◌, min, false, ap, sym, arith, length, take, drop, length-drop}
 use lib.Count.{count_trailing_zeros}
 use Rattle.std.proofs.lemmas.List.{length-set, take_rest}
-use Rattle.cobs.specs.OpenBlock.{CobsEncoderAfter, end_after}
+use Rattle.cobs.specs.Internal.Marks.{IsMasked}
+use Rattle.cobs.specs.Internal.Reaches.{start_with}
+use Rattle.std.proofs.Math.ListN.{set}
+use Rattle.std.specs.Int.Bits.{bit_and}
 use Rattle.cobs.specs.Fields.Progress.{reached_at}
 use Rattle.cobs.proofs.encoding.ReachLemmas.{Reaches-weaker}
-use Rattle.cobs.proofs.encoding.MarkLemmas.{Copied, WindowTaken, copied-reaches, filled, first-within, length-after, length-window, marks-start, marks-step, marks-end, row-taken}
+use Rattle.cobs.proofs.encoding.MarkLemmas.{Copied, WindowTaken, copied-reaches, filled, first-within, length-after, length-window, masked-end, masked-start, masked-step, row-taken}
 use Rattle.cobs_bytes.proofs.bytes.MaskLemmas.{window_all}
-use Rattle.cobs.proofs.encoding.ShortSteps.{code-inside, code-ordered, marks-within, marks-zeros}
 use Rattle.cobs.proofs.encoding.TakingLemmas.{front-none, front-taken, reaches-start}
 use Rattle.cobs.proofs.enc.blocks.append_windows.Goals.{After-copy_at-window, Joined-window-eq0, After-write_codes_of_zeros-zeros, then-window-eq0+else-next-index, else-window-eq0+else-place-index-lt-FULL_CODE}
 use Rattle.std.specs.Int.Count.{trailing_of_zero}
@@ -14,9 +16,7 @@ use Rattle.cobs.proofs.enc.blocks.append_windows.Goals as goal
 
 -- the window as it was copied
 copied : (c : After-copy_at-window)
-    → Copied (CobsEncoderAfter c.args.dest.now (reached_at c.args.start)) c.args.source.now c.args.dest.now c.by_window.dest c.copy_at-window.new.dest
-    (end_after (reached_at c.args.start) c.args.source.now)
-    c.by_window.read 32 c.by_window.index c.by_window.next c.copy_at-window.result
+    → Copied (start_with c.args.dest.now (reached_at c.args.start) c.args.source.now) c.by_window.dest c.copy_at-window.new.dest c.by_window.read 32 c.by_window.index c.by_window.next c.copy_at-window.result
 copied c = record {
   some = omega arith;
   few = omega arith;
@@ -40,25 +40,23 @@ pub by_window-preserved-then-next-index : goal.by_window-preserved-then-next-ind
 by_window-preserved-then-next-index c =
     let w = copied (goal.at.by_window-preserved-then-next-index c).After-copy_at-window in
     let o = c.by_window.invariant.reaches.ordered in
-    let taken = marks-end (marks-start w (omega arith)) c.if-window-eq0.true (length-after w) in
+    let taken = masked-end (masked-start w (omega arith)) c.if-window-eq0.true in
     record { more = omega arith; open' = taken.open'; reaches = Reaches-weaker (λ full e le. e) taken.reaches }
 
+-- its first zero has given way to a code
+coded : (c : After-copy_at-window) → c.copy_at-window.result ≢ 0 → c.by_window.next + count_trailing_zeros 64 c.copy_at-window.result - c.by_window.index < 255
+    → IsMasked (start_with c.args.dest.now (reached_at c.args.start) c.args.source.now) c.by_window.read 32 c.by_window.next
+    (bit_and c.copy_at-window.result (c.copy_at-window.result - 1)) (c.by_window.next + count_trailing_zeros 64 c.copy_at-window.result)
+    (set c.copy_at-window.new.dest c.by_window.index (c.by_window.next + count_trailing_zeros 64 c.copy_at-window.result - c.by_window.index))
+coded c some near = let o = c.by_window.invariant.reaches.ordered in masked-step (masked-start (copied c) (omega arith)) some
+
 pub mark_zeros-index-requires : goal.mark_zeros-index-requires
-mark_zeros-index-requires c =
-    let w = copied (goal.at.mark_zeros-index-requires c).After-copy_at-window in
-    let fits = length-after w in
-    let o = c.by_window.invariant.reaches.ordered in
-    let l = length-set c.copy_at-window.new.dest c.by_window.index (c.by_window.next + count_trailing_zeros 64 c.copy_at-window.result - c.by_window.index) in
-    let first = marks-step (marks-start w (omega arith)) c.if-window-eq0.false fits in
-    record { inside = code-inside first (omega arith); next = omega arith; ordered = code-ordered first; within = marks-within first (omega arith) }
+mark_zeros-index-requires c = (_, _, _, coded (goal.at.mark_zeros-index-requires c).After-copy_at-window c.if-window-eq0.false (omega arith))
 
 -- a row of zeros is taken
 row : (c : After-write_codes_of_zeros-zeros)
-    → Copied (CobsEncoderAfter c.args.dest.now (reached_at c.args.start)) c.args.source.now c.args.dest.now c.by_window.dest c.copy_at-window.new.dest
-    (end_after (reached_at c.args.start) c.args.source.now)
-    c.by_window.read 32 c.by_window.index c.by_window.next c.copy_at-window.result
-    → WindowTaken (CobsEncoderAfter c.args.dest.now (reached_at c.args.start)) c.args.source.now c.args.dest.now c.write_codes_of_zeros-zeros.new.dest
-    (end_after (reached_at c.args.start) c.args.source.now)
+    → Copied (start_with c.args.dest.now (reached_at c.args.start) c.args.source.now) c.by_window.dest c.copy_at-window.new.dest c.by_window.read 32 c.by_window.index c.by_window.next c.copy_at-window.result
+    → WindowTaken (start_with c.args.dest.now (reached_at c.args.start) c.args.source.now) c.write_codes_of_zeros-zeros.new.dest
     c.by_window.read c.write_codes_of_zeros-zeros.result (c.by_window.next + c.write_codes_of_zeros-zeros.result - 1) c.by_window.next
     × (0 < c.write_codes_of_zeros-zeros.result) × (c.by_window.read + c.write_codes_of_zeros-zeros.result < length c.args.source.now)
 unfolding count_trailing_zeros
@@ -88,11 +86,7 @@ by_window-smaller-then-window-eq-ALL_ZEROS c =
 
 pub by_window-preserved : goal.by_window-preserved
 by_window-preserved c =
-    let w = copied (goal.at.by_window-preserved c).After-copy_at-window in
-    let fits = length-after w in
-    let o = c.by_window.invariant.reaches.ordered in
-    let l = length-set c.copy_at-window.new.dest c.by_window.index (c.by_window.next + count_trailing_zeros 64 c.copy_at-window.result - c.by_window.index) in
-    let taken = marks-zeros c.mark_zeros-index.ensures (marks-step (marks-start w (omega arith)) c.if-window-eq0.false fits) (omega arith) in
+    let taken = masked-end (c.mark_zeros-index.ensures _ _ _ (coded (goal.at.by_window-preserved c).After-copy_at-window c.if-window-eq0.false (omega arith))) refl in
     record { more = omega arith; open' = taken.open'; reaches = Reaches-weaker (λ full e le. e) taken.reaches }
 
 -- no zero is near enough to keep the block from being full

@@ -1,14 +1,13 @@
 use Rattle.std.proofs.Common.{◌≡◌, ◌<◌, ◌≤◌, ◌-◌, ◌+◌, false, length}
-use Rattle.cobs.specs.OpenBlock.{CobsEncoderAfter, end_after}
 use Rattle.cobs.specs.Fields.Progress.{reached_at}
-use Rattle.cobs.proofs.encoding.ReachLemmas.{Reaches}
+use Rattle.cobs.specs.Internal.Reaches.{Reaches, start_with}
 use Rattle.cobs.proofs.enc.blocks.append_windows.Given as goal
 
 abbrev pub invariant-by_window : goal.invariant-by_window
 invariant-by_window l = record {
   more : l.read < length l.source;
   open' : l.next < l.index + 255;
-  reaches : Reaches (CobsEncoderAfter l.fn.dest (reached_at l.fn.start)) l.source l.fn.dest l.dest (end_after (reached_at l.fn.start) l.source) l.read l.index l.next (λ full. l.last ≤ l.read → full ≡ false);
+  reaches : Reaches (start_with l.fn.dest (reached_at l.fn.start) l.source) l.dest l.read l.index l.next (λ full. l.last ≤ l.read → full ≡ false);
 }
 
 abbrev pub decreases-by_window : goal.decreases-by_window

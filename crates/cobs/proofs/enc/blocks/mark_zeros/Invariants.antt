@@ -1,8 +1,8 @@
-use Rattle.cobs.proofs.encoding.ShortSteps.{MarkedSoFar}
+use Rattle.cobs.specs.Internal.Marks.{Marks}
 use Rattle.cobs.proofs.enc.blocks.mark_zeros.Given as goal
 
 abbrev pub invariant-by_zero : goal.invariant-by_zero
-invariant-by_zero l = MarkedSoFar l.next l.fn.zeros l.fn.index l.fn.dest l.zeros l.index l.dest
+invariant-by_zero l = Marks l.next l.fn.zeros l.fn.index l.fn.dest l.zeros l.index l.dest
 
 abbrev pub decreases-by_zero : goal.decreases-by_zero
 decreases-by_zero l = l.zeros

@@ -1,0 +1,54 @@
+-- How far the core of the encoder has come with a source: what lies in the slice, of which message, and where the frame ends.
+use Rattle.std.specs.Prelude.{◌≡◌, ◌<◌, ◌≤◌, ℕ, ◌+◌, ◌-◌, Bool, false, List, [], ◌∷◌, ◌++◌, length, take, drop, All}
+use Rattle.std.specs.List.{concat}
+use Rattle.cobs.specs.Grammar.{HasNoZero, IsBlock, is_full, last_of, message_of}
+use Rattle.cobs.specs.Length.{open_len}
+use Rattle.cobs.specs.OpenBlock.{CobsEncoderAfter, Reached, end_after}
+
+-- whether the frame's last block is full, so that the open one is only a placeholder
+abbrev pub ends_in_full : List (List ℕ) → List ℕ → Bool
+ends_in_full front [] = is_full (last_of front)
+ends_in_full front (byte ∷ bytes) = false
+
+-- The slice begins with the blocks of m before its open one, and has that block's bytes after the place of its code.
+-- The next byte goes to `next`. Unlike a public state this one may have 254 bytes in its block, before the block is closed.
+pub record Opened (slice m : List ℕ) (index next : ℕ) (full : Bool) : Type 0 where
+  pub front : List (List ℕ)
+  pub bytes : List ℕ
+  pub each : All IsBlock front
+  pub nonzero : HasNoZero bytes
+  pub few : length bytes < 255
+  pub message : m ≡ message_of (front ++ ((length bytes + 1) ∷ bytes) ∷ [])
+  pub begins : index ≡ length (concat front)
+  pub place : next ≡ index + (length bytes + 1)
+  pub written : take index slice ≡ concat front
+  pub bytes_there : drop (index + 1) (take next slice) ≡ bytes
+  pub noted : full ≡ ends_in_full front bytes
+
+-- how a call starts: the slice, how far the frame has come in it, and the source that is to be taken
+pub record Start : Type 0 where
+  pub slice : List ℕ
+  pub reached : Reached
+  pub source : List ℕ
+
+abbrev pub start_with : List ℕ → Reached → List ℕ → Start
+start_with slice reached source = record { slice = slice; reached = reached; source = source }
+
+-- where the frame ends once the whole source is taken
+abbrev pub whole_end : Start → ℕ
+whole_end start = end_after start.reached start.source
+
+-- the encoder had taken m then
+unfoldable pub HadTaken : Start → List ℕ → Type 0
+HadTaken start m = CobsEncoderAfter start.slice start.reached m
+
+-- From that start the first `pos` bytes of the source are taken, and led to this slice: its open block begins at `index`, and
+-- the next byte goes to `next`. The frame still ends where it is to end, and after that the slice is as it was. P says whether
+-- the frame's last block is full.
+pub record Reaches (start : Start) (slice : List ℕ) (pos index next : ℕ) (P : Bool → Type 0) : Type 0 where
+  pub ordered : index < next
+  pub short : next ≤ index + 255
+  pub within : pos ≤ length start.source
+  pub room : index + open_len (next - index) (drop pos start.source) ≡ whole_end start
+  pub rest : drop (whole_end start) slice ≡ drop (whole_end start) start.slice
+  pub taken : (m : List ℕ) → HadTaken start m → (full : Bool) × P full × Opened slice (m ++ take pos start.source) index next full
