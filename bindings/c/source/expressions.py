@@ -24,8 +24,8 @@ class Expressions(Kinds):
         return method(tree, expected)
 
     def on_number(self, tree, expected):
-        if int(tree[1], 0) > 255:
-            raise Unknown(f"{self.name}: {tree[1]} may not fit a size_t")
+        if int(tree[1], 0) > 32767:
+            raise Unknown(f"{self.name}: {tree[1]} may not fit an int")
         return Value(tree[1], expected or USIZE, literal=True)
 
     def on_bool(self, tree, expected):

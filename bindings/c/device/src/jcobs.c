@@ -470,11 +470,18 @@ static JCOBS_INLINE int jcobs_encoder_is_within(const jcobs_encoder *encoder, si
     return encoder->full != 0 || (size_t)encoder->taken < len - encoder->index;
 }
 
-/* Returns true only if spare bytes cover the overhead of every message of len bytes. It divides by 128 instead of
- * 254, because small processors shift but don't divide. So it may return false if spare is just enough. */
+/* Whether spare bytes cover the overhead of every message of len bytes: whether len is at most 254 times spare. No
+ * division is needed, which small processors lack, and no product is too large: of both sides 254 bytes for each
+ * 256 of len are left out first. */
 static JCOBS_INLINE int jcobs_covers_overhead(size_t len, size_t spare)
 {
-    return len < JCOBS_FULL_CODE || len / 128 < spare;
+    size_t rows = len / 256;
+
+    if (spare <= rows) {
+        return 0;
+    }
+    size_t more = spare - rows;
+    return rows + 1 < more || 2 * rows + len % 256 <= 254 * more;
 }
 
 /* Whether room bytes, from the code of an open block, are enough once the block has taken these bytes: counted

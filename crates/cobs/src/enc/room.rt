@@ -44,14 +44,20 @@ fn fits_each(code: u8, bytes: &[u8], room: usize) -> bool
     code as usize <= left
 }
 
-/// Returns true only if `spare` bytes cover the overhead of every message of `len` bytes. It divides by 128 instead of 254,
-/// because small processors shift but don't divide. So it may return false if `spare` is just enough.
+/// Whether `spare` bytes cover the overhead of every message of `len` bytes: whether `len` is at most 254 times `spare`. No
+/// division is needed, which small processors lack, and no product is too large: of both sides 254 bytes for each 256 of `len`
+/// are left out first.
 #[inline(always)]
 fn covers_overhead(len: usize, spare: usize) -> bool
     requires some { 0 < spare }
-    ensures { IsTrue result → max_encoded_len len ≤ len + spare }
+    ensures { IsTrue result ↔ (max_encoded_len len ≤ len + spare) }
 {
-    len < FULL_CODE || len / 128 < spare
+    let rows = len / 256;
+    if spare <= rows {
+        return false;
+    }
+    let more = spare - rows;
+    rows + 1 < more || 2 * rows + len % 256 <= 254 * more
 }
 
 /// Whether `room` bytes, from the code of an open block, are enough once the block has taken these bytes. It reads the
