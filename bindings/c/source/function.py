@@ -91,8 +91,9 @@ class Function(Statements):
             text = self.out.calls[self.name].text
         else:
             is_inline = self.name.rsplit("::", 1)[-1] in INLINE or any("inline(always)" in it for it in self.attributes)
+            is_apart = any("inline(never)" in it for it in self.attributes)
             name = self.out.names[(self.path, self.name)]
-            text = f"static {'JCOBS_INLINE ' * is_inline}{self.declared(self.kind_of(self.result), name)}({', '.join(params) or 'void'})"
+            text = f"static {'JCOBS_INLINE ' * is_inline}{'JCOBS_NOINLINE ' * is_apart}{self.declared(self.kind_of(self.result), name)}({', '.join(params) or 'void'})"
         return wrapped(text)
 
 

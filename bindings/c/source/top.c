@@ -23,13 +23,18 @@
 typedef char jcobs_bytes_have_8_bits[CHAR_BIT == 8 ? 1 : -1];
 typedef char jcobs_size_t_is_no_shorter_than_int[sizeof(size_t) >= sizeof(unsigned int) ? 1 : -1];
 
-/* Functions that a loop over bytes calls become part of it. */
+/* Functions that a loop over bytes calls become part of it. Some that have such a loop stay functions of their own, so that
+ * the loop has all registers of a small processor. */
 #ifdef __GNUC__
 #define JCOBS_INLINE __inline__ __attribute__((always_inline))
-#elif defined(__cplusplus) || (defined(__STDC_VERSION__) && __STDC_VERSION__ >= 199901L)
+#define JCOBS_NOINLINE __attribute__((noinline))
+#else
+#if defined(__cplusplus) || (defined(__STDC_VERSION__) && __STDC_VERSION__ >= 199901L)
 #define JCOBS_INLINE inline
 #else
 #define JCOBS_INLINE
+#endif
+#define JCOBS_NOINLINE
 #endif
 
 /* Makes a result. It is written by hand. */

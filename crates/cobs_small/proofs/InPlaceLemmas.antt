@@ -1,9 +1,8 @@
 -- A buffer that is decoded in its own place, block by block, so far.
 use Rattle.std.proofs.Common.{◌≡◌, ◌≢◌, ℕ, ◌+◌, ◌-◌, ◌<◌, ◌≤◌, ◌⊎◌, Bool, true, false, cond, List, [], ◌∷◌, ◌++◌, length, take, drop, get_or, set, Ok, Err, refl, sym, ap, ◌∙◌, arith, inl, inr, append_assoc, append-nil, drop_at, length-append, length-drop, length-take-le, take-append-drop, take_all, take_at}
 use Rattle.std.proofs.lemmas.Bool.{eq-eqb, ne_eqb, true≢false}
-use Rattle.std.proofs.lemmas.List.{drop-drop, drop-take, drop_all, drop_more, get_or-drop, get_or-take, set_at, take-take, take_rest}
+use Rattle.std.proofs.lemmas.List.{drop-drop, drop-take, drop_all, drop_more, get_or-drop, get_or-take, set_at, take-take}
 use Rattle.std.specs.Result.{result_map_both}
-use borrow.Rule.Slice.PartMut.{put_mid}
 use Rattle.cobs.specs.Decode.{head_result}
 use Rattle.cobs.specs.Grammar.{HasNoZero, IsBlock, bytes_of, joint}
 use Rattle.cobs.specs.Overwritten.{overwritten}
@@ -105,41 +104,37 @@ module _ (law : OutputLaw) (old : List ℕ) (end : ℕ) (buffer : List ℕ) (rea
         let few = short _ _ _ at (let l = long in omega arith) in
         ended (code ∷ drop (read + 1) h) false (left-is _ _ _ at) (law.short_kept code (drop (read + 1) h) few) (law.short code (drop (read + 1) h) few)
 
-    -- the bytes of the block are moved
-    module _ (whole : code ≤ end - read) (new : List ℕ) (k : ℕ) (k-is : k ≡ length buffer - written)
-        (begins : take (code - 1) new ≡ take (code - 1) (drop (read + 1 - written) (take k (drop written buffer)))) (rest : drop (code - 1) new ≡ drop (code - 1) (take k (drop written buffer))) where
+    -- the bytes of the block are moved, and end at w
+    module _ (whole : code ≤ end - read) (after : List ℕ) (w : ℕ) (w-is : w ≡ written + (code - 1))
+        (begins : take (written + (code - 1)) after ≡ take written buffer ++ take (code - 1) (drop (read + 1) buffer)) (rest : drop (written + (code - 1)) after ≡ drop (written + (code - 1)) buffer) where
       abbrev bytes : List ℕ
       bytes = take (code - 1) (drop (read + 1) h)
 
       abbrev front : List ℕ
       front = s.done ++ bytes
 
-      front-long : length front ≡ written + (code - 1)
+      front-long : length front ≡ w
       front-long = omega (arith, length-append s.done bytes, s.count, bytes-long _ _ _ at (let l = long in omega arith))
 
-      back : take k (drop written buffer) ≡ drop written buffer
-      back = ap (λ (n : ℕ). take n (drop written buffer)) k-is ∙ take_rest buffer written
-
-      new-is : new ≡ bytes ++ drop (written + (code - 1)) old
-      new-is =
+      bytes-are : take (code - 1) (drop (read + 1) buffer) ≡ bytes
+      bytes-are =
           let c = code-some _ _ _ at in
           let o = s.order in
-          let sum : written + (read + 1 - written) ≡ read + 1 = omega arith in
           let left : read + 1 + (end - (read + 1)) ≡ end = omega arith in
-          sym (take-append-drop (code - 1) new) ∙ ap (λ (x : List ℕ). x ++ drop (code - 1) new)
-          (begins ∙ ap (λ (x : List ℕ). take (code - 1) (drop (read + 1 - written) x)) back ∙ ap (take (code - 1)) (drop-drop (read + 1 - written) written buffer ∙ ap (λ (n : ℕ). drop n buffer) sum ∙ behind (read + 1) (omega arith))
-          ∙ sym (ap (λ (n : ℕ). take (code - 1) (drop (read + 1) (take n old))) (sym left) ∙ ap (take (code - 1)) (drop-take (read + 1) (end - (read + 1)) old) ∙ take-take (code - 1) (end - (read + 1)) (drop (read + 1) old) (omega arith)))
-          ∙ ap (λ (x : List ℕ). bytes ++ x) (rest ∙ ap (drop (code - 1)) back ∙ drop-drop (code - 1) written buffer ∙ behind (written + (code - 1)) (omega arith))
+          ap (take (code - 1)) (behind (read + 1) (omega arith))
+          ∙ sym (ap (λ (n : ℕ). take (code - 1) (drop (read + 1) (take n old))) (sym left) ∙ ap (take (code - 1)) (drop-take (read + 1) (end - (read + 1)) old) ∙ take-take (code - 1) (end - (read + 1)) (drop (read + 1) old) (omega arith))
 
-      after-is : put_mid written k buffer new ≡ front ++ drop (written + (code - 1)) old
+      after-is : after ≡ front ++ drop w old
       after-is =
-          ap (λ (x : List ℕ). take written buffer ++ (new ++ x)) (drop-drop k written buffer ∙ drop_all (written + k) buffer (omega arith)) ∙ ap (λ (x : List ℕ). take written buffer ++ x) (append-nil new ∙ new-is)
-          ∙ ap (λ (x : List ℕ). x ++ (bytes ++ drop (written + (code - 1)) old)) (ap (take written) s.holds ∙ take_at s.done (drop written old) written s.count) ∙ sym (append_assoc s.done bytes (drop (written + (code - 1)) old))
+          sym (take-append-drop (written + (code - 1)) after)
+          ∙ ap (λ (x : List ℕ). x ++ drop (written + (code - 1)) after)
+          (begins ∙ ap (λ (x : List ℕ). take written buffer ++ x) bytes-are ∙ ap (λ (x : List ℕ). x ++ bytes) (ap (take written) s.holds ∙ take_at s.done (drop written old) written s.count))
+          ∙ ap (λ (x : List ℕ). front ++ x) (rest ∙ behind (written + (code - 1)) (omega arith) ∙ ap (λ (n : ℕ). drop n old) (sym w-is))
 
       -- with what is due behind them
-      stepped : (due next : List ℕ) (w : ℕ) → (drop (read + code) h ≢ [] → joint (block_at h read code) ≡ due) → (drop (read + code) h ≡ [] → due ≡ [])
-          → w ≤ read + code → length (front ++ due) ≡ w → next ≡ (front ++ due) ++ drop w old → DecodedInPlace old end next (read + code) w
-      stepped due next w more last order count holds =
+      stepped : (due next : List ℕ) (e : ℕ) → (drop (read + code) h ≢ [] → joint (block_at h read code) ≡ due) → (drop (read + code) h ≡ [] → due ≡ [])
+          → e ≤ read + code → length (front ++ due) ≡ e → next ≡ (front ++ due) ++ drop e old → DecodedInPlace old end next (read + code) e
+      stepped due next e more last order count holds =
           let l = long in
           let is = block-is _ _ _ at (omega arith) in
           let cut = split _ _ _ at (omega arith) in
@@ -157,19 +152,19 @@ module _ (law : OutputLaw) (old : List ℕ) (end : ℕ) (buffer : List ℕ) (rea
             whole = s.whole ∙ ap whole_left cut ∙ whole-step law code bytes is (drop (read + code) h);
           }
 
-      pub stepped-plain : (end ≤ read + code) ⊎ (code ≡ 255) → DecodedInPlace old end (put_mid written k buffer new) (read + code) (written + (code - 1))
+      pub stepped-plain : (end ≤ read + code) ⊎ (code ≡ 255) → DecodedInPlace old end after (read + code) w
       stepped-plain none-due =
           stepped [] _ _ (λ some. elim none-due [
             | inl last ↦ absurd (some (drop_all (read + code) h (let l = long in omega arith)))
             | inr full ↦ ap (λ (v : Bool). cond v [] (0 ∷ [])) (eq-eqb code 255 full)
-          ]) (λ _. refl) (let o = s.order in omega arith) (ap length (append-nil front) ∙ front-long) (after-is ∙ ap (λ (x : List ℕ). x ++ drop (written + (code - 1)) old) (sym (append-nil front)))
+          ]) (λ _. refl) (let o = s.order in omega arith) (ap length (append-nil front) ∙ front-long) (after-is ∙ ap (λ (x : List ℕ). x ++ drop w old) (sym (append-nil front)))
 
-      pub stepped-zero : read + code < end → code ≢ 255 → DecodedInPlace old end (set (put_mid written k buffer new) (written + (code - 1)) 0) (read + code) (written + (code - 1) + 1)
+      pub stepped-zero : read + code < end → code ≢ 255 → DecodedInPlace old end (set after w 0) (read + code) (w + 1)
       stepped-zero far other =
           let o = s.order in
           let c = code-some _ _ _ at in
           let f = s.fits in
           stepped (0 ∷ []) _ _ (λ _. ap (λ (v : Bool). cond v [] (0 ∷ [])) (ne_eqb code 255 other)) (λ e. absurd (let l = long in omega (arith, ap length e, length-drop (read + code) h))) (omega arith)
           (omega (arith, length-append front (0 ∷ []), front-long))
-          (ap (λ (x : List ℕ). set x (written + (code - 1)) 0) (after-is ∙ ap (λ (x : List ℕ). front ++ x) (drop_more old (written + (code - 1)) 0 (omega arith)))
-          ∙ set_at front _ (drop (written + (code - 1) + 1) old) 0 (written + (code - 1)) front-long ∙ sym (append_assoc front (0 ∷ []) (drop (written + (code - 1) + 1) old)))
+          (ap (λ (x : List ℕ). set x w 0) (after-is ∙ ap (λ (x : List ℕ). front ++ x) (drop_more old w 0 (omega arith)))
+          ∙ set_at front _ (drop (w + 1) old) 0 w front-long ∙ sym (append_assoc front (0 ∷ []) (drop (w + 1) old)))

@@ -1,4 +1,5 @@
 mod BlockLemmas
 mod InPlaceLemmas
 mod LeadLemmas
+mod MoveLemmas
 mod PieceLemmas

@@ -10,17 +10,26 @@ use cobs::{PieceEnd, UnbufferedDecoder};
 use cobs_abi::{Answer, BROKEN, EMPTY, MORE, TOO_SMALL, done};
 
 /// Returns how many bytes are in front of the first zero.
+// A function of its own, so that its loop has all registers of a small processor.
+#[inline(never)]
 pub(crate) fn len_to_zero(bytes: &[u8]) -> usize
     ensures within { result ≤ length bytes.now }
     ensures before { HasNoZero (take result bytes.now) }
     ensures stop { result < length bytes.now → slice_index bytes.now result ≡ 0 }
 {
-    'by_byte: for i in 0..bytes.len() {
-        if bytes[i] == 0 {
-            return i;
+    if bytes.is_empty() {
+        return 0;
+    }
+    let mut len = 0;
+    'by_byte: loop {
+        if bytes[len] == 0 {
+            return len;
+        }
+        len += 1;
+        if len == bytes.len() {
+            return len;
         }
     }
-    bytes.len()
 }
 
 /// Returns the result of a call that took these bytes, into a buffer of `room` bytes, by how the piece has ended.

@@ -1,5 +1,5 @@
 //! A frame that is decoded in its own place.
-ghost use Rattle.std.specs.Prelude.{◌≡◌, ◌+◌, ◌<◌, ◌≤◌, length, take, drop};
+ghost use Rattle.std.specs.Prelude.{◌≡◌, ◌+◌, ◌++◌, ◌<◌, ◌≤◌, length, take, drop};
 ghost use Rattle.cobs.specs.Decode.{head_result};
 ghost use Rattle.cobs.specs.Grammar.{HasNoZero};
 ghost use Rattle.cobs.specs.Overwritten.{overwritten};
@@ -14,18 +14,35 @@ use cobs_abi::{Answer, result_by};
 /// The code of a full block.
 const FULL: usize = 255;
 
-/// Moves `len` bytes of the buffer, which begin at `from`, to its front.
-fn move_to_front(buffer: &mut [u8], from: usize, len: usize)
-    requires { from + len ≤ length buffer.old }
-    ensures begins { take len buffer.new ≡ take len (drop from buffer.old) }
-    ensures rest { drop len buffer.new ≡ drop len buffer.old }
+/// Moves `len` bytes of the buffer, which begin at `from`, to `to`, and returns where they end.
+#[inline(always)]
+fn move_bytes(buffer: &mut [u8], from: usize, to: usize, len: usize) -> usize
+    requires order { to ≤ from }
+    requires within { from + len ≤ length buffer.old }
+    ensures end { result ≡ to + len }
+    ensures front { take (to + len) buffer.new ≡ take to buffer.old ++ take len (drop from buffer.old) }
+    ensures rest { drop (to + len) buffer.new ≡ drop (to + len) buffer.old }
 {
-    'by_byte: for i in 0..len {
-        buffer[i] = buffer[from + i];
+    if len == 0 {
+        return to;
+    }
+    let mut at = from;
+    let mut end = to;
+    let mut left = len;
+    'by_byte: loop {
+        buffer[end] = buffer[at];
+        end += 1;
+        at += 1;
+        left -= 1;
+        if left == 0 {
+            return end;
+        }
     }
 }
 
 /// Decodes the blocks in the first `end` bytes of the buffer, and returns how many bytes they give.
+// A function of its own, so that its loops have all registers of a small processor.
+#[inline(never)]
 fn decode_blocks(buffer: &mut [u8], end: usize) -> Result<usize, DecodeError>
     requires within { end ≤ length buffer.old }
     requires nonzero { HasNoZero (take end buffer.old) }
@@ -42,9 +59,8 @@ fn decode_blocks(buffer: &mut [u8], end: usize) -> Result<usize, DecodeError>
                 decoded_bytes: written,
             });
         }
-        move_to_front(&mut buffer[written..], read + 1 - written, code - 1);
+        written = move_bytes(buffer, read + 1, written, code - 1);
         read += code;
-        written += code - 1;
         if code != FULL && read < end {
             buffer[written] = 0;
             written += 1;

@@ -23,13 +23,18 @@
 typedef char jcobs_bytes_have_8_bits[CHAR_BIT == 8 ? 1 : -1];
 typedef char jcobs_size_t_is_no_shorter_than_int[sizeof(size_t) >= sizeof(unsigned int) ? 1 : -1];
 
-/* Functions that a loop over bytes calls become part of it. */
+/* Functions that a loop over bytes calls become part of it. Some that have such a loop stay functions of their own, so that
+ * the loop has all registers of a small processor. */
 #ifdef __GNUC__
 #define JCOBS_INLINE __inline__ __attribute__((always_inline))
-#elif defined(__cplusplus) || (defined(__STDC_VERSION__) && __STDC_VERSION__ >= 199901L)
+#define JCOBS_NOINLINE __attribute__((noinline))
+#else
+#if defined(__cplusplus) || (defined(__STDC_VERSION__) && __STDC_VERSION__ >= 199901L)
 #define JCOBS_INLINE inline
 #else
 #define JCOBS_INLINE
+#endif
+#define JCOBS_NOINLINE
 #endif
 
 /* Makes a result. It is written by hand. */
@@ -853,26 +858,45 @@ static jcobs_answer jcobs_result_by(size_t consumed, size_t room, jcobs_outcome 
 }
 
 /* Returns how many bytes are in front of the first zero. */
-static size_t jcobs_len_to_zero(const unsigned char *bytes, size_t bytes_len)
+static JCOBS_NOINLINE size_t jcobs_len_to_zero(const unsigned char *bytes, size_t bytes_len)
 {
-    for (size_t i = 0; i < bytes_len; i++) {
-        if (bytes[i] == 0) {
-            return i;
+    if (bytes_len == 0) {
+        return 0;
+    }
+    size_t len = 0;
+    for (;;) {
+        if (bytes[len] == 0) {
+            return len;
+        }
+        len++;
+        if (len == bytes_len) {
+            return len;
         }
     }
-    return bytes_len;
 }
 
-/* Moves len bytes of the buffer, which begin at from, to its front. */
-static void jcobs_move_to_front(unsigned char *buffer, size_t from, size_t len)
+/* Moves len bytes of the buffer, which begin at from, to to, and returns where they end. */
+static JCOBS_INLINE size_t jcobs_move_bytes(unsigned char *buffer, size_t from, size_t to, size_t len)
 {
-    for (size_t i = 0; i < len; i++) {
-        buffer[i] = buffer[from + i];
+    if (len == 0) {
+        return to;
+    }
+    size_t at = from;
+    size_t end = to;
+    size_t left = len;
+    for (;;) {
+        buffer[end] = buffer[at];
+        end++;
+        at++;
+        left--;
+        if (left == 0) {
+            return end;
+        }
     }
 }
 
 /* Decodes the blocks in the first end bytes of the buffer, and returns how many bytes they give. */
-static jcobs_outcome jcobs_decode_blocks(unsigned char *buffer, size_t end)
+static JCOBS_NOINLINE jcobs_outcome jcobs_decode_blocks(unsigned char *buffer, size_t end)
 {
     size_t read = 0;
     size_t written = 0;
@@ -882,9 +906,8 @@ static jcobs_outcome jcobs_decode_blocks(unsigned char *buffer, size_t end)
         if (end - read < code) {
             return jcobs_outcome_of(JCOBS_IS_INVALID_FRAME, written);
         }
-        jcobs_move_to_front(buffer + written, read + 1 - written, code - 1);
+        written = jcobs_move_bytes(buffer, read + 1, written, code - 1);
         read += code;
-        written += code - 1;
         if (code != JCOBS_FULL && read < end) {
             buffer[written] = 0;
             written++;

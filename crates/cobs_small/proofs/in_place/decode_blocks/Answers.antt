@@ -17,21 +17,18 @@ returns-then-end-read c =
 pub overflow_sub-code : goal.overflow_sub-code
 overflow_sub-code c = let some = code-some _ _ _ (at (assumption c.law_20.ensures) _ _ _ _ _ c.by_block.invariant c.by_block-test.true) in omega arith
 
-pub overflow_sub-written : goal.overflow_sub-written
-overflow_sub-written c = let some = code-some _ _ _ (at (assumption c.law_20.ensures) _ _ _ _ _ c.by_block.invariant c.by_block-test.true) in omega arith
-
 pub by_block-smaller-then-read-end : goal.by_block-smaller-then-read-end
 by_block-smaller-then-read-end c = let some = code-some _ _ _ (at (assumption c.law_20.ensures) _ _ _ _ _ c.by_block.invariant c.by_block-test.true) in omega arith
 
 pub by_block-preserved-then-read-end : goal.by_block-preserved-then-read-end
 by_block-preserved-then-read-end c =
-    let m = c.move_to_front in
-    stepped-zero (assumption c.law_20.ensures) _ _ _ _ _ c.by_block.invariant c.by_block-test.true c.if-end-read.false m.new.buffer _ refl m.ensures.begins m.ensures.rest c.if-read-end.true c.if-code-ne-FULL.true
+    let m = c.move_bytes-written in
+    stepped-zero (assumption c.law_20.ensures) _ _ _ _ _ c.by_block.invariant c.by_block-test.true c.if-end-read.false m.new.buffer _ m.ensures.end m.ensures.front m.ensures.rest c.if-read-end.true c.if-code-ne-FULL.true
 
 pub by_block-preserved : goal.by_block-preserved
 by_block-preserved c =
-    let m = c.move_to_front in
-    stepped-plain (assumption c.law_20.ensures) _ _ _ _ _ c.by_block.invariant c.by_block-test.true c.if-end-read.false m.new.buffer _ refl m.ensures.begins m.ensures.rest
+    let m = c.move_bytes-written in
+    stepped-plain (assumption c.law_20.ensures) _ _ _ _ _ c.by_block.invariant c.by_block-test.true c.if-end-read.false m.new.buffer _ m.ensures.end m.ensures.front m.ensures.rest
     (elim c.else-code-ne-FULL.branch [
       | else-code-ne-FULL-via-then-code-ne-FULL+else-read-end w ↦ inl (omega (arith, w.if-read-end.false))
       | else-code-ne-FULL-via-else-code-ne-FULL w ↦ inr w.if-code-ne-FULL.false
