@@ -21,6 +21,7 @@ usage: tests/docs.py [--write]
 - Each document is in plain words; its links, the paths and commands that it shows, and the clauses
   that it names are there; all versions are that of the file VERSION (prose.py).
 - Counts, sizes and the toolchain in documents are those of the tree, copies are equal, and addresses can exist (facts.py).
+- The drawing and the table of crates of docs/ARCHITECTURE.md are what docs/architecture.py makes of the manifests (facts.py).
 
 Only files that git tracks are read. It prints what differs, and the status is then 1. It also prints what grew since the
 last commit, or in it if nothing is changed (growth.py); that changes no status.

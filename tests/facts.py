@@ -1,4 +1,4 @@
-"""The facts that tests/docs.py checks in documents: counts, laws, copies, the toolchain, addresses, bytes read."""
+"""The facts that tests/docs.py checks in documents: counts, laws, copies, the drawing, the toolchain, addresses, bytes read."""
 import re
 import subprocess
 import sys
@@ -103,7 +103,13 @@ def other_translations():
         yield ran.stderr.strip().replace(f"{TOP}/", "")
 
 
-CHECKS = (other_copies, other_translations, wrong_counts, laws_left_out, other_toolchains, dead_addresses, unread_bytes)
+def other_drawings():
+    """What the script that draws the crates says of a drawing or a table that it hasn't made of these manifests."""
+    ran = subprocess.run([sys.executable, "-B", str(TOP / "docs/architecture.py"), "--check"], capture_output=True, text=True)
+    yield from (ran.stdout + ran.stderr).splitlines()
+
+
+CHECKS = (other_copies, other_translations, other_drawings, wrong_counts, laws_left_out, other_toolchains, dead_addresses, unread_bytes)
 
 
 def complaints():

@@ -267,8 +267,8 @@ def unknown_names():
     folders = [path for kind in ("src", "specs") for path in (TOP / "crates").glob(f"*/{kind}/**/*") if path.is_file()]
     folders.append(TOP / "bindings/c/include/jcobs.h")
     words = {word for path in folders for word in re.findall(r"\w+", path.read_text())}
-    words |= {path.name for path in (TOP / "crates").iterdir()}
-    for name in ("docs/PROMISES.md", "docs/FORMAT.md", "SECURITY.md", "crates/cobs/CALLING.md"):
+    words |= {path.name for path in (TOP / "crates").iterdir()} | {path.stem for path in (TOP / "crates").glob("*/proofs/**/*")}
+    for name in ("docs/ARCHITECTURE.md", "docs/PROMISES.md", "docs/FORMAT.md", "SECURITY.md", "crates/cobs/CALLING.md"):
         text = blank(r"^```.*?^```$", (TOP / name).read_text(), re.S | re.M)
         for number, line in enumerate(text.splitlines(), 1):
             lists = re.findall(r"`([\w:]+): ([a-z_0-9]+(?:, [a-z_0-9]+)*)`", line)
