@@ -16,6 +16,7 @@ usage: tests/docs.py [--write]
 - docs/PROMISES.md, crates/cobs/CALLING.md and docs/DIFFERENCES.md have a row of each public call that is their matter
   (calls.py).
 - docs/READING.md explains each sign and word of the proof language that a public clause of crates/cobs uses (signs.py).
+- Each clause, field and word of tests/names.txt is there, which version 1 keeps. With --write new ones are added (names.py).
 - Each block of tests/wrong_code.txt can be applied, and its function is there. `tests/REFUSED.md` counts and names these
   and the edits of must-fail/. With --write the blocks are counted, and the names go that aren't there any more.
 - No imports of the libraries go in a ring; files have at most 450 lines and functions 40 (layout.py).
@@ -39,6 +40,7 @@ import examples
 import facts
 import growth
 import layout
+import names
 import prose
 import signs
 import wrong_code
@@ -192,7 +194,8 @@ def main():
     if "--write" in sys.argv[1:]:
         examples.write()
         wrong_code.write([], some=True)
-    said = [*items_without_example(), *examples.complaints(), *files_off_map(), *names_without_file(), *private_names(), *wrong_code_amiss(), *calls.complaints(), *signs.complaints()]
+        names.write()
+    said = [*items_without_example(), *examples.complaints(), *files_off_map(), *names_without_file(), *private_names(), *wrong_code_amiss(), *calls.complaints(), *signs.complaints(), *names.complaints()]
     head, heading, tail = CALLING.read_text().partition(HEADING)
     before = tail.partition("```text\n")[0]
     wanted = head + heading + before + all_contracts()
