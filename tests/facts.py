@@ -12,6 +12,18 @@ NO_HOST = re.compile(r"(^|\.)(example|invalid|test)$|^[^.]*$")
 # Windows of up to 64 bytes load bytes behind the zero that ends a frame, so these have no effect, but they are read.
 UNREAD = re.compile(r"\b(isn't|aren't|is not|are not|never|not) (read|looked at)\b", re.I)
 
+DEVICE, SPEEDS = "bindings/c/device/README.md", "docs/PERFORMANCE.md"
+# The figures in the sentences of README.md, and the cell of a table that has each: its file, how the table's head and the row
+# begin, and the column.
+FIGURES = [
+    (r"decoder of `jcobs\.c` takes ([\d,]+) bytes", DEVICE, "target | of | flash: decoder", "Cortex-M4 | jcobs.c", "flash: decoder"),
+    (r"receives and sends ([\d,]+);", DEVICE, "target | of | feed", "Cortex-M4 | jcobs.c", "receive and send"),
+    (r"which checks less, ([\d,]+)\.", DEVICE, "target | of | feed", "Cortex-M4 | by hand", "receive and send"),
+    (r"messages of 20 to 64 bytes at ([\d,]+) MB/s", SPEEDS, "`libjcobs`, MB/s", "telemetry", "decode"),
+    (r"and `jcobs\.c` at ([\d,]+) MB/s", SPEEDS, "`jcobs.c` by `cc -O2`, MB/s", "telemetry", "decode"),
+    (r"fed single bytes, `libjcobs` takes ([\d,]+) MB/s", SPEEDS, "`libjcobs`, MB/s", "telemetry", "feed"),
+]
+
 
 def cases():
     """How many cases the files of conformance/ have."""
@@ -44,6 +56,26 @@ def wrong_counts():
             for found in re.findall(pattern, text):
                 if abs(number(found) - count) > count / 20:
                     yield f"{name}: it says {found}, and there are {count} ({pattern})"
+
+
+def cell(name, head, row, column):
+    """A cell of a table of a document; None if there is no such table, row or column."""
+    lines = (TOP / name).read_text().splitlines()
+    for at, line in enumerate(lines):
+        if line.startswith(f"| {head} |") and column in (titles := line.strip("| ").split(" | ")):
+            found = next((it for it in lines[at:] if it.startswith(f"| {row} |")), "")
+            cells = found.strip("| ").split(" | ")
+            return cells[titles.index(column)] if len(cells) == len(titles) else None
+    return None
+
+
+def other_figures():
+    """A line for each figure in a sentence of README.md that isn't that of its table."""
+    text = (TOP / "README.md").read_text()
+    for pattern, *where in FIGURES:
+        said, wanted = re.search(pattern, text), cell(*where)
+        if not said or not wanted or number(said[1]) != number(wanted):
+            yield f"README.md: it says {said[1] if said else 'nothing'} for {pattern}, and {where[0]} has {wanted}"
 
 
 def laws_left_out():
@@ -109,7 +141,7 @@ def other_drawings():
     yield from (ran.stdout + ran.stderr).splitlines()
 
 
-CHECKS = (other_copies, other_translations, other_drawings, wrong_counts, laws_left_out, other_toolchains, dead_addresses, unread_bytes)
+CHECKS = (other_copies, other_translations, other_drawings, wrong_counts, other_figures, laws_left_out, other_toolchains, dead_addresses, unread_bytes)
 
 
 def complaints():

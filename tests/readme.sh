@@ -7,6 +7,8 @@
 # npm ask no network, and pip installs into an empty environment. Lines for Cargo.toml and src/main.rs make a program that
 # is run.
 #
+# If a fence for text follows a block, the block's output has to end with these lines.
+#
 # Prints a line for each block: 'ok' with its seconds, or 'FAILED' with what it said; and 'skipped' for each line that isn't
 # run, with the reason. The last line counts; the status is 0 only if nothing failed.
 set -u
@@ -77,13 +79,25 @@ why_not() { # LINE
     esac
 }
 
-# Cuts the blocks of a README into files: block.1.own for those in fences, block.2.top for the indented ones.
+# Cuts the blocks of a README into files: block.1.own for those in fences, block.2.top for the indented ones. What a fence for
+# text says after a block goes into says.1.
 cut_blocks() { # README
-    awk -v to="$work/block" '
-        /^```/ { in_fence = !in_fence; file = in_fence && $0 == "```sh" ? to "." ++n ".own" : ""; if (file) printf "" >file; next }
+    awk -v to="$work/block" -v says="$work/says" '
+        /^```/ {
+            in_fence = !in_fence
+            file = in_fence && $0 == "```sh" ? to "." ++n ".own" : in_fence && $0 == "```text" && n ? says "." n : ""
+            if (file) printf "" >file
+            next
+        }
         in_fence { if (file) print >file; next }
         /^    [^ ]/ { if (!indented) { indented = 1; file = to "." ++n ".top" }; print substr($0, 5) >file; next }
         { indented = 0 }' "$1"
+}
+
+# Whether a block's output ends with what the README shows after it. If a line was skipped, there is nothing to compare.
+prints_what_it_says() { # SAYS
+    [ -f "$1" ] && [ ! -s "$work/skips" ] || return 0
+    tail -n "$(wc -l <"$1")" "$work/printed" | diff "$1" - >>"$work/said" 2>&1
 }
 
 # What is run of a block: its lines, without those that are skipped. Two lines for a Rust program become its files.
@@ -107,6 +121,7 @@ to_script() { # README BLOCK
 for readme; do
     own=$work/copy/$(dirname "$readme")
     cp "$root/bindings/c/examples/send_lines.c" "$own/program.c"
+    rm -f "$work"/says.*
     cut_blocks "$root/$readme"
     grep -q '^ *pip ' "$root/$readme" && environment
     n=1
@@ -121,13 +136,14 @@ for readme; do
         n=$((n + 1))
         [ -s "$work/script" ] || continue
         begun=$(date +%s)
-        if (cd "$folder" && sh -eux "$work/script") </dev/null >"$work/said" 2>&1; then
+        if (cd "$folder" && sh -eux "$work/script") </dev/null >"$work/printed" 2>"$work/said" &&
+            prints_what_it_says "$work/says.$((n - 1))"; then
             passed=$((passed + 1))
             echo "ok: $readme, block $((n - 1)), $(($(date +%s) - begun)) s: $(head -1 "$work/script")"
         else
             failed=$((failed + 1))
             echo "FAILED: $readme, block $((n - 1)), $(($(date +%s) - begun)) s"
-            sed 's/^/    /' "$work/said"
+            sed 's/^/    /' "$work/printed" "$work/said"
         fi
     done
     [ "$n" -gt 1 ] || { failed=$((failed + 1)); echo "FAILED: $readme has no commands"; }
