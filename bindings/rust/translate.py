@@ -197,7 +197,8 @@ def doctest(example, shown):
 
 
 def without_allocator(text):
-    """A text in which no allocator is passed."""
+    """A text in which no allocator is passed, and `ArrayVec` is a vector of bytes."""
+    text = re.sub(r"\bArrayVec((?:::)?)<u8, ", r"ArrayVec\1<", text)
     text = re.sub(r"\balloc: Global,?[ \n]*", "", text)
     text = re.sub(r"vec!\[in alloc; (.+?); (.+)\]", r"crate::memory::filled(\1, \2)", text)
     text = text.replace("Vec::from_slice(alloc, ", "crate::memory::copied(")

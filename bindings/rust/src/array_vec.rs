@@ -1,4 +1,4 @@
-//! A vector of at most `N` items in an array of its own.
+//! A vector of at most `N` bytes in an array of its own.
 
 use core::fmt;
 use core::ops::{Deref, DerefMut};
@@ -6,24 +6,24 @@ use core::ops::{Deref, DerefMut};
 /// A vector of up to `N` bytes that doesn't allocate, for [`CobsDecoderHeapless`](crate::CobsDecoderHeapless).
 ///
 /// ```
-/// let mut vec = jcobs::ArrayVec::<u8, 3>::new();
+/// let mut vec = jcobs::ArrayVec::<3>::new();
 /// vec.push(7);
 /// assert_eq!(vec.as_slice(), [7]);
 /// assert_eq!(vec.remaining_capacity(), 2);
 /// ```
 #[derive(Clone)]
-pub struct ArrayVec<T, const N: usize> {
-    items: [T; N],
+pub struct ArrayVec<const N: usize> {
+    bytes: [u8; N],
     len: usize,
 }
 
-impl<const N: usize> ArrayVec<u8, N> {
+impl<const N: usize> ArrayVec<N> {
     /// Makes a vector without bytes.
     #[inline]
     #[must_use]
     pub const fn new() -> Self {
         Self {
-            items: [0; N],
+            bytes: [0; N],
             len: 0,
         }
     }
@@ -43,7 +43,7 @@ impl<const N: usize> ArrayVec<u8, N> {
     #[inline]
     pub fn push(&mut self, byte: u8) {
         assert!(self.len < N, "ArrayVec::push: the vector isn't full");
-        self.items[self.len] = byte;
+        self.bytes[self.len] = byte;
         self.len += 1;
     }
 
@@ -51,37 +51,37 @@ impl<const N: usize> ArrayVec<u8, N> {
     #[inline]
     #[must_use]
     pub fn as_slice(&self) -> &[u8] {
-        &self.items[..self.len]
+        &self.bytes[..self.len]
     }
 
     /// Returns the bytes, to be written to.
     #[inline]
     pub fn as_mut_slice(&mut self) -> &mut [u8] {
-        &mut self.items[..self.len]
+        &mut self.bytes[..self.len]
     }
 }
 
-impl<const N: usize> fmt::Debug for ArrayVec<u8, N> {
+impl<const N: usize> fmt::Debug for ArrayVec<N> {
     fn fmt(&self, f: &mut fmt::Formatter<'_>) -> fmt::Result {
         self.as_slice().fmt(f)
     }
 }
 
-impl<const N: usize> PartialEq for ArrayVec<u8, N> {
+impl<const N: usize> PartialEq for ArrayVec<N> {
     fn eq(&self, other: &Self) -> bool {
         self.as_slice() == other.as_slice()
     }
 }
 
-impl<const N: usize> Eq for ArrayVec<u8, N> {}
+impl<const N: usize> Eq for ArrayVec<N> {}
 
-impl<const N: usize> Default for ArrayVec<u8, N> {
+impl<const N: usize> Default for ArrayVec<N> {
     fn default() -> Self {
         Self::new()
     }
 }
 
-impl<const N: usize> Deref for ArrayVec<u8, N> {
+impl<const N: usize> Deref for ArrayVec<N> {
     type Target = [u8];
 
     fn deref(&self) -> &[u8] {
@@ -89,25 +89,25 @@ impl<const N: usize> Deref for ArrayVec<u8, N> {
     }
 }
 
-impl<const N: usize> DerefMut for ArrayVec<u8, N> {
+impl<const N: usize> DerefMut for ArrayVec<N> {
     fn deref_mut(&mut self) -> &mut [u8] {
         self.as_mut_slice()
     }
 }
 
 /// The array, which is full.
-impl<const N: usize> From<[u8; N]> for ArrayVec<u8, N> {
-    fn from(items: [u8; N]) -> Self {
-        Self { items, len: N }
+impl<const N: usize> From<[u8; N]> for ArrayVec<N> {
+    fn from(bytes: [u8; N]) -> Self {
+        Self { bytes, len: N }
     }
 }
 
 /// The bytes of the vector, as many as it has.
 #[cfg(feature = "heapless")]
-impl<const N: usize> From<heapless::Vec<u8, N>> for ArrayVec<u8, N> {
+impl<const N: usize> From<heapless::Vec<u8, N>> for ArrayVec<N> {
     fn from(vec: heapless::Vec<u8, N>) -> Self {
         let mut copy = Self::new();
-        copy.items[..vec.len()].copy_from_slice(&vec);
+        copy.bytes[..vec.len()].copy_from_slice(&vec);
         copy.len = vec.len();
         copy
     }

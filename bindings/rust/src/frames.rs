@@ -1,9 +1,13 @@
-//! The frames of a recorded stream, one after another.
+//! The frames of a recorded stream, one after another, and the stream of some messages.
 
 use core::iter::FusedIterator;
 use core::mem;
 
 use crate::dec::{DecodeError, decode_in_place};
+#[cfg(feature = "alloc")]
+use crate::{enc::encode, max_encoding_length, memory::AllocError};
+#[cfg(feature = "alloc")]
+use alloc::vec::Vec;
 
 /// Returns an iterator over the frames of a recorded stream, in order and still encoded: the nonempty pieces that a
 /// zero ends, without that zero.
@@ -123,3 +127,58 @@ impl<'a> Iterator for MessagesInPlace<'a> {
 }
 
 impl FusedIterator for MessagesInPlace<'_> {}
+
+/// Encodes messages as a stream: the frame of each one and a zero after it, in order. No message makes an empty stream.
+///
+/// A decoder whose buffer holds each message returns exactly these messages. The crate `cobs` doesn't have this call.
+///
+/// ```
+/// use jcobs::encode_frames;
+///
+/// assert_eq!(encode_frames(["hi", ""])?, b"\x03hi\0\x01\0");
+///
+/// let record = [1, 2, 3, 4, 5];
+/// assert_eq!(encode_frames(record.chunks(3))?, b"\x04\x01\x02\x03\0\x03\x04\x05\0");
+/// # Ok::<(), jcobs::AllocError>(())
+/// ```
+///
+/// # Errors
+///
+/// [`AllocError`]: there is no memory for the stream. It grows with the messages.
+#[cfg(feature = "alloc")]
+pub fn encode_frames<I>(messages: I) -> Result<Vec<u8>, AllocError>
+where
+    I: IntoIterator,
+    I::Item: AsRef<[u8]>,
+{
+    let mut stream = Vec::new();
+    for message in messages {
+        let message = message.as_ref();
+        let begun = stream.len();
+        let room = max_encoding_length(message.len()) + 1;
+        stream.try_reserve(room).map_err(|_| AllocError)?;
+        stream.resize(begun + room, 0);
+        let end = begun + encode(message, &mut stream[begun..]);
+        stream[end] = 0;
+        stream.truncate(end + 1);
+    }
+    Ok(stream)
+}
+
+/// Returns how many bytes the stream of [`encode_frames`] has at most: the sum of
+/// [`max_encoding_length`] plus 1 over the messages. `None`: that doesn't fit a `usize`.
+///
+/// ```
+/// assert_eq!(jcobs::encode_frames_room(["hi", ""]), Some(6));
+/// ```
+#[cfg(feature = "alloc")]
+#[must_use]
+pub fn encode_frames_room<I>(messages: I) -> Option<usize>
+where
+    I: IntoIterator,
+    I::Item: AsRef<[u8]>,
+{
+    messages.into_iter().try_fold(0, |room: usize, message| {
+        room.checked_add(max_encoding_length(message.as_ref().len()) + 1)
+    })
+}

@@ -139,11 +139,13 @@ pub use crate::array_vec::ArrayVec;
 pub use crate::dec::*;
 pub use crate::enc::*;
 pub use crate::frames::{Frames, MessagesInPlace, decode_stream_in_place, frames};
+#[cfg(feature = "alloc")]
+pub use crate::frames::{encode_frames, encode_frames_room};
 pub use crate::memory::AllocError;
 #[cfg(feature = "std")]
 pub use crate::proved::Recorded;
 #[cfg(feature = "alloc")]
-pub use crate::proved::{FrameOutcome, decode_stream, encode_frames, encode_frames_room};
+pub use crate::proved::{FrameOutcome, decode_stream};
 pub use crate::proved::{FrameReader, FrameSource, Next};
 #[cfg(feature = "std")]
 pub use crate::read::MessageReader;

@@ -6,7 +6,7 @@ use std::io::{self, BufReader, Error, ErrorKind, Read, Write};
 
 use jcobs::{
     CobsDecoderHeapless, DecodeError, FrameReader, FrameSource, MessageReader, MessageWriter, Next,
-    ReadFault, decode_stream_in_place, frames,
+    ReadFault, decode_stream_in_place, encode_frames, encode_frames_room, frames,
 };
 
 /// What a port does at one read.
@@ -373,6 +373,37 @@ fn frames_of_each_short_stream() {
             assert_eq!(messages.into_remainder(), rest);
         }
     }
+}
+
+#[test]
+fn streams_of_any_messages() {
+    let long: Vec<_> = (0..600)
+        .map(|i| if i == 20 { 0 } else { (i % 255) as u8 + 1 })
+        .collect();
+    for cut in 0..long.len() {
+        let (first, second) = long.split_at(cut);
+        let messages = [first, &[], second];
+        let mut stream = encode_frames(messages).unwrap();
+        let mut expected = Vec::new();
+        for message in messages {
+            expected.extend(jcobs::encode_vec(message));
+            expected.push(0);
+        }
+        assert_eq!(stream, expected);
+        assert!(stream.len() <= encode_frames_room(messages).unwrap());
+        let found = decode_stream_in_place(&mut stream);
+        assert!(found.map(Result::unwrap).eq(messages));
+    }
+    // Vectors, texts, and an iterator whose length isn't known.
+    let stream = b"\x03hi\0\x01\0";
+    assert_eq!(encode_frames(&[b"hi".to_vec(), vec![]]).unwrap(), stream);
+    assert_eq!(
+        encode_frames(vec!["hi".to_owned(), String::new()]).unwrap(),
+        stream
+    );
+    assert_eq!(encode_frames("hi,".split(',')).unwrap(), stream);
+    assert_eq!(encode_frames::<[&[u8]; 0]>([]).unwrap(), []);
+    assert_eq!(encode_frames_room("hi,".split(',')), Some(6));
 }
 
 /// A source that gives a byte each read, of which this one is a zero. It counts the reads.

@@ -24,12 +24,13 @@ PROVED = Path(sys.argv[2] if len(sys.argv) > 2 else RUST / "src/proved").resolve
 TOKEN = re.compile(r"""//[^\n]*|/\*.*?\*/|(b?"(?:\\.|[^"\\])*"|b?'(?:\\.|[^'\\])'|'\w+|\w+|::|=>|->|[^\s])""", re.S)
 # Files that aren't here: the laws, which a proof cites, and two files for C.
 LEFT_OUT = re.compile(r"cobs/src/laws|cobs_abi/src/(text|source)\.rt")
-# What a source has, in tokens, and what is here instead: no allocator is passed, nothing is exported to C, and the target
-# decides whether vectors are used. Where they aren't, the other branch does the same.
+# What a source has, in tokens, and what is here instead: no allocator is passed, nothing is exported to C, `ArrayVec` is a vector
+# of bytes, and the target decides whether vectors are used. Where they aren't, the other branch does the same.
 PERMITTED = [
     (r' extern "C" fn ', " fn "),
     (r" law_\d+ \( \) ;", ""),
     (r" alloc : Global ,?", ""),
+    (r" ArrayVec < u8 , N >", " ArrayVec < N >"),
     (r" vec ! \[ in alloc ; (\S+) ; ((?:[^][]|\[[^][]*\])*) \]", r" crate :: memory :: filled ( \1 , \2 )"),
     (r" Vec :: from_slice \( alloc ,", " crate :: memory :: copied ("),
     (r" fn has_vectors \( \) -> bool { true }", " fn has_vectors ( ) -> bool { crate :: simd :: HAS_VECTORS }"),

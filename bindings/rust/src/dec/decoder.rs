@@ -227,7 +227,7 @@ impl<const N: usize> CobsDecoderHeapless<N> {
     /// assert_eq!(decoder.dest(), [7; 3]);
     /// ```
     #[must_use]
-    pub fn new_with_vec(vec: impl Into<ArrayVec<u8, N>>) -> Self {
+    pub fn new_with_vec(vec: impl Into<ArrayVec<N>>) -> Self {
         let vec = vec.into();
         let mut decoder = Self::new();
         decoder.dest[..vec.as_slice().len()].copy_from_slice(vec.as_slice());

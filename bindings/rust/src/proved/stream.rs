@@ -106,9 +106,8 @@ pub fn decode_stream<D: FrameDecoder>(
 /// `AllocError` if that memory runs out.
 ///
 /// ```
+/// # use jcobs::proved::*;
 /// # #[cfg(feature = "alloc")] {
-/// use jcobs::{encode_frames, encode_frames_room};
-///
 /// let messages = [b"hi".to_vec(), Vec::new()];
 /// if encode_frames_room(&messages).is_some() {
 ///     let stream = encode_frames(&messages)?;
@@ -134,9 +133,8 @@ pub fn encode_frames(messages: &[Vec<u8>]) -> Result<Vec<u8>, AllocError> {
 /// No memory is taken here.
 ///
 /// ```
+/// # use jcobs::proved::*;
 /// # #[cfg(feature = "alloc")] {
-/// use jcobs::encode_frames_room;
-///
 /// let messages = [b"hi".to_vec(), Vec::new()];
 /// assert_eq!(encode_frames_room(&messages), Some(6));
 /// # }

@@ -22,7 +22,7 @@ use crate::proved::error::{DecodeError, DecodeReport, PushError};
 /// ```
 #[derive(Debug)]
 pub struct CobsDecoderHeapless<const N: usize> {
-    dest: ArrayVec<u8, N>,
+    dest: ArrayVec<N>,
     inner: UnbufferedDecoder,
 }
 
@@ -43,12 +43,12 @@ impl<const N: usize> CobsDecoderHeapless<N> {
     /// ```
     /// # use jcobs::proved::*;
     /// # use jcobs::ArrayVec;
-    /// let mut vec = ArrayVec::<u8, 3>::new();
+    /// let mut vec = ArrayVec::<3>::new();
     /// vec.push(7);
     /// let decoder = CobsDecoderHeapless::new_with_vec(vec);
     /// assert_eq!(decoder.dest(), [7, 0, 0].as_slice());
     /// ```
-    pub fn new_with_vec(vec: ArrayVec<u8, N>) -> Self {
+    pub fn new_with_vec(vec: ArrayVec<N>) -> Self {
         let mut dest = vec;
         'fill: for _i in 0..dest.remaining_capacity() {
             dest.push(0);
