@@ -475,9 +475,9 @@ static JCOBS_INLINE int jcobs_encoder_is_within(const jcobs_encoder *encoder, si
     return encoder->full != 0 || (size_t)encoder->taken < len - encoder->index;
 }
 
-/* Whether spare bytes cover the overhead of every message of len bytes: whether len is at most 254 times spare. No
- * division is needed, which small processors lack, and no product is too large: of both sides 254 bytes for each
- * 256 of len are left out first. */
+/* Whether spare bytes cover the overhead of every message of len bytes: whether len is at most 254 times spare. It
+ * needs no division, for which small processors have no instruction, and no product is too large: for each 256
+ * bytes of len, 254 are taken from both sides first. */
 static JCOBS_INLINE int jcobs_covers_overhead(size_t len, size_t spare)
 {
     size_t rows = len / 256;

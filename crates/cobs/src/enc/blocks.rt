@@ -8,7 +8,6 @@ ghost use Rattle.cobs.specs.Internal.Marks.{IsMask, Marks};
 ghost use Rattle.cobs.specs.Internal.Taking.{IsFirstRun, TakesFront};
 
 use crate::block::FULL_CODE;
-use crate::enc::UnbufferedEncoder;
 use crate::enc::progress::EncoderProgress;
 use crate::find::position_or_len;
 use cobs_bytes::window::{WINDOW, copy_at, copy_window, has_vectors, write_row, zeros_at};
@@ -74,26 +73,31 @@ fn mark_zeros(dest: &mut [u8], index: usize, next: usize, zeros: u64) -> usize
     index
 }
 
-/// Takes a few bytes that can't fill the open block, one by one: each is written, and the code of the block that is open
-/// before it. No branch asks whether it is a zero, which gives its place to the next code.
+/// Takes the first `len` bytes of a source, which can't fill the open block, one by one. A zero gives its place to the next code.
+/// Where the target has vectors no branch asks for zeros, since such a processor may guess it wrong: the open block's code is
+/// written for each byte.
 #[inline(always)]
 pub(crate) fn append_few(
     source: &[u8],
+    len: usize,
     dest: &mut [u8],
     progress: EncoderProgress,
 ) -> EncoderProgress
-    requires some { 0 < length source.now }
+    requires within { len ≤ length source.now }
+    requires some { 0 < len }
     requires code { 0 < progress.code }
-    requires open_block { progress.code + length source.now < 255 }
+    requires open_block { progress.code + len < 255 }
     requires fits { end_after (reached_at progress) source.now ≤ length dest.old }
-    ensures { TakesFront dest.old (reached_at progress) source.now (length source.now) dest.new (reached_at result) }
+    ensures { TakesFront dest.old (reached_at progress) source.now len dest.new (reached_at result) }
 {
     let mut index = progress.index;
     let mut next = index + progress.code as usize;
-    'by_byte: for read in 0..source.len() {
+    'by_byte: for read in 0..len {
         let byte = source[read];
         dest[next] = byte;
-        dest[index] = (next - index) as u8;
+        if byte == 0 || has_vectors() {
+            dest[index] = (next - index) as u8;
+        }
         index = if byte == 0 { next } else { index };
         next += 1;
     }
@@ -119,7 +123,7 @@ pub(crate) fn append_short(
 {
     let len = source.len();
     if len < FEW || !has_vectors() {
-        return append_few(source, dest, progress);
+        return append_few(source, len, dest, progress);
     }
     let start = progress.index;
     let next = start + progress.code as usize;
@@ -278,8 +282,35 @@ pub(crate) fn append_rest(
     progress
 }
 
-/// Takes a front of `source`, but not all of it: by windows, or without vectors byte by byte. After a full block the caller
-/// goes on by slices. Returns how many bytes these are, and how far the frame has come.
+/// Takes bytes one by one while more than one is left and the next one can't fill the open block. Returns how many these are,
+/// and how far the frame has come.
+#[inline(always)]
+fn append_parts(
+    source: &[u8],
+    dest: &mut [u8],
+    start: EncoderProgress,
+) -> (usize, EncoderProgress)
+    requires some { 0 < length source.now }
+    requires place { IsPlaceIn (length dest.old) (reached_at start) }
+    requires fits { end_after (reached_at start) source.now ≤ length dest.old }
+    ensures within { result.0 < length source.now }
+    ensures taken { TakesFront dest.old (reached_at start) source.now result.0 dest.new (reached_at result.1) }
+{
+    let mut progress = start;
+    let mut read = 0;
+    'by_part: loop {
+        let len = (FULL_CODE - 1 - progress.code as usize).min(source.len() - 1 - read);
+        if len == 0 {
+            return (read, progress);
+        }
+        progress = append_few(&source[read..], len, dest, progress);
+        read += len;
+    }
+}
+
+/// Takes a front of `source`, but not all of it: by windows, or without vectors byte by byte, up to a block that is full or
+/// that the next byte may fill. There the caller goes on by slices. Returns how many bytes these are, and how far the frame has
+/// come.
 #[inline(always)]
 fn append_front(
     source: &[u8],
@@ -293,11 +324,10 @@ fn append_front(
     ensures taken { TakesFront dest.old (reached_at start) source.now result.0 dest.new (reached_at result.1) }
 {
     if has_vectors() {
-        return append_windows(source, dest, start);
+        append_windows(source, dest, start)
+    } else {
+        append_parts(source, dest, start)
     }
-    let mut encoder = UnbufferedEncoder::from_progress(start);
-    let read = encoder.append_to_full(dest, source);
-    (read, encoder.progress())
 }
 
 /// Takes `source` into the frame that `dest` holds as far as `progress` says, and returns how far it has come then. The

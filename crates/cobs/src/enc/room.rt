@@ -44,9 +44,9 @@ fn fits_each(code: u8, bytes: &[u8], room: usize) -> bool
     code as usize <= left
 }
 
-/// Whether `spare` bytes cover the overhead of every message of `len` bytes: whether `len` is at most 254 times `spare`. No
-/// division is needed, which small processors lack, and no product is too large: of both sides 254 bytes for each 256 of `len`
-/// are left out first.
+/// Whether `spare` bytes cover the overhead of every message of `len` bytes: whether `len` is at most 254 times `spare`. It
+/// needs no division, for which small processors have no instruction, and no product is too large: for each 256 bytes of `len`,
+/// 254 are taken from both sides first.
 #[inline(always)]
 fn covers_overhead(len: usize, spare: usize) -> bool
     requires some { 0 < spare }

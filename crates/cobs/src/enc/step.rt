@@ -111,7 +111,7 @@ impl UnbufferedEncoder {
         if len == 0 || FEW < len || 253 < taken + len || room <= taken + len {
             return false;
         }
-        *self = UnbufferedEncoder::from_progress(append_few(bytes, dest, self.progress()));
+        *self = UnbufferedEncoder::from_progress(append_few(bytes, len, dest, self.progress()));
         true
     }
 
@@ -173,30 +173,5 @@ impl UnbufferedEncoder {
         self.index = encoder.index;
         self.taken = encoder.taken;
         self.full = encoder.full;
-    }
-
-    /// Takes bytes of the message, for which there is room, one at a time while more than one is left, through the first that
-    /// fills a block. Returns how many.
-    #[inline]
-    pub(crate) fn append_to_full(&mut self, dest: &mut [u8], bytes: &[u8]) -> usize
-        requires some { 0 < length bytes.now }
-        requires place { IsPlaceIn (length dest.old) (reached_by self.old) }
-        requires fits { end_after (reached_by self.old) bytes.now ≤ length dest.old }
-        ensures within { result < length bytes.now }
-        ensures taken { TakesFront dest.old (reached_by self.old) bytes.now result dest.new (reached_by self.new) }
-    {
-        // A copy, so that the numbers stay in registers.
-        let mut encoder = *self;
-        let last = bytes.len() - 1;
-        let mut read = 0;
-        'by_byte: while read < last {
-            encoder.append_byte(dest, bytes[read]);
-            read += 1;
-            if encoder.full != 0 {
-                break;
-            }
-        }
-        *self = encoder;
-        read
     }
 }

@@ -8,14 +8,29 @@ use crate::proved::cobs_small::decode::len_to_zero;
 /// The code of a full block.
 const FULL: usize = 255;
 
-/// Moves `len` bytes of the buffer, which begin at `from`, to its front.
-fn move_to_front(buffer: &mut [u8], from: usize, len: usize) {
-    'by_byte: for i in 0..len {
-        buffer[i] = buffer[from + i];
+/// Moves `len` bytes of the buffer, which begin at `from`, to `to`, and returns where they end.
+#[inline(always)]
+fn move_bytes(buffer: &mut [u8], from: usize, to: usize, len: usize) -> usize {
+    if len == 0 {
+        return to;
+    }
+    let mut at = from;
+    let mut end = to;
+    let mut left = len;
+    'by_byte: loop {
+        buffer[end] = buffer[at];
+        end += 1;
+        at += 1;
+        left -= 1;
+        if left == 0 {
+            return end;
+        }
     }
 }
 
 /// Decodes the blocks in the first `end` bytes of the buffer, and returns how many bytes they give.
+// A function of its own, so that its loops have all registers of a small processor.
+#[inline(never)]
 fn decode_blocks(buffer: &mut [u8], end: usize) -> Result<usize, DecodeError> {
     let mut read = 0;
     let mut written = 0;
@@ -26,9 +41,8 @@ fn decode_blocks(buffer: &mut [u8], end: usize) -> Result<usize, DecodeError> {
                 decoded_bytes: written,
             });
         }
-        move_to_front(&mut buffer[written..], read + 1 - written, code - 1);
+        written = move_bytes(buffer, read + 1, written, code - 1);
         read += code;
-        written += code - 1;
         if code != FULL && read < end {
             buffer[written] = 0;
             written += 1;

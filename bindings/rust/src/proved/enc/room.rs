@@ -36,11 +36,17 @@ fn fits_each(code: u8, bytes: &[u8], room: usize) -> bool {
     code as usize <= left
 }
 
-/// Returns true only if `spare` bytes cover the overhead of every message of `len` bytes. It divides by 128 instead of 254,
-/// because small processors shift but don't divide. So it may return false if `spare` is just enough.
+/// Whether `spare` bytes cover the overhead of every message of `len` bytes: whether `len` is at most 254 times `spare`. It
+/// needs no division, for which small processors have no instruction, and no product is too large: for each 256 bytes of `len`,
+/// 254 are taken from both sides first.
 #[inline(always)]
 fn covers_overhead(len: usize, spare: usize) -> bool {
-    len < FULL_CODE || len / 128 < spare
+    let rows = len / 256;
+    if spare <= rows {
+        return false;
+    }
+    let more = spare - rows;
+    rows + 1 < more || 2 * rows + len % 256 <= 254 * more
 }
 
 /// Whether `room` bytes, from the code of an open block, are enough once the block has taken these bytes. It reads the

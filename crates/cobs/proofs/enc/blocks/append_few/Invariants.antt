@@ -5,6 +5,6 @@ use Rattle.cobs.proofs.enc.blocks.append_few.Given as goal
 
 abbrev pub invariant-by_byte : goal.invariant-by_byte
 invariant-by_byte l = record {
-  open' : l.next + (length l.source - l.read) < l.index + 255;
+  open' : l.next + (l.len - l.read) < l.index + 255;
   reaches : Reaches (start_with l.fn.dest (reached_at l.fn.progress) l.source) l.dest l.read l.index l.next (λ full. 0 < l.read → full ≡ false);
 }
