@@ -74,7 +74,7 @@ fn mark_zeros(dest: &mut [u8], index: usize, next: usize, zeros: u64) -> usize
 }
 
 /// Takes the first `len` bytes of a source, which can't fill the open block, one by one. A zero gives its place to the next code.
-/// Where the target has vectors no branch asks for zeros, since such a processor may guess it wrong: the open block's code is
+/// If the target has vectors, no branch asks for zeros, since such a processor may guess it wrong: the open block's code is
 /// written for each byte.
 #[inline(always)]
 pub(crate) fn append_few(
