@@ -1,4 +1,4 @@
--- A piece that is taken byte by byte.
+-- A piece that is taken byte by byte: each byte goes on or ends the piece, by `SoFar-more` and `TakesBytes-byte`.
 use Rattle.std.proofs.Common.{◌≡◌, ◌≢◌, ℕ, ◌+◌, ◌<◌, ◌≤◌, List, [], ◌∷◌, ◌++◌, length, take, drop, get_or, Option, Some, None, Result, refl, sym, ap, ◌∙◌, subst, arith, append_assoc, inl, inr, IfOk, IfSome}
 use Rattle.std.proofs.lemmas.Bool.{cases_eq, eq-eqb, ne_eqb}
 use Rattle.std.proofs.lemmas.List.{append-nil, take_more}
@@ -117,13 +117,3 @@ module _ {buffer₀ buffer buffer' : List ℕ} {phase₀ phase phase' : Phase} {
         idle = f.zero_idle z;
         within = (omega arith, fits);
       }
-
-pub piece-byte : (bytes buffer between buffer' : List ℕ) (phase phase_between phase' : Phase) (result : Result (Option ℕ) DecodeError) (i : ℕ) → i < length bytes
-    → TakesPiece buffer phase (take i bytes) None between phase_between → Feeds between phase_between (get_or bytes i 0) result buffer' phase'
-    → (get_or bytes i 0 ≡ 0 → end_reported result ≡ None) → TakesPiece buffer phase (take (i + 1) bytes) None buffer' phase'
-piece-byte bytes _ _ _ _ _ _ result i inside t f none = piece-more bytes i inside t f none
-
-pub piece-end : (bytes buffer between buffer' : List ℕ) (phase phase_between phase' : Phase) (result : Result (Option ℕ) DecodeError) (end : PieceEnd) (i : ℕ) → i < length bytes
-    → TakesPiece buffer phase (take i bytes) None between phase_between → Feeds between phase_between (get_or bytes i 0) result buffer' phase'
-    → get_or bytes i 0 ≡ 0 → end_reported result ≡ Some end → TakesPiece buffer phase bytes (Some (end, i + 1)) buffer' phase'
-piece-end bytes _ _ _ _ _ _ result end i inside t f z is = piece-ended bytes i inside t f end z is

@@ -1,19 +1,21 @@
--- A push so far, and where it ends.
-use Rattle.std.proofs.Common.{◌≡◌, ℕ, ◌+◌, ◌<◌, ◌≤◌, cond, eqb, List, [], ◌∷◌, ◌++◌, length, take, drop, get_or, refl, sym, ap, ◌∙◌, arith, Option, Some, None, Result, Ok, Err}
+-- A push so far, and where it ends: each byte that returns `Ok(None)` goes on, any other ends the push. By `ByByteLemmas`.
+use Rattle.std.proofs.Common.{Err, IfOk, IfSome, List, None, Ok, Option, Result, Some, [], ap, arith, cond, drop, eqb, get_or, length, refl, sym, take, ℕ, ◌++◌, ◌+◌, ◌<◌, ◌∙◌, ◌∷◌, ◌≡◌, ◌≤◌}
 use Rattle.std.proofs.lemmas.List.{take_more, length_push, same_from_push}
 use Rattle.std.proofs.lemmas.Bool.{ne_eqb, eq-eqb}
 use borrow.Author.Count.{below_more}
 use Rattle.cobs.specs.Stream.{unended}
-use Rattle.cobs.specs.Feed.{Phase, Idle, PhaseAfter, result_for, Feeds}
+use Rattle.cobs.specs.Feed.{DecoderAfter, Feeds, Idle, Phase, PhaseAfter, result_for}
 use Rattle.cobs.specs.FeedPiece.{TakesPiece, end_reported}
 use Rattle.cobs.specs.Internal.FeedsQuietly.{FeedsQuietly}
-use Rattle.cobs.specs.Push.{FeedsInTurn, result_at, IsQuiet, StopsAfter, error_outcomes, PushesBytes}
-use Rattle.cobs.specs.Fields.Report.{report_of}
+use Rattle.cobs.specs.Push.{FeedsInTurn, IsQuiet, PushReturns, PushesBytes, StopsAfter, consumed, consumed_size, error_outcomes, last_result, pushed_outcomes, result_at}
+use Rattle.cobs.specs.Fields.Report.{frame_size_of, report_of}
 use Rattle.cobs.specs.declared.error.DecodeError.{DecodeError}
 use Rattle.cobs.proofs.streaming.ByByteLemmas.{piece-nothing, piece-more, takes_behind, holds_behind, untouched_behind}
 use Rattle.cobs.proofs.streaming.FeedLemmas.{Feeds-step}
 use Rattle.cobs.proofs.streaming.RunLemmas.{ran-on}
 use Rattle.cobs.proofs.streaming.SoFar.{here, reported_by}
+use Rattle.cobs.specs.declared.error.DecodeReport.{DecodeReport}
+use Rattle.cobs.specs.declared.error.PushError.{PushError}
 
 -- a byte that is no zero returns no message
 no_message : (q : List ℕ) (b n k : ℕ) → result_for q b n ≡ Ok (Some k) → b ≡ 0
@@ -62,37 +64,34 @@ module _ {buffer₀ buffer buffer' : List ℕ} {phase₀ phase phase' : Phase} {
   stops_here : (r : Result (Option ℕ) DecodeError) → result ≡ r → (p : List ℕ) → PhaseAfter (length buffer₀) phase₀ p → StopsAfter p bytes (length buffer₀) (i + 1) r
   stops_here r e p h = record { place = i; within = within; last = refl; quiet = s.quiet p h; result_there = result_here p h ∙ e }
 
-  -- a message is reported
-  pub pushed_some : (n : ℕ) → result ≡ Ok (Some n) → PushesBytes buffer₀ phase₀ bytes (Ok (Some (report_of (i + 1) n))) buffer' phase'
-  pushed_some n e = let takes = takes_behind bytes i within s.piece f in record {
-    push_returns = stops_here (Ok (Some n)) e;
-    phased = takes.phased;
-    after = takes.after;
-    holds = holds_behind bytes i within s.piece f;
-    untouched = untouched_behind bytes i within s.piece f;
-    outcomes = λ p h. sym (takes.outcomes p h) ∙ rw (e, eq-eqb _ 0 (no_message _ _ _ n (result_here p h.phased ∙ e))) refl;
+  -- this is its result
+  ended : (r : Result (Option DecodeReport) PushError) → consumed_size bytes r ≡ i + 1 → last_result r ≡ result
+      → ((p : List ℕ) → PhaseAfter (length buffer₀) phase₀ p → PushReturns p bytes (length buffer₀) r)
+      → ((p : List ℕ) → DecoderAfter buffer₀ phase₀ p → reported_by (get_or bytes i 0) result buffer' ≡ pushed_outcomes bytes r buffer')
+      → IfOk r (λ found. IfSome found (λ report. frame_size_of report ≤ length buffer₀)) → PushesBytes buffer₀ phase₀ bytes r buffer' phase'
+  ended r count last returns outcomes bound = let takes = takes_behind bytes i within s.piece f in record {
+    push_returns = returns;
+    phased = rw (consumed, count) takes.phased;
+    after = rw (consumed, count) takes.after;
+    holds = rw (consumed, count) (holds_behind bytes i within s.piece f);
+    untouched = rw (consumed, count) (untouched_behind bytes i within s.piece f);
+    outcomes = rw (consumed, count) (λ p h. sym (takes.outcomes p h) ∙ outcomes p h);
     within = omega arith;
-    bound = rw (← s.piece.takes.len) (rw e at f.bound);
-    zero_idle = zero_behind;
-    feeds = rw e at feeds_behind;
+    bound = bound;
+    zero_idle = rw (consumed, count) zero_behind;
+    feeds = rw (consumed, count, last) feeds_behind;
     len = takes.len;
   }
 
+  -- a message is reported
+  pub pushed_some : (n : ℕ) → result ≡ Ok (Some n) → PushesBytes buffer₀ phase₀ bytes (Ok (Some (report_of (i + 1) n))) buffer' phase'
+  pushed_some n e = ended (Ok (Some (report_of (i + 1) n))) refl (sym e) (stops_here (Ok (Some n)) e)
+      (λ p h. rw (e, eq-eqb _ 0 (no_message _ _ _ n (result_here p h.phased ∙ e))) refl) (rw (← s.piece.takes.len) (rw e at f.bound))
+
   -- an error is returned
   pub pushed_error : (e : DecodeError) → result ≡ Err e → PushesBytes buffer₀ phase₀ bytes (Err (record { error = e; parsed_size = i + 1 })) buffer' phase'
-  pushed_error e is = let takes = takes_behind bytes i within s.piece f in record {
-    push_returns = stops_here (Err e) is;
-    phased = takes.phased;
-    after = takes.after;
-    holds = holds_behind bytes i within s.piece f;
-    untouched = untouched_behind bytes i within s.piece f;
-    outcomes = λ p h. sym (takes.outcomes p h) ∙ ap (λ r. reported_by (get_or bytes i 0) r buffer') is ∙ ap (λ (k : ℕ). cond (eqb (get_or bytes k 0) 0) (error_outcomes e) []) (omega arith);
-    within = omega arith;
-    bound = tt;
-    zero_idle = zero_behind;
-    feeds = rw is at feeds_behind;
-    len = takes.len;
-  }
+  pushed_error e is = ended (Err (record { error = e; parsed_size = i + 1 })) refl (sym is) (stops_here (Err e) is)
+      (λ p h. ap (λ r. reported_by (get_or bytes i 0) r buffer') is ∙ ap (λ (k : ℕ). cond (eqb (get_or bytes k 0) 0) (error_outcomes e) []) (omega arith)) tt
 
 -- no byte is left
 pub pushed_none : {buffer₀ buffer : List ℕ} {phase₀ phase : Phase} (bytes : List ℕ) (i : ℕ) → i ≡ length bytes → Pushed buffer₀ phase₀ buffer phase bytes i → PushesBytes buffer₀ phase₀ bytes (Ok None) buffer phase
