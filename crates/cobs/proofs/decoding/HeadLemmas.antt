@@ -1,4 +1,5 @@
--- What is before the first zero of a list, and the first piece behind its leading zeros.
+-- What is before the first zero of a list, and the first piece after its leading zeros: by induction on the zeros, and by
+-- `first_piece_head` for a list that begins with a code.
 use Rattle.std.proofs.Common.{◌≡◌, ◌≢◌, ℕ, zero, suc, ◌+◌, ◌-◌, ◌<◌, ◌≤◌, Bool, cond, List, [], ◌∷◌, length, take, drop, get_or, Some, None, refl, sym, ap, ◌∙◌, arith, inl, inr, length-drop}
 use Rattle.std.proofs.lemmas.Bool.{cases_eq, cases_lt, ne_eqb}
 use Rattle.std.proofs.lemmas.List.Elements.{All-head, All-tail}

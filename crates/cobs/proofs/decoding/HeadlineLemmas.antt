@@ -1,4 +1,5 @@
--- What decoders of a whole list return: the message m exactly if the list reads as m.
+-- The decoders of a whole list return the message m exactly if the list reads as m: by `outcome_reads`, for the list's first
+-- piece.
 use Rattle.std.proofs.Common.{◌≡◌, ◌≢◌, ℕ, ◌<◌, ◌≤◌, ◌↔◌, ◌⊎◌, inl, inr, true, false, List, [], ◌∷◌, length, take, All, Result, Ok, Err, refl, sym, ap, ◌∙◌, subst, arith, get_or, Fits, w8, ⊎_elim}
 use Rattle.std.proofs.lemmas.Bool.{cases_Bool, cases_lt, le-leb, lt-leb}
 use Rattle.std.proofs.lemmas.List.Elements.{All-from_get_or, All-map, All-weaker}

@@ -1,4 +1,5 @@
--- The kept output of a piece, also of one behind a block, and whether it is whole.
+-- The kept output of a piece, also of one after a block, and whether it is whole: by cutting the piece after its first part
+-- (`PieceCuts`).
 use Rattle.std.proofs.Common.{◌≡◌, ◌≢◌, ℕ, ◌+◌, ◌-◌, ◌<◌, ◌≤◌, Bool, true, false, cond, List, [], ◌∷◌, ◌++◌, length, take, refl, ap, ◌∙◌, arith, append_assoc, length-append, take_all, take_at, drop_at}
 use Rattle.std.proofs.Math.Seq.{take-append-add}
 use Rattle.std.proofs.lemmas.Bool.{ne_eqb, eq-eqb}

@@ -1,4 +1,5 @@
--- What `decode` returns: an outcome by the counts of a piece, and a source's result by its first piece.
+-- What `decode` returns follows from the counts that a decoder has: the output's length, and the missing bytes of the last
+-- part. By the definition of `outcome_of`, case by case.
 use Rattle.std.proofs.Common.{◌≡◌, ◌≢◌, ℕ, ◌+◌, ◌<◌, ◌≤◌, Bool, false, IsTrue, eqb, List, [], ◌∷◌, length, take, drop, min, None, Some, Result, Ok, Err, if◌then◌else◌, sym, ap, arith, length-take-le, take-append-drop, take_all}
 use Rattle.std.specs.Prelude.{IfOk}
 use Rattle.std.proofs.lemmas.Bool.{cases_eq, le-leb, lt-leb, ne_eqb, eq-eqb}

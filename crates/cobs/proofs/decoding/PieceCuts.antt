@@ -1,4 +1,5 @@
--- A piece is its first part and what follows it: what that says of its output and of its last part.
+-- A piece is its first part and what follows it, so its output and its last part are known from those of the rest: by the
+-- definition of `parts_after`.
 use Rattle.std.proofs.Common.{◌≡◌, ℕ, ◌-◌, ◌<◌, ◌≤◌, eqb, List, [], ◌∷◌, ◌++◌, length, take, drop, if◌then◌else◌, ◌==◌, refl, ap, ◌∙◌, arith, take_all, length-drop}
 use Rattle.cobs.specs.Grammar.{bytes_of, joint, message_of, last_of}
 use Rattle.cobs.specs.Piece.{last_part, is_whole, missing, parts, parts_after, output}

@@ -1,4 +1,4 @@
--- A list that reads as a message may be a frame.
+-- A frame is a piece: it isn't empty and has no zero, by `frame_nonzero`.
 use Rattle.std.proofs.Common.{ℕ, List}
 use Rattle.cobs.specs.Grammar.{Reads}
 use Rattle.cobs.specs.Headline.{IsPiece}

@@ -1,4 +1,5 @@
--- A source for any sentinel: what is before its first one, and the result for that.
+-- A source for any sentinel is a source for 0 once each byte is XORed with it: what is before its first sentinel, and the
+-- result for that, by `xor_twice`.
 use Rattle.std.proofs.Common.{◌≡◌, ◌≢◌, ℕ, ◌<◌, ◌≤◌, Bool, cond, All, List, [], ◌∷◌, length, take, get_or, bit_xor, Err, sym, ap, ◌∙◌, subst, arith}
 use Rattle.std.specs.Int.Bits.{xor_self}
 use Rattle.std.proofs.lemmas.Bool.{le-leb, lt-leb}

@@ -1,4 +1,5 @@
--- The last block of a piece, behind the whole blocks in front of it, and what the two give.
+-- What is kept of a piece is the output of all its bytes except some of the last 253, since no block has more: by steps from
+-- block to block (`ends-next`), as `kept_len` makes them.
 use Rattle.std.proofs.Common.{◌≡◌, ◌≢◌, ℕ, zero, suc, All, inl, inr, refl, ◌+◌, ◌-◌, ◌<◌, ◌≤◌, List, [], ◌∷◌, ◌++◌, length, take, drop, get_or, sym, ap, ◌∙◌, arith, append_assoc, append-nil, zero-add, length-append, take_at}
 use Rattle.std.proofs.lemmas.List.{take_more, length-take-le, length-drop, take-append-drop}
 use Rattle.std.proofs.Math.Seq.{take-add}

@@ -1,4 +1,4 @@
--- What a vector form that found memory returns: the message m exactly if the list reads as m; and what it holds.
+-- A vector form that found memory returns the message m exactly if the list reads as m, and holds m: by `HeadlineLemmas`.
 use Rattle.std.proofs.Common.{◌≡◌, ℕ, ◌<◌, ◌↔◌, Bool, true, false, cond, List, [], ◌∷◌, length, All, Result, Ok, Err, ◌++◌, take, drop, take_at, refl, sym, ap, ◌∙◌, subst, ⊎_elim}
 use Rattle.std.proofs.lemmas.Bool.{cases_Bool}
 use Rattle.cobs.specs.Grammar.{Reads}

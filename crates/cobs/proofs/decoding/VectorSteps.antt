@@ -1,4 +1,4 @@
--- What a buffer as long as the source holds once the source is decoded into it.
+-- A buffer as long as the source has room for each output of it, so it holds what is decoded into it: by `output_within`.
 use Rattle.std.proofs.Common.{◌≡◌, ◌≢◌, ℕ, zero, suc, ◌<◌, ◌≤◌, List, [], ◌∷◌, length, take, Option, Some, None, Result, Ok, Err, if◌then◌else◌, arith, take_at, take_all, length-take}
 use Rattle.std.proofs.lemmas.Bool.{le-leb}
 use Rattle.cobs.specs.Overwritten.{overwritten}

@@ -1,4 +1,5 @@
--- What a `CobsEncoder` says of its slice, and what the core of the encoder knows of it, are the same.
+-- What a `CobsEncoder` says of its slice (`CobsEncoderAfter`) and what the core of the encoder knows of it (`Opened`) are the
+-- same, since a message has one encoded frame (`one_encoded`).
 use Rattle.std.proofs.Common.{◌≡◌, ◌≢◌, ℕ, ◌+◌, ◌<◌, ◌≤◌, Bool, true, false, if◌then◌else◌, List, [], ◌∷◌, ◌++◌, length, drop, take, get_or, All, refl, sym, ap, ◌∙◌, subst, arith, inl, inr, ◌⊎◌, append-nil, append_assoc, take_at, drop_at, length-append, length-take-le, length-take}
 use Rattle.std.specs.List.{concat}
 use Rattle.std.proofs.Math.ListN.{set}

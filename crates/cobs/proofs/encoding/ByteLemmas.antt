@@ -1,4 +1,5 @@
--- What an encoder over a slice has taken after one byte more.
+-- What an encoder over a slice has taken after one byte more: the byte closes, joins or fills the open block, by
+-- `Reaches-zero`, `Reaches-join` and `Reaches-full`.
 use Rattle.std.proofs.Common.{◌≡◌, ◌≢◌, ℕ, ◌+◌, ◌-◌, ◌<◌, ◌≤◌, true, false, List, [], ◌∷◌, ◌++◌, length, get_or, replicate, refl, ap, ◌∙◌, arith}
 use Rattle.std.proofs.Math.ListN.{set}
 use Rattle.std.proofs.lemmas.List.{length-set}

@@ -1,4 +1,4 @@
--- How the core of the encoder begins and ends, said of the slice of a `CobsEncoder`.
+-- How a call of the encoder's core begins and ends, said of the slice of a `CobsEncoder`: by `from_after` and `to_after`.
 use Rattle.std.proofs.Common.{◌≡◌, ◌≢◌, ℕ, ◌+◌, ◌-◌, ◌<◌, ◌≤◌, Bool, true, false, if◌then◌else◌, List, [], ◌∷◌, ◌++◌, length, drop, take, ap, ◌∙◌, arith}
 use Rattle.std.specs.List.{concat}
 use Rattle.std.proofs.Math.ListN.{set}

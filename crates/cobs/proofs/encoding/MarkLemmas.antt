@@ -1,5 +1,5 @@
 -- A window of a source that was copied after the open block, and whose zeros give way to codes one by one: each is marked by
--- `Reaches-join` over the bytes before it and `Reaches-zero`; a window without a zero needs only `Reaches-join`.
+-- `Reaches-join` over the bytes before it and `Reaches-zero`, and a window without a zero is taken only by `Reaches-join`.
 use Rattle.std.proofs.Common.{◌≡◌, ◌≢◌, ℕ, ◌+◌, ◌-◌, ◌%◌, ◌<◌, ◌≤◌, Bool, false, true, List, ◌++◌, length, drop, take, get_or, replicate, min, suc, refl, sym, ap, ◌∙◌, subst, inl, inr, arith, length-append, length-take-le, length-drop, take_all}
 use Rattle.std.proofs.Math.ListN.{set}
 use borrow.Rule.Slice.PartMut.{put_mid}

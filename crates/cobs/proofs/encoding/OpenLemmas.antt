@@ -1,4 +1,5 @@
--- Lemmas on open frames, whose last block isn't full.
+-- What each byte makes of an open frame: a zero closes its last block, the 254th nonzero byte fills it, any other joins it.
+-- By `message_of-close` and `message_of-more`.
 use Rattle.std.proofs.Common.{◌≡◌, ◌≢◌, ℕ, ◌+◌, ◌<◌, Bool, if◌then◌else◌, List, [], ◌∷◌, ◌++◌, length, set, All, refl, sym, ap, ◌∙◌, subst, arith, append-nil, append_assoc, length-append}
 use Rattle.std.specs.List.{concat}
 use Rattle.std.proofs.lemmas.Bool.{ne_eqb}

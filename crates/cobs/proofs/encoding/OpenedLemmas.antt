@@ -1,4 +1,5 @@
--- A slice that holds the open frame of a message but for the open block's code, and how it goes on.
+-- A slice that holds the open frame of a message except the open block's code, and how it goes on: by lemmas on parts of
+-- the slice, and by `message_of-more` and `message_of-close` for the message.
 use Rattle.std.proofs.Common.{◌≡◌, ◌≢◌, ℕ, ◌+◌, ◌≤◌, ◌==◌, Bool, false, if◌then◌else◌, List, [], ◌∷◌, ◌++◌, length, drop, take, suc, refl, sym, ap, ◌∙◌, arith, length-append, length-take-le, length-take}
 use Rattle.std.specs.List.{concat}
 use Rattle.std.proofs.Math.ListN.{set}

@@ -1,4 +1,5 @@
--- How far the core of the encoder has come with some bytes: `pos` of them are taken into the open block and those before it.
+-- How far the core of the encoder has come with a source, and how it goes on: nonzero bytes join the open block, a zero or
+-- the 254th byte closes it. By `OpenedLemmas` for the slice, and `OpenLenLemmas` for where the frame ends.
 use Rattle.std.proofs.Common.{◌≡◌, ◌≢◌, ℕ, ◌+◌, ◌-◌, ◌<◌, ◌≤◌, ◌==◌, Bool, true, false, List, ◌∷◌, ◌++◌, length, drop, take, get_or, replicate, zero, suc, refl, sym, ap, ◌∙◌, arith, inl, inr, ◌⊎◌, append-nil, append_assoc, length-take-le, length-drop, take-append-drop, take_all}
 use Rattle.std.proofs.Math.ListN.{set}
 use Rattle.std.proofs.Math.Seq.{take-add}

@@ -1,4 +1,4 @@
--- How many full blocks a message has, counted by runs.
+-- How many full blocks a message has, counted run by run, as `fits` counts them: by cutting the message at its zeros.
 use Rattle.std.proofs.Common.{◌≡◌, ◌≢◌, ℕ, ◌+◌, ◌-◌, ◌/◌, ◌<◌, ◌≤◌, List, [], ◌∷◌, ◌++◌, length, map, drop, take, get_or, replicate, refl, sym, ap, ◌∙◌, arith, append-nil, length-append, length-take-le, length-drop, take-append-drop}
 use Rattle.std.proofs.lemmas.Bool.{cases_eq}
 use Rattle.std.proofs.lemmas.List.{drop-drop, drop_more}

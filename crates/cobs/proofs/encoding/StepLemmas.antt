@@ -1,4 +1,5 @@
--- The step of an encoder, by its numbers.
+-- The step of an encoder by its plain numbers is that of `ByteLemmas`, since a code below 255 is one more than the bytes
+-- taken (`reached-is`).
 use Rattle.std.proofs.Common.{◌≡◌, ◌≢◌, ℕ, ◌+◌, ◌<◌, ◌≤◌, ◌==◌, not, true, false, List, [], ◌∷◌, length, sym, ap, ◌∙◌, subst, arith}
 use Rattle.std.proofs.Math.ListN.{set}
 use Rattle.std.proofs.lemmas.Bool.{cases_Bool}

@@ -1,4 +1,5 @@
--- What the core of the encoder makes of a source, step by step.
+-- What the core of the encoder makes of a source, step by step: `front-taken` turns what was reached into `TakesFront`, and
+-- `front-next` joins two steps.
 use Rattle.std.proofs.Common.{◌≡◌, ◌≢◌, get_or, ℕ, ◌+◌, ◌-◌, ◌<◌, ◌≤◌, Bool, true, false, if◌then◌else◌, List, [], ◌∷◌, ◌++◌, length, drop, take, refl, sym, ap, ◌∙◌, subst, inl, inr, arith, append-nil, append_assoc, length-drop, take_all}
 use Rattle.std.proofs.Math.ListN.{set}
 use Rattle.std.proofs.Math.Seq.{take-add}

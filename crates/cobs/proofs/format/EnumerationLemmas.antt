@@ -1,4 +1,5 @@
--- All frames of a message.
+-- All frames of a message are its encoded frame and, if the message ends in a full run, that frame with the lone block: by
+-- induction on the blocks, and `one_encoded`.
 use Rattle.std.proofs.Common.{◌≡◌, ◌≢◌, ℕ, zero, suc, ◌+◌, ◌↔◌, true, false, List, [], ◌∷◌, ◌++◌, length, map, set, All, refl, sym, ap, ◌∙◌, subst, arith, append-nil, append_assoc, length-append, inl, inr, ⊎_elim, ◌⊎◌}
 use Rattle.std.specs.List.{concat, join_with_byte}
 use Rattle.std.proofs.lemmas.List.Folds.{concat-append}

@@ -1,4 +1,4 @@
--- A frame reads as its output: the parts of a frame are its blocks.
+-- A frame reads as its output, since the parts of a frame are its blocks: by induction on the blocks.
 use Rattle.std.proofs.Common.{◌≡◌, ◌≢◌, ℕ, zero, suc, ◌-◌, ◌<◌, ◌≤◌, List, [], ◌∷◌, ◌++◌, length, take, drop, All, refl, sym, ap, ◌∙◌, subst, arith, append-nil, append_assoc, length-take, length-take-le, take-append-drop, take_at, drop_at, ⊎_elim}
 use Rattle.std.specs.List.{concat}
 use Rattle.std.proofs.lemmas.Bool.{cases_lt, eq-eqb, eqb-true}

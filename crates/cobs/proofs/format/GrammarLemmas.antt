@@ -1,4 +1,5 @@
--- Blocks and frames, and which frame a block makes of the bytes behind it.
+-- Which frame a block makes of the bytes after it, and that a frame is cut into blocks in one way (`one_frame`): by the
+-- block's code, which says where the next one begins.
 use Rattle.std.proofs.Common.{◌≡◌, ◌≢◌, ◌↔◌, ℕ, ◌+◌, ◌<◌, List, [], ◌∷◌, ◌++◌, length, All, refl, sym, ap, ◌∙◌, subst, arith, append-nil, length-append, length-take}
 use Rattle.std.specs.List.{concat}
 use Rattle.std.proofs.lemmas.List.{append_cancel_left}

@@ -1,4 +1,4 @@
--- Which frame bytes are, by what is left behind their first blocks.
+-- Which frame bytes are is decided by what is left after their first blocks: by `IsCanonical-block`, block by block.
 use Rattle.std.proofs.Common.{◌≡◌, ◌≢◌, ◌↔◌, ℕ, zero, suc, ◌<◌, Bool, true, false, eqb, List, [], ◌∷◌, length, take, drop, get_or, All, refl, ap, subst, arith, length-drop, length-take-le, take-append-drop}
 use Rattle.std.proofs.lemmas.List.Elements.{All-head, All-tail, All-take, All-drop}
 use Rattle.cobs.specs.Grammar.{HasNoZero, IsBlock, IsFull, IsFrame, IsCanonical, lone_block, message_of}

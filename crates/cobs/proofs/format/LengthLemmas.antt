@@ -1,4 +1,5 @@
--- Lemmas on the length of an encoded frame.
+-- How long an encoded frame is, by the runs of its message: each run has a code for each 254 of its bytes. By cutting the
+-- message at its zeros.
 use Rattle.std.proofs.Common.{◌≡◌, ◌≢◌, ℕ, ◌+◌, ◌<◌, ◌≤◌, ◌==◌, false, List, [], ◌∷◌, ◌++◌, length, map, All, refl, ap, ◌∙◌, subst, arith, length-append}
 use Rattle.std.specs.List.{onto_first, join_with_byte}
 use Rattle.std.proofs.lemmas.Bool.{ne_eqb}

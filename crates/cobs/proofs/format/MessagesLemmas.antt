@@ -1,4 +1,5 @@
--- The stream of some messages: a frame and a zero for each.
+-- A stream that has a frame and a zero for each of some messages has these messages as its outcomes: by `StreamLemmas`, one
+-- message at a time.
 use Rattle.std.proofs.Common.{◌≡◌, ◌≢◌, ℕ, ◌+◌, ◌<◌, ◌≤◌, List, [], ◌∷◌, ◌++◌, length, take, set, map, All, ap, ◌∙◌, subst, arith, append_assoc, length-append, length-take, get_or}
 use Rattle.std.specs.List.{AllZip, flat_map}
 use Rattle.std.proofs.lemmas.List.{take_more, take_more_set, map_push, take-map, flat_map_more, take-append-le}

@@ -1,4 +1,5 @@
--- Lemmas on frames for another sentinel, and on frames between sentinels.
+-- Frames for another sentinel and frames between sentinels: XORing each byte twice changes nothing (`xor_twice`), so what
+-- holds for the sentinel 0 holds for each.
 use Rattle.std.proofs.Common.{rules, get_or, ◌≡◌, ◌≢◌, ℕ, zero, suc, length-append, ◌+◌, ◌-◌, ◌<◌, ◌≤◌, List, [], ◌∷◌, length, drop, take, replicate, set, refl, sym, ap, ◌∙◌, subst, arith, take_at}
 use borrow.Rule.Slice.PartMut.{put_mid}
 use Rattle.std.specs.Int.Bits.{bit_xor, xor_self}

@@ -1,4 +1,5 @@
--- Each message has one encoded frame, and its length.
+-- Each message has one encoded frame (`one_encoded`), and its length: two canonical frames of one message begin with the same
+-- block (`first-block`), and so on.
 use Rattle.std.proofs.Common.{◌⊎◌, inl, inr, ◌≡◌, ◌≢◌, ℕ, ◌<◌, Bool, true, false, if◌then◌else◌, List, [], ◌∷◌, ◌++◌, length, take, get_or, All, refl, sym, ap, ◌∙◌, subst, arith, append-nil, append_assoc, length-append, take_at, ⊎_elim}
 use Rattle.std.specs.List.{concat}
 use Rattle.std.proofs.lemmas.Bool.{cases_order, cases_Bool, ne_eqb, eqb-true, eqb-false}

@@ -1,5 +1,5 @@
--- `&mut *self.dest` as a result, for a field that is a `&'a mut [u8]`: a `CobsDecoder` ends as its slice's bytes end.
--- The method and that of `WriteBuffer` have this body both.
+-- `&mut *self.dest` as a result, for a field that is a `&'a mut [u8]`: a `CobsDecoder` ends as its slice's bytes end. The
+-- method and that of `WriteBuffer` both have this body. By the rules of std for a loan that is handed on.
 use mathlib.Core.Path.{refl, ap}
 use mathlib.Core.List.{List, [], ◌∷◌}
 use base.Fml.{Lft, GName, fat, ftrue, flft, fobs, fbor}

@@ -1,4 +1,5 @@
--- The step from a front of a piece to the next one, in phases.
+-- The machine of `Step` feeds a byte (`Feeds-step`): its phase, buffer and result after a front of a piece are those of the
+-- front with the byte. By `PieceLemmas`, one case for each phase.
 use Rattle.std.proofs.Common.{◌≡◌, ◌≢◌, ℕ, zero, suc, ◌+◌, ◌<◌, ◌≤◌, Bool, true, false, cond, leb, eqb, List, [], ◌∷◌, ◌++◌, length, take, drop, set, refl, sym, ap, ◌∙◌, arith, length-append, Option, None, Result, Ok, Err, add-one}
 use Rattle.std.proofs.lemmas.List.{take_all, take-append-le, append-nil, length_push, take_more_set, set_past, drop-set-lt, length-set}
 use Rattle.std.proofs.lemmas.List.Elements.{All-push, All-nil}

@@ -1,4 +1,5 @@
--- What the streaming decoders make of a frame and its zero.
+-- What the streaming decoders make of a frame and its zero: the piece that ends there is the frame, and its outcome the
+-- message (`outcome_frame`).
 use Rattle.std.proofs.Common.{◌≡◌, ◌≢◌, ℕ, ◌+◌, ◌<◌, ◌≤◌, List, [], ◌∷◌, ◌++◌, length, take, drop, All, Option, Some, None, Result, Ok, refl, sym, ap, ◌∙◌, arith, append_assoc, length-append, length-take-le, take-append-drop, take_all, take_at, ⊎_elim}
 use Rattle.std.proofs.lemmas.Bool.{cases_lt}
 use Rattle.std.proofs.lemmas.List.{take-append-le, take-take}

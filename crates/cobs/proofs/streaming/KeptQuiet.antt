@@ -1,4 +1,5 @@
--- What is before a zero, decoded by what its last bytes give of it: the result, and what the buffer holds.
+-- What is before a zero, decoded by the last bytes that decide what is kept of it: the result, and what the buffer holds. By
+-- `quiet` for the bytes that are fed, and `TailLemmas` for those that aren't.
 use Rattle.std.proofs.Common.{◌≡◌, ◌≢◌, ℕ, zero, suc, ◌-◌, ◌<◌, ◌≤◌, ◌↔◌, IsTrue, Bool, true, false, cond, get_or, List, [], ◌∷◌, ◌++◌, length, take, drop, refl, sym, ap, ◌∙◌, subst, arith, inl, inr, length-drop, take_all, Result, Ok, Err}
 use Rattle.std.specs.List.{All}
 use Rattle.std.proofs.lemmas.List.Elements.{All-head, All-tail, All-drop, All-take, All-append}

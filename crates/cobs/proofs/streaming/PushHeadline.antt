@@ -1,4 +1,5 @@
--- What a push of a list and the zero behind it returns: the message m exactly if the list reads as m.
+-- A push of a list and the zero after it reports the message m exactly if the list reads as m: by `PushesBytes`, whose field
+-- `outcomes` says it of a push through the zero, and `push_returns` of an error before it.
 use Rattle.std.proofs.Common.{◌≡◌, ◌≢◌, ℕ, ◌<◌, ◌≤◌, Fits, get_or, w8, ◌↔◌, List, [], ◌∷◌, ◌++◌, length, take, All, Option, Some, None, Result, Ok, Err, refl, sym, ap, ◌∙◌, subst, arith, length-append, length-take-le, take-append-drop, take_all, take_at, drop, ⊎_elim}
 use Rattle.std.proofs.lemmas.Bool.{cases_lt, cases_Bool, ne_eqb, le-leb}
 use Rattle.std.proofs.lemmas.List.{take-append-le, take_more, get_or_append_left}

@@ -1,4 +1,5 @@
--- Bytes fed quietly to an idle decoder, as the decoders of whole frames feed them: what the buffer holds, and where the decoder is.
+-- Bytes fed quietly to an idle decoder, as the decoders of whole frames feed them: the buffer holds their output, and the
+-- phase is that after them. By `Feeds-step`, byte by byte.
 use Rattle.std.proofs.Common.{◌≡◌, ◌≢◌, ℕ, ◌+◌, ◌<◌, ◌≤◌, Bool, cond, eqb, List, [], ◌∷◌, ◌++◌, length, take, drop, get_or, refl, sym, ap, ◌∙◌, subst, arith, append_assoc, append-nil, Ok, None, take_all, take_at}
 use Rattle.std.proofs.lemmas.List.{drop_all, drop_more, take-append-drop, take-take}
 use Rattle.std.proofs.lemmas.List.Elements.{All-nil, All-cons, All-head, All-tail, All-take, All-get_or}

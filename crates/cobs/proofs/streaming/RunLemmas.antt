@@ -1,4 +1,5 @@
--- Bytes of a block, taken at once, are as many feeds.
+-- Bytes that the machine takes quietly at once are as many feeds (`ran-on`), by induction on the bytes; and what such bytes
+-- leave of the buffer.
 use Rattle.std.proofs.Common.{◌≡◌, ◌≢◌, ℕ, zero, suc, ◌+◌, ◌-◌, ◌<◌, ◌≤◌, Bool, List, [], ◌∷◌, ◌++◌, length, take, drop, set, get_or, sym, ap, ◌∙◌, subst, refl, arith, append_assoc, None, Ok}
 use Rattle.std.proofs.lemmas.List.{drop_more, take_more_set, drop-set-lt, take-append-drop, drop-drop}
 use Rattle.cobs.specs.declared.dec.unbuffered.UnbufferedDecoder.{UnbufferedDecoder}

@@ -1,4 +1,4 @@
--- Facts about bytes for every crate above: ones, what is the same from one index on, parts without a zero, and the
+-- Facts about bytes and lists for every crate above: ones, what is the same from one index on, parts without a zero, and the
 -- three parts of a list that was overwritten in its middle. Each follows from std's lemmas on `take`, `drop` and `++`.
 use Rattle.std.proofs.Common.{◌≡◌, ◌≢◌, ℕ, ◌+◌, ◌-◌, ◌≤◌, List, ◌++◌, length, drop, take, replicate, sym, ap, ◌∙◌, subst, arith, append_assoc, take_at, drop_at, length-append, length-take-le}
 use Rattle.std.proofs.lemmas.List.{drop-drop, drop-take, take-take, length-replicate}

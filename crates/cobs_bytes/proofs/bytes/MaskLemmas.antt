@@ -1,4 +1,5 @@
--- Lemmas on the mask of the zeros among bytes.
+-- The mask of the zeros among bytes: its lowest bit is the first zero, and without that bit it is the mask of what follows.
+-- By induction on the bytes.
 use Rattle.std.proofs.Common.{min, ◌≡◌, ◌≢◌, ℕ, ◌+◌, ◌-◌, ◌*◌, ◌/◌, ◌%◌, ◌^◌, ◌<◌, ◌≤◌, cond, eqb, not, List, [], ◌∷◌, ◌++◌, length, map, drop, take, get_or, replicate, All, if◌then◌else◌, ◌==◌, suc, zero, refl, sym, ap, ◌∙◌, subst, inl, inr, arith, length-take-le, length-append, w8, w64}
 use Rattle.std.proofs.Math.Nat.{pow-suc, pow-le-pow_right}
 use Rattle.std.proofs.lemmas.Bool.{ne_eqb, eq-eqb, eqb-true, not-true, not-false, cases_eq, cases_lt}

@@ -1,4 +1,5 @@
--- Windows that are copied where they have no zero, one of them overlapping the one before it.
+-- Windows that are copied if they have no zero, one of them overlapping the one before it, are one copy: by lemmas on parts
+-- of a list.
 use Rattle.std.proofs.Common.{rules, ◌-◌, ◌≡◌, ◌≢◌, ℕ, ◌+◌, ◌≤◌, List, ◌++◌, length, drop, take, ap, ◌∙◌, arith}
 use Rattle.std.proofs.lemmas.List.{same_lists, places}
 use Rattle.std.proofs.lemmas.List.Elements.{All-get_or, All-from_get_or}

@@ -1,4 +1,4 @@
--- One mask from those of two parts that may overlap.
+-- One mask from those of two parts that may overlap, since they agree where they do: bit by bit.
 use Rattle.std.proofs.Common.{◌≡◌, ℕ, ◌+◌, ◌-◌, ◌*◌, ◌%◌, ◌^◌, ◌<◌, ◌≤◌, cond, eqb, suc, zero, List, [], ◌∷◌, length, drop, take, get_or, ap, ◌∙◌, arith, length-drop, length-take, ⊎_elim}
 use Rattle.std.proofs.Math.Nat.{pow-le-pow_right, mul-lt-mul_of_pos_right}
 use Rattle.std.proofs.lemmas.Nat.{pow-add, pow_pos}

@@ -1,4 +1,5 @@
--- Short stretches that are copied, each byte XORed.
+-- Short stretches that are copied, each byte XORed: two windows that may overlap cover the stretch (`two-copied`), and XOR with
+-- one byte twice changes nothing.
 use Rattle.std.proofs.Common.{◌≡◌, ◌≢◌, ℕ, ◌+◌, ◌-◌, ◌%◌, ◌^◌, ◌≤◌, cond, eqb, List, [], ◌∷◌, ◌++◌, length, map, drop, take, replicate, bit_xor, refl, ap, ◌∙◌, sym, subst, arith, take_all, w8}
 use Rattle.std.proofs.lemmas.List.{take-map, drop-map, length-map}
 use Rattle.std.proofs.lemmas.Simd.{zip2_splat, length-chunk, bitmask_splat}

@@ -1,3 +1,4 @@
+-- The windows and the rest are two steps that take the whole source (`front-last`).
 use Rattle.std.proofs.Common.{arith}
 use Rattle.std.proofs.lemmas.List.{take_rest}
 use Rattle.cobs.proofs.encoding.TakingLemmas.{front-last, left-end}

@@ -1,3 +1,4 @@
+-- Each turn takes a part of the run (`slice-joined`), which may fill its block; the zero after the run closes the last one.
 use Rattle.std.proofs.Common.{◌≡◌, ◌≤◌, ◌+◌, ◌-◌, ◌∙◌, false, ℕ, List, ap, drop, get_or, length, refl, arith, length-drop}
 use borrow.Rule.Slice.PartMut.{put_mid}
 use Rattle.std.proofs.lemmas.List.{drop_more}

@@ -1,3 +1,4 @@
+-- A run and windows in turn are two steps joined (`front-next`).
 use Rattle.std.proofs.Common.{◌+◌, arith}
 use Rattle.std.proofs.lemmas.List.{take_rest}
 use Rattle.cobs.proofs.encoding.TakingLemmas.{front-next}

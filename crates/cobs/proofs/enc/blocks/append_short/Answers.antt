@@ -1,3 +1,4 @@
+-- The source is one window (`short-copied`), of which each call of `mark_first` and `mark_zeros` keeps what the mask describes.
 use Rattle.std.proofs.Common.{length, refl, arith}
 use Rattle.cobs.specs.OpenBlock.{next_of}
 use Rattle.cobs.specs.Fields.Progress.{reached_at}

@@ -1,3 +1,4 @@
+-- One zero of each window that the mask describes is marked, by `masked-first`.
 use Rattle.std.proofs.Common.{refl, arith}
 use Rattle.std.proofs.lemmas.Grind.{common_steps}
 use Rattle.cobs.proofs.encoding.MarkLemmas.{masked-first, masked-ordered}
