@@ -78,6 +78,17 @@ def other_figures():
             yield f"README.md: it says {said[1] if said else 'nothing'} for {pattern}, and {where[0]} has {wanted}"
 
 
+def other_ratios():
+    """A line for each row of PERFORMANCE.md's table of slower calls whose least ratio isn't that of its pair."""
+    rows = (TOP / SPEEDS).read_text().partition("\n## Calls that are slower")[2].partition("\n## ")[0].splitlines()
+    for pair, calls, _, ratio, _ in (row.strip("| ").split(" | ") for row in rows if re.match(r"\| `", row)):
+        found = {call: cell(SPEEDS, pair, call, "least") for call in calls.split(", ")}
+        missing = [call for call, least in found.items() if not least]
+        least = min((least.split()[0] for least in found.values() if least), key=float, default=None)
+        if missing or ratio != least:
+            yield f"{SPEEDS}: {pair}, {calls}: it says {ratio}, and the table has {least}; no row of {missing}"
+
+
 def laws_left_out():
     """A line for each clause of a law that docs/PROMISES.md doesn't name."""
     text, known = (TOP / "docs/PROMISES.md").read_text(), prose.clauses()
@@ -141,7 +152,7 @@ def other_drawings():
     yield from (ran.stdout + ran.stderr).splitlines()
 
 
-CHECKS = (other_copies, other_translations, other_drawings, wrong_counts, other_figures, laws_left_out, other_toolchains, dead_addresses, unread_bytes)
+CHECKS = (other_copies, other_translations, other_drawings, wrong_counts, other_figures, other_ratios, laws_left_out, other_toolchains, dead_addresses, unread_bytes)
 
 
 def complaints():
