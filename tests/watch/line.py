@@ -240,6 +240,76 @@ def a_device_that_goes_and_comes_back(room):
             running.wait()
 
 
+CUT = b"\x03ab\x05cdef\0"
+
+
+def on_terminal(path, words):
+    """The program over a new terminal that the printed stty sets, once it has shown a frame of it; and the device's side."""
+    master = plug(path)
+    command = f'stty -F {path} raw -echo 115200 && exec "$@" {path}'
+    watch = subprocess.Popen(["sh", "-c", command, "sh", WATCH, *words], stdout=subprocess.PIPE, stderr=subprocess.PIPE)
+    started.append(watch)
+    while not is_set(path):
+        time.sleep(0.01)
+    # What comes before the first sentinel is skipped, if the words ask for it.
+    os.write(master, b"\0" + FRAME)
+    return watch, master, watch.stdout.readline()
+
+
+def cut_off(watch, path, master, front):
+    """Sends the front of a frame, and unplugs the device once the program has read it."""
+    os.write(master, front)
+    time.sleep(0.1)
+    await_read(watch)
+    unplug(path, master)
+
+
+CUT_STYLES = (([], UNFINISHED, HUNG_UP), (["--json"], b'{"kind":"unfinished"}\n', b'{"kind":"hung-up"}\n'), (["--raw"], b"", b""))
+
+
+@part
+def a_frame_that_an_unplugged_device_cuts(room):
+    """At each of its bytes: what had begun is unfinished, and no message is shown."""
+    path = room / "line"
+    for words, unfinished, _ in CUT_STYLES:
+        for cut in range(len(CUT)):
+            watch, master, shown = on_terminal(path, words)
+            assert shown, words
+            cut_off(watch, path, master, CUT[:cut])
+            said = f"cobs_watch: {path}: read failed: Input/output error (os error 5)\n"
+            same(ended(watch), (unfinished if cut else b"", said, 1))
+
+
+def await_line(watch, path):
+    """Returns once the program has opened the terminal that has this path now."""
+    name = os.path.realpath(path)
+    while name not in {os.path.realpath(link) for link in Path(f"/proc/{watch.pid}/fd").iterdir()}:
+        time.sleep(0.01)
+
+
+@part
+def a_frame_that_a_device_that_comes_back_cuts(room):
+    """At each of its bytes, with --reconnect. The next terminal is left as it comes, and then set by the printed stty."""
+    path = room / "line"
+    for words, unfinished, hung_up in CUT_STYLES:
+        for cut in range(len(CUT)):
+            watch, master, shown = on_terminal(path, ["--reconnect", *words])
+            cut_off(watch, path, master, CUT[:cut])
+            master = plug(path)
+            await_line(watch, path)
+            os.write(master, CUT[cut:-1])
+            time.sleep(0.1)
+            subprocess.run(["stty", "-F", path, "raw", "-echo", "115200"], check=True)
+            os.write(master, b"\0" + FRAME)
+            wanted = (unfinished if cut else b"") + hung_up
+            found = b"".join(watch.stdout.readline() for _ in range(wanted.count(b"\n") + 1))
+            # The frame is as the first one was, but for its number.
+            same(found, wanted + shown.replace(b'"frame":1,', b'"frame":2,'))
+            watch.kill()
+            same(watch.communicate()[0], b"")
+            unplug(path, master)
+
+
 @part
 def counts_and_a_reason_after_a_hang_up(_room):
     master, slave = pty.openpty()

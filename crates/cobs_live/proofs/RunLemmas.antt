@@ -21,7 +21,7 @@ use Rattle.cobs_live.proofs.ReadLemmas.{came-more, joined-append, live-more, liv
 use Rattle.cobs_live.specs.Reads.{IsLive, Read, ReadsOnce, Takes, came, given, joined}
 use Rattle.cobs_live.specs.declared.input.Came.{Came}
 use Rattle.cobs_live.specs.declared.input.Came.TheVariants.{Bytes, HungUp}
-use Rattle.cobs_live.specs.Live.{BeginsAnew, HasShownSoFar, HoldsText, IsLiveSoFar, ShowsHangUp, ShowsNext}
+use Rattle.cobs_live.specs.Live.{BeginsAnew, HasShownSoFar, HoldsText, IsLiveSoFar, ShowsEnd, ShowsHangUp, ShowsNext}
 use Rattle.cobs_live.specs.Seen.{all_ended}
 use Rattle.cobs_live.specs.Shown.{outcomes_of, shown_end, shown_from, shown_gone, shown_hang_up}
 use Rattle.cobs_live.specs.Timed.{IsReadAt}
@@ -29,11 +29,11 @@ use Rattle.cobs_live.specs.declared.clock.Moment.{Moment}
 use Rattle.cobs_live.specs.declared.clock.Times.{Times}
 use Rattle.cobs_live.specs.declared.show.Watch.{Watch}
 use Rattle.cobs_live.specs.declared.shown.Settings.{Settings}
-use Rattle.cobs_live.specs.Watched.{HasShown, HasShownAll, HasWritten, all_outcomes, begun, count_bytes, gone_streams, letters_of, open_stream, shown_lines, skips_behind, skips_on, stream_of}
+use Rattle.cobs_live.specs.Watched.{HasShown, HasShownAll, HasWritten, all_outcomes, begun, count_bytes, gone_streams, letters_of, open_stream, shown_ended, shown_lines, skips_behind, skips_on, stream_of}
 use Rattle.cobs_live.specs.declared.shown.View.{View}
 use Rattle.cobs_live.proofs.LineLemmas.{count_bytes-gone, outcomes_of-gone, shown_gone-extended, shown_gone-gone, skips_behind-gone, streams_of-gone}
 use Rattle.cobs_live.specs.declared.fault.WatchFault.{WatchFault}
-use Rattle.cobs_live.specs.declared.fault.WatchFault.TheVariants.{ReadFailed}
+use Rattle.cobs_live.specs.declared.fault.WatchFault.TheVariants.{OutOfMemory, OutputClosed, ReadFailed, WriteFailed}
 use Rattle.cobs_live.specs.declared.tally.Tally.{Tally}
 
 -- a decoder that is idle has taken no bytes of a piece
@@ -238,32 +238,32 @@ module _ (law : StreamLaw) {settings : Settings} {from to before after : Option 
         (Appends-trans before after after' _ _ s.ended.written (subst (λ (w : Settings). Appends after after' (new_text w.view now more)) s.same written));
   }
 
-  -- the next read failed
-  pub shown-failed : {to' : Option (List ℕ)} → Keeps to to' → HasShown settings (Err ReadFailed) from to' before after
-  shown-failed {to' = to'} kept = record { gone = s.ended.gone; bytes = s.ended.bytes; times = s.ended.times; timeline = s.ended.timeline; alone = s.ended.alone; read = Consumes-kept from to to' s.ended.bytes s.ended.read kept; written = s.ended.written }
+  -- nothing follows: whether a piece has begun is shown
+  pub shown-ended : {to' after' : Option (List ℕ)} → Consumes to to' [] → ShowsEnd (phase_of watch.decoder) watch.settings.now.view after after' → HasWritten (shown_ended settings) from to' before after'
+  shown-ended {to' = to'} {after' = after'} r end =
+      let is : end.begun ≡ is_nonempty (unended opened) = begun-after (unended opened) (length watch.message.items) (phase_of watch.decoder) end.begun s.taken.phased.phase_is end.idle in
+      record {
+        gone = s.ended.gone;
+        bytes = s.ended.bytes;
+        times = s.ended.times;
+        timeline = s.ended.timeline;
+        alone = s.ended.alone;
+        read = subst (Consumes from to') (append-nil s.ended.bytes) (Consumes-trans from to to' s.ended.bytes [] s.ended.read r);
+        written = Appends-trans before after after' _ _ s.ended.written (rw (s.same, is) at end.written);
+      }
 
-  pub next-failed : (to' : Option (List ℕ)) (result : Result Bool WatchFault) (fault : WatchFault) → IsErrAnd result (λ found. found ≡ fault) → fault ≡ ReadFailed → Keeps to to' → ShowsNext settings result from to' before after watch
-  next-failed to' (Err found) fault e is kept = subst (λ (f : WatchFault). HasShown settings (Err f) from to' before after) (sym (e ∙ is)) (shown-failed kept)
-  next-failed to' (Ok more) fault e is kept = absurd e
+  -- a read that failed took nothing
+  pub nothing-read : (to' : Option (List ℕ)) → Keeps to to' → Consumes to to' []
+  nothing-read to' kept = Consumes-kept to to to' [] (Consumes-nil to) kept
+
+  -- the next read failed
+  pub next-failed : (to' after' : Option (List ℕ)) (fault : WatchFault) → fault ≡ ReadFailed → HasWritten (shown_ended settings) from to' before after' → ShowsNext settings (Err fault) from to' before after' watch
+  next-failed to' after' fault is w = subst (λ (f : WatchFault). HasShown settings (Err f) from to' before after') (sym is) w
 
   -- the input has come to its end
-  pub shown-all : {to' after' : Option (List ℕ)} (begun : Bool) → ((begun ≡ false) ↔ (phase_of watch.decoder ≡ Idle)) → Consumes to to' [] → IsAtEnd to'
-      → Appends after after' (shown_end watch.settings.now.view begun) → HasShownAll settings watch.tally from to' before after'
-  shown-all {to' = to'} {after' = after'} begun idle r end written =
-      let is : begun ≡ is_nonempty (unended opened) = begun-after (unended opened) (length watch.message.items) (phase_of watch.decoder) begun s.taken.phased.phase_is idle in
-      record {
-        all = record {
-          gone = s.ended.gone;
-          bytes = s.ended.bytes;
-          times = s.ended.times;
-          timeline = s.ended.timeline;
-          alone = s.ended.alone;
-          read = subst (Consumes from to') (append-nil s.ended.bytes) (Consumes-trans from to to' s.ended.bytes [] s.ended.read r);
-          written = Appends-trans before after after' _ _ s.ended.written (rw (s.same, is) at written);
-        };
-        tallied = s.tallied;
-        end = end;
-      }
+  pub shown-all : {to' after' : Option (List ℕ)} → Consumes to to' [] → IsAtEnd to' → ShowsEnd (phase_of watch.decoder) watch.settings.now.view after after' → HasShownAll settings watch.tally from to' before after'
+  unfolding shown-ended
+  shown-all r at_end end = record { all = shown-ended r end; tallied = s.tallied; end = at_end }
 
   -- THE LINE HUNG UP
 
@@ -346,3 +346,12 @@ pub shown-fault : (settings : Settings) (from to before after : Option (List ℕ
     → HasShown settings (Err fault) from to before after → HasShown settings result from to before after
 shown-fault settings from to before after (Err found) fault e s = subst (λ (f : WatchFault). HasShown settings (Err f) from to before after) (sym e) s
 shown-fault settings from to before after (Ok tally) fault e s = absurd e
+
+-- of a write that failed nothing is shown
+pub unfinished-fault : (settings : Settings) (from to before after : Option (List ℕ)) (result : Result Tally WatchFault) (fault : WatchFault) → IsErrAnd result (λ found. found ≡ fault)
+    → (fault ≢ ReadFailed) × (fault ≢ OutOfMemory) → HasShown settings result from to before after
+unfinished-fault settings from to before after (Err ReadFailed) fault e other = absurd (other.0 (sym e))
+unfinished-fault settings from to before after (Err OutOfMemory) fault e other = absurd (other.1 (sym e))
+unfinished-fault settings from to before after (Err WriteFailed) fault e other = tt
+unfinished-fault settings from to before after (Err OutputClosed) fault e other = tt
+unfinished-fault settings from to before after (Ok tally) fault e other = absurd e

@@ -6,7 +6,7 @@ use Rattle.cobs.specs.Fields.Decoders.{phase_of}
 use Rattle.cobs.specs.Stream.{Outcome, stream_outcomes, unended}
 use Rattle.cobs_live.specs.Counted.{IsTallyOf}
 use Rattle.cobs_live.specs.Seen.{all_ended}
-use Rattle.cobs_live.specs.Shown.{shown_from, shown_hang_up}
+use Rattle.cobs_live.specs.Shown.{shown_end, shown_from, shown_hang_up}
 use Rattle.cobs.specs.Sentinel.{xor_each}
 use Rattle.cobs_live.specs.Watched.{HasShown, HasWritten, all_outcomes, count_bytes, letters_of, open_stream, shown_lines, skips_behind, skips_on}
 use Rattle.cobs_live.specs.Reads.{IsLive, Read, came, joined}
@@ -59,6 +59,12 @@ pub record ShowsBytes (view : View) (times : ℕ → Moment) (n : ℕ) (p bytes 
   pub tallied : IsTallyOf view.checksum tally (gone ++ stream_outcomes (p ++ bytes) n) read
   pub timed : IsReadAt times (length (gone ++ stream_outcomes (p ++ bytes) n)) clock
   pub len : length buffer ≡ n
+
+-- nothing follows: whether a piece had begun is shown
+pub record ShowsEnd (phase : Phase) (view : View) (before after : Option (List ℕ)) : Type 0 where
+  pub begun : Bool
+  pub idle : (begun ≡ false) ↔ (phase ≡ Idle)
+  pub written : Appends before after (shown_end view begun)
 
 -- a line hung up: whether a piece had begun is shown, and the hang-up
 pub record ShowsHangUp (phase : Phase) (view : View) (before after : Option (List ℕ)) : Type 0 where

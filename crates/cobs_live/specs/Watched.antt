@@ -92,10 +92,10 @@ pub record HasShownAll (settings : Settings) (tally : Tally) (from to before aft
   pub tallied : IsTallyOf settings.view.checksum tally (all_outcomes settings all.gone all.bytes) (count_bytes all.gone all.bytes)
   pub end : IsAtEnd to
 
--- a run of `show`, by its result: all that came is shown, also of a stream whose next read failed
+-- a run of `show`, by its result: all that came is shown, and whether a piece has begun, also of a stream whose next read failed
 abbrev pub HasShown : Settings → Result Tally WatchFault → (from to before after : Option (List ℕ)) → Type 0
 HasShown settings (Ok tally) from to before after = HasShownAll settings tally from to before after
-HasShown settings (Err ReadFailed) from to before after = HasWritten (shown_lines settings) from to before after
+HasShown settings (Err ReadFailed) from to before after = HasWritten (shown_ended settings) from to before after
 HasShown settings (Err OutOfMemory) from to before after = Keeps from to × Keeps before after
 HasShown settings (Err WriteFailed) from to before after = Unit {0}
 HasShown settings (Err OutputClosed) from to before after = Unit {0}

@@ -40,7 +40,8 @@ pub const CHUNK_LEN: usize = 65_536;
 /// far, each time that bytes come and this many milliseconds have passed since the start, or since they were written last. A
 /// failure to write them there is no fault.
 ///
-/// - `ReadFailed`: a read failed. What had ended in all bytes before it is shown.
+/// - `ReadFailed`: a read failed, as the one of a line that hangs up may. What had ended in all bytes before it is shown, and
+///   whether a piece has begun.
 /// - `WriteFailed`: a write or a flush failed. How much of it went out is not known.
 /// - `OutputClosed`: the same, since nobody reads the output any more.
 /// - `OutOfMemory`: memory ran out. Nothing was read, and nothing written.
@@ -60,6 +61,7 @@ pub fn run_show<C: Clock + Drop, S: LiveInput<W>, W: Write + Drop, E: Write>(
         (HoldsText settings.now (W.contents (writer_inner output.old))) }
     ensures flushed { IsFlushed result (writer_buffer output.new) }
 {
+    law_9();
     let mut watch = Watch::new(alloc, settings)?;
     let mut chunk = vec![in alloc; 0; CHUNK_LEN]?;
     let mut counted = timer.base;
@@ -77,6 +79,7 @@ pub fn run_show<C: Clock + Drop, S: LiveInput<W>, W: Write + Drop, E: Write>(
             let _ = writeln!(errors, "{}", watch.tally);
         }
     }
+    watch.end(output)?;
     Err(WatchFault::ReadFailed)
 }
 
@@ -99,7 +102,7 @@ pub struct Watch<'a> {
 }
 
 impl<'a> Watch<'a> {
-    ghost use Rattle.cobs_live.specs.Live.{BeginsAnew, HasShownSoFar, HoldsText, IsLiveSoFar, ShowsHangUp, ShowsNext};
+    ghost use Rattle.cobs_live.specs.Live.{BeginsAnew, HasShownSoFar, HoldsText, IsLiveSoFar, ShowsEnd, ShowsHangUp, ShowsNext};
     ghost use Rattle.cobs_live.specs.Reads.{IsLive};
 
     /// Shows nothing yet.
@@ -123,13 +126,14 @@ impl<'a> Watch<'a> {
     }
 
     /// Reads once into `chunk`, shows each piece that ended in the bytes that came, flushes the output, and returns whether
-    /// the input goes on. At its end, shows whether a piece has begun that no sentinel ended; and if the line hung up, that too.
+    /// the input goes on. At its end, and if the read failed, shows whether a piece has begun that no sentinel ended; and if the
+    /// line hung up, that too.
     ///
     /// Nothing is written before the read, and when it begins the output holds nothing back (`flushed`): what had ended
     /// has been shown. An interrupted read is tried again.
     ///
     /// # Errors
-    /// `ReadFailed` if the read failed; nothing has changed then. `WriteFailed` if a write or a flush failed, and
+    /// `ReadFailed` if the read failed; no piece has ended then. `WriteFailed` if a write or a flush failed, and
     /// `OutputClosed` if that was since nobody reads the output any more.
     pub fn show_next<C: Clock + Drop, S: LiveInput<W>, W: Write + Drop>(
         &mut self,
@@ -159,15 +163,19 @@ impl<'a> Watch<'a> {
         ensures len { length chunk.new ≡ length chunk.old }
     {
         law_9();
-        let came = read_chunk(input, output, chunk)?;
+        let came = match read_chunk(input, output, chunk) {
+            Ok(came) => came,
+            Err(fault) => {
+                self.end(output)?;
+                return Err(fault);
+            }
+        };
         let Came::Bytes(count) = came else {
             self.hang_up(output)?;
             return Ok(true);
         };
         if count == 0 {
-            let unfinished = has_begun(self.decoder.phase());
-            show_end(output, &self.settings.view, unfinished)?;
-            output.flush()?;
+            self.end(output)?;
             return Ok(false);
         }
         let bytes = &mut chunk[..count];
@@ -186,6 +194,21 @@ impl<'a> Watch<'a> {
         )?;
         output.flush()?;
         Ok(true)
+    }
+
+    /// Shows whether a piece has begun that no sentinel ended: nothing follows, because the input has ended or can't be read.
+    fn end<W: Write + Drop>(&self, output: &mut BufWriter<W>) -> Result<(), WatchFault>
+        requires flushed { writer_buffer output.old ≡ [] }
+        ensures shown { OnOk result (ShowsEnd (phase_of self.now.decoder) self.now.settings.now.view
+            (W.contents (writer_inner output.old)) (W.contents (writer_inner output.new))) }
+        ensures flushed { IsFlushed result (writer_buffer output.new) }
+        ensures fault { IfErr result
+            (λ fault. (fault ≢ WatchFault.ReadFailed) × (fault ≢ WatchFault.OutOfMemory)) }
+    {
+        let unfinished = has_begun(self.decoder.phase());
+        show_end(output, &self.settings.view, unfinished)?;
+        output.flush()?;
+        Ok(())
     }
 
     /// Shows that the line hung up, and before it whether a piece has begun, which has no end. The bytes of the next

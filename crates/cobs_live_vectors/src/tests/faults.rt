@@ -84,6 +84,9 @@ fn one_byte_a_read_and_a_write_shows_the_same(rt: HostRuntime) -> Result<(), Fai
     Ok(())
 }
 
+/// The line of a piece that has begun, as its input ends or fails.
+const UNFINISHED: &[u8] = b"unfinished\n";
+
 #[test]
 fn a_failed_read_loses_no_piece_that_had_ended(rt: HostRuntime) -> Result<(), Fail> {
     let alloc = rt.alloc();
@@ -92,9 +95,13 @@ fn a_failed_read_loses_no_piece_that_had_ended(rt: HostRuntime) -> Result<(), Fa
         let mut output = BufWriter::new(alloc, Vec::new(alloc))?;
         let shown = show(alloc, &mut input, &mut output)?;
         assert_eq!(rt; shown, Err(WatchFault::ReadFailed));
-        let out = written_after(failing);
         let text = SHOWN[0].1;
-        assert_eq!(rt; output.get_ref().as_slice(), &text[..out.min(text.len())]);
+        let ended = &text[..written_after(failing).min(text.len())];
+        let begun = failing > 0 && STREAM[failing - 1] != 0;
+        let unfinished = if begun { UNFINISHED } else { b"" };
+        let text = output.get_ref().as_slice();
+        assert!(rt; text.starts_with(ended) && text.ends_with(unfinished));
+        assert_eq!(rt; text.len(), ended.len() + unfinished.len());
     }
     Ok(())
 }
@@ -222,6 +229,31 @@ fn a_frame_that_a_hang_up_cuts_is_no_message(rt: HostRuntime) -> Result<(), Fail
             let text = output.get_ref().as_slice();
             assert!(rt; text.starts_with(before) && text.ends_with(idle));
             assert_eq!(rt; text.len(), before.len() + idle.len());
+        }
+    }
+    Ok(())
+}
+
+#[test]
+fn a_frame_that_a_failed_read_cuts_is_no_message(rt: HostRuntime) -> Result<(), Fail> {
+    let alloc = rt.alloc();
+    for (style, idle, begun) in HUNG_UP {
+        for cut in 0..CUT.len() {
+            let mut input = AnyInput::new(reader(CUT, cut, ErrorKind::Other));
+            let mut output = BufWriter::new(alloc, Vec::new(alloc))?;
+            let settings = settings(alloc, style, Stamp::Untimed);
+            let shown = run_show(
+                alloc,
+                &settings,
+                SILENT,
+                &timer(Stamp::Untimed)?,
+                &mut input,
+                &mut output,
+                &mut Vec::new(alloc),
+            );
+            assert_eq!(rt; shown, Err(WatchFault::ReadFailed));
+            let unfinished = if cut == 0 { 0 } else { begun.len().saturating_sub(idle.len()) };
+            assert_eq!(rt; output.get_ref().as_slice(), &begun[..unfinished]);
         }
     }
     Ok(())

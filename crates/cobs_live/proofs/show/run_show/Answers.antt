@@ -1,5 +1,6 @@
 use Rattle.std.proofs.Common.{rules, [], Some}
-use Rattle.cobs_live.proofs.RunLemmas.{HasShownSoFar-live, shown-fault}
+use Rattle.std.proofs.KnownBytes.{Consumes-nil}
+use Rattle.cobs_live.proofs.RunLemmas.{HasShownSoFar-live, shown-ended, shown-fault, unfinished-fault}
 use Rattle.cobs_live.proofs.show.run_show.Goals as goal
 
 pub by_read-init : goal.by_read-init
@@ -23,3 +24,9 @@ by_read-preserved g c = record {
   flushed = c.in_ok-next.ensures.flushed;
   chunk = c.by_read.invariant.chunk;
 }
+
+pub returns-in_err-end-clause-shown : goal.returns-in_err-end-clause-shown
+returns-in_err-end-clause-shown g c = unfinished-fault _ _ _ _ _ _ c.in_err-end.field-0.0 (search rules) c.in_err-end.ensures.fault
+
+pub returns-clause-shown : goal.returns-clause-shown
+returns-clause-shown g c = shown-ended (assumption c.law_9.ensures) c.by_read.invariant.live.so_far (Consumes-nil _) c.in_ok-end.ensures.shown

@@ -11,15 +11,14 @@ use Rattle.cobs.specs.Sentinel.{xor_each}
 use Rattle.cobs.specs.Stream.{unended}
 use Rattle.cobs_live.specs.Watched.{begun, letters_of, skips_on}
 use Rattle.cobs_live.proofs.LineLemmas.{letters_of-gone, letters_of-more}
-use Rattle.cobs_live.proofs.RunLemmas.{flushed-Appends, more-ended, more-left, more-read, more-skips, more-tallied, more-timed, whole-message, given-bytes, given-next, given-hang_up, hung-up, next-failed, live-next, newly, opened, same-tallied, shown-all, takes-bytes, takes-hang_up}
+use Rattle.cobs_live.proofs.RunLemmas.{flushed-Appends, more-ended, more-left, more-read, more-skips, more-tallied, more-timed, whole-message, given-bytes, given-next, given-hang_up, hung-up, next-failed, nothing-read, live-next, newly, opened, same-tallied, shown-all, shown-ended, takes-bytes, takes-hang_up}
 use Rattle.cobs_live.proofs.show.Watch.show_next.Goals as goal
 
 pub returns-then-count-eq0-clause-shown : goal.returns-then-count-eq0-clause-shown
 returns-then-count-eq0-clause-shown g c = λ settings from before s.
     let none : c.in-Bytes.count ≡ 0 = c.if-count-eq0.true in
-    let takes = takes-bytes _ _ _ _ _ c.in-Bytes.is c.in_ok-came.ensures.takes in
-    shown-all (assumption c.law_9.ensures) s c.has_begun-unfinished.result (rw c.phase.ensures.phase at c.has_begun-unfinished.ensures.idle) (rw none at takes.1) (takes.2 none (omega (arith, c.in_ok-came.ensures.len, c.requires.some)))
-    (flushed-Appends _ _ _ _ _ c.requires.flushed c.in_ok-flush.ensures.ok (Appends-kept _ _ _ _ c.in_ok-show_end.ensures.shown c.in_ok-flush.ensures.bytes))
+    let takes = takes-bytes _ _ _ _ _ c.in-Bytes.is c.in-Ok.ensures.takes in
+    shown-all (assumption c.law_9.ensures) s (rw none at takes.1) (takes.2 none (omega (arith, c.in-Ok.ensures.len, c.requires.some))) c.in_ok-end.ensures.shown
 
 pub returns-clause-shown : goal.returns-clause-shown
 returns-clause-shown g c = λ settings from before s.
@@ -27,7 +26,7 @@ returns-clause-shown g c = λ settings from before s.
     let count : ℕ = c.in-Bytes.count in
     let chunk : List ℕ = c.read_chunk.new.chunk in
     let to' : Option (List ℕ) = g.S.LiveInput.remaining c.read_chunk.new.input in
-    let takes : Takes (g.S.LiveInput.remaining c.args.input.now) to' (Bytes count) chunk = takes-bytes (g.S.LiveInput.remaining c.args.input.now) to' c.in_ok-came.came count chunk c.in-Bytes.is c.in_ok-came.ensures.takes in
+    let takes : Takes (g.S.LiveInput.remaining c.args.input.now) to' (Bytes count) chunk = takes-bytes (g.S.LiveInput.remaining c.args.input.now) to' c.in-Ok.came count chunk c.in-Bytes.is c.in-Ok.ensures.takes in
     let more : List ℕ = take count chunk in
     let size : length more ≡ count = length-take-le count chunk takes.0 in
     let skipping : Bool = c.args.self.now.skipping in
@@ -45,7 +44,7 @@ returns-clause-shown g c = λ settings from before s.
     let same_len : length message ≡ length items = subst (λ (l : List ℕ). length message ≡ length l) value c.in_ok-show_bytes.ensures.len in
     let whole : take c.args.self.now.message.len (message ++ drop (length message) items) ≡ message = whole-message message items c.args.self.now.message.len c.args.self.now.message.ok.0 same_len in
     let skips = subst (λ (l : List ℕ). c.behind_first-bytes.new.skipping ≡ skips_on skipping l) changed c.behind_first-bytes.ensures.skips in
-    let written = flushed-Appends _ _ _ _ _ c.requires.flushed c.in_ok-flush-2.ensures.ok (Appends-kept _ _ _ _ shows.written c.in_ok-flush-2.ensures.bytes) in
+    let written = flushed-Appends _ _ _ _ _ c.requires.flushed c.in_ok-flush.ensures.ok (Appends-kept _ _ _ _ shows.written c.in_ok-flush.ensures.bytes) in
     record {
       ended = more-ended law s more clock.next c.update.ensures.later takes.1 written;
       taken = rw (whole, more-left law s more) shows.taken;
@@ -56,57 +55,58 @@ returns-clause-shown g c = λ settings from before s.
       skips = skips ∙ more-skips law s more;
     }
 
-pub returns-in_err-came-clause-shown : goal.returns-in_err-came-clause-shown
-returns-in_err-came-clause-shown g c = λ settings from before s.
-    next-failed (assumption c.law_9.ensures) s _ c.from_residual.result c.in_err-came.field-0.0 (search rules) c.in_err-came.ensures.failed.0 c.in_err-came.ensures.failed.1
+pub returns-in-Err-clause-shown : goal.returns-in-Err-clause-shown
+returns-in-Err-clause-shown g c = λ settings from before s.
+    next-failed (assumption c.law_9.ensures) s _ _ c.in-Err.fault c.in-Err.ensures.failed.0
+    (shown-ended (assumption c.law_9.ensures) s (nothing-read (assumption c.law_9.ensures) s _ c.in-Err.ensures.failed.1) c.in_ok-end-in-Err.ensures.shown)
 
 pub returns-clause-goes_on : goal.returns-clause-goes_on
 unfolding returns-clause-shown
 returns-clause-goes_on g c = λ yes settings start from before s. record {
   so_far = returns-clause-shown g c settings from before s.so_far;
-  live = live-next s c.in_ok-came.ensures.once;
-  given = given-next s c.in_ok-came.ensures.once
-      ∙ ap (λ (l : List (Option ℕ)). letters_of s.so_far.ended.gone s.so_far.ended.bytes ++ l) (given-bytes WatchFault c.in_ok-came.came c.in-Bytes.count c.read_chunk.new.chunk c.in-Bytes.is)
+  live = live-next s c.in-Ok.ensures.once;
+  given = given-next s c.in-Ok.ensures.once
+      ∙ ap (λ (l : List (Option ℕ)). letters_of s.so_far.ended.gone s.so_far.ended.bytes ++ l) (given-bytes WatchFault c.in-Ok.came c.in-Bytes.count c.read_chunk.new.chunk c.in-Bytes.is)
       ∙ sym (letters_of-more s.so_far.ended.gone s.so_far.ended.bytes (take c.in-Bytes.count c.read_chunk.new.chunk));
 }
 
 pub returns-clause-live : goal.returns-clause-live
-returns-clause-live g c = λ settings start from before s. live-next s c.in_ok-came.ensures.once
+returns-clause-live g c = λ settings start from before s. live-next s c.in-Ok.ensures.once
 
 pub returns-then-count-eq0-clause-live : goal.returns-then-count-eq0-clause-live
-returns-then-count-eq0-clause-live g c = λ settings start from before s. live-next s c.in_ok-came.ensures.once
+returns-then-count-eq0-clause-live g c = λ settings start from before s. live-next s c.in-Ok.ensures.once
 
-pub returns-in_err-came-clause-live : goal.returns-in_err-came-clause-live
-returns-in_err-came-clause-live g c = λ settings start from before s. live-next s c.in_err-came.ensures.once
+pub returns-in-Err-clause-live : goal.returns-in-Err-clause-live
+returns-in-Err-clause-live g c = λ settings start from before s. live-next s c.in-Err.ensures.once
 
-pub returns-in_err-show_end-clause-live : goal.returns-in_err-show_end-clause-live
-returns-in_err-show_end-clause-live g c = λ settings start from before s. live-next s c.in_ok-came.ensures.once
+pub returns-in_err-end-in-Err-clause-live : goal.returns-in_err-end-in-Err-clause-live
+returns-in_err-end-in-Err-clause-live g c = λ settings start from before s. live-next s c.in-Err.ensures.once
 
-pub returns-in_err-flush-clause-live : goal.returns-in_err-flush-clause-live
-returns-in_err-flush-clause-live g c = λ settings start from before s. live-next s c.in_ok-came.ensures.once
+pub returns-in_err-end-clause-live : goal.returns-in_err-end-clause-live
+returns-in_err-end-clause-live g c = λ settings start from before s. live-next s c.in-Ok.ensures.once
 
 pub returns-in_err-show_bytes-clause-live : goal.returns-in_err-show_bytes-clause-live
-returns-in_err-show_bytes-clause-live g c = λ settings start from before s. live-next s c.in_ok-came.ensures.once
+returns-in_err-show_bytes-clause-live g c = λ settings start from before s. live-next s c.in-Ok.ensures.once
 
-pub returns-in_err-flush-2-clause-live : goal.returns-in_err-flush-2-clause-live
-returns-in_err-flush-2-clause-live g c = λ settings start from before s. live-next s c.in_ok-came.ensures.once
+pub returns-in_err-flush-clause-live : goal.returns-in_err-flush-clause-live
+returns-in_err-flush-clause-live g c = λ settings start from before s. live-next s c.in-Ok.ensures.once
 
 pub returns-in_err-hang_up-clause-live : goal.returns-in_err-hang_up-clause-live
-returns-in_err-hang_up-clause-live g c = λ settings start from before s. live-next s c.in_ok-came.ensures.once
+returns-in_err-hang_up-clause-live g c = λ settings start from before s. live-next s c.in-Ok.ensures.once
 
 pub returns-in_default-clause-live : goal.returns-in_default-clause-live
-returns-in_default-clause-live g c = λ settings start from before s. live-next s c.in_ok-came.ensures.once
+returns-in_default-clause-live g c = λ settings start from before s. live-next s c.in-Ok.ensures.once
 
 pub returns-in_default-clause-shown : goal.returns-in_default-clause-shown
 returns-in_default-clause-shown g c = λ settings from before s.
-    hung-up (assumption c.law_9.ensures) s (takes-hang_up _ _ _ _ c.in_default.is c.in_ok-came.ensures.takes).0 c.in_ok-hang_up.ensures.shown c.in_ok-hang_up.ensures.anew
+    hung-up (assumption c.law_9.ensures) s (takes-hang_up _ _ _ _ c.in_default.is c.in-Ok.ensures.takes).0 c.in_ok-hang_up.ensures.shown c.in_ok-hang_up.ensures.anew
 
 pub returns-in_default-clause-goes_on : goal.returns-in_default-clause-goes_on
 unfolding returns-in_default-clause-shown
 returns-in_default-clause-goes_on g c = λ yes settings start from before s. record {
   so_far = returns-in_default-clause-shown g c settings from before s.so_far;
-  live = live-next s c.in_ok-came.ensures.once;
-  given = given-next s c.in_ok-came.ensures.once
-      ∙ ap (λ (l : List (Option ℕ)). letters_of s.so_far.ended.gone s.so_far.ended.bytes ++ l) (given-hang_up WatchFault c.in_ok-came.came c.read_chunk.new.chunk c.in_default.is)
+  live = live-next s c.in-Ok.ensures.once;
+  given = given-next s c.in-Ok.ensures.once
+      ∙ ap (λ (l : List (Option ℕ)). letters_of s.so_far.ended.gone s.so_far.ended.bytes ++ l) (given-hang_up WatchFault c.in-Ok.came c.read_chunk.new.chunk c.in_default.is)
       ∙ sym (letters_of-gone s.so_far.ended.gone s.so_far.ended.bytes);
 }
