@@ -1,13 +1,16 @@
 -- Lemmas on text as a string of JSON has it.
-use Rattle.std.proofs.Common.{◌≡◌, ◌<◌, ◌==◌, ◌||◌, nat_lt, true, false, ℕ, List, [], ◌∷◌, ◌++◌, All, IsTrue, Option, length, take, drop, refl, sym, ap, subst, ◌∙◌, arith, chars, IsUtf8, append_assoc, append-nil}
+use Rattle.std.proofs.Common.{◌≡◌, ◌<◌, ◌==◌, ◌||◌, nat_lt, true, false, ℕ, List, [], ◌∷◌, ◌++◌, All, IsTrue, Option, Result, Ok, Err, codes, length, take, drop, refl, sym, ap, subst, ◌∙◌, arith, chars, IsUtf8, append_assoc, append-nil}
 use Rattle.std.specs.Io.KnownBytes.{Appends}
 use Rattle.std.proofs.KnownBytes.{Appends-trans}
+use Rattle.std.proofs.lemmas.Bool.{eq-eqb}
+use Rattle.std.specs.Prelude.{OnOk}
 use Rattle.std.proofs.lemmas.List.{nil_from_length, take-append-drop}
 use Rattle.std.specs.Char.{encode_utf8}
 use Rattle.std.specs.List.{flat_map}
 use Rattle.std.proofs.lemmas.List.Concat.{flat_map-cons}
 use Rattle.std.proofs.lemmas.List.Elements.{All-head, All-tail}
-use Rattle.std.proofs.lemmas.Str.{IsUtf8-past_char, chars-nil, chars_past_char, encode_ascii}
+use Rattle.std.proofs.lemmas.Str.{IsUtf8-past_char, chars-nil, chars_past_char, encode_ascii, utf8_valid_len-IsUtf8}
+use Rattle.cobs_live.specs.Json.{json_text}
 use Rattle.cobs_live.specs.Escaped.{WritesFront, escaped, is_hidden, is_plain_byte, text_escaped}
 
 pub char_escaped : (text rest : List ℕ) (c : ℕ) → IsUtf8 text → text ≡ encode_utf8 c ++ rest → text_escaped text ≡ escaped c ++ text_escaped rest
@@ -62,3 +65,10 @@ front-end {a} {b} {text} {rest} s none =
     let empty : text_escaped rest ≡ [] = ap text_escaped (nil_from_length rest none) ∙ ap (λ (cs : List ℕ). flat_map escaped cs) chars-nil in
     let is : text_escaped text ≡ s.done = s.is ∙ ap (λ (l : List ℕ). s.done ++ l) empty ∙ append-nil s.done in
     subst (λ (l : List ℕ). Appends a b l) (sym is) s.written
+
+-- the text of bytes that are UTF-8, if its last quote was written
+pub quoted : {A E : Type 0} (r : Result A E) (a b c d : Option (List ℕ)) (bytes text : List ℕ) → IsUtf8 bytes → text ≡ bytes → Appends a b (codes ",\"text\":\"") → Appends b c (text_escaped text) → OnOk r (Appends c d (codes "\"")) → OnOk r (Appends a d (json_text bytes))
+quoted (Ok v) a b c d bytes text u is first second third =
+    let escaped = subst (λ (t : List ℕ). Appends b c (text_escaped t)) is second in
+    rw (eq-eqb _ _ (utf8_valid_len-IsUtf8 bytes u)) (Appends-trans a b d (codes ",\"text\":\"") (text_escaped bytes ++ codes "\"") first (Appends-trans b c d (text_escaped bytes) (codes "\"") escaped third))
+quoted (Err e) a b c d bytes text u is first second third = tt

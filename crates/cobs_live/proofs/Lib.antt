@@ -9,4 +9,5 @@ pub mod DumpLemmas
 pub mod RunLemmas
 pub mod SendLemmas
 pub mod EscapeLemmas
+pub mod ComposedLemmas
 pub mod ReadLemmas

@@ -1,5 +1,5 @@
 -- Lemmas on showing the pieces that end in some bytes.
-use Rattle.std.proofs.Common.{◌≡◌, ◌+◌, ◌-◌, ℕ, List, [], ◌∷◌, ◌++◌, length, take, drop, refl, sym, ap, ◌∙◌, subst, append_assoc, append-nil, arith, length-append, length-drop, take-append-drop, take_all, Option}
+use Rattle.std.proofs.Common.{◌≡◌, ◌≤◌, ◌+◌, ◌-◌, ℕ, List, [], ◌∷◌, ◌++◌, length, take, drop, refl, sym, ap, ◌∙◌, subst, append_assoc, append-nil, arith, length-append, length-drop, take-append-drop, take_all, take-take, Option}
 use Rattle.std.proofs.Math.Seq.{take-add}
 use Rattle.std.proofs.KnownBytes.{Appends-nil, Appends-trans}
 use Rattle.std.specs.Io.KnownBytes.{Appends}
@@ -115,10 +115,12 @@ module _ (law : StreamLaw) {view : View} {times : ℕ → Moment} {n : ℕ} {p b
 rest-of : (at : ℕ) (bytes : List ℕ) → take (length bytes - at) (drop at bytes) ≡ drop at bytes
 rest-of at bytes = take_all (length bytes - at) (drop at bytes) (omega (arith, length-drop at bytes))
 
--- the bytes through the end of a piece that was found behind others
-pub take-piece : (at count : ℕ) (bytes : List ℕ) → take (at + count) bytes ≡ take at bytes ++ take count (take (length bytes - at) (drop at bytes))
-take-piece at count bytes = take-add at count bytes ∙ ap (λ (l : List ℕ). take at bytes ++ take count l) (sym (rest-of at bytes))
+-- the first bytes of a part of those behind some
+pub take-part : (at count : ℕ) (bytes part : List ℕ) → part ≡ take (length part) (take (length bytes - at) (drop at bytes)) → count ≤ length part → take (at + count) bytes ≡ take at bytes ++ take count part
+take-part at count bytes part is within =
+    let front : part ≡ take (length part) (drop at bytes) = is ∙ ap (take (length part)) (rest-of at bytes) in
+    take-add at count bytes ∙ ap (λ (l : List ℕ). take at bytes ++ l) (sym (ap (take count) front ∙ take-take count (length part) (drop at bytes) within))
 
 -- and all of them
-pub take-rest : (at : ℕ) (bytes : List ℕ) → take at bytes ++ take (length bytes - at) (drop at bytes) ≡ bytes
-take-rest at bytes = ap (λ (l : List ℕ). take at bytes ++ l) (rest-of at bytes) ∙ take-append-drop at bytes
+pub take-whole_part : (at : ℕ) (bytes part : List ℕ) → part ≡ take (length part) (take (length bytes - at) (drop at bytes)) → take (at + length part) bytes ≡ take at bytes ++ part
+take-whole_part at bytes part is = take-part at (length part) bytes part is (omega arith) ∙ ap (λ (l : List ℕ). take at bytes ++ l) (take_all (length part) part (omega arith))

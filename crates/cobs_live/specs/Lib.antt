@@ -8,6 +8,7 @@ pub mod Dump
 pub mod Capture
 pub mod Escaped
 pub mod Json
+pub mod Composed
 pub mod Shown
 pub mod Reads
 pub mod Watched

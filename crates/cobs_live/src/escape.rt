@@ -53,7 +53,7 @@ fn write_run<'a, W: Write>(output: &mut W, text: &'a str) -> io::Result<&'a str>
 }
 
 /// How many bytes at the front are characters of ASCII that need no escape.
-fn plain_run(text: &str) -> usize
+pub(crate) fn plain_run(text: &str) -> usize
     ensures boundary { IsCharBoundary text.now result }
     ensures plain { All (λ byte. IsTrue (is_plain_byte byte)) (take result text.now) }
 {

@@ -7,6 +7,7 @@
 pub mod capture;
 pub mod checksum;
 pub mod clock;
+mod composed;
 pub mod crc;
 mod dump;
 mod escape;

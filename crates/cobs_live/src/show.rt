@@ -1,6 +1,6 @@
 //! Showing a stream as it comes.
-ghost use Rattle.std.specs.Prelude.{◌≡◌, ◌≢◌, ◌<◌, ◌↔◌, ℕ, List, [], length, take, OnOk, IfOk, IfErr, IsTrue, Option, Ok, Err, false};
-ghost use Rattle.std.specs.Io.KnownBytes.{Keeps};
+ghost use Rattle.std.specs.Prelude.{◌≡◌, ◌≢◌, ◌<◌, ◌≤◌, ◌↔◌, ℕ, List, [], length, take, OnOk, IfOk, IfErr, IsTrue, Option, Ok, Err, false};
+ghost use Rattle.std.specs.Io.KnownBytes.{Appends, Keeps};
 ghost use Rattle.std.specs.Io.Buffered.{writer_buffer, writer_inner};
 ghost use Rattle.cobs.specs.Feed.{DecoderAfter, Idle};
 ghost use Rattle.cobs.specs.Fields.Decoders.{phase_at, phase_of};
@@ -11,19 +11,27 @@ ghost use Rattle.cobs_live.specs.declared.clock.Moment.{Moment};
 ghost use Rattle.cobs_live.specs.declared.shown.Settings.{Settings};
 ghost use Rattle.cobs_live.specs.Live.{HoldsText, ShowsBytes};
 ghost use Rattle.cobs_live.specs.Reads.{IsLive, ReadsOnce, Takes, given};
+ghost use Rattle.cobs_live.specs.Seen.{seen_in};
+ghost use Rattle.cobs_live.specs.Shown.{in_view};
 ghost use Rattle.cobs_live.specs.Timed.{IsReadAt};
 ghost use Rattle.cobs_live.specs.Watched.{HasShown, IsFlushed, begun, skips_on};
 
 use crate::clock::{Timer, Times};
+use crate::composed::Composed;
 use crate::fault::WatchFault;
 use crate::input::{Came, LiveInput};
+use crate::seen::Sight;
 use crate::shown::{Settings, View, show_end, show_hang_up, show_piece, sight_of, with_part};
 use crate::tally::{Counting, Tally};
 use cobs::laws::{law_6, law_9, law_12};
 use cobs::{DecoderPhase, UnbufferedDecoder};
+use cobs_bytes::window::first_zero;
 use std::alloc::{AllocError, Global};
 use std::io::{BufWriter, ErrorKind, Write};
 use std::rt::Clock;
+
+/// Among how many bytes the end of a short frame is looked for.
+const NEAR: usize = 64;
 
 /// How many bytes are read at once, 64 KiB. What a read gives less is shown at once.
 pub const CHUNK_LEN: usize = 65_536;
@@ -326,14 +334,61 @@ fn show_bytes<W: Write>(
 {
     law_9();
     law_12();
+    let mut composed = Composed::new();
     let mut at = 0;
-    'by_piece: while let Some((end, count)) = decoder.feed_piece(message, &bytes[at..]) {
+    'by_part: while at < bytes.len() {
+        let part = front(&bytes[at..]);
+        let Some((end, count)) = decoder.feed_piece(message, part) else {
+            at += part.len();
+            continue;
+        };
         let piece = sight_of(&view.checksum, end, message);
         tally.count_piece(piece.kind);
         let times = clock.advance();
         let piece = with_part(view.partial, &piece, message);
-        show_piece(output, view, tally.pieces, &times, &piece)?;
+        show_at_once(output, &mut composed, view, tally.pieces, &times, &piece)?;
         at += count;
+    }
+    Ok(())
+}
+
+/// The bytes that the decoder is given at once: those through the first zero, if it is near, since a decoder takes a short
+/// frame that it is given alone in one step; else all.
+#[inline(always)]
+fn front(bytes: &[u8]) -> &[u8]
+    requires some { 0 < length bytes.now }
+    ensures some { 0 < length result.now }
+    ensures front { result.now ≡ take (length result.now) bytes.now }
+    ensures within { length result.now ≤ length bytes.now }
+{
+    let near = bytes.len().min(NEAR);
+    let zero = first_zero(&bytes[..near]);
+    if zero < near {
+        &bytes[..zero + 1]
+    } else {
+        bytes
+    }
+}
+
+/// Shows a piece that has this number and these times: in one call of the output, if its text can be composed.
+#[inline(always)]
+fn show_at_once<W: Write>(
+    output: &mut W,
+    composed: &mut Composed,
+    view: &View,
+    number: u64,
+    times: &Times,
+    piece: &Sight<'_>,
+) -> Result<(), WatchFault>
+    ensures shown { OnOk result (Appends (W.contents output.old) (W.contents output.new)
+        (in_view view.now number times.now (seen_in piece.now))) }
+    ensures fault { IfErr result
+        (λ fault. (fault ≢ WatchFault.ReadFailed) × (fault ≢ WatchFault.OutOfMemory)) }
+{
+    if composed.compose(view, number, times, piece) {
+        output.write_all(composed.text())?;
+    } else {
+        show_piece(output, view, number, times, piece)?;
     }
     Ok(())
 }

@@ -183,7 +183,7 @@ pub fn with_part<'a>(partial: bool, piece: &Sight<'a>, buffer: &'a [u8]) -> Sigh
 
 impl Filter {
     /// Returns whether a piece is shown.
-    fn passes(&self, piece: &Sight<'_>) -> bool
+    pub(crate) fn passes(&self, piece: &Sight<'_>) -> bool
         ensures passes { result ≡ passes self.now (seen_in piece.now) }
     {
         self.has_kind(piece.kind)

@@ -1,35 +1,47 @@
-use Rattle.std.proofs.Common.{◌-◌, ℕ, List, length, take, drop, refl, ap, sym, ◌∙◌, arith, length-take, length-drop}
+use Rattle.std.proofs.Common.{◌≡◌, ◌+◌, ◌-◌, ◌++◌, ℕ, List, length, take, drop, refl, ap, sym, ◌∙◌, arith, length-take, length-drop, take_all}
 use Rattle.cobs.specs.FeedPiece.{outcome_at}
 use Rattle.cobs_live.specs.Seen.{Seen, seen_in}
 use Rattle.cobs_live.proofs.PartLemmas.{IsLastPiece-taken}
-use Rattle.cobs_live.proofs.ShowLemmas.{ShowsBytes-start, ShowsBytes-piece, ShowsBytes-rest, shown_now, take-piece, take-rest}
+use Rattle.cobs_live.proofs.ShowLemmas.{ShowsBytes-start, ShowsBytes-piece, ShowsBytes-rest, shown_now, take-part, take-whole_part}
 use Rattle.cobs_live.proofs.TimeLemmas.{IsReadAt-next}
 use Rattle.cobs_live.proofs.show.show_bytes.Goals as goal
 
-pub by_piece-init : goal.by_piece-init
-by_piece-init g c = record { within = omega arith; len = refl; so_far = λ p d gone read t times r. ShowsBytes-start (assumption c.law_9.ensures) _ times p _ _ gone read _ _ _ d t r }
+pub by_part-init : goal.by_part-init
+by_part-init g c = record { within = omega arith; len = refl; so_far = λ p d gone read t times r. ShowsBytes-start (assumption c.law_9.ensures) _ times p _ _ gone read _ _ _ d t r }
 
-pub by_piece-preserved : goal.by_piece-preserved
-by_piece-preserved g c =
+pub by_part-preserved : goal.by_part-preserved
+by_part-preserved g c =
     let h = c.in-Some.ensures.takes in
-    let at : ℕ = c.by_piece.at in
+    let at : ℕ = c.by_part.at in
     let count : ℕ = c.in-Some.count in
-    let stream : List ℕ = take (length c.args.bytes.now - at) (drop at c.args.bytes.now) in
+    let part : List ℕ = c.front-part.result.now in
+    let is : take (at + count) c.args.bytes.now ≡ take at c.args.bytes.now ++ take count part = take-part at count c.args.bytes.now part c.front-part.ensures.front h.within.0 in
     record {
-      within = omega (arith, h.within.0, length-take (length c.args.bytes.now - at) (drop at c.args.bytes.now), length-drop at c.args.bytes.now, c.by_piece.invariant.within);
-      len = h.takes.len ∙ c.by_piece.invariant.len;
+      within = omega (arith, h.within.0, c.front-part.ensures.within, c.by_part.invariant.within, length-take (length c.args.bytes.now - at) (drop at c.args.bytes.now), length-drop at c.args.bytes.now);
+      len = h.takes.len ∙ c.by_part.invariant.len;
       so_far = λ p d gone read t times r.
-          (let s = c.by_piece.invariant.so_far p d gone read t times r in
+          (let s = c.by_part.invariant.so_far p d gone read t times r in
           let counted = c.count_piece.ensures.one_more _ _ _ (outcome_at c.in-Some.end c.feed_piece.new.dest) (sym (ap (λ (seen : Seen). seen.kind) c.sight_of-piece.ensures.seen)) s.tallied in
           let last = IsLastPiece-taken (assumption c.law_9.ensures) c.law_12.ensures.last_ended h _ s.taken c.args.view.now.checksum c.args.view.now.partial (seen_in c.sight_of-piece.result) c.sight_of-piece.ensures.seen in
-          rw (take-piece at count c.args.bytes.now) (ShowsBytes-piece (assumption c.law_9.ensures) s (take count stream) (outcome_at c.in-Some.end c.feed_piece.new.dest) last.piece h.takes.len (h.takes.after _ s.taken) (h.takes.outcomes _ s.taken) last.ended
-          (shown_now c.args.view.now times _ _ _ _ _ _ _ _ last.piece (c.with_part-piece.ensures.seen ∙ last.seen_so) counted s.timed (rw c.advance-times.ensures.times at c.in_ok-show_piece.ensures.shown)) counted
+          rw is (ShowsBytes-piece (assumption c.law_9.ensures) s (take count part) (outcome_at c.in-Some.end c.feed_piece.new.dest) last.piece h.takes.len (h.takes.after _ s.taken) (h.takes.outcomes _ s.taken) last.ended
+          (shown_now c.args.view.now times _ _ _ _ _ _ _ _ last.piece (c.with_part-piece.ensures.seen ∙ last.seen_so) counted s.timed (rw c.advance-times.ensures.times at c.in_ok-show_at_once.ensures.shown)) counted
           (IsReadAt-next times _ _ _ _ s.timed c.advance-times.ensures.last c.advance-times.ensures.next)));
+    }
+
+pub by_part-preserved-in_default : goal.by_part-preserved-in_default
+by_part-preserved-in_default g c =
+    let h = c.in_default.ensures.takes in
+    let at : ℕ = c.by_part.at in
+    let part : List ℕ = c.front-part.result.now in
+    let is : take (at + length part) c.args.bytes.now ≡ take at c.args.bytes.now ++ part = take-whole_part at c.args.bytes.now part c.front-part.ensures.front in
+    record {
+      within = omega (arith, c.front-part.ensures.within, c.by_part.invariant.within, length-take (length c.args.bytes.now - at) (drop at c.args.bytes.now), length-drop at c.args.bytes.now);
+      len = h.takes.len ∙ c.by_part.invariant.len;
+      so_far = λ p d gone read t times r.
+          (let s = c.by_part.invariant.so_far p d gone read t times r in
+          rw is (ShowsBytes-rest (assumption c.law_9.ensures) s part h.takes.len (h.takes.after _ s.taken) (h.takes.outcomes _ s.taken)));
     }
 
 pub returns-clause-shown : goal.returns-clause-shown
 returns-clause-shown g c = λ p d gone read t times r.
-    let h = c.in_default.ensures.takes in
-    let s = c.by_piece.invariant.so_far p d gone read t times r in
-    let all = ShowsBytes-rest (assumption c.law_9.ensures) s (take (length c.args.bytes.now - c.by_piece.at) (drop c.by_piece.at c.args.bytes.now)) h.takes.len (h.takes.after _ s.taken) (h.takes.outcomes _ s.taken) in
-    rw (take-rest c.by_piece.at c.args.bytes.now) at all
+    rw (take_all c.by_part.at c.args.bytes.now (omega arith)) at (c.by_part.invariant.so_far p d gone read t times r)

@@ -8,13 +8,13 @@ use Rattle.cobs_live.specs.Timed.{IsReadAt}
 use Rattle.cobs_live.specs.declared.clock.Moment.{Moment}
 use Rattle.cobs_live.proofs.show.show_bytes.Given as goal
 
-abbrev pub invariant-by_piece : goal.invariant-by_piece
-invariant-by_piece g l = record {
+abbrev pub invariant-by_part : goal.invariant-by_part
+invariant-by_part g l = record {
   within : l.at ≤ length l.bytes;
   len : length l.message ≡ length l.fn.message;
   so_far : (p : List ℕ) → DecoderAfter l.fn.message (phase_of l.fn.decoder) p → (gone : List Outcome) (read : ℕ) → IsTallyOf l.view.checksum l.fn.tally gone read →
       (times : ℕ → Moment) → IsReadAt times (length gone) l.fn.clock → ShowsBytes l.view times (length l.fn.message) p (take l.at l.bytes) gone read l.message (phase_of l.decoder) (g.W.Write.contents l.fn.output) (g.W.Write.contents l.output) l.tally l.clock;
 }
 
-abbrev pub decreases-by_piece : goal.decreases-by_piece
-decreases-by_piece g l = length l.bytes - l.at
+abbrev pub decreases-by_part : goal.decreases-by_part
+decreases-by_part g l = length l.bytes - l.at

@@ -1,0 +1,11 @@
+use Rattle.std.proofs.Common.{◌≡◌, length, arith, rules}
+use Rattle.cobs_live.proofs.EscapeLemmas.{front-end, front-more}
+use Rattle.cobs_live.proofs.composed.Composed.put_escaped.Goals as goal
+
+pub by_run-preserved : goal.by_run-preserved
+by_run-preserved c = (search rules, front-more c.by_run.invariant.1 c.in_ok-rest.ensures.put)
+
+pub returns : goal.returns
+returns c =
+    let none : length c.by_run.rest.now ≡ 0 = grind (arith, c.is_empty.ensures, c.by_run-test.false) in
+    record { put = front-end c.by_run.invariant.1 none }

@@ -1,0 +1,7 @@
+use Rattle.cobs_live.proofs.EscapeLemmas.{quoted}
+use Rattle.cobs_live.proofs.composed.Composed.put_text.Goals as goal
+
+pub returns : goal.returns
+returns c = record {
+  put = quoted c.put-2.result _ _ _ _ _ _ c.in-Ok.ensures.cases.1 c.in-Ok.ensures.cases.0 c.in_ok-put.ensures.put c.in_ok-put_escaped.ensures.put c.put-2.ensures.put;
+}
