@@ -285,11 +285,7 @@ pub(crate) fn append_rest(
 /// Takes bytes one by one while more than one is left and the next one can't fill the open block. Returns how many these are,
 /// and how far the frame has come.
 #[inline(always)]
-fn append_parts(
-    source: &[u8],
-    dest: &mut [u8],
-    start: EncoderProgress,
-) -> (usize, EncoderProgress)
+fn append_parts(source: &[u8], dest: &mut [u8], start: EncoderProgress) -> (usize, EncoderProgress)
     requires some { 0 < length source.now }
     requires place { IsPlaceIn (length dest.old) (reached_at start) }
     requires fits { end_after (reached_at start) source.now ≤ length dest.old }
@@ -312,11 +308,7 @@ fn append_parts(
 /// that the next byte may fill. There the caller goes on by slices. Returns how many bytes these are, and how far the frame has
 /// come.
 #[inline(always)]
-fn append_front(
-    source: &[u8],
-    dest: &mut [u8],
-    start: EncoderProgress,
-) -> (usize, EncoderProgress)
+fn append_front(source: &[u8], dest: &mut [u8], start: EncoderProgress) -> (usize, EncoderProgress)
     requires some { 0 < length source.now }
     requires place { IsPlaceIn (length dest.old) (reached_at start) }
     requires fits { end_after (reached_at start) source.now ≤ length dest.old }
