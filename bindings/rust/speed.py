@@ -1,8 +1,10 @@
 #!/usr/bin/env python3
 """Prints the table of speeds for README.md from what bench/run.sh has measured: speed.py CSV.. -- CSV..
 
-The files after the two dashes are of programs with link-time optimization. Of each measurement the best one counts.
+The files after the two dashes are of programs with link-time optimization. Of each measurement the best one counts. A line of
+a file has a speed for each implementation, in the order of WHO in bench/src/calls.rs.
 """
+import re
 import statistics
 import sys
 from pathlib import Path
@@ -17,6 +19,9 @@ NAMES = {
     "tried encoder 1": "errors by `?`: `CobsEncoder::push` of 1 byte", "tried encoder 4": "of 4 bytes", "tried encoder 8": "of 8 bytes",
     "encoder state": "`EncoderState::push`",
 }  # fmt: skip
+CALLS = Path(__file__).resolve().parents[2] / "bench/src/calls.rs"
+WHO = re.findall(r'"(.*?)"', re.search(r"pub const WHO: .*?=\s*\[(.*?)\];", CALLS.read_text(), re.S)[1])
+PLACES = [WHO.index(name) for name in ("libjcobs", "jcobs", "cobs")]
 
 
 def best(files):
@@ -25,7 +30,7 @@ def best(files):
     for file in files:
         for line in Path(file).read_text().splitlines():
             call, kind, *speeds = line.split(";")
-            speeds = [float(speed) if speed != "-" else 0.0 for speed in speeds[:3]]
+            speeds = [float(speeds[at]) if speeds[at] != "-" else 0.0 for at in PLACES]
             found[call, kind] = [max(pair) for pair in zip(speeds, found.get((call, kind), speeds))]
     return found
 
