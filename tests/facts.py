@@ -21,7 +21,7 @@ FIGURES = [
     (r"which checks less, ([\d,]+)\.", DEVICE, "target | of | feed", "Cortex-M4 | by hand", "receive and send"),
     (r"messages of 20 to 64 bytes at ([\d,]+) MB/s", SPEEDS, "`libjcobs`, MB/s", "telemetry", "decode"),
     (r"and `jcobs\.c` at ([\d,]+) MB/s", SPEEDS, "`jcobs.c` by `cc -O2`, MB/s", "telemetry", "decode"),
-    (r"fed single bytes, `libjcobs` takes ([\d,]+) MB/s", SPEEDS, "`libjcobs`, MB/s", "telemetry", "feed"),
+    (r"fed single bytes, `libjcobs` runs at ([\d,]+) MB/s", SPEEDS, "`libjcobs`, MB/s", "telemetry", "feed"),
 ]
 
 
