@@ -5,6 +5,7 @@ ghost use Rattle.cobs.specs.Length.{encoded_len};
 ghost use Rattle.cobs.specs.Sentinel.{IsEncodedFrameFor};
 
 mod blocks;
+mod each;
 mod encoder;
 mod in_place;
 mod progress;
@@ -20,6 +21,7 @@ use crate::error::DestBufTooSmallError;
 use blocks::{append, append_short, close};
 use cobs_bytes::lanes::xor_bytes;
 use cobs_bytes::window::WINDOW;
+pub use each::try_encode_each;
 pub use encoder::CobsEncoder;
 pub use in_place::encode_in_place;
 pub use progress::EncoderProgress;

@@ -79,8 +79,8 @@ pub use dec::{
 pub use enc::{
     CobsEncoder, EncoderProgress, EncoderState, PushResult, UnbufferedEncoder, encode,
     encode_in_place, encode_including_sentinels, encode_vec, encode_vec_including_sentinels,
-    encode_vec_with_sentinel, encode_with_sentinel, try_encode, try_encode_including_sentinels,
-    try_encode_with_sentinel,
+    encode_vec_with_sentinel, encode_with_sentinel, try_encode, try_encode_each,
+    try_encode_including_sentinels, try_encode_with_sentinel,
 };
 pub use error::{
     DecodeError, DecodeReport, DecodeVecError, DecodingResult, DestBufTooSmallError, PushError,

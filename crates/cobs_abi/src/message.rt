@@ -1,22 +1,22 @@
 //! A whole message to its frame.
-ghost use Rattle.cobs_abi.specs.Encode.{Encodes};
+ghost use Rattle.std.specs.Prelude.{◌≡◌, ◌≤◌, ◌<◌, length, take, drop};
+ghost use Rattle.cobs.specs.Length.{encoded_len};
+ghost use Rattle.cobs_abi.specs.Frames.{IsFrameOnWire};
 
-use crate::answer::{Answer, done, too_small};
-use cobs::UnbufferedEncoder;
-use cobs::laws::law_4;
+use cobs::try_encode_each;
 
-/// Writes the frame of the message to the front of the buffer, if it fits. Otherwise nothing is written.
-#[inline]
-pub fn encode_message(message: &[u8], buffer: &mut [u8]) -> Answer
-    ensures encodes { Encodes message.now buffer.old result buffer.new }
+/// Writes the frame of the message to the front of the buffer, if it fits, and returns its length in bytes. Otherwise it
+/// returns 0, and nothing is written.
+// It returns a number, since a `Result` takes more code in each call.
+#[inline(never)]
+pub fn write_frame(message: &[u8], buffer: &mut [u8]) -> usize
+    ensures fits { encoded_len message.now ≤ length buffer.old → result ≡ encoded_len message.now }
+    ensures wanted { encoded_len message.now ≤ length buffer.old → IsFrameOnWire (take result buffer.new) message.now }
+    ensures too_small { length buffer.old < encoded_len message.now → result ≡ 0 }
+    ensures rest { drop result buffer.new ≡ drop result buffer.old }
 {
-    law_4();
-    let mut encoder = UnbufferedEncoder::new();
-    if encoder.push_each(buffer, message).is_err() {
-        return too_small();
-    }
-    match encoder.finalize(buffer) {
-        Ok(length) => done(message.len(), length),
-        Err(_) => too_small(),
+    match try_encode_each(message, buffer) {
+        Ok(length) => length,
+        Err(_) => 0,
     }
 }

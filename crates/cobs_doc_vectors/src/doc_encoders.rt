@@ -7,8 +7,8 @@ use cobs::{
     CobsDecoder, CobsEncoder, DestBufTooSmallError, EncoderState, PushResult, UnbufferedEncoder,
     decode, encode, encode_in_place, encode_including_sentinels, encode_vec,
     encode_vec_including_sentinels, encode_vec_with_sentinel, encode_with_sentinel,
-    max_encoding_length, max_encoding_overhead, try_encode, try_encode_including_sentinels,
-    try_encode_with_sentinel,
+    max_encoding_length, max_encoding_overhead, try_encode, try_encode_each,
+    try_encode_including_sentinels, try_encode_with_sentinel,
 };
 use std::test::Fail;
 
@@ -65,6 +65,18 @@ fn try_encode_example(rt: HostRuntime) {
     assert_eq!(rt; try_encode(b"hello", &mut dest), Err(DestBufTooSmallError));
     assert_eq!(rt; dest, [170; 5]);
     assert_eq!(rt; try_encode(b"hell", &mut dest), Ok(5));
+    assert_eq!(rt; &dest, b"\x05hell");
+}
+
+#[test]
+fn try_encode_each_example(rt: HostRuntime) {
+    let mut dest = [170; 5];
+    assert_eq!(rt;
+        try_encode_each(b"hello", &mut dest),
+        Err(DestBufTooSmallError)
+    );
+    assert_eq!(rt; dest, [170; 5]);
+    assert_eq!(rt; try_encode_each(b"hell", &mut dest), Ok(5));
     assert_eq!(rt; &dest, b"\x05hell");
 }
 

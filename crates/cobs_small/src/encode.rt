@@ -4,7 +4,7 @@ ghost use Rattle.cobs.specs.Length.{max_encoded_len};
 ghost use Rattle.cobs_abi.specs.Encode.{Encodes, EncodesInPlace, EncodesTerminated};
 
 use cobs::max_encoding_overhead;
-use cobs_abi::{Answer, OK, done, encode_message, encode_within, too_small};
+use cobs_abi::{Answer, done, encode_within, too_small, write_frame};
 
 /// Returns how many bytes the longest frame of a message of `message_len` bytes has, or 0 if that number doesn't fit.
 #[unsafe(no_mangle)]
@@ -22,7 +22,11 @@ pub extern "C" fn jcobs_max_length(message_len: usize) -> usize
 pub extern "C" fn jcobs_encode(message: &[u8], frame: &mut [u8]) -> Answer
     ensures encodes { Encodes message.now frame.old result frame.new }
 {
-    encode_message(message, frame)
+    let length = write_frame(message, frame);
+    if length == 0 {
+        return too_small();
+    }
+    done(message.len(), length)
 }
 
 /// Writes the frame of the message and a zero after it to the front of the buffer `frame`, if both fit. Otherwise nothing
@@ -35,12 +39,12 @@ pub extern "C" fn jcobs_encode_terminated(message: &[u8], frame: &mut [u8]) -> A
         return too_small();
     }
     let last = frame.len() - 1;
-    let returned = jcobs_encode(message, &mut frame[..last]);
-    if returned.status != OK {
-        return returned;
+    let length = write_frame(message, &mut frame[..last]);
+    if length == 0 {
+        return too_small();
     }
-    frame[returned.length] = 0;
-    done(returned.consumed, returned.length + 1)
+    frame[length] = 0;
+    done(message.len(), length + 1)
 }
 
 /// Encodes the message of `message_len` bytes that lies in the buffer, behind the room for the longest frame's other bytes,

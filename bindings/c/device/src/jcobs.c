@@ -459,22 +459,6 @@ size_t jcobs_max_length(size_t message_len)
     return jcobs_sum_or(message_len, jcobs_max_encoding_overhead(message_len), 0);
 }
 
-/* Makes an encoder that has taken nothing yet, for a buffer of one byte at least: the frame of the empty message
- * has one. */
-static jcobs_encoder jcobs_encoder_new(void)
-{
-    return jcobs_encoder_of(0, 0, 0);
-}
-
-/* Whether a frame can have come so far in a buffer of this length. */
-static JCOBS_INLINE int jcobs_encoder_is_within(const jcobs_encoder *encoder, size_t len)
-{
-    if (253 < encoder->taken || len < encoder->index) {
-        return 0;
-    }
-    return encoder->full != 0 || (size_t)encoder->taken < len - encoder->index;
-}
-
 /* Whether spare bytes cover the overhead of every message of len bytes: whether len is at most 254 times spare. It
  * needs no division, for which small processors have no instruction, and no product is too large: for each 256
  * bytes of len, 254 are taken from both sides first. */
@@ -529,6 +513,13 @@ static int jcobs_has_room(unsigned char code, const unsigned char *bytes, size_t
     return jcobs_covers_overhead(held + bytes_len, spare) || jcobs_fits_each(code, bytes, bytes_len, room);
 }
 
+/* Makes an encoder that has taken nothing yet, for a buffer of one byte at least: the frame of the empty message
+ * has one. */
+static jcobs_encoder jcobs_encoder_new(void)
+{
+    return jcobs_encoder_of(0, 0, 0);
+}
+
 /* Takes the next byte of the message, for which there is room. */
 static JCOBS_INLINE void jcobs_encoder_append_byte(jcobs_encoder *encoder, unsigned char *dest, unsigned char byte)
 {
@@ -554,43 +545,6 @@ static JCOBS_INLINE void jcobs_encoder_append_byte(jcobs_encoder *encoder, unsig
     }
 }
 
-/* Takes the next bytes of the message, for which there is room, one at a time. */
-static JCOBS_INLINE void jcobs_encoder_append_each(jcobs_encoder *self, unsigned char *dest, const unsigned char *bytes,
-                                                   size_t bytes_len)
-{
-    /* A copy, so that the numbers stay in registers. */
-    jcobs_encoder encoder = *self;
-    for (size_t i = 0; i < bytes_len; i++) {
-        jcobs_encoder_append_byte(&encoder, dest, bytes[i]);
-    }
-    self->index = encoder.index;
-    self->taken = encoder.taken;
-    self->full = encoder.full;
-}
-
-/* Takes the next bytes of the message, one at a time. */
-static int jcobs_encoder_push_each(jcobs_encoder *encoder, unsigned char *dest, size_t dest_len,
-                                   const unsigned char *bytes, size_t bytes_len)
-{
-    if (!jcobs_encoder_is_within(encoder, dest_len)) {
-        return 0;
-    }
-    if (bytes_len == 0) {
-        return 1;
-    }
-    if (!jcobs_has_room((unsigned char)(encoder->taken + 1), bytes, bytes_len, dest_len - encoder->index)) {
-        return 0;
-    }
-    jcobs_encoder_append_each(encoder, dest, bytes, bytes_len);
-    return 1;
-}
-
-/* The result of a call that took and left nothing, since the buffer is too short. */
-static jcobs_answer jcobs_too_small(void)
-{
-    return jcobs_answered(JCOBS_TOO_SMALL, 0, 0);
-}
-
 /* Writes the open block's code, if that is part of the frame, and returns where the frame ends. Its place is free
  * before. */
 static JCOBS_INLINE size_t jcobs_close(unsigned char *dest, size_t dest_len, jcobs_progress progress)
@@ -613,40 +567,39 @@ static jcobs_progress jcobs_encoder_progress(const jcobs_encoder *encoder)
     return jcobs_progress_of(encoder->index, (unsigned char)(encoder->taken + 1), encoder->full != 0);
 }
 
-/* Makes the encoder one that has taken nothing. */
-static void jcobs_encoder_reset_inside(jcobs_encoder *encoder)
+/* Does what try_encode does, one byte at a time: in less code and more time, for small devices. It reads the
+ * message twice only if dest is shorter than the longest frame of a message of that length. (A choice of this
+ * library.) */
+static JCOBS_INLINE jcobs_outcome jcobs_try_encode_each(const unsigned char *source, size_t source_len,
+                                                        unsigned char *dest, size_t dest_len)
 {
-    encoder->index = 0;
-    encoder->taken = 0;
-    encoder->full = 0;
-}
-
-/* Ends the message, and returns the length of its encoded frame in bytes. The buffer begins with that frame, and
- * the encoder has taken nothing. Every byte after the frame is as it was. */
-static jcobs_outcome jcobs_encoder_finalize(jcobs_encoder *encoder, unsigned char *dest, size_t dest_len)
-{
-    if (!jcobs_encoder_is_within(encoder, dest_len)) {
+    if (!jcobs_has_room(1, source, source_len, dest_len)) {
         return jcobs_outcome_of(JCOBS_IS_DEST_BUF_TOO_SMALL_ERROR, 0);
     }
-    size_t len = jcobs_close(dest, dest_len, jcobs_encoder_progress(encoder));
-    jcobs_encoder_reset_inside(encoder);
-    return jcobs_outcome_of(JCOBS_IS_OK, len);
+    jcobs_encoder encoder = jcobs_encoder_new();
+    for (size_t i = 0; i < source_len; i++) {
+        jcobs_encoder_append_byte(&encoder, dest, source[i]);
+    }
+    return jcobs_outcome_of(JCOBS_IS_OK, jcobs_close(dest, dest_len, jcobs_encoder_progress(&encoder)));
 }
 
-/* Writes the frame of the message to the front of the buffer, if it fits. Otherwise nothing is written. */
-static jcobs_answer jcobs_encode_message(const unsigned char *message, size_t message_len, unsigned char *buffer,
-                                         size_t buffer_len)
+/* Writes the frame of the message to the front of the buffer, if it fits, and returns its length in bytes.
+ * Otherwise it returns 0, and nothing is written. */
+static JCOBS_NOINLINE size_t jcobs_write_frame(const unsigned char *message, size_t message_len, unsigned char *buffer,
+                                               size_t buffer_len)
 {
-    jcobs_encoder encoder = jcobs_encoder_new();
+    jcobs_outcome found = jcobs_try_encode_each(message, message_len, buffer, buffer_len);
 
-    if (!jcobs_encoder_push_each(&encoder, buffer, buffer_len, message, message_len)) {
-        return jcobs_too_small();
-    }
-    jcobs_outcome found = jcobs_encoder_finalize(&encoder, buffer, buffer_len);
     if (found.kind == JCOBS_IS_OK) {
-        return jcobs_done(message_len, found.count);
+        return found.count;
     }
-    return jcobs_too_small();
+    return 0;
+}
+
+/* The result of a call that took and left nothing, since the buffer is too short. */
+static jcobs_answer jcobs_too_small(void)
+{
+    return jcobs_answered(JCOBS_TOO_SMALL, 0, 0);
 }
 
 /* Writes the frame of the message to the front of the buffer frame, if it fits. Otherwise nothing is written.
@@ -654,7 +607,12 @@ static jcobs_answer jcobs_encode_message(const unsigned char *message, size_t me
  * were; if it doesn't, the status is TOO_SMALL, and the buffer is as it was. */
 jcobs_answer jcobs_encode(const void *message, size_t message_len, void *frame, size_t frame_len)
 {
-    return jcobs_encode_message((const unsigned char *)message, message_len, (unsigned char *)frame, frame_len);
+    size_t length = jcobs_write_frame((const unsigned char *)message, message_len, (unsigned char *)frame, frame_len);
+
+    if (length == 0) {
+        return jcobs_too_small();
+    }
+    return jcobs_done(message_len, length);
 }
 
 /* Writes the frame of the message and a zero after it to the front of the buffer frame, if both fit. Otherwise
@@ -669,12 +627,12 @@ jcobs_answer jcobs_encode_terminated(const void *message, size_t message_len, vo
         return jcobs_too_small();
     }
     size_t last = frame_len - 1;
-    jcobs_answer returned = jcobs_encode((const unsigned char *)message, message_len, to, last);
-    if (returned.status != JCOBS_OK) {
-        return jcobs_answered(returned.status, returned.consumed, returned.length);
+    size_t length = jcobs_write_frame((const unsigned char *)message, message_len, to, last);
+    if (length == 0) {
+        return jcobs_too_small();
     }
-    to[returned.length] = 0;
-    return jcobs_done(returned.consumed, returned.length + 1);
+    to[length] = 0;
+    return jcobs_done(message_len, length + 1);
 }
 
 /* Encodes a message in its own buffer, and returns the length of its frame in bytes. */
@@ -719,6 +677,46 @@ void jcobs_encoder_reset(jcobs_encoder *encoder)
     encoder->index = 0;
     encoder->taken = 0;
     encoder->full = 0;
+}
+
+/* Whether a frame can have come so far in a buffer of this length. */
+static JCOBS_INLINE int jcobs_encoder_is_within(const jcobs_encoder *encoder, size_t len)
+{
+    if (253 < encoder->taken || len < encoder->index) {
+        return 0;
+    }
+    return encoder->full != 0 || (size_t)encoder->taken < len - encoder->index;
+}
+
+/* Takes the next bytes of the message, for which there is room, one at a time. */
+static JCOBS_INLINE void jcobs_encoder_append_each(jcobs_encoder *self, unsigned char *dest, const unsigned char *bytes,
+                                                   size_t bytes_len)
+{
+    /* A copy, so that the numbers stay in registers. */
+    jcobs_encoder encoder = *self;
+    for (size_t i = 0; i < bytes_len; i++) {
+        jcobs_encoder_append_byte(&encoder, dest, bytes[i]);
+    }
+    self->index = encoder.index;
+    self->taken = encoder.taken;
+    self->full = encoder.full;
+}
+
+/* Takes the next bytes of the message, one at a time. */
+static int jcobs_encoder_push_each(jcobs_encoder *encoder, unsigned char *dest, size_t dest_len,
+                                   const unsigned char *bytes, size_t bytes_len)
+{
+    if (!jcobs_encoder_is_within(encoder, dest_len)) {
+        return 0;
+    }
+    if (bytes_len == 0) {
+        return 1;
+    }
+    if (!jcobs_has_room((unsigned char)(encoder->taken + 1), bytes, bytes_len, dest_len - encoder->index)) {
+        return 0;
+    }
+    jcobs_encoder_append_each(encoder, dest, bytes, bytes_len);
+    return 1;
 }
 
 /* Returns where the frame ends that an encoder has written so far. */
@@ -780,6 +778,26 @@ static jcobs_answer jcobs_encode_byte(jcobs_encoder *encoder, unsigned char *buf
 jcobs_answer jcobs_encoder_feed(jcobs_encoder *encoder, void *buffer, size_t buffer_len, unsigned char byte)
 {
     return jcobs_encode_byte(encoder, (unsigned char *)buffer, buffer_len, byte);
+}
+
+/* Makes the encoder one that has taken nothing. */
+static void jcobs_encoder_reset_inside(jcobs_encoder *encoder)
+{
+    encoder->index = 0;
+    encoder->taken = 0;
+    encoder->full = 0;
+}
+
+/* Ends the message, and returns the length of its encoded frame in bytes. The buffer begins with that frame, and
+ * the encoder has taken nothing. Every byte after the frame is as it was. */
+static jcobs_outcome jcobs_encoder_finalize(jcobs_encoder *encoder, unsigned char *dest, size_t dest_len)
+{
+    if (!jcobs_encoder_is_within(encoder, dest_len)) {
+        return jcobs_outcome_of(JCOBS_IS_DEST_BUF_TOO_SMALL_ERROR, 0);
+    }
+    size_t len = jcobs_close(dest, dest_len, jcobs_encoder_progress(encoder));
+    jcobs_encoder_reset_inside(encoder);
+    return jcobs_outcome_of(JCOBS_IS_OK, len);
 }
 
 /* Ends the message, if its frame fits the buffer. */

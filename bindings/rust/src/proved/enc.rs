@@ -2,6 +2,7 @@
 //! Encoding: from messages to frames.
 
 pub(crate) mod blocks;
+pub(crate) mod each;
 pub(crate) mod encoder;
 pub(crate) mod in_place;
 pub(crate) mod progress;
@@ -17,6 +18,7 @@ use crate::proved::cobs_bytes::lanes::xor_bytes;
 use crate::proved::cobs_bytes::window::WINDOW;
 use crate::proved::error::DestBufTooSmallError;
 use blocks::{append, append_short, close};
+pub use each::try_encode_each;
 pub use encoder::CobsEncoder;
 pub use in_place::encode_in_place;
 pub use progress::EncoderProgress;

@@ -77,7 +77,7 @@ pub use dec::{
 pub use dec::{CobsDecoderOwned, decode_vec, decode_vec_with_sentinel};
 pub use enc::{
     CobsEncoder, EncoderProgress, EncoderState, PushResult, UnbufferedEncoder, encode,
-    encode_in_place, encode_including_sentinels, encode_with_sentinel, try_encode,
+    encode_in_place, encode_including_sentinels, encode_with_sentinel, try_encode, try_encode_each,
     try_encode_including_sentinels, try_encode_with_sentinel,
 };
 #[cfg(feature = "alloc")]

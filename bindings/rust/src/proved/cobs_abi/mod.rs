@@ -14,4 +14,4 @@ pub use answer::{Answer, BROKEN, EMPTY, MORE, OK, TOO_SMALL, done, result_by, to
 pub use decoding::{decode_byte, decode_each, result_of};
 pub use encoding::{encode_byte, encode_each, encode_within, end_of, finish, finish_terminated};
 pub use kind::{CANONICAL, LONGER, NOT_A_FRAME};
-pub use message::encode_message;
+pub use message::write_frame;

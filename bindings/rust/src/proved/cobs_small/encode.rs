@@ -1,7 +1,7 @@
 // Made by bindings/rust/translate.py from `crates/cobs_small/src/encode.rt`: change that file, and run it again.
 //! Whole messages to frames, and how long these are at most.
 
-use crate::proved::cobs_abi::{Answer, OK, done, encode_message, encode_within, too_small};
+use crate::proved::cobs_abi::{Answer, done, encode_within, too_small, write_frame};
 use crate::proved::max_encoding_overhead;
 
 /// Returns how many bytes the longest frame of a message of `message_len` bytes has, or 0 if that number doesn't fit.
@@ -13,7 +13,11 @@ pub fn jcobs_max_length(message_len: usize) -> usize {
 
 /// Writes the frame of the message to the front of the buffer `frame`, if it fits. Otherwise nothing is written.
 pub fn jcobs_encode(message: &[u8], frame: &mut [u8]) -> Answer {
-    encode_message(message, frame)
+    let length = write_frame(message, frame);
+    if length == 0 {
+        return too_small();
+    }
+    done(message.len(), length)
 }
 
 /// Writes the frame of the message and a zero after it to the front of the buffer `frame`, if both fit. Otherwise nothing
@@ -23,12 +27,12 @@ pub fn jcobs_encode_terminated(message: &[u8], frame: &mut [u8]) -> Answer {
         return too_small();
     }
     let last = frame.len() - 1;
-    let returned = jcobs_encode(message, &mut frame[..last]);
-    if returned.status != OK {
-        return returned;
+    let length = write_frame(message, &mut frame[..last]);
+    if length == 0 {
+        return too_small();
     }
-    frame[returned.length] = 0;
-    done(returned.consumed, returned.length + 1)
+    frame[length] = 0;
+    done(message.len(), length + 1)
 }
 
 /// Encodes the message of `message_len` bytes that lies in the buffer, behind the room for the longest frame's other bytes,
