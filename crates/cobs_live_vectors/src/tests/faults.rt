@@ -252,7 +252,11 @@ fn a_frame_that_a_failed_read_cuts_is_no_message(rt: HostRuntime) -> Result<(), 
                 &mut Vec::new(alloc),
             );
             assert_eq!(rt; shown, Err(WatchFault::ReadFailed));
-            let unfinished = if cut == 0 { 0 } else { begun.len().saturating_sub(idle.len()) };
+            let unfinished = if cut == 0 {
+                0
+            } else {
+                begun.len().saturating_sub(idle.len())
+            };
             assert_eq!(rt; output.get_ref().as_slice(), &begun[..unfinished]);
         }
     }
