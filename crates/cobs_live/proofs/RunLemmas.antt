@@ -23,7 +23,7 @@ use Rattle.cobs_live.specs.declared.input.Came.{Came}
 use Rattle.cobs_live.specs.declared.input.Came.TheVariants.{Bytes, HungUp}
 use Rattle.cobs_live.specs.Live.{BeginsAnew, HasShownSoFar, HoldsText, IsLiveSoFar, ShowsEnd, ShowsHangUp, ShowsNext}
 use Rattle.cobs_live.specs.Seen.{all_ended}
-use Rattle.cobs_live.specs.Shown.{outcomes_of, shown_end, shown_from, shown_gone, shown_hang_up}
+use Rattle.cobs_live.specs.Shown.{outcomes_of, shown_from, shown_gone, shown_hang_up}
 use Rattle.cobs_live.specs.Timed.{IsReadAt}
 use Rattle.cobs_live.specs.declared.clock.Moment.{Moment}
 use Rattle.cobs_live.specs.declared.clock.Times.{Times}

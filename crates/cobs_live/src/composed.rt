@@ -1,8 +1,8 @@
 //! The text of a short message, composed in memory and written at once.
-ghost use Rattle.std.specs.Prelude.{◌≡◌, ◌<◌, ◌++◌, IfOk, IsTrue, OnOk, codes, false, length, take};
+ghost use Rattle.std.specs.Prelude.{◌≡◌, ◌<◌, ◌++◌, IfOk, IsTrue, OnOk, codes, false, length, slice_index, take};
 ghost use Rattle.std.specs.Fmt.{decimal};
 ghost use Rattle.std.specs.Io.KnownBytes.{Appends};
-ghost use Rattle.hex.specs.Hex.{encode_lower};
+ghost use Rattle.hex.specs.Hex.{encode_lower, lower_digits};
 ghost use Rattle.cobs_live.specs.Composed.{contents_of};
 ghost use Rattle.cobs_live.specs.declared.clock.Stamp.TheVariants.{Untimed};
 ghost use Rattle.cobs_live.specs.declared.seen.Kind.TheVariants.{Message};
@@ -203,28 +203,32 @@ impl Composed {
         self.put_digits(&[(unit / 256) as u8, (unit % 256) as u8])
     }
 
-    /// Adds a number.
+    /// Adds a number. The lengths of the shortest messages have one digit.
+    #[inline(always)]
     fn put_decimal(&mut self, number: u64) -> Result<(), Full>
         ensures put { OnOk result (Appends (contents_of self.old) (contents_of self.new) (decimal number)) }
     {
+        if number < 10 {
+            return self.put(&[b'0' + number as u8]);
+        }
         self.put(Buffer::new().format(number).as_bytes())
     }
 
     /// Adds bytes as lower-case hexadecimal digits.
-    #[tactic(auto, unfolding(crate::specs::Composed::contents_of))]
     #[inline(always)]
     fn put_digits(&mut self, bytes: &[u8]) -> Result<(), Full>
         ensures put { OnOk result (Appends (contents_of self.old) (contents_of self.new) (encode_lower bytes.now)) }
     {
-        let at = self.len;
+        let mut at = self.len;
         if ROOM < at || (ROOM - at) / 2 < bytes.len() {
             return Err(Full);
         }
-        let end = at + 2 * bytes.len();
-        if hex::encode_to_slice(bytes, &mut self.bytes[at..end]).is_err() {
-            return Err(Full);
+        'by_byte: for i in 0..bytes.len() {
+            self.bytes[at] = digit(bytes[i] / 16);
+            self.bytes[at + 1] = digit(bytes[i] % 16);
+            at += 2;
         }
-        self.len = end;
+        self.len = at;
         Ok(())
     }
 
@@ -251,4 +255,17 @@ fn is_bare(view: &View) -> bool
         → (view.now.color ≡ false) × (view.now.number ≡ false) × (view.now.stamp ≡ Untimed) }
 {
     !view.color && !view.number && view.stamp == Stamp::Untimed
+}
+
+/// The lower-case hexadecimal digit of a number below 16. It is computed, and not looked up, so that many are at once.
+#[inline(always)]
+fn digit(number: u8) -> u8
+    requires below { number < 16 }
+    ensures digit { result ≡ slice_index lower_digits number }
+{
+    if number < 10 {
+        b'0' + number
+    } else {
+        b'a' - 10 + number
+    }
 }

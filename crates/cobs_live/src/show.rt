@@ -1,5 +1,5 @@
 //! Showing a stream as it comes.
-ghost use Rattle.std.specs.Prelude.{◌≡◌, ◌≢◌, ◌<◌, ◌≤◌, ◌↔◌, ℕ, List, [], length, take, OnOk, IfOk, IfErr, IsTrue, Option, Ok, Err, false};
+ghost use Rattle.std.specs.Prelude.{◌≡◌, ◌≢◌, ◌<◌, ◌≤◌, ◌↔◌, ℕ, List, [], length, take, OnOk, IfOk, IfErr, IfSome, IsTrue, Option, Ok, Err, false};
 ghost use Rattle.std.specs.Io.KnownBytes.{Appends, Keeps};
 ghost use Rattle.std.specs.Io.Buffered.{writer_buffer, writer_inner};
 ghost use Rattle.cobs.specs.Feed.{DecoderAfter, Idle};
@@ -30,7 +30,9 @@ use std::alloc::{AllocError, Global};
 use std::io::{BufWriter, ErrorKind, Write};
 use std::rt::Clock;
 
-/// Among how many bytes the end of a short frame is looked for.
+/// Among how many bytes the end of a short frame is looked for: first among a few, which cost a third of the instructions.
+const NEAREST: usize = 16;
+
 const NEAR: usize = 64;
 
 /// How many bytes are read at once, 64 KiB. What a read gives less is shown at once.
@@ -361,13 +363,24 @@ fn front(bytes: &[u8]) -> &[u8]
     ensures front { result.now ≡ take (length result.now) bytes.now }
     ensures within { length result.now ≤ length bytes.now }
 {
-    let near = bytes.len().min(NEAR);
-    let zero = first_zero(&bytes[..near]);
-    if zero < near {
-        &bytes[..zero + 1]
-    } else {
-        bytes
+    if let Some(end) = end_within(bytes, NEAREST) {
+        return &bytes[..end];
     }
+    if let Some(end) = end_within(bytes, NEAR) {
+        return &bytes[..end];
+    }
+    bytes
+}
+
+/// Returns where the first of at most `most` bytes that is a zero ends.
+#[inline(always)]
+fn end_within(bytes: &[u8], most: usize) -> Option<usize>
+    requires few { most ≤ 64 }
+    ensures within { IfSome result (λ end. (0 < end) × (end ≤ length bytes.now)) }
+{
+    let near = bytes.len().min(most);
+    let zero = first_zero(&bytes[..near]);
+    if zero < near { Some(zero + 1) } else { None }
 }
 
 /// Shows a piece that has this number and these times: in one call of the output, if its text can be composed.

@@ -1,4 +1,4 @@
-use Rattle.std.proofs.Common.{◌≡◌, sym, ◌∙◌, rules}
+use Rattle.std.proofs.Common.{sym, ◌∙◌, rules}
 use Rattle.cobs_lines.proofs.LineLemmas.{of_ok}
 use Rattle.cobs_live.specs.Composed.{contents_of}
 use Rattle.cobs_live.specs.Seen.{seen_in}

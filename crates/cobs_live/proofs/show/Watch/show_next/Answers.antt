@@ -1,4 +1,4 @@
-use Rattle.std.proofs.Common.{◌≡◌, ℕ, Bool, ◌++◌, Option, subst, List, length, take, drop, ap, ◌∙◌, sym, length-take-le, arith, rules}
+use Rattle.std.proofs.Common.{◌≡◌, ℕ, Bool, ◌++◌, Option, subst, List, length, take, drop, ap, ◌∙◌, sym, length-take-le, arith}
 use Rattle.std.proofs.KnownBytes.{Appends-kept}
 use Rattle.cobs.specs.Feed.{DecoderAfter}
 use Rattle.cobs.specs.Laws.{StreamLaw}
