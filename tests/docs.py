@@ -20,13 +20,14 @@ usage: tests/docs.py [--write]
 - Each block of tests/wrong_code.txt can be applied, and its function is there. `tests/REFUSED.md` counts and names these
   and the edits of must-fail/. With --write the blocks are counted, and the names go that aren't there any more.
 - No imports of the libraries go in a ring; files have at most 450 lines and functions 40 (layout.py).
-- Each document is in plain words; its links, the paths and commands that it shows, and the clauses
-  that it names are there; all versions are that of the file VERSION (prose.py).
+- The links of each document, the paths and commands that it shows, and the clauses that it names are there; names in src/ and
+  specs/ are plain; all versions are that of the file VERSION (prose.py).
 - Counts, sizes and the toolchain in documents are those of the tree, copies are equal, and addresses can exist (facts.py).
 - The drawing and the table of crates of docs/ARCHITECTURE.md are what docs/architecture.py makes of the manifests (facts.py).
 
-Only files that git tracks are read. It prints what differs, and the status is then 1. It also prints what grew since the
-last commit, or in it if nothing is changed (growth.py); that changes no status.
+Only files that git tracks are read. It prints what differs, and the status is then 1. It also prints hints
+at words that have a plainer one, and what grew since the last commit, or in it if nothing is changed (growth.py); these change
+no status.
 """
 import re
 import subprocess
@@ -205,7 +206,8 @@ def main():
         said.append(f"{CALLING.relative_to(TOP)}: its contracts are not those of src; tests/docs.py --write writes them")
     said += [*layout.complaints(), *prose.complaints(), *facts.complaints()]
     grown = [f"grew: {line}" for line in growth.since_parent()]
-    print(*grown, sep="\n", end="\n" * bool(grown))
+    hints = [f"hint: {line}" for line in prose.unplain_words()]
+    print(*grown, *hints, sep="\n", end="\n" * bool(grown or hints))
     print("\n".join(said) if said else "each public item has an example that is run; the documents name and quote what is there")
     return 1 if said else 0
 

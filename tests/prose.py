@@ -8,7 +8,7 @@ from pathlib import Path
 
 TOP = Path(__file__).resolve().parent.parent
 
-# Words that say less plainly what another one says. Names in backticks and code are left out.
+# Words for which there is often a plainer one: a hint, no fault. Names in backticks and code are left out.
 WORDS = [
     (r"\banswer(s|ed|ing)?\b", "returns, the result"),
     (r"\brefus(e|es|ed|ing|al|als)\b", "returns an error, rejects"),
@@ -105,7 +105,7 @@ def sources():
 
 
 def unplain_words():
-    """A line for each word that has a plainer one."""
+    """A hint for each word that has a plainer one."""
     texts = [(name, prose((TOP / name).read_text())) for name in documents()]
     texts += [(name, comments(name)) for name in sources()]
     for name, text in texts:
@@ -114,7 +114,7 @@ def unplain_words():
                 continue
             for pattern, plain in WORDS:
                 for found in re.finditer(pattern, line, 0 if "Where (" in pattern else re.I):
-                    yield f"{name}:{number}: '{found[0].strip()}': write {plain}"
+                    yield f"{name}:{number}: '{found[0].strip()}': plainer may be: {plain}"
 
 
 def code_lines(name):
@@ -284,5 +284,5 @@ def unknown_names():
 
 def complaints():
     """Everything that is wrong in the documents as text."""
-    checks = (unplain_words, unplain_names, dead_links, dead_commands, other_versions, unknown_names)
+    checks = (unplain_names, dead_links, dead_commands, other_versions, unknown_names)
     return [line for check in checks for line in check()]
