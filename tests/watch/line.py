@@ -354,6 +354,13 @@ def help_into_a_closed_pipe(_room):
 
 
 @part
+def help_fits_80_columns(_room):
+    for words in (["--help"], ["show", "--help"], ["send", "--help"]):
+        out = subprocess.run([WATCH, *words], stdout=subprocess.PIPE, check=True).stdout.decode()
+        same([line for line in out.splitlines() if len(line) > 80], [])
+
+
+@part
 def a_line_that_memory_runs_out_for(_room):
     limit = lambda: resource.setrlimit(resource.RLIMIT_AS, (20_000 << 10, 20_000 << 10))
     with start(["send"], stdin=subprocess.PIPE, preexec_fn=limit) as watch:

@@ -142,9 +142,11 @@ fn with_styles<'a>(alloc: Global, command: Command<'a>) -> Result<Command<'a>, E
 fn with_columns<'a>(alloc: Global, command: Command<'a>) -> Result<Command<'a>, Error> {
     let time = option(alloc, "time", "CLOCK")
         .short('t')
-        .value_parser(["start", "last", "utc", "local"].as_slice());
+        .value_parser(["start", "last", "utc", "local"].as_slice())
+        .hide_possible_values(true);
     let color = option(alloc, "color", "WHEN")
         .value_parser(["auto", "always", "never"].as_slice())
+        .hide_possible_values(true)
         .default_value("auto");
     let command = command
         .arg(flag(alloc, "number").short('n'))?
@@ -158,7 +160,8 @@ fn with_filters<'a>(alloc: Global, command: Command<'a>) -> Result<Command<'a>, 
         .short('o')
         .action(ArgAction::Append)
         .value_delimiter(',')
-        .value_parser(["message", "broken", "too-long", "bad-crc", "unfinished"].as_slice());
+        .value_parser(["message", "broken", "too-long", "bad-crc", "unfinished"].as_slice())
+        .hide_possible_values(true);
     let command = command
         .arg(only)?
         .arg(option(alloc, "min", "N"))?
@@ -170,6 +173,7 @@ fn with_filters<'a>(alloc: Global, command: Command<'a>) -> Result<Command<'a>, 
 fn with_checksum<'a>(alloc: Global, command: Command<'a>) -> Result<Command<'a>, Error> {
     let order = option(alloc, "crc-order", "ORDER")
         .value_parser(["big", "little"].as_slice())
+        .hide_possible_values(true)
         .requires_arg("crc")?;
     let command = command.next_help_heading("Checksums");
     Ok(command.arg(option(alloc, "crc", "CHECK"))?.arg(order)?)
