@@ -3,12 +3,12 @@
 /// What it says of the option of this name.
 pub(crate) fn of(name: &str) -> &'static str {
     match name {
-        "text" => { "Show messages as text if they are UTF-8 without hidden\ncharacters" }
-        "raw" => { "Write the bytes of messages, each followed by a newline,\nand nothing else" }
+        "text" => "Show messages as text if they are UTF-8 without hidden\ncharacters",
+        "raw" => "Write the bytes of messages, each followed by a newline,\nand nothing else",
         "hexdump" => "Show messages as hexdump -C does: offset, bytes and\ncharacters",
         "json" => "Show each piece as an object of JSON, on a line",
         "bytes" => "Write the bytes of messages, and nothing else",
-        "pcap" => { "Write messages as a capture of libpcap, of the type\nUSER0, with UTC times" }
+        "pcap" => "Write messages as a capture of libpcap, of the type\nUSER0, with UTC times",
         "number" => {
             "Begin each line with its piece's number; pieces that\naren't shown count too"
         }
@@ -21,6 +21,13 @@ pub(crate) fn of(name: &str) -> &'static str {
         "color" => {
             "Colour each kind of piece: always, never or auto, which is\non a terminal, without NO_COLOR and --log"
         }
+        _ => of_pieces(name),
+    }
+}
+
+/// What it says of an option that says which pieces are shown, and of which stream.
+fn of_pieces(name: &str) -> &'static str {
+    match name {
         "only" => {
             "Show pieces of this kind, or of these with commas between\nthem: message, broken, too-long, bad-crc, unfinished"
         }
