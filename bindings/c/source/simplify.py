@@ -12,7 +12,7 @@ import sys
 from pathlib import Path
 
 FLAGS = """--no-default-config --target=x86_64-unknown-linux-gnu -S -emit-llvm -Oz -fno-discard-value-names -ffreestanding
-    -mno-sse -fno-vectorize -fno-slp-vectorize -Wno-override-module -x ir""".split()
+    -mno-sse -fno-vectorize -fno-slp-vectorize -fno-unroll-loops -Wno-override-module -x ir""".split()
 TARGET = re.compile(r'^target [^\n]*\n| *"(?:target-cpu|probe-stack|stack-probe-size)"="[^"]*"', re.M)
 EXPORT = re.compile(r"^(?:; Function Attrs:[^\n]*\n)?define (?!internal)[^\n]*\n.*?^\}\n", re.S | re.M)
 PROVED = re.compile(r'@"cobs_small::\w+::(jcobs_\w+)"')
@@ -48,7 +48,7 @@ def main():
         for it in made.stdout.splitlines()
         if not re.match(r"; ModuleID|; Function Attrs|source_filename|attributes|!|declare|target", it)
     ]
-    text = re.sub(r", !(?:noundef|range) !\d+| #\d+(?= \{|$)| local_unnamed_addr", "", "\n".join(kept), flags=re.M)
+    text = re.sub(r", !(?:noundef|range|llvm\.loop) !\d+| #\d+(?= \{|$)| local_unnamed_addr", "", "\n".join(kept), flags=re.M)
     text = re.sub(r"\n{3,}", "\n\n", text).strip()
     Path(target).write_text(f"; written by simplify.py\n{text}\n")
 

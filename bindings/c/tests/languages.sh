@@ -147,7 +147,7 @@ translator_refuses() {
     while read -r body; do
         translated "$body" | grep -q '^translate.py: unknown: ' || { echo "$body"; translated "$body"; return 1; }
     done <<'END'
-message_len / 256
+message_len / 32768
 message_len.pow(2)
 message_len.isqrt().min(7)
 let next = |n| n + 1; next(message_len)
