@@ -35,7 +35,7 @@ steps_on() { # PROCESSOR PREFIX C-LIBRARY DEPTH
 # Each theorem in check/coq is one that Headline.v prints, and has no axiom below it.
 theorems() (
     mkdir "$work/coq" && cp "$root"/check/coq/*.v "$work/coq" && cd "$work/coq" || exit 1
-    for file in Definitions Frames Coders; do
+    for file in Definitions Frames Coders Buffers; do
         coqc -q -Q . Check $file.v || exit 1
     done
     coqc -q -Q . Check Headline.v >closed || exit 1
@@ -44,6 +44,18 @@ theorems() (
     grep -v '^Closed under the global context$' closed && exit 1
     [ "$(wc -l <closed)" -eq "$(wc -l <stated)" ] && echo "= $(wc -l <stated) theorems without an axiom"
 )
+
+# The functions of words.acsl are those of Buffers.v.
+words() (
+    cd "$work/coq" && "$root/check/frama-c/acsl.py" >Words.v && coqc -q -Q . Check Words.v
+)
+
+# The same functions, and those of steps.c that say what is right.
+steps_by_words() {
+    "$root/check/frama-c/acsl.py" --c >"$work/words.h" &&
+        "$cc" -std=c99 -Wall -Wextra -Wpedantic -Wconversion -Wshadow -Werror -I"$work" -I"$c/include" -o "$work/words" \
+            "$root/check/words.c" "$c/source/jcobs.c" && "$work/words"
+}
 
 cc=${CC:-cc}
 library=$c/source/jcobs.c
@@ -58,11 +70,15 @@ if has "$cc" gcc 'steps.c'; then
         skip 'steps of libjcobs.a' "it isn't built for $machine"
     fi
 fi
+if has "$cc" gcc 'words.c' && has python3 python3 'words.c'; then
+    part 'the steps in steps.c are those of words.acsl' steps_by_words
+fi
 if has python3 python3 'the definitions in Coq'; then
     part 'the definitions in Coq are those of specs/' "$root/check/coq/compare.py"
 fi
 if has coqc coq 'the theorems in Coq'; then
-    part 'the theorems in Coq' theorems
+    part 'the theorems in Coq' theorems && has python3 python3 'the functions of words.acsl' &&
+        part 'the functions of words.acsl are those in Coq' words
 fi
 library=$c/source/jcobs.c
 steps_on 's390x (64 bits, big-endian)' s390x-linux-gnu libc6-dev-s390x-cross 3
