@@ -16,6 +16,9 @@
 # builds them again, and the module, in some minutes, and the bytes are compared; not with --as-built. Each artifact is
 # unpacked or installed elsewhere, and an example of it runs. No network is used.
 #
+# REPOSITORY=https://.. makes the packages for registries: their metadata name this address, and their READMEs say how to
+# install from the registry. Without it they name none, and their READMEs say how to install the file beside them.
+#
 # Prints a line for each part: 'ok', 'FAILED' with what it said, or 'skipped' with the Debian packages that are missing. The
 # last line counts them; the status is 0 only if nothing failed.
 #
@@ -29,6 +32,7 @@ again=yes
 [ "${1:-}" != --as-built ] || { again=no && shift; }
 folder=${1:-$work/release}
 version=$(cat "$root/VERSION")
+repository=${REPOSITORY:-}
 SOURCE_DATE_EPOCH=1767225600
 TZ=UTC
 LC_ALL=C
@@ -105,14 +109,24 @@ device_archive() {
         packed "$folder/$name_of-device.tar.gz" "$work/device" "$name_of-device"
 }
 
-# The README of a package, in the copy: its commands take the package's file, and a link to what is only in the repository is none.
+# The README of a package, in the copy: its commands take the registry's package, or the file. A link to what is only in the
+# repository is none.
 package_readme() { # BINDING FILE
-    sed -i "s,\./bindings/$1,./$2,; s,\[\([^]]*\)\](\.\./[^)]*),\1,g" "$tree/bindings/$1/README.md"
+    what=./$2
+    [ -z "$repository" ] || what=jcobs
+    sed -i "/--no-index/s,\./bindings/$1,./$2,; s,\./bindings/$1,$what,; s,\[\([^]]*\)\](\.\./[^)]*),\1,g" "$tree/bindings/$1/README.md"
+    [ -z "$repository" ] || sed -i 's/^In the repository, in a virtual/In a virtual/; s/, and the package is on no index\././' "$tree/bindings/$1/README.md"
 }
 
-# Runs what the README of a package says of its install, beside the package's file.
+# Puts the address of the repository into the metadata of a package: after a line, one that has it.
+names_repository() { # FILE LINE-BEFORE NEW-LINE
+    [ -z "$repository" ] || { sed -i "/$2/a $3" "$1" && grep -F "$repository" "$1" >/dev/null; }
+}
+
+# Runs what the README of a package says of its install, beside the package's file, which stands for the registry's.
 readme_installs() { # ARCHIVE README TOOL
-    cp "$1" . && tar -xOzf "$1" "$2" | sed -n "s/^    $3 install/$3 install/p" >install && test -s install && sh -eux install
+    cp "$1" . && tar -xOzf "$1" "$2" | sed -n "s/^    $3 install/$3 install/p" >install && test -s install &&
+        if [ -n "$repository" ]; then grep -q ' jcobs$' install && sed -i "s, jcobs$, ./$(basename "$1")," install; fi && sh -eux install
 }
 
 programs_archive() {
@@ -129,7 +143,8 @@ programs_archive() {
 # The wheel is built from the source distribution, for every Linux with glibc 2.17 or later.
 python_packages() {
     there=$work/sdist/$name_of
-    package_readme python "$name_of.tar.gz" && (cd "$tree/bindings/python" && "$python" -m build --no-isolation --sdist --outdir "$work/python") &&
+    package_readme python "$name_of.tar.gz" &&
+        names_repository "$tree/bindings/python/pyproject.toml" '^keywords = ' "urls = { Repository = \"$repository\" }" && (cd "$tree/bindings/python" && "$python" -m build --no-isolation --sdist --outdir "$work/python") &&
         mkdir -p "$work/sdist" && tar -xzf "$work/python/$name_of.tar.gz" -C "$work/sdist" &&
         packed "$folder/$name_of.tar.gz" "$work/sdist" "$name_of" &&
         CFLAGS="-g0 -ffile-prefix-map=$there=." "$python" -m build --no-isolation --wheel --outdir "$folder" \
@@ -142,12 +157,25 @@ page_archive() {
         packed "$folder/$name_of-page.tar.gz" "$work/page" "$name_of-page"
 }
 
-node_package() { package_readme web "$name_of.tgz" && (cd "$tree/bindings/web" && npm pack --offline --pack-destination "$folder"); }
+node_package() {
+    package_readme web "$name_of.tgz" &&
+        names_repository "$tree/bindings/web/package.json" '^  "license": ' "  \"repository\": \"$repository\"," &&
+        (cd "$tree/bindings/web" && npm pack --offline --pack-destination "$folder")
+}
 
 rust_crate() {
+    names_repository "$tree/bindings/rust/Cargo.toml" '^license = ' "repository = \"$repository\"" || return 1
+    [ -z "$repository" ] || sed -i "s,path = \"\.\./jirompeka/bindings/rust\",version = \"${version%.*}\"," "$tree/bindings/rust/README.md"
     (cd "$tree/bindings/rust" && cargo package --offline --no-verify --allow-dirty --target-dir "$work/cargo") &&
         cp "$work/cargo/package/$name_of.crate" "$folder" &&
         ! tar -xOzf "$folder/$name_of.crate" "$name_of/Cargo.toml" | grep '^publish'
+}
+
+# The crate from its own file, as CONTRIBUTING.md publishes it.
+crate_again() {
+    unpacked "$folder/$name_of.crate" "$work/crate-again" && (cd "$work/crate-again" && mv Cargo.toml.orig Cargo.toml &&
+        cargo package --offline --no-verify --allow-dirty --list | sort >"$work/again" &&
+        tar -tzf "$folder/$name_of.crate" | sed "s,^$name_of/,,; /^\.cargo_vcs_info/d" | sort | diff - "$work/again")
 }
 
 write_sums() { (cd "$folder" && sha256sum -- jcobs-* >SHA256SUMS.new && mv SHA256SUMS.new SHA256SUMS); }
@@ -362,6 +390,7 @@ elif ! missing=$("$root/bindings/rust/tests/offline.sh" "$work"); then
 elif part 'crate' rust_crate; then
     if [ "$(rustc --version | sed -n 's/^rustc 1\.\([0-9]*\)\..*/\1/p')" -ge 83 ]; then
         part 'the crate runs' crate_runs
+        part 'the crate is packed again from its own file' crate_again
     else
         has 'rustc 1.83' rustc 'the crate runs'
     fi
