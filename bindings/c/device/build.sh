@@ -33,10 +33,11 @@ SCRIPT
 }
 rm -rf "$build/keep"
 
-# The proved functions get names of their own, and lose what is said of x86-64.
+# The proved functions get names of their own, and lose what is said of x86-64. A function may be inlined here though its
+# source says never: on its own it would return a result in memory, which compilers clear by a call of the C library.
 "$clang" --no-default-config -S -emit-llvm -Xclang -disable-llvm-passes -x ir "$build/module.bc" -o - |
     sed -e 's/@jcobs_/@proved_jcobs_/g' -e '/^target /d' \
-        -e 's/ *"target-cpu"="[^"]*"//; s/ *"probe-stack"="[^"]*"//; s/ *"stack-probe-size"="[^"]*"//' >"$build/module.ll"
+        -e '/^attributes /s/ noinline / /' -e 's/ *"target-cpu"="[^"]*"//; s/ *"probe-stack"="[^"]*"//; s/ *"stack-probe-size"="[^"]*"//' >"$build/module.ll"
 
 # The same module as text, which the tests compare jcobs.c with.
 source=$here/../source

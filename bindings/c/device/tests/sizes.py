@@ -46,9 +46,9 @@ LIMITS = {
     ("jcobs.c", "Cortex-M4"): {"all": 2100, "decoder": 540, "stack": 200},
     ("jcobs.c", "ATmega1284P"): {"decoder and encode_terminated": 2100},
     ("archive", "Cortex-M4"): {
-        "decoder": 450, "encoder": 700, "decoder and encode_terminated": 1000, "all": 3000, "stack": 96,
+        "decoder": 450, "encoder": 700, "decoder and encode_terminated": 1000, "all": 3100, "stack": 96,
     },
-    ("archive", "Cortex-M0+"): {"stack": 104},
+    ("archive", "Cortex-M0+"): {"stack": 112},
     ("archive", "RV32IMAC"): {"stack": 96},
 }  # fmt: skip
 
