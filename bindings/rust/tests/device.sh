@@ -1,10 +1,10 @@
 #!/bin/sh
-# Builds the crate for targets without an operating system, runs it on a Cortex-M4 in QEMU, and measures it: device.sh [--docs]
+# Builds the crate for targets without an operating system, runs it on a Cortex-M4 in QEMU, and measures its flash.
 #
 # rustup's compiler comes with no library for these targets, so Debian's compiler builds `core` from Debian's source of it
 # (rustc-web and rust-web-src; RUST_SRC names the folder `library` elsewhere). On the Cortex-M4 run the cases of
-# tests/device.sh, in C, over the crate as `jcobs.h` (device/exports.rs), with the feature `small` and without.
-# --docs writes the sizes into README.md.
+# tests/device.sh, in C, over the crate as `jcobs.h` (device/exports.rs), with the feature `small` and without. The tables of README
+# are those of speeds.py.
 #
 # Prints a line for each part; the last line counts them.
 #
@@ -98,34 +98,29 @@ cases() {
 size() { # CALL: the bytes of code and data of the program that makes it
     "$compiler" --sysroot "$work/sysroot" --target thumbv7em-none-eabi --edition 2021 --crate-type staticlib --crate-name sizes \
         -C panic=abort -C opt-level=s -C lto=fat -C codegen-units=1 -C target-cpu=cortex-m4 --cfg "call=\"$1\"" --cap-lints allow \
-        --out-dir "$work" -L "$work/thumbv7em-none-eabi" --extern "jcobs=$work/thumbv7em-none-eabi/libjcobs.rlib" "$here/sizes.rs" &&
+        --out-dir "$work" -L "$work/thumbv7em-none-eabi" --extern "by=$work/thumbv7em-none-eabi/libjcobs.rlib" \
+        "$rust/tests/targets/sizes.rs" &&
         arm-none-eabi-gcc -mcpu=cortex-m4 -mthumb -nostartfiles -Wl,--gc-sections -Wl,-estart -Wl,-u,start \
             "$work/libsizes.a" -lc -o "$work/sized" 2>"$work/linked" &&
         arm-none-eabi-size "$work/sized" | awk 'NR == 2 { print $1 + $2 }'
 }
 
 sizes() {
-    echo '| bytes of flash, Cortex-M4 | `feed` | `CobsDecoder::push` | `CobsEncoder` | `decode` | `try_encode` |' >"$work/table"
-    echo '|---|--:|--:|--:|--:|--:|' >>"$work/table"
+    found='bytes of flash'
     for feature in '' small; do
         jcobs thumbv7em-none-eabi $feature || return 1
         none=$(size none) || { cat "$work/linked"; return 1; }
-        row="| ${feature:-without it} |"
-        [ -z "$feature" ] || row='| with `small` |'
-        for call in feed decoder encoder decode encode; do
+        found="$found${feature:+; with the feature $feature}"
+        for call in feed push encoder decode 'in place' encode; do
             bytes=$(size "$call") || { cat "$work/linked"; return 1; }
-            row="$row $((bytes - none)) |"
+            found="$found, $call $((bytes - none))"
             # The whole of a call byte by byte is about a kilobyte.
             [ "$feature" != small ] || [ $((bytes - none)) -le 1400 ] || { echo "$call takes $((bytes - none)) bytes"; return 1; }
         done
-        echo "$row" >>"$work/table"
     done
-    echo "= with small $(sed -n '$s/^| with `small` | //p' "$work/table" | tr -d '|')bytes"
-    [ "${docs:-}" != --docs ] ||
-        sed -i -e '/<!-- sizes -->/,/<!-- end of sizes -->/{//!d;}' -e "/<!-- sizes -->/r $work/table" "$rust/README.md"
+    echo "= $found"
 }
 
-docs=${1:-}
 for target in thumbv7em-none-eabi thumbv6m-none-eabi riscv32imac-unknown-none-elf wasm32-unknown-unknown; do
     part "the crate for $target" builds "$target"
 done

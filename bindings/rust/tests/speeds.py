@@ -1,0 +1,220 @@
+#!/usr/bin/env python3
+"""Measures flash and instructions of this crate on each target, beside its feature `small` and the crate `cobs`.
+
+usage: tests/speeds.py [--docs] CRATE [TARGET..]
+
+CRATE has the sources of the crate `cobs` 0.5.1, as cargo downloads them. The figures of the chosen targets replace those in
+bench/results/rust-targets.csv; --docs writes the tables of that file into README.md.
+
+- Flash: what a call adds to a program, with `opt-level=s` and fat link-time optimization (targets/sizes.rs). memcpy, memmove,
+  memset and memcmp aren't counted: a program has them once.
+- Instructions: of a call, counted in a trace of qemu-user, with `opt-level=3` and without link-time optimization
+  (targets/speed.rs). The time under an emulator isn't that of a processor, and instructions aren't either, but on a controller
+  most of them take one cycle.
+
+RUSTC is the compiler, else Debian's /usr/bin/rustc. If it has no library for a target, `core` is built of RUST_SRC, else of
+/usr/src/rustc-VERSION/library (Debian's rust-web-src), once: it stays in target/sysroot-VERSION.
+"""
+import mmap
+import os
+import re
+import shutil
+import statistics
+import subprocess
+import sys
+import tempfile
+from concurrent.futures import ThreadPoolExecutor
+from pathlib import Path
+
+HERE = Path(__file__).resolve().parent
+RUST = HERE.parent
+ROOT = RUST.parent.parent
+FIGURES = ROOT / "bench/results/rust-targets.csv"
+RUSTC = os.environ.get("RUSTC", "/usr/bin/rustc")
+# The triple, flags of the compiler, the emulator, and a linker.
+TARGETS = {
+    "Cortex-M4": ("thumbv7em-none-eabi", "-C target-cpu=cortex-m4", "qemu-arm", "arm-none-eabi-ld"),
+    "Cortex-M0": ("thumbv6m-none-eabi", "", "qemu-arm", "arm-none-eabi-ld"),
+    "RV32IMAC": ("riscv32imac-unknown-none-elf", "", "qemu-riscv32", "riscv64-unknown-elf-ld -m elf32lriscv"),
+}
+WHO = ("jcobs", "small", "cobs")
+SIZED = {"feed": "`feed`", "push": "`push`", "encoder": "`CobsEncoder`", "decode": "`decode`", "in place": "in place", "encode": "`encode`"}
+# The order of CALLS in speed.rs, and of its messages.
+CALLS = ("`feed`", "`push`, whole", "`push`, 8", "`CobsEncoder`, whole", "`CobsEncoder`, 8", "`decode`", "in place", "`encode`")
+KINDS = ("no zeros", "zeros", "random", "10 % zeros", "zero at every 16")
+LENGTHS = (8, 64, 200, 1500)
+MEMORY = "memcpy memmove memset memcmp bcmp __aeabi_memcpy __aeabi_memcpy4 __aeabi_memmove __aeabi_memset __aeabi_memclr".split()
+
+
+def run(*command, **more):
+    """What a command prints. If it fails, so does this."""
+    done = subprocess.run([str(word) for word in command], capture_output=True, text=True, **more)
+    if done.returncode:
+        raise SystemExit(f"speeds.py: {' '.join(map(str, command))}: {done.stderr[-3000:]}")
+    return done.stdout
+
+
+class Build:
+    """The libraries and programs of a target, in a folder of their own."""
+
+    def __init__(self, name, crate, work):
+        self.triple, flags, self.emulator, self.linker = TARGETS[name]
+        self.crate, self.work = crate, work
+        self.flags = [*flags.split(), "--target", self.triple, "--cap-lints", "allow", "-C", "panic=abort"]
+        sysroot = Path(run(RUSTC, "--print", "sysroot").strip())
+        if not list((sysroot / "lib/rustlib" / self.triple / "lib").glob("libcore-*.rlib")):
+            self.flags += ["--sysroot", self.core()]
+
+    def core(self):
+        """A sysroot with `core` and the functions that compilers call, built if it isn't there."""
+        version = re.search(r"rustc (\S+)", run(RUSTC, "--version"))[1]
+        sysroot = RUST / f"target/sysroot-{version}"
+        library = sysroot / "lib/rustlib" / self.triple / "lib"
+        if (library / "libcore.rlib").exists():
+            return sysroot
+        source = Path(os.environ.get("RUST_SRC", f"/usr/src/rustc-{version}/library"))
+        made = self.work / "core"
+        made.mkdir()
+        more = ["--sysroot", sysroot, "--edition", "2024", "-C", "embed-bitcode=yes", "-C", "opt-level=s"]
+        more += ["-Z", "force-unstable-if-unmarked", "--crate-type", "rlib", "--out-dir", made, *self.flags]
+        unstable = {**os.environ, "RUSTC_BOOTSTRAP": "1"}
+        run(RUSTC, *more, "--crate-name", "core", source / "core/src/lib.rs", env=unstable)
+        features = [word for name in ("compiler-builtins", "mem") for word in ("--cfg", f'feature="{name}"')]
+        builtins = source / "compiler-builtins/compiler-builtins/src/lib.rs"
+        run(RUSTC, *more, *features, "--crate-name", "compiler_builtins", "--extern", f"core={made}/libcore.rlib", builtins, env=unstable)
+        library.mkdir(parents=True, exist_ok=True)
+        for name in ("libcompiler_builtins.rlib", "libcore.rlib"):
+            shutil.move(made / name, library / name)
+        return sysroot
+
+    def libraries(self, level):
+        """The three libraries at this level of optimization."""
+        to = self.work / level
+        to.mkdir()
+        host = to / "libthiserror.so"
+        stand_in = ROOT / "bench/stand_in/thiserror.rs"
+        run(RUSTC, "--edition", "2021", "--crate-type", "proc-macro", "--crate-name", "thiserror", "-o", host, stand_in)
+        memchr = sorted(Path("/usr/share/cargo/registry").glob("memchr-2.*"))[-1]
+
+        def library(name, edition, source, *more):
+            level_of = ["-C", f"opt-level={level}", "-C", "codegen-units=1", "-C", "embed-bitcode=yes"]
+            more = [word for extern in more for word in extern.split(" ", 1)]
+            kind = ["--crate-type", "rlib", "--crate-name", name, "--edition", edition]
+            run(RUSTC, *self.flags, *level_of, *kind, *more, "-o", to / f"lib{name}.rlib", source)
+
+        library("memchr", "2018", memchr / "src/lib.rs")
+        library("heapless", "2021", ROOT / "bench/stand_in/heapless.rs")
+        library("cobs", "2021", self.crate / "src/lib.rs", f"--extern thiserror={host}", f"--extern heapless={to}/libheapless.rlib")
+        for name, feature in (("jcobs", ()), ("small", ('--cfg feature="small"',))):
+            library(name, "2021", RUST / "src/lib.rs", f"--extern memchr={to}/libmemchr.rlib", *feature)
+        return to
+
+    def size(self, libraries, who, call):
+        """The bytes of code and data of a program with this call."""
+        program = self.work / f"{call}-of-{who}".replace(" ", "-")
+        made = program.with_suffix(".a")
+        kind = ["--crate-type", "staticlib", "--crate-name", "sizes", "--edition", "2024", "--cfg", f'call="{call}"', "-C", "opt-level=s"]
+        more = ["-C", "lto=fat", "-C", "codegen-units=1", "-C", "panic=abort", "-L", libraries, "--extern", f"by={libraries}/lib{who}.rlib"]
+        run(RUSTC, *self.flags, *kind, *more, "-o", made, HERE / "targets/sizes.rs")
+        kept = [f"-u{name}" for name in MEMORY]
+        run(*self.linker.split(), "--gc-sections", "-estart", "--unresolved-symbols=ignore-all", *kept, made, "-o", program)
+        text, data = run("size", program).splitlines()[1].split()[:2]
+        return int(text) + int(data)
+
+    def program(self, libraries, who):
+        """The program whose calls are counted."""
+        program = self.work / who
+        made = program.with_suffix(".a")
+        kind = ["--crate-name", "speed", "--edition", "2024", "-C", "opt-level=3", "-C", "codegen-units=1", "-L", libraries]
+        kind += ["--extern", f"by={libraries}/lib{who}.rlib", HERE / "targets/speed.rs"]
+        run(RUSTC, *self.flags, *kind, "--crate-type", "staticlib", "-o", made)
+        run(*self.linker.split(), "--gc-sections", "--no-relax", "-estart", made, "-o", program)
+        return program
+
+
+def traced(emulator, program):
+    """A file with a line for each instruction that a program executes, up to one that isn't defined, by which it ends."""
+    flag = "-one-insn-per-tb" if "-one-insn-per-tb" in run(emulator.split()[0], "-h") else "-singlestep"
+    trace = program.with_suffix(".trace")
+    subprocess.run([*emulator.split(), flag, "-d", "exec,nochain", "-D", trace, program], stderr=subprocess.DEVNULL)
+    return trace
+
+
+def counted(trace):
+    """The instructions of each call, in the order of speed.rs: the lines between the last one in `begin` and the first in `end`."""
+    counts, begun, name = [], None, b""
+    with trace.open("rb") as file, mmap.mmap(file.fileno(), 0, access=mmap.ACCESS_READ) as lines:
+        for mark in re.finditer(rb"\] (begin|end|done)\n", lines):
+            name = mark[1]
+            if name == b"begin":
+                begun = mark.end()
+            elif begun:
+                counts.append(lines[begun : mark.start()].count(b"\n"))
+                begun = None
+    if name != b"done" or len(counts) != len(CALLS) * len(KINDS) * len(LENGTHS):
+        raise SystemExit(f"speeds.py: {trace.stem} ended after {len(counts)} calls, in {name.decode()}")
+    return counts
+
+
+def measured(name, crate):
+    """The lines of the file of figures for a target."""
+    with tempfile.TemporaryDirectory() as folder, ThreadPoolExecutor() as pool:
+        build = Build(name, crate, Path(folder))
+        small, fast = pool.map(build.libraries, "s3")
+        jobs = {(call, who): pool.submit(build.size, small, who, call) for call in ("none", *SIZED) for who in WHO}
+        programs = list(pool.map(lambda who: build.program(fast, who), WHO))
+        counts = map(counted, pool.map(lambda program: traced(build.emulator, program), programs))
+        for call in SIZED:
+            sizes = [jobs[call, who].result() - jobs["none", who].result() for who in WHO]
+            yield f"{name};bytes;{call};;;{';'.join(map(str, sizes))}"
+        rows = [(kind, length, call) for kind in KINDS for length in LENGTHS for call in CALLS]
+        for (kind, length, call), *figures in zip(rows, *counts, strict=True):
+            yield f"{name};instructions;{call};{kind};{length};{';'.join(map(str, figures))}"
+
+
+def tables(lines):
+    """The tables of README: flash, and how many times as few instructions as the crate `cobs` takes."""
+    rows = [line.split(";") for line in lines]
+    names = [name for name in TARGETS if any(row[0] == name for row in rows)]
+    yield f"| bytes of flash | of | {' | '.join(SIZED.values())} |"
+    yield "|---|---|" + "--:|" * len(SIZED)
+    for name in names:
+        for place, who in enumerate(("this crate", "with `small`", "`cobs`")):
+            sizes = [row[5 + place] for row in rows if row[:2] == [name, "bytes"]]
+            yield f"| {name} | {who} | {' | '.join(sizes)} |"
+    yield ""
+    yield f"| speed / that of `cobs` | of | {' | '.join(CALLS)} |"
+    yield "|---|---|" + "---|" * len(CALLS)
+    for name in names:
+        for place, who in enumerate(("this crate", "with `small`")):
+            cells = []
+            for call in CALLS:
+                found = [float(row[7]) / float(row[5 + place]) for row in rows if row[0] == name and row[1] != "bytes" and row[2] == call]
+                cells.append(f"{statistics.median(found):.2f}; {min(found):.2f}")
+            yield f"| {name} | {who} | {' | '.join(cells)} |"
+
+
+def main():
+    words = [word for word in sys.argv[1:] if word != "--docs"]
+    if not words or unknown(words[1:]):
+        raise SystemExit(__doc__)
+    for name in words[1:] or TARGETS:
+        found = list(measured(name, Path(words[0]).resolve()))
+        lines = FIGURES.read_text().splitlines() if FIGURES.exists() else []
+        lines = [line for line in lines if line.split(";")[0] != name] + found
+        FIGURES.write_text("\n".join(lines) + "\n")
+        print(f"{name} is measured")
+    text = "\n".join(tables(lines))
+    print(text)
+    if "--docs" in sys.argv:
+        readme = RUST / "README.md"
+        marks = r"(<!-- speeds -->\n).*?(?=<!-- end of speeds -->)"
+        readme.write_text(re.sub(marks, lambda found: found[1] + text + "\n", readme.read_text(), flags=re.S))
+
+
+def unknown(names):
+    return [name for name in names if name not in TARGETS]
+
+
+if __name__ == "__main__":
+    main()

@@ -1,0 +1,58 @@
+//! A program that makes one call, or none, of this crate or of the crate `cobs`, by the `--cfg` it is built with: what it adds is
+//! that call's size. `by` is one of the two. The lengths of the slices aren't known to the compiler.
+#![no_std]
+#![no_main]
+
+#[panic_handler]
+fn panic(_: &core::panic::PanicInfo) -> ! {
+    loop {}
+}
+
+#[cfg(call = "feed")]
+#[unsafe(no_mangle)]
+pub fn start(decoder: &mut by::CobsDecoder, byte: u8) -> usize {
+    decoder.feed(byte).map_or(0, |length| length.unwrap_or(1))
+}
+
+#[cfg(call = "push")]
+#[unsafe(no_mangle)]
+pub fn start(decoder: &mut by::CobsDecoder, bytes: &[u8]) -> usize {
+    decoder
+        .push(bytes)
+        .map_or(0, |report| report.map_or(1, |report| report.frame_size()))
+}
+
+#[cfg(call = "encoder")]
+#[unsafe(no_mangle)]
+pub fn start(bytes: &[u8], to: &mut [u8]) -> usize {
+    let mut encoder = by::CobsEncoder::new(to);
+    if encoder.push(bytes).is_ok() {
+        encoder.finalize()
+    } else {
+        0
+    }
+}
+
+#[cfg(call = "decode")]
+#[unsafe(no_mangle)]
+pub fn start(bytes: &[u8], to: &mut [u8]) -> usize {
+    by::decode(bytes, to).map_or(0, |report| report.frame_size())
+}
+
+#[cfg(call = "in place")]
+#[unsafe(no_mangle)]
+pub fn start(bytes: &mut [u8]) -> usize {
+    by::decode_in_place(bytes).unwrap_or(0)
+}
+
+#[cfg(call = "encode")]
+#[unsafe(no_mangle)]
+pub fn start(bytes: &[u8], to: &mut [u8]) -> usize {
+    by::encode(bytes, to)
+}
+
+#[cfg(call = "none")]
+#[unsafe(no_mangle)]
+pub fn start(bytes: &[u8]) -> usize {
+    bytes.len()
+}
