@@ -80,6 +80,11 @@ if has coqc coq 'the theorems in Coq'; then
     part 'the theorems in Coq' theorems && has python3 python3 'the functions of words.acsl' &&
         part 'the functions of words.acsl are those in Coq' words
 fi
+name='the contracts of jcobs.c in Frama-C'
+if has python3 python3 "$name" && has frama-c frama-c-base "$name" && has why3 why3 "$name" && has z3 z3 "$name" &&
+    has cvc4 cvc4 "$name"; then
+    part "$name" "$root/check/frama-c/prove.py"
+fi
 library=$c/source/jcobs.c
 steps_on 's390x (64 bits, big-endian)' s390x-linux-gnu libc6-dev-s390x-cross 3
 steps_on 'ppc (32 bits, big-endian)' powerpc-linux-gnu libc6-dev-powerpc-cross 3
