@@ -109,7 +109,7 @@ def annotated(source, notes):
         missing = [kind for kind in ["", *(f"loop {n + 1}" for n in range(loops))] if kind not in notes[name]]
         if missing:
             sys.exit(f"{name} has no part for '{missing[0]}'")
-        # A loop's note stands directly before it.
+        # A loop's note comes directly before it.
         for kind, said in sorted(notes[name].items(), key=lambda note: note[0].startswith("loop")):
             at = place(name, kind, lines, first, last)
             indent = re.match(" *", lines[at])[0]
