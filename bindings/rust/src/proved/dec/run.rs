@@ -104,12 +104,16 @@ impl UnbufferedDecoder {
         true
     }
 
-    /// Takes the code at the front of a piece and the bytes after it at once, if they are 2 to 65 bytes, none is a zero and they
-    /// have room, and says whether it did.
+    /// Takes the code at the front of a piece and the bytes after it at once, if they are 2 to 65 bytes that end the piece or 2 to
+    /// 31 others, none is a zero and they have room, and says whether it did. More bytes than that are worth a search. `zeros` is 0
+    /// only if no zero follows them.
     #[inline(always)]
-    pub(crate) fn take_begun(&mut self, dest: &mut [u8], bytes: &[u8]) -> bool {
+    pub(crate) fn take_begun(&mut self, dest: &mut [u8], bytes: &[u8], zeros: usize) -> bool {
         let len = bytes.len();
         if len < 2 || WIDE_WINDOW + 1 < len || dest.len() < len - 1 {
+            return false;
+        }
+        if zeros == 0 && WINDOW <= len {
             return false;
         }
         let code = bytes[0];

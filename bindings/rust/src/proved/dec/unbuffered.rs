@@ -273,7 +273,7 @@ impl UnbufferedDecoder {
         if has_vectors() && VERY_FEW < bytes.len() {
             if self.is_idle() {
                 let len = len_without_end(bytes, 0);
-                if self.take_begun(dest, &bytes[..len]) {
+                if self.take_begun(dest, &bytes[..len], bytes.len() - len) {
                     if len == bytes.len() {
                         return None;
                     }
