@@ -36,14 +36,14 @@ pub enum DecodeError {
         decoded_bytes: usize,
     },
 
-    /// The buffer is shorter than what the frame decodes to.
+    /// The buffer is shorter than the frame's output.
     #[error("target buffer too small")]
     TargetBufTooSmall,
 }
 
 /// Why a `push` of a streaming decoder found no message, and after how many bytes. (A choice of this library.)
 ///
-/// The decoder has taken these bytes and none after them, so the caller goes on by pushing the others.
+/// The decoder has taken these bytes and none after them, so the caller continues by pushing the bytes after them.
 ///
 /// ```
 /// let mut buffer = [0; 4];

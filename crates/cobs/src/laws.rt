@@ -1,7 +1,7 @@
 //! What holds of messages, frames, pieces and streams. These functions do nothing when they run: their contracts are
 //! the laws, and a caller who calls one may use it in its own proof. Each has such a caller as its example; `reads_as`
 //! in some of them is the one of CALLING.md. An example is proved as it is, or with the lines below it: they are the
-//! caller's `Answers.antt`, but for `use Rattle.CRATE.proofs.CALLER.Goals as goal`.
+//! caller's `Answers.antt`, except `use Rattle.CRATE.proofs.CALLER.Goals as goal`.
 //!
 //! ```
 //! fn encode_by_longest(source: &[u8], dest: &mut [u8]) -> usize
@@ -29,11 +29,11 @@ mod coders;
 pub use coders::{law_15, law_16, law_17, law_18, law_19, law_20, law_21};
 
 /// A frame reads as its output: bytes read as a message exactly if there are some, none is a zero, their last
-/// block has all the bytes that its code counts, and the message is what they decode to. No output is longer than its
+/// block has all the bytes that its code counts, and the message is their output. No output is longer than its
 /// piece, and with one more byte of the piece it gets no shorter.
 ///
 /// Cutting bytes at their codes shows whether they are a frame, and of what. Each decoder does so, and its
-/// users know by this law that what it accepts are the frames and nothing else.
+/// users know by this law that it accepts exactly the frames.
 ///
 /// ```
 /// fn is_output(piece: &[u8], message: &[u8], buffer: &mut [u8]) -> bool
@@ -145,7 +145,7 @@ pub fn law_5()
     ensures encoded { (f g m k : List ℕ) → IsEncodedFrame f m → IsEncodedFrame g k → f ≡ g → m ≡ k }
 {}
 
-/// No byte of a frame for a sentinel is that sentinel, and a second XOR gives the frame for 0 back.
+/// No byte of a frame for a sentinel is that sentinel, and a second XOR restores the frame for 0.
 ///
 /// This is what COBS is for: whoever puts the sentinel between frames can find their ends by looking for it. `free` is
 /// said of a frame that is sent, `received` of one that has come. Bytes without the sentinel have no zero after the
@@ -231,9 +231,9 @@ pub fn law_8()
 {}
 
 /// A stream may be cut anywhere: it has the outcomes of its first part, and then those of the second part after what
-/// the first left unended. What both leave unended is what the second part leaves after that. Behind a zero nothing is
+/// the first left unended. What both leave unended is what the second part leaves after that. After a zero nothing is
 /// left; bytes without a zero have no outcome, and are all left. The pieces themselves join as the outcomes do, and
-/// nonzero bytes with a zero behind them are one piece.
+/// nonzero bytes with a zero after them are one piece.
 ///
 /// So a receiver may be given a stream in parts of any length, as reads happen to bring it, and gets what one call over
 /// the whole stream would give: `decode_stream`, `push` and `FrameReader` rest on this.
@@ -269,7 +269,7 @@ pub fn law_9()
     ensures { StreamLaw }
 {}
 
-/// Damage between two sentinels stays between them: what is changed, lost or added there, sentinels too, leaves the
+/// Damage between two sentinels stays between them: bytes that are changed, lost or added there, sentinels too, leave the
 /// outcomes before the first and after the second as they are. If no sentinel is between them, one piece
 /// is, with one outcome; two sentinels side by side have none between them.
 ///
@@ -301,9 +301,9 @@ pub fn law_10()
     ensures empty { (n : ℕ) → stream_outcomes (0 ∷ []) n ≡ [] }
 {}
 
-/// A frame in a stream comes to its message in each buffer that holds the message.
+/// A frame in a stream is decoded as its message in each buffer that holds the message.
 ///
-/// So what was sent as frames with a sentinel after each comes out as exactly the messages, and no frame, the longer
+/// So what was sent as frames with a sentinel after each is decoded as exactly the messages, and no frame, the longer
 /// one of a message with two included, is taken for broken or for too long.
 ///
 /// ```
@@ -327,10 +327,10 @@ pub fn law_11()
 {}
 
 /// A stream's first piece. In a stream that begins with a nonzero byte the first piece is the bytes before the first
-/// zero, and, in a buffer of the stream's length, it comes to a message exactly if it reads as that message. Zeros
-/// before the first piece are skipped: behind them the first piece ends where the next zero is, and if nothing is
-/// behind them, there is none. What is before the first zero, or before the first sentinel, is found by its end. Until
-/// a piece has ended, the last piece is what is left unended, and it still is once a zero has ended it.
+/// zero, and, in a buffer of the stream's length, it is decoded as a message exactly if it reads as that message. Zeros
+/// before the first piece are skipped: after them the first piece ends where the next zero is, and if nothing is
+/// after them, there is none. What is before the first zero, or before the first sentinel, is found by its end. While
+/// no piece has ended, the unended rest is the last piece; a zero then ends it.
 ///
 /// So `decode`, into a buffer as long as its source, and `decode_in_place` both return an error, or both the same
 /// message.

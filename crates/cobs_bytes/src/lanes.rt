@@ -1,5 +1,5 @@
 //! Stretches of bytes of other lengths than a window's: copied, copied if none is a sentinel, and moved within one buffer,
-//! where the places may overlap. All of a part is loaded before any of it is stored.
+//! whose places may overlap. All of a part is loaded before any of it is stored.
 ghost use Rattle.std.specs.Prelude.{◌≡◌, ◌<◌, ◌≤◌, ◌+◌, ◌++◌, length, take, drop, IsTrue, false};
 ghost use Rattle.cobs_bytes.specs.Bytes.{HasNoZero, xor_each};
 
@@ -59,7 +59,7 @@ fn copy_xored_two<const N: usize>(source: &[u8], dest: &mut [u8], sentinel: u8) 
     true
 }
 
-/// Copies all bytes if none is the sentinel, and says whether it did, a byte a turn.
+/// Copies all bytes if none is the sentinel, one byte per iteration, and says whether it did.
 #[inline(always)]
 fn copy_xored_by_byte(source: &[u8], dest: &mut [u8], sentinel: u8) -> bool
     requires room { length source.now ≤ length dest.old }

@@ -15,7 +15,7 @@ use crate::find::zero_or_len;
 use cobs_bytes::lanes::{copy_xored, copy_xored_short};
 use cobs_bytes::window::{WIDE_WINDOW, WINDOW, is_all, write_row};
 
-/// The most bytes that one stretch has: so few that none of its codes can have a whole full block after it.
+/// The most bytes of one stretch: so short that no code in it can be followed by a whole full block.
 pub(crate) const STRETCH_MAX: usize = FULL_BLOCK_BYTES - 1;
 
 impl UnbufferedDecoder {
@@ -168,6 +168,7 @@ impl UnbufferedDecoder {
     pub(crate) fn take_begun(&mut self, dest: &mut [u8], bytes: &[u8], zeros: usize) -> bool
         requires idle { phase_of self.old ≡ Idle }
         ensures fed { IsTrue result → FeedsQuietly dest.old (phase_of self.old) bytes.now dest.new (phase_of self.new) }
+        ensures begun { IsTrue result → (self.new.too_long ≡ 0) × (0 < self.new.written) }
         ensures kept { result ≡ false → (dest.new ≡ dest.old) × (self.new ≡ self.old) }
     {
         let len = bytes.len();
@@ -193,8 +194,8 @@ impl UnbufferedDecoder {
         true
     }
 
-    /// Takes bytes before a sentinel, as many as one step can, and returns how many: a block of 64 bytes or more or after a
-    /// full one; 32 codes of blocks without bytes; or a stretch. It is 0 only if the first byte has no room.
+    /// Takes the bytes of one step before a sentinel, and returns their number: a block of 64 bytes or more or after a full
+    /// one; 32 codes of blocks without bytes; or a stretch. It is 0 only if the first byte has no room.
     #[inline(always)]
     fn take_part(&mut self, dest: &mut [u8], bytes: &[u8], sentinel: u8) -> usize
         requires going { self.old.too_long ≡ 0 }

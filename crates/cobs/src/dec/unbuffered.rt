@@ -1,5 +1,5 @@
 //! The streaming decoder whose buffer is passed to each call. The three others are built on it.
-ghost use Rattle.std.specs.Prelude.{◌≡◌, ◌↔◌, IsTrue, List, [], ℕ};
+ghost use Rattle.std.specs.Prelude.{◌≡◌, ◌<◌, ◌↔◌, IsTrue, List, [], ℕ, length, slice_index};
 ghost use Rattle.cobs.specs.Feed.{DecoderAfter, Feeds, Idle};
 ghost use Rattle.cobs.specs.Fields.Decoders.{phase_at, phase_of};
 ghost use Rattle.cobs.specs.Push.{PushesBytes};
@@ -7,7 +7,7 @@ ghost use Rattle.cobs.specs.FeedPiece.{TakesPiece};
 
 use crate::dec::frame_decoder::PieceEnd;
 use crate::error::{DecodeError, DecodeReport, PushError};
-use crate::find::{len_without_end, position_or_len};
+use crate::find::{front_len, len_without_end, position_or_len};
 use cobs_bytes::window::has_vectors;
 
 /// The state of an [`UnbufferedDecoder`]. (A choice of this library.)
@@ -276,12 +276,35 @@ impl UnbufferedDecoder {
                     let end = PieceEnd::reported(self.feed(dest, 0))?;
                     return Some((end, bytes.len()));
                 }
+                let front = front_len(bytes);
+                if front < bytes.len() {
+                    return self.feed_front(dest, bytes, front);
+                }
             } else if self.take_short(dest, bytes) {
                 return None;
             }
         }
         if bytes.len() <= FEW {
             return self.feed_each(dest, bytes, 0);
+        }
+        self.feed_piece_long(dest, bytes)
+    }
+
+    /// Does what `feed_piece` does, for an idle decoder and bytes of which the one at `len` is a zero: the piece before it is
+    /// taken as one that is pushed alone. So short pieces that come together are searched and copied without a call.
+    #[inline(never)]
+    fn feed_front(&mut self, dest: &mut [u8], bytes: &[u8], len: usize) -> Option<(PieceEnd, usize)>
+        requires idle { phase_of self.old ≡ Idle }
+        requires within { len < length bytes.now }
+        requires zero { slice_index bytes.now len ≡ 0 }
+        ensures takes { TakesPiece dest.old (phase_of self.old) bytes.now result dest.new (phase_of self.new) }
+    {
+        if bytes.len() <= FEW || 0 < len && len <= VERY_FEW {
+            return self.feed_each(dest, bytes, 0);
+        }
+        if self.take_begun(dest, &bytes[..len], 1) {
+            let end = PieceEnd::reported(self.feed(dest, 0))?;
+            return Some((end, len + 1));
         }
         self.feed_piece_long(dest, bytes)
     }

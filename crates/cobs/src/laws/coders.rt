@@ -1,5 +1,5 @@
-//! Laws for a coder of one's own: how long a frame gets block by block, what an encoder over a slice has taken after
-//! each byte, what a decoder has taken, and which frame a piece is. Then what the streaming decoders make of a frame.
+//! Laws for your own coder: how long a frame gets block by block, what an encoder over a slice has taken after
+//! each byte, what a decoder has taken, and which frame a piece is. Then what the streaming decoders return for a frame.
 ghost use Rattle.std.specs.Prelude.{◌≡◌, ◌≢◌, ◌↔◌, ◌<◌, ◌+◌, ℕ, List, [], ◌∷◌, ◌++◌, length, drop, false, Some, None};
 ghost use Rattle.cobs.specs.Feed.{DecoderAfter, Idle, Phase};
 ghost use Rattle.cobs.specs.FeedPiece.{TakesPiece, outcome_at};
@@ -11,7 +11,7 @@ ghost use Rattle.cobs.specs.Stream.{stream_outcomes, unended};
 ghost use Rattle.cobs.specs.declared.dec.frame_decoder.PieceEnd.{PieceEnd};
 
 /// The length of an encoded frame, counted block by block: nonzero bytes, fewer than 255, have a block of their own at
-/// the end of the message; fewer than 254 have one before a zero; 254 have one where the message goes on. Which nonzero
+/// the end of the message; fewer than 254 have one before a zero; 254 have one if the message continues. Which nonzero
 /// bytes they are is no matter.
 ///
 /// So one pass over the message decides whether a frame fits, before a byte is written.
@@ -37,12 +37,12 @@ pub fn law_15()
         → encoded_len (a ++ m) ≡ encoded_len (b ++ m) }
 {}
 
-/// An encoder over a slice, byte by byte. At first it has taken nothing. A nonzero byte joins the open block, behind
+/// An encoder over a slice, byte by byte. At first it has taken nothing. A nonzero byte joins the open block, after
 /// the bytes that are there; the 254th fills the block, whose code is then written; a zero closes the block by its
 /// code. At the end the code of the open block is written, unless the last block is full. The frame of a longer message
 /// is counted from the open block: `a` has as many bytes as that block.
 ///
-/// So an encoder of one's own that keeps to these steps writes the frames of [`encode`](crate::encode).
+/// So your own encoder that keeps to these steps writes the frames of [`encode`](crate::encode).
 ///
 /// ```
 /// fn take_nonzero(slice: &mut [u8], index: usize, code: u8, byte: u8)
@@ -71,7 +71,7 @@ pub fn law_16()
 /// are taken one by one, none of them a zero that ends a piece, are all taken as `feed_piece` takes them; and so are
 /// those through the first zero that ends one.
 ///
-/// So a decoder of one's own that keeps to the step decodes what the streaming decoders decode, and a loop over
+/// So your own decoder that keeps to the step decodes what the streaming decoders decode, and a loop over
 /// `feed_byte` is a `feed_piece`.
 ///
 /// ```
@@ -96,10 +96,10 @@ pub fn law_17()
     ensures { DecoderLaw }
 {}
 
-/// What the streaming decoders make of a frame. A zero that is fed after all bytes of a frame returns the length of its
-/// message, if the buffer holds that; `feed_piece` of an idle decoder ends with the first zero behind a piece, and
-/// comes to the message too; and so does a push of the frame and its zero. The buffer then begins with the message. No
-/// other piece comes to a message.
+/// What the streaming decoders return for a frame. A zero that is fed after all bytes of a frame returns the length of its
+/// message, if the buffer holds that; `feed_piece` of an idle decoder ends with the first zero after a piece, and
+/// returns the message too; and so does a push of the frame and its zero. The buffer then begins with the message. No
+/// other piece is decoded as a message.
 ///
 /// So what a sender made by [`encode`](crate::encode) is read whichever way its bytes are handed over.
 ///
@@ -122,11 +122,11 @@ pub fn law_18()
     ensures { FrameLaw }
 {}
 
-/// Which frame a block makes of the bytes after it. A block alone is a canonical frame. In front of other bytes it is a
+/// Says which frame a block and the bytes after it form. A block alone is a canonical frame. Before other bytes it is a
 /// frame exactly if they are one, and canonical exactly if they are, unless it is full and they are the lone block.
 /// Bytes that are fewer than their first code says are no frame.
 ///
-/// So a reader of one's own that goes from code to code learns whether it has a frame, and which one.
+/// So your own reader that goes from code to code learns whether it has a frame, and which one.
 ///
 /// ```
 /// fn is_canonical_behind(block: &[u8], frame: &[u8]) -> bool
@@ -149,11 +149,11 @@ pub fn law_19()
         → IsFrame (code ∷ bytes) → ⊥ }
 {}
 
-/// What a block in front of other bytes decodes to: its bytes, and the zero after them unless it is full. It is whole,
+/// Gives the output of a block before other bytes: its bytes, and the zero after them unless it is full. It is whole,
 /// and with it the other bytes are whole exactly if they are. Of bytes that are fewer than their first code says,
 /// nothing is kept; of whole ones everything is.
 ///
-/// So a decoder of one's own that goes from code to code writes what [`decode_in_place`](crate::decode_in_place) does.
+/// So your own decoder that goes from code to code writes what [`decode_in_place`](crate::decode_in_place) does.
 ///
 /// ```
 /// fn decode_block<'a>(block: &'a [u8]) -> &'a [u8]
@@ -178,9 +178,9 @@ pub fn law_20()
     ensures all_kept { (p : List ℕ) → IsWhole p → kept_output p ≡ output p }
 {}
 
-/// What an idle decoder that takes one piece makes of a stream: the stream has the piece's outcome and then those of the
-/// bytes behind it, and leaves unended what they leave. Where no piece ends it has none, and the decoder has taken what
-/// it leaves.
+/// Gives the outcomes of a stream for an idle decoder that takes one piece: the stream has the piece's outcome and then
+/// those of the bytes after it, and leaves unended what they leave. If no piece ends it has none, and the decoder has taken
+/// what it leaves.
 ///
 /// So a loop over `feed_piece` is proved by one equation: the outcomes found so far, and those of the bytes that are
 /// left, are the stream's.

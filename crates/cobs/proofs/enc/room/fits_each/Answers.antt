@@ -1,14 +1,15 @@
-use Rattle.std.proofs.Common.{◌≡◌, ◌<◌, ◌≤◌, ◌+◌, arith, drop}
-use Rattle.std.proofs.lemmas.Bool.{le-leb, leb-true}
+use Rattle.std.proofs.Common.{◌≡◌, ◌<◌, ◌+◌, arith, drop, length-drop, refl}
 use Rattle.cobs.specs.Length.{open_len}
-use Rattle.cobs.proofs.encoding.OpenLenLemmas.{len-full, len-end, len-byte, len-zero}
+use Rattle.cobs.proofs.encoding.OpenLenLemmas.{len-full, len-end, len-byte, len-zero, open_len-least}
 use Rattle.cobs.proofs.enc.room.fits_each.Goals as goal
-use Rattle.cobs.proofs.enc.room.fits_each.Goals.{then-code+else-left, else-code, then-bytes-i-ne0, else-bytes-i-ne0+else-left-code}
+use Rattle.cobs.proofs.enc.room.fits_each.Goals.{then-code+else-left-eq0, else-code, then-bytes-i-ne0, else-bytes-i-ne0}
 
-pub returns-then-left : goal.returns-then-left
-returns-then-left c =
+pub returns-then-left-eq0 : goal.returns-then-left-eq0
+returns-then-left-eq0 c =
     let total = c.by_byte.invariant.total in
     let full = len-full c.args.bytes.now c.by_byte.i c.by_byte-test.true c.by_byte.code c.if-code.true in
+    let least = open_len-least 1 (drop c.by_byte.i c.args.bytes.now) (omega arith) in
+    let long = length-drop c.by_byte.i c.args.bytes.now in
     record { fits = (λ t. cc, λ le. absurd (omega arith)) }
 
 pub returns : goal.returns
@@ -17,33 +18,32 @@ returns c =
     let some = c.by_byte.invariant.some in
     let short = c.by_byte.auto.code-fits in
     let last = len-end c.args.bytes.now c.by_byte.i c.by_byte.code some (omega arith) c.by_byte-test.false in
-    record { fits = (λ t. let le = leb-true c.by_byte.code c.by_byte.left t in omega arith, λ le. le-leb c.by_byte.code c.by_byte.left (omega arith)) }
+    record { fits = (λ t. omega arith, λ le. refl) }
 
 pub by_byte-preserved : goal.by_byte-preserved
 by_byte-preserved c =
     let total = c.by_byte.invariant.total in
-    let within = c.by_byte.invariant.within in
+    let more = c.by_byte.invariant.more in
     let some = c.by_byte.invariant.some in
     let short = c.by_byte.auto.code-fits in
-    let more = c.by_byte-test.true in
-    let ready : (0 < c.if-code.code) × (c.if-code.code < 255) × (c.if-code.left ≤ c.args.room)
-    × (open_len c.if-code.code (drop c.by_byte.i c.args.bytes.now) + c.args.room ≡ open_len c.args.code c.args.bytes.now + c.if-code.left) =
+    let next = c.by_byte-test.true in
+    let ready : (0 < c.if-code.code) × (c.if-code.code < 255) × (0 < c.if-code.left)
+    × (open_len c.if-code.code (drop c.by_byte.i c.args.bytes.now) + c.args.code + c.args.spare + c.by_byte.i ≡ open_len c.args.code c.args.bytes.now + c.if-code.code + c.if-code.left) =
     elim c.if-code.branch [
-      | then-code+else-left w ↦
-          let full = len-full c.args.bytes.now c.by_byte.i more c.by_byte.code w.if-code.true in
-          let left = w.if-left.false in
+      | then-code+else-left-eq0 w ↦
+          let full = len-full c.args.bytes.now c.by_byte.i next c.by_byte.code w.if-code.true in
+          let left = w.if-left-eq0.false in
           rw (w.left-is, w.code-is) (omega arith, omega arith, omega arith, omega arith)
-      | else-code w ↦ let other = w.if-code.false in rw (w.left-is, w.code-is) (some, omega arith, within, total)
+      | else-code w ↦ let other = w.if-code.false in rw (w.left-is, w.code-is) (some, omega arith, more, total)
     ] in
     let some' = ready.0 in
-    let within' = ready.2 in
+    let more' = ready.2 in
     let total' = ready.3 in
     elim c.if-bytes-i-ne0.branch [
       | then-bytes-i-ne0 w ↦
-          let step = len-byte c.args.bytes.now c.by_byte.i more c.if-code.code some' w.if-bytes-i-ne0.true in
-          rw (w.left-is, w.code-is) (record { some = omega arith; within = within'; total = omega arith })
-      | else-bytes-i-ne0+else-left-code w ↦
-          let step = len-zero c.args.bytes.now c.by_byte.i more c.if-code.code some' ready.1 w.if-bytes-i-ne0.false in
-          let left = w.if-left-code.false in
-          rw (w.left-is, w.code-is) (record { some = omega arith; within = omega arith; total = omega arith })
+          let step = len-byte c.args.bytes.now c.by_byte.i next c.if-code.code some' w.if-bytes-i-ne0.true in
+          rw (w.code-is) (record { some = omega arith; more = more'; total = omega arith })
+      | else-bytes-i-ne0 w ↦
+          let step = len-zero c.args.bytes.now c.by_byte.i next c.if-code.code some' ready.1 w.if-bytes-i-ne0.false in
+          rw (w.code-is) (record { some = omega arith; more = more'; total = omega arith })
     ]

@@ -1,4 +1,4 @@
-use Rattle.std.proofs.Common.{◌≡◌, ◌+◌, ◌<◌, ◌≤◌, drop}
+use Rattle.std.proofs.Common.{◌≡◌, ◌+◌, ◌<◌, drop}
 use Rattle.cobs.specs.Length.{open_len}
 use Rattle.cobs.proofs.enc.room.fits_each.Given as goal
 
@@ -6,6 +6,6 @@ use Rattle.cobs.proofs.enc.room.fits_each.Given as goal
 abbrev pub invariant-by_byte : goal.invariant-by_byte
 invariant-by_byte l = record {
   some : 0 < l.code;
-  within : l.left ≤ l.room;
-  total : open_len l.code (drop l.i l.bytes) + l.room ≡ open_len l.fn.code l.bytes + l.left;
+  more : 0 < l.left;
+  total : open_len l.code (drop l.i l.bytes) + l.fn.code + l.spare + l.i ≡ open_len l.fn.code l.bytes + l.code + l.left;
 }

@@ -9,7 +9,7 @@ use Rattle.cobs.proofs.streaming.ByByteLemmas.{piece-nothing, piece-more, piece-
 use Rattle.cobs.proofs.streaming.RunLemmas.{piece-run}
 use Rattle.cobs.proofs.dec.unbuffered.UnbufferedDecoder.feed_piece.Goals as goal
 use Rattle.cobs_bytes.proofs.bytes.XoredLemmas.{xor_each-zero}
-use Rattle.cobs.proofs.dec.unbuffered.UnbufferedDecoder.feed_piece.Goals.{then-has_vectors+then-bytes-gt-VERY_FEW+then-is_idle+else-take_begun, then-has_vectors+then-bytes-gt-VERY_FEW+else-is_idle+else-take_short, else-has_vectors}
+use Rattle.cobs.proofs.dec.unbuffered.UnbufferedDecoder.feed_piece.Goals.{then-has_vectors+then-bytes-gt-VERY_FEW+then-is_idle+else-take_begun+else-front-bytes, then-has_vectors+then-bytes-gt-VERY_FEW+else-is_idle+else-take_short, else-has_vectors}
 
 -- bytes were fed of which none ends a piece
 quietly : (bytes buffer buffer' : List ℕ) (phase phase' : Phase) → FeedsQuietly buffer phase bytes buffer' phase' → TakesPiece buffer phase bytes None buffer' phase'
@@ -60,7 +60,7 @@ pub returns-then-bytes-le-FEW : goal.returns-then-bytes-le-FEW
 returns-then-bytes-le-FEW c =
     let taken = rw (xor_each-zero c.args.bytes.now) at c.feed_each.ensures.takes in
     elim c.if-has_vectors.branch [
-      | then-has_vectors+then-bytes-gt-VERY_FEW+then-is_idle+else-take_begun w ↦
+      | then-has_vectors+then-bytes-gt-VERY_FEW+then-is_idle+else-take_begun+else-front-bytes w ↦
           let kept = w.take_begun.ensures.kept w.if-take_begun.false in
           record { takes = rw (w.dest-is, w.self-is, kept.0, kept.1) at taken }
       | then-has_vectors+then-bytes-gt-VERY_FEW+else-is_idle+else-take_short w ↦
@@ -73,7 +73,7 @@ pub returns : goal.returns
 returns c =
     let taken = c.feed_piece_long.ensures.takes in
     elim c.if-has_vectors.branch [
-      | then-has_vectors+then-bytes-gt-VERY_FEW+then-is_idle+else-take_begun w ↦
+      | then-has_vectors+then-bytes-gt-VERY_FEW+then-is_idle+else-take_begun+else-front-bytes w ↦
           let kept = w.take_begun.ensures.kept w.if-take_begun.false in
           record { takes = rw (w.dest-is, w.self-is, kept.0, kept.1) at taken }
       | then-has_vectors+then-bytes-gt-VERY_FEW+else-is_idle+else-take_short w ↦
@@ -81,3 +81,8 @@ returns c =
           record { takes = rw (w.dest-is, w.self-is, kept.0, kept.1) at taken }
       | else-has_vectors w ↦ record { takes = rw (w.dest-is, w.self-is) at taken }
     ]
+
+pub returns-then-front-bytes : goal.returns-then-front-bytes
+returns-then-front-bytes c =
+    let kept = c.take_begun.ensures.kept c.if-take_begun.false in
+    record { takes = rw (kept.0, kept.1) at c.feed_front.ensures.takes }

@@ -1,0 +1,69 @@
+use Rattle.std.proofs.Common.{◌≡◌, ◌≢◌, ◌<◌, ◌+◌, ◌-◌, List, ℕ, zero, suc, Bool, true, false, eqb, Option, Result, None, Some, inl, inr, refl, sym, subst, arith, get_or, length, take, take_all}
+use Rattle.std.proofs.Math.Seq.{take-length}
+use Rattle.cobs.specs.Feed.{Feeds, Phase}
+use Rattle.cobs.specs.Fields.Decoders.{phase_of, phase_with}
+use Rattle.cobs.specs.FeedPiece.{TakesPiece, end_reported}
+use Rattle.cobs.specs.Internal.FeedsQuietly.{FeedsQuietly}
+use Rattle.cobs.specs.declared.dec.frame_decoder.PieceEnd.{PieceEnd}
+use Rattle.cobs.specs.declared.dec.state.DecoderState.TheVariants.{Grab, GrabChain}
+use Rattle.cobs.specs.declared.error.DecodeError.{DecodeError}
+use Rattle.cobs.proofs.streaming.ByByteLemmas.{piece-nothing, piece-more, piece-ended}
+use Rattle.cobs.proofs.streaming.RunLemmas.{piece-run}
+use Rattle.cobs.proofs.dec.unbuffered.UnbufferedDecoder.feed_front.Goals as goal
+use Rattle.cobs_bytes.proofs.bytes.XoredLemmas.{xor_each-zero}
+
+-- bytes were fed of which none ends a piece
+quietly : (bytes buffer buffer' : List ℕ) (phase phase' : Phase) → FeedsQuietly buffer phase bytes buffer' phase' → TakesPiece buffer phase bytes None buffer' phase'
+quietly bytes buffer buffer' phase phase' fed =
+    rw (take_all (0 + length bytes) bytes (omega arith)) at (piece-run bytes 0 (length bytes) (omega arith) (piece-nothing _ _) (rw (← take-length bytes) at fed))
+
+-- a zero ends a piece of which a byte is written
+ended_at : (is_full : Bool) (left count : ℕ) (buffer buffer' : List ℕ) (phase' : Phase) (result : Result (Option ℕ) DecodeError)
+    → Feeds buffer (phase_with is_full left (suc count)) 0 result buffer' phase' → end_reported result ≢ None
+ended_at false zero count buffer buffer' phase' result f none = elim (f.result_by_table (Grab 0) refl) [
+  | inl is ↦ let e = rw is at none in cc
+  | inr is ↦ let e = rw is.0 at none in cc
+]
+ended_at false (suc left) count buffer buffer' phase' result f none = elim (f.result_by_table (Grab (suc left)) refl) [
+  | inl is ↦ let e = rw is at none in cc
+  | inr is ↦ let e = rw is.0 at none in cc
+]
+ended_at true zero count buffer buffer' phase' result f none = elim (f.result_by_table (GrabChain 0) refl) [
+  | inl is ↦ let e = rw is at none in cc
+  | inr is ↦ let e = rw is.0 at none in cc
+]
+ended_at true (suc left) count buffer buffer' phase' result f none = elim (f.result_by_table (GrabChain (suc left)) refl) [
+  | inl is ↦ let e = rw is at none in cc
+  | inr is ↦ let e = rw is.0 at none in cc
+]
+
+ended_by : (written missing joint too_long : ℕ) (buffer buffer' : List ℕ) (phase' : Phase) (result : Result (Option ℕ) DecodeError) → too_long ≡ 0 → 0 < written
+    → Feeds buffer (phase_of (record { written = written; missing = missing; joint = joint; too_long = too_long })) 0 result buffer' phase' → end_reported result ≢ None
+ended_by zero missing joint too_long buffer buffer' phase' result going some f = absurd (omega arith)
+ended_by (suc count) missing joint too_long buffer buffer' phase' result going some f = ended_at (eqb joint 0) missing count buffer buffer' phase' result (rw going at f)
+
+-- the first bytes were fed, none of which ends a piece, and then a zero
+module _ (bytes buffer between buffer' : List ℕ) (phase phase_between phase' : Phase) (result : Result (Option ℕ) DecodeError) (len : ℕ) (more : len < length bytes) (zero_is : get_or bytes len 0 ≡ 0)
+    (fed : FeedsQuietly buffer phase (take len bytes) between phase_between) (feeds : Feeds between phase_between 0 result buffer' phase') where
+  before : TakesPiece buffer phase (take len bytes) None between phase_between
+  before =
+      let same : 0 + len ≡ len = omega arith in
+      subst (λ (k : ℕ). TakesPiece buffer phase (take k bytes) None between phase_between) same (piece-run bytes 0 len (omega arith) (piece-nothing _ _) fed)
+
+  last : Feeds between phase_between (get_or bytes len 0) result buffer' phase'
+  last = subst (λ (b : ℕ). Feeds between phase_between b result buffer' phase') (sym zero_is) feeds
+
+  ended : (end : PieceEnd) → end_reported result ≡ Some end → TakesPiece buffer phase bytes (Some (end, len + 1)) buffer' phase'
+  ended end is = piece-ended bytes _ more before last end zero_is is
+
+pub returns-in_err-end : goal.returns-in_err-end
+returns-in_err-end c =
+    let begun = c.take_begun.ensures.begun c.if-take_begun.true in
+    absurd (ended_by c.take_begun.new.self.written c.take_begun.new.self.missing c.take_begun.new.self.joint c.take_begun.new.self.too_long _ _ _ _ begun.0 begun.1 c.feed.ensures.feeds (sym c.in_err-end.ensures.end))
+
+pub returns-then-take_begun : goal.returns-then-take_begun
+returns-then-take_begun c =
+    record { takes = ended _ _ _ _ _ _ _ _ _ c.requires.within c.requires.zero (c.take_begun.ensures.fed c.if-take_begun.true) c.feed.ensures.feeds _ (sym c.in_ok-end.ensures.end) }
+
+pub returns-then-bytes-le-FEW : goal.returns-then-bytes-le-FEW
+returns-then-bytes-le-FEW c = record { takes = rw (xor_each-zero c.args.bytes.now) at c.feed_each.ensures.takes }

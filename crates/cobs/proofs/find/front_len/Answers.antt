@@ -1,0 +1,35 @@
+use Rattle.std.proofs.Common.{◌≡◌, ◌≢◌, ◌<◌, ◌≤◌, ℕ, List, length, take, get_or, ap, sym, ◌∙◌, arith, length-take-le}
+use Rattle.std.proofs.lemmas.List.{get_or-take}
+use lib.Count.{count_trailing_zeros}
+use Rattle.cobs_bytes.specs.Mask.{zero_mask}
+use Rattle.cobs_bytes.proofs.bytes.MaskLemmas.{lowest_bit, nonzero_len, nonzero_len-at, nonzero_len-lt}
+use Rattle.cobs.proofs.find.front_len.Goals as goal
+
+-- the lowest bit of the mask says where the first zero of the 32 bytes is
+module _ (source : List ℕ) (zeros : ℕ) (long : 32 ≤ length source) (is : zeros ≡ zero_mask (take 32 source)) (some : zeros ≢ 0) where
+  abbrev front : List ℕ
+  front = take 32 source
+
+  front_some : zero_mask front ≢ 0
+  front_some none = some (is ∙ none)
+
+  place : count_trailing_zeros 64 zeros ≡ nonzero_len front
+  place = ap (count_trailing_zeros 64) is ∙ lowest_bit front (omega (arith, length-take-le 32 source long)) front_some
+
+  within : count_trailing_zeros 64 zeros < 32
+  within = omega (arith, place, nonzero_len-lt front front_some, length-take-le 32 source long)
+
+  stop : get_or source (count_trailing_zeros 64 zeros) 0 ≡ 0
+  stop =
+      sym (get_or-take 32 source _ 0 within)
+      ∙ ap (λ (k : ℕ). get_or front k 0) place
+      ∙ nonzero_len-at front front_some
+
+pub returns-clause-within : goal.returns-clause-within
+returns-clause-within c =
+    let w = within c.args.source.now c.zeros_at-zeros.result (omega (arith, c.if-source-lt-WINDOW.false)) c.zeros_at-zeros.ensures c.if-zeros-eq0.false in
+    omega (arith, w, c.if-source-lt-WINDOW.false)
+
+pub returns-clause-stop : goal.returns-clause-stop
+returns-clause-stop c _ =
+    stop c.args.source.now c.zeros_at-zeros.result (omega (arith, c.if-source-lt-WINDOW.false)) c.zeros_at-zeros.ensures c.if-zeros-eq0.false
