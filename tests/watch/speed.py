@@ -1,17 +1,23 @@
 #!/usr/bin/env python3
 """Measures cobs_watch over much data: its speed, beside a plain program's where that has the style, and its memory.
 
-    speed.py WATCH PLAIN [MIB]     PLAIN is the built plain.c. MIB of each of seven streams are read, 128 if not given.
+    speed.py WATCH PLAIN [MIB [RUNS]]
+
+PLAIN is the built plain.c. MIB of each of eight streams are read, 128 if not given, and of RUNS runs, 3 if not given, the
+fastest counts. At the end it prints the table of crates/cobs_watch/README.md, with the instructions that valgrind counts.
 """
 
 import os
 import random
+import re
+import shutil
 import subprocess
 import sys
 import tempfile
 
 WATCH, PLAIN = sys.argv[1:3]
 MIB = int(sys.argv[3]) if len(sys.argv) > 3 else 128
+RUNS = int(sys.argv[4]) if len(sys.argv) > 4 else 3
 
 
 def frame_of(message):
@@ -44,7 +50,18 @@ def noise():
 
 def text():
     """A message of text: an object of JSON of 40 to 80 letters and digits, with a newline."""
-    return b'{"id":%d,"value":"%s"}\n' % (random.randrange(10**6), random.randbytes(random.randrange(12, 32)).hex().encode())
+    return b'{"id":%d,"value":"%s"}\n' % (
+        random.randrange(10**6),
+        random.randbytes(random.randrange(12, 32)).hex().encode(),
+    )
+
+
+def brief():
+    """Such a message of text that has at most 63 bytes, so that 64 bytes of the stream have its end."""
+    while True:
+        message = text()
+        if len(message) <= 63:
+            return message
 
 
 def short():
@@ -99,6 +116,16 @@ STYLES = (("hexadecimal", []), ("--raw", ["--raw"]), ("--json", ["--json"]))
 OTHERS = ("--text", "--hexdump", "--bytes", "--pcap", "--crc crc-16-modbus", "--crc crc-32", "--time utc --number")
 
 
+def instructions(words, held):
+    """How many instructions a run takes, by valgrind."""
+    held.seek(0)
+    counted = ["valgrind", "--tool=cachegrind", "--cache-sim=no", "--cachegrind-out-file=/dev/null", *words]
+    said = subprocess.run(
+        counted, stdin=held, stdout=subprocess.DEVNULL, stderr=subprocess.PIPE, check=True
+    ).stderr.decode()
+    return int(re.search(r"I\s+refs:\s+([\d,]+)", said).group(1).replace(",", ""))
+
+
 def same_output(held, words):
     """Whether both programs write the same."""
     said = []
@@ -109,29 +136,44 @@ def same_output(held, words):
 
 
 def measure(name, block):
-    """Prints how fast both programs are in each style: the best of three runs, in turn."""
+    """Prints how fast both programs are in each style, whose runs take turns, and returns the column of the table."""
     with tempfile.TemporaryFile() as held:
         held.write(block)
         held.flush()
         for style, words in STYLES:
             assert same_output(held, words), (name, style)
+        column = {}
+        if shutil.which("valgrind"):
+            counts = [instructions([program], held) / len(block) for program in (WATCH, PLAIN)]
+            column["instructions per byte, hexadecimal"] = "{:.0f}, {:.0f}".format(*counts)
         for _ in range(MIB - 1):
             held.write(block)
         held.flush()
         size = len(block) * MIB / 1e6
         for style, words in STYLES:
-            runs = [[timed([program, *words], held) for program in (WATCH, PLAIN)] for _ in range(3)]
+            runs = [[timed([program, *words], held) for program in (WATCH, PLAIN)] for _ in range(RUNS)]
             watch, plain = (size / min(times) for times in zip(*runs))
-            print(f"{name}, {style}: cobs_watch {watch:.0f} MB/s, plain C {plain:.0f} MB/s of processor time", flush=True)
+            column[style] = f"{watch:.0f}, {plain:.0f}"
+            print(
+                f"{name}, {style}: cobs_watch {watch:.0f} MB/s, plain C {plain:.0f} MB/s of processor time", flush=True
+            )
         for words in OTHERS:
             best = min(timed([WATCH, *words.split()], held) for _ in range(2))
             print(f"{name}, {words}: cobs_watch {size / best:.0f} MB/s", flush=True)
+    return column
+
+
+def print_table(columns):
+    """Prints the table: the speed of both programs, or their instructions, by style and stream."""
+    print("| MB/s, and those of C |", " | ".join(columns), "|\n|---|" + "--:|" * len(columns))
+    for row in sorted(next(iter(columns.values())), key=lambda it: it.startswith("instructions")):
+        print(f"| {row} |", " | ".join(column[row] for column in columns.values()), "|")
 
 
 def main():
     """Measures streams of each kind, and the memory over the first one."""
-    for message in (telemetry, text, dense, noise, long, short, words):
-        measure(message.__name__, stream_of(message))
+    streams = (telemetry, text, brief, dense, noise, long, short, words)
+    print_table({message.__name__: measure(message.__name__, stream_of(message)) for message in streams})
     block = stream_of(telemetry)
     memory = max(memory_of([WATCH, *words], block) for words in ([], ["--hexdump"], ["--json"]))
     print(f"{len(block) * MIB} bytes, at most {memory:.1f} MiB")

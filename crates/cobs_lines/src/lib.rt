@@ -4,5 +4,5 @@
 mod lines;
 mod memory;
 
-pub use lines::{write_broken, write_digits, write_message, write_too_long};
+pub use lines::{fill_digits, write_broken, write_digits, write_message, write_too_long};
 pub use memory::InMemory;

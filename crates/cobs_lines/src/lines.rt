@@ -1,7 +1,7 @@
 //! The line of each piece of a stream, written to any writer.
-ghost use Rattle.std.specs.Prelude.{◌≡◌, ◌++◌, OnOk};
+ghost use Rattle.std.specs.Prelude.{◌≡◌, ◌<◌, ◌*◌, ◌++◌, OnOk, length, slice_index};
 ghost use Rattle.std.specs.Io.KnownBytes.{Appends};
-ghost use Rattle.hex.specs.Hex.{encode_lower};
+ghost use Rattle.hex.specs.Hex.{encode_lower, lower_digits};
 ghost use Rattle.cobs.specs.Stream.{Broken, Message, TooLong};
 ghost use Rattle.cobs_lines.specs.Lines.{outcome_line};
 
@@ -9,6 +9,12 @@ use std::io::{self, Write};
 
 /// How many bytes of a message are turned into digits at once.
 const AT_ONCE: usize = 256;
+
+/// From how many bytes on it is faster to compute digits than to look them up.
+const MANY: usize = 8;
+
+/// The digits.
+const DIGITS: [u8; 16] = *b"0123456789abcdef";
 
 /// Writes the line of a message of N bytes, `message N HEX` with the bytes as lower-case hexadecimal digits, or
 /// `message 0` for the empty message, and a newline. No memory is taken, however long the message is.
@@ -41,13 +47,62 @@ pub fn write_digits<W: Write>(output: &mut W, bytes: &[u8]) -> io::Result<()>
     'by_chunk: while at < bytes.len() {
         let end = bytes.len().min(at + AT_ONCE);
         let room = &mut digits[..2 * (end - at)];
-        if hex::encode_to_slice(&bytes[at..end], room).is_err() {
-            unreachable!();
-        }
+        fill_digits(room, &bytes[at..end]);
         output.write_all(room)?;
         at = end;
     }
     Ok(())
+}
+
+/// Fills `room` with the lower-case hexadecimal digits of the bytes, two for each.
+#[inline(always)]
+pub fn fill_digits(room: &mut [u8], bytes: &[u8])
+    requires room { length room.old ≡ 2 * length bytes.now }
+    ensures digits { room.new ≡ encode_lower bytes.now }
+{
+    if bytes.len() < MANY {
+        look_up_digits(room, bytes);
+    } else {
+        compute_digits(room, bytes);
+    }
+}
+
+/// Fills `room` with the digits of a few bytes.
+#[inline(always)]
+fn look_up_digits(room: &mut [u8], bytes: &[u8])
+    requires room { length room.old ≡ 2 * length bytes.now }
+    ensures digits { room.new ≡ encode_lower bytes.now }
+{
+    'by_byte: for i in 0..bytes.len() {
+        room[2 * i] = DIGITS[(bytes[i] / 16) as usize];
+        room[2 * i + 1] = DIGITS[(bytes[i] % 16) as usize];
+    }
+}
+
+/// Fills `room` with the digits of many bytes.
+#[inline(always)]
+fn compute_digits(room: &mut [u8], bytes: &[u8])
+    requires room { length room.old ≡ 2 * length bytes.now }
+    ensures digits { room.new ≡ encode_lower bytes.now }
+{
+    'by_byte: for i in 0..bytes.len() {
+        room[2 * i] = digit(bytes[i] / 16);
+        room[2 * i + 1] = digit(bytes[i] % 16);
+    }
+}
+
+/// Returns the lower-case hexadecimal digit of a number below 16. It is computed, and not looked up, so that the compiler can
+/// compute the digits of many bytes at once.
+#[inline(always)]
+fn digit(number: u8) -> u8
+    requires below { number < 16 }
+    ensures digit { result ≡ slice_index lower_digits number }
+{
+    if number < 10 {
+        b'0' + number
+    } else {
+        b'a' - 10 + number
+    }
 }
 
 /// Writes the line `broken N` of a piece that breaks off inside a block and decodes to N bytes.

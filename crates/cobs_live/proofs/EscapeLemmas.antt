@@ -1,15 +1,17 @@
 -- Lemmas on text as a string of JSON has it.
-use Rattle.std.proofs.Common.{◌≡◌, ◌<◌, ◌==◌, ◌||◌, nat_lt, true, false, ℕ, List, [], ◌∷◌, ◌++◌, All, IsTrue, Option, Result, Ok, Err, codes, length, take, drop, refl, sym, ap, subst, ◌∙◌, arith, chars, IsUtf8, append_assoc, append-nil}
+use Rattle.std.proofs.Common.{◌≡◌, ◌<◌, ◌+◌, ◌==◌, ◌||◌, nat_lt, true, false, ℕ, List, [], ◌∷◌, ◌++◌, All, IsTrue, Option, Result, Ok, Err, codes, length, take, drop, refl, sym, ap, subst, ◌∙◌, arith, chars, IsUtf8, append_assoc, append-nil}
 use Rattle.std.specs.Io.KnownBytes.{Appends}
 use Rattle.std.proofs.KnownBytes.{Appends-trans}
 use Rattle.std.proofs.lemmas.Bool.{eq-eqb}
 use Rattle.std.specs.Prelude.{OnOk}
-use Rattle.std.proofs.lemmas.List.{nil_from_length, take-append-drop}
-use Rattle.std.specs.Char.{encode_utf8}
+use Rattle.std.proofs.Math.Seq.{take-add, take-append_seam}
+use Rattle.std.proofs.lemmas.List.{drop-drop, drop_at, nil_from_length, take-append-drop}
+use Rattle.std.specs.Char.{encode_utf8, len_utf8}
 use Rattle.std.specs.List.{flat_map}
+use Rattle.std.specs.Str.{IsCharBoundary}
 use Rattle.std.proofs.lemmas.List.Concat.{flat_map-cons}
 use Rattle.std.proofs.lemmas.List.Elements.{All-head, All-tail}
-use Rattle.std.proofs.lemmas.Str.{IsUtf8-past_char, chars-nil, chars_past_char, encode_ascii, utf8_valid_len-IsUtf8}
+use Rattle.std.proofs.lemmas.Str.{IsCharBoundary-past_char, IsUtf8-drop, IsUtf8-past_char, chars-nil, chars_past_char, encode_ascii, length-encode, utf8_valid_len-IsUtf8}
 use Rattle.cobs_live.specs.Json.{json_text}
 use Rattle.cobs_live.specs.Escaped.{WritesFront, escaped, is_hidden, is_plain_byte, text_escaped}
 
@@ -40,18 +42,49 @@ run_escaped (b ∷ run) rest u all =
     let later = IsUtf8-past_char (b ∷ (run ++ rest)) (run ++ rest) b u first in
     char_escaped (b ∷ (run ++ rest)) (run ++ rest) b u first ∙ ap (λ (l : List ℕ). l ++ text_escaped (run ++ rest)) (plain_escaped b plain) ∙ ap (λ (l : List ℕ). b ∷ l) (run_escaped run rest later (All-tail (λ byte. IsTrue (is_plain_byte byte)) b run all))
 
--- a text without its front
-front_run : (text : List ℕ) (run : ℕ) → IsUtf8 text → All (λ byte. IsTrue (is_plain_byte byte)) (take run text) → text_escaped text ≡ take run text ++ text_escaped (drop run text)
+-- a text without a run at its front
+pub front_run : (text : List ℕ) (run : ℕ) → IsUtf8 text → All (λ byte. IsTrue (is_plain_byte byte)) (take run text) → text_escaped text ≡ take run text ++ text_escaped (drop run text)
 front_run text run u all =
     let whole : take run text ++ drop run text ≡ text = take-append-drop run text in
     ap text_escaped (sym whole) ∙ run_escaped (take run text) (drop run text) (subst IsUtf8 (sym whole) u) all
 
-pub front_escaped : (text rest : List ℕ) (run c : ℕ) → IsUtf8 text → IsUtf8 (drop run text) → All (λ byte. IsTrue (is_plain_byte byte)) (take run text) → drop run text ≡ encode_utf8 c ++ rest → text_escaped text ≡ (take run text ++ escaped c) ++ text_escaped rest
-front_escaped text rest run c u v all split =
-    front_run text run u all ∙ ap (λ (l : List ℕ). take run text ++ l) (char_escaped (drop run text) rest c v split) ∙ sym (append_assoc (take run text) (escaped c) (text_escaped rest))
+-- a run, and a run after it
+run_more : (text : List ℕ) (run more : ℕ) → text_escaped text ≡ take run text ++ text_escaped (drop run text) → text_escaped (drop run text) ≡ take more (drop run text) ++ text_escaped (drop more (drop run text))
+    → text_escaped text ≡ take (run + more) text ++ text_escaped (drop (run + more) text)
+run_more text run more first second =
+    first ∙ ap (λ (l : List ℕ). take run text ++ l) second
+    ∙ sym (append_assoc (take run text) (take more (drop run text)) (text_escaped (drop more (drop run text))))
+    ∙ ap (λ (l : List ℕ). l ++ text_escaped (drop more (drop run text))) (sym (take-add run more text))
+    ∙ ap (λ (l : List ℕ). take (run + more) text ++ text_escaped l) (drop-drop more run text)
 
-pub front_ended : (text : List ℕ) (run : ℕ) → IsUtf8 text → All (λ byte. IsTrue (is_plain_byte byte)) (take run text) → length (drop run text) ≡ 0 → text_escaped text ≡ take run text ++ text_escaped []
-front_ended text run u all none = front_run text run u all ∙ ap (λ (l : List ℕ). take run text ++ text_escaped l) (nil_from_length (drop run text) none)
+-- a run, and bytes after it that need no escape
+pub run_past : (text rest : List ℕ) (run more : ℕ) → IsUtf8 text → IsCharBoundary text run → rest ≡ drop run text → All (λ byte. IsTrue (is_plain_byte byte)) (take more rest) → text_escaped text ≡ take run text ++ text_escaped (drop run text)
+    → text_escaped text ≡ take (run + more) text ++ text_escaped (drop (run + more) text)
+run_past text rest run more u b is all same =
+    run_more text run more same (front_run (drop run text) more (IsUtf8-drop text run u b) (subst (λ (l : List ℕ). All (λ byte. IsTrue (is_plain_byte byte)) (take more l)) is all))
+
+-- a character that needs no escape is a run
+char_run : (text rest : List ℕ) (c : ℕ) → IsUtf8 text → text ≡ encode_utf8 c ++ rest → escaped c ≡ encode_utf8 c → text_escaped text ≡ take (len_utf8 c) text ++ text_escaped (drop (len_utf8 c) text)
+char_run text rest c u split same =
+    let after : drop (len_utf8 c) text ≡ rest = ap (drop (len_utf8 c)) split ∙ drop_at (encode_utf8 c) rest (len_utf8 c) (length-encode c) in
+    let before : take (len_utf8 c) text ≡ encode_utf8 c = ap (take (len_utf8 c)) split ∙ ap (λ (n : ℕ). take n (encode_utf8 c ++ rest)) (sym (length-encode c)) ∙ take-append_seam (encode_utf8 c) rest in
+    rw (before, after) (char_escaped text rest c u split ∙ ap (λ (l : List ℕ). l ++ text_escaped rest) same)
+
+-- behind a run and such a character
+pub past_char : (text rest : List ℕ) (run c n : ℕ) → IsUtf8 text → IsCharBoundary text run → drop run text ≡ encode_utf8 c ++ rest → n ≡ len_utf8 c → IsCharBoundary text (run + n)
+past_char text rest run c n u b split is = subst (λ (k : ℕ). IsCharBoundary text (run + k)) (sym is) (IsCharBoundary-past_char text rest run c b.0 (IsUtf8-drop text run u b) split)
+
+pub past_char_run : (text rest : List ℕ) (run c n : ℕ) → IsUtf8 text → IsCharBoundary text run → drop run text ≡ encode_utf8 c ++ rest → n ≡ len_utf8 c → escaped c ≡ encode_utf8 c → text_escaped text ≡ take run text ++ text_escaped (drop run text)
+    → text_escaped text ≡ take (run + n) text ++ text_escaped (drop (run + n) text)
+past_char_run text rest run c n u b split is plain same =
+    subst (λ (k : ℕ). text_escaped text ≡ take (run + k) text ++ text_escaped (drop (run + k) text)) (sym is) (run_more text run (len_utf8 c) same (char_run (drop run text) rest c (IsUtf8-drop text run u b) split plain))
+
+pub front_escaped : (text rest : List ℕ) (run c : ℕ) → IsUtf8 (drop run text) → text_escaped text ≡ take run text ++ text_escaped (drop run text) → drop run text ≡ encode_utf8 c ++ rest → text_escaped text ≡ (take run text ++ escaped c) ++ text_escaped rest
+front_escaped text rest run c v same split =
+    same ∙ ap (λ (l : List ℕ). take run text ++ l) (char_escaped (drop run text) rest c v split) ∙ sym (append_assoc (take run text) (escaped c) (text_escaped rest))
+
+pub front_ended : (text : List ℕ) (run : ℕ) → text_escaped text ≡ take run text ++ text_escaped (drop run text) → length (drop run text) ≡ 0 → text_escaped text ≡ take run text ++ text_escaped []
+front_ended text run same none = same ∙ ap (λ (l : List ℕ). take run text ++ text_escaped l) (nil_from_length (drop run text) none)
 
 pub front-more : {a b c : Option (List ℕ)} {text rest left : List ℕ} → WritesFront a b text rest → WritesFront b c rest left → WritesFront a c text left
 front-more {a} {b} {c} {text} {rest} {left} s t = record {

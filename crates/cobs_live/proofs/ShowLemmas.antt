@@ -1,11 +1,12 @@
 -- Lemmas on showing the pieces that end in some bytes.
-use Rattle.std.proofs.Common.{◌≡◌, ◌≤◌, ◌+◌, ◌-◌, ℕ, List, [], ◌∷◌, ◌++◌, length, take, drop, refl, sym, ap, ◌∙◌, subst, append_assoc, append-nil, arith, length-append, length-drop, take_all, take-take, Option}
+use Rattle.std.proofs.Common.{◌≡◌, ◌≤◌, ◌+◌, ◌-◌, ℕ, List, [], ◌∷◌, ◌++◌, length, take, drop, refl, sym, ap, ◌∙◌, subst, append_assoc, append-nil, arith, length-append, length-drop, take_all, take-take, Option, None, Some}
 use Rattle.std.proofs.Math.Seq.{take-add}
 use Rattle.std.proofs.KnownBytes.{Appends-nil, Appends-trans}
-use Rattle.std.specs.Io.KnownBytes.{Appends}
+use Rattle.std.specs.Io.KnownBytes.{Appends, append_known}
 use Rattle.cobs.specs.Stream.{Outcome, stream_outcomes, unended}
 use Rattle.cobs.specs.Feed.{DecoderAfter, Phase}
 use Rattle.cobs.specs.Laws.{StreamLaw}
+use Rattle.cobs_live.specs.Composed.{with_text}
 use Rattle.cobs_live.specs.Counted.{IsTallyOf, counted}
 use Rattle.cobs_live.specs.Live.{ShowsBytes}
 use Rattle.cobs_live.proofs.PartLemmas.{all_ended-append, all_ended-none, length-all_ended}
@@ -14,6 +15,7 @@ use Rattle.cobs_live.specs.Shown.{in_view, shown, shown_from}
 use Rattle.cobs_live.specs.Timed.{IsReadAt}
 use Rattle.cobs_live.specs.declared.clock.Moment.{Moment}
 use Rattle.cobs_live.specs.declared.clock.Times.{Times}
+use Rattle.cobs_live.specs.declared.composed.Composed.{Composed}
 use Rattle.cobs_live.specs.declared.shown.View.{View}
 use Rattle.cobs_live.specs.declared.tally.Tally.{Tally}
 
@@ -46,6 +48,22 @@ shown_now view times tally clock gone outcome read before after seen piece same 
     (subst (λ (k : Moment). Appends before after (in_view view (counted (length gone + 1)) (record { last = times (length gone); next = k }) seen)) now
     (subst (λ (k : Moment). Appends before after (in_view view (counted (length gone + 1)) (record { last = k; next = clock.next }) seen)) r.last
     (subst (λ (k : ℕ). Appends before after (in_view view k clock seen)) is written)))
+
+-- a writer to which nothing is still to be written holds what it held
+pub with_text-empty : (held : Option (List ℕ)) (text : Composed) → text.len ≡ 0 → with_text held text ≡ held
+with_text-empty None text none = refl
+with_text-empty (Some xs) text none = rw none (ap (λ (l : List ℕ). Some l) (append-nil xs))
+
+-- what was still to be written has been written
+append_through : (before a b : Option (List ℕ)) (t w : List ℕ) → Appends before (append_known a t) w → Appends a b t → Appends before b w
+append_through None a b t w p q = tt
+append_through (Some x) None b t w p q = absurd p
+append_through (Some x) (Some y) None t w p q = absurd q
+append_through (Some x) (Some y) (Some z) t w p q = q ∙ p
+
+pub ShowsBytes-through : {view : View} {times : ℕ → Moment} {n : ℕ} {p bytes : List ℕ} {gone : List Outcome} {read : ℕ} {buffer : List ℕ} {phase : Phase} {before : Option (List ℕ)} {tally : Tally} {clock : Times} (a b : Option (List ℕ)) (t : List ℕ)
+    → ShowsBytes view times n p bytes gone read buffer phase before (append_known a t) tally clock → Appends a b t → ShowsBytes view times n p bytes gone read buffer phase before b tally clock
+ShowsBytes-through {before = before} a b t s q = record { written = append_through before a b t _ s.written q; taken = s.taken; tallied = s.tallied; timed = s.timed; len = s.len }
 
 pub ShowsBytes-start : (law : StreamLaw) (view : View) (times : ℕ → Moment) (p buffer : List ℕ) (phase : Phase) (gone : List Outcome) (read : ℕ) (before : Option (List ℕ)) (tally : Tally) (clock : Times) → DecoderAfter buffer phase p
     → IsTallyOf view.checksum tally gone read → IsReadAt times (length gone) clock → ShowsBytes view times (length buffer) p [] gone read buffer phase before before tally clock

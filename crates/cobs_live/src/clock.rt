@@ -158,15 +158,12 @@ impl Times {
         self.next = timer.read(self.last);
     }
 
-    /// Returns these times, and goes on to the piece behind it.
-    pub fn advance(&mut self) -> Times
-        ensures times { result ≡ self.old }
+    /// Goes on to the piece after this one.
+    pub fn advance(&mut self)
         ensures last { self.new.last ≡ self.old.next }
         ensures next { self.new.next ≡ self.old.next }
     {
-        let times = *self;
         self.last = self.next;
-        times
     }
 
     /// Writes the time of the piece in front of its line.

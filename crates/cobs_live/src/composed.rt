@@ -1,11 +1,12 @@
 //! The text of a short message, composed in memory and written at once.
-ghost use Rattle.std.specs.Prelude.{◌≡◌, ◌<◌, ◌++◌, IfOk, IsTrue, OnOk, codes, false, length, slice_index, take};
+ghost use Rattle.std.specs.Prelude.{◌≡◌, ◌<◌, ◌≤◌, ◌+◌, ◌*◌, ◌++◌, ℕ, IfOk, IsTrue, OnOk, codes, false, length, take};
 ghost use Rattle.std.specs.Fmt.{decimal};
 ghost use Rattle.std.specs.Io.KnownBytes.{Appends};
-ghost use Rattle.hex.specs.Hex.{encode_lower, lower_digits};
+ghost use Rattle.hex.specs.Hex.{encode_lower};
 ghost use Rattle.cobs_live.specs.Composed.{contents_of};
 ghost use Rattle.cobs_live.specs.declared.clock.Stamp.TheVariants.{Untimed};
 ghost use Rattle.cobs_live.specs.declared.seen.Kind.TheVariants.{Message};
+ghost use Rattle.cobs_live.specs.declared.shown.Style.TheVariants.{Hex, Raw};
 ghost use Rattle.cobs_live.specs.Escaped.{WritesFront, char_escape, escaped, text_escaped, unit_escape};
 ghost use Rattle.cobs_live.specs.Json.{json, json_kind, json_message, json_text};
 ghost use Rattle.cobs_live.specs.Seen.{seen_in};
@@ -13,14 +14,21 @@ ghost use Rattle.cobs_live.specs.Shown.{hex_line, in_view, styled};
 ghost use Rattle.cobs_live.specs.declared.clock.Times.{Times};
 
 use crate::clock::{Stamp, Times};
-use crate::escape::{is_hidden, plain_run};
+use crate::escape::{is_hidden, visible_run};
 use crate::seen::{Kind, Sight};
 use crate::shown::{Style, View};
+use cobs_bytes::window::{WINDOW, copy_window};
+use cobs_lines::fill_digits;
 use itoa::Buffer;
+use std::io::{self, Write};
 use std::str;
 
 /// The longest message whose text is composed, in bytes.
 const SHORT_LEN: usize = 256;
+
+/// How many bytes a line has at most beside the digits of its message: a word, a number of up to 40 digits, a space and a
+/// newline.
+const LINE: usize = 50;
 
 /// How many bytes of a text have room.
 const ROOM: usize = 2_048;
@@ -39,29 +47,113 @@ pub struct Composed {
 
 impl Composed {
     /// Holds no text.
-    pub fn new() -> Self {
+    pub fn new() -> Self
+        ensures empty { result.len ≡ 0 }
+    {
         Composed {
             bytes: [0; ROOM],
             len: 0,
         }
     }
 
-    /// Returns what has been composed.
+    /// Writes what has been composed, if anything has been, and then holds no text.
+    ///
+    /// # Errors
+    /// The error of the write that failed. How much of the text went out is not known then.
     #[inline(always)]
-    pub fn text(&self) -> &[u8]
-        ensures text { result.now ≡ take self.now.len self.now.bytes }
+    pub fn write_to<W: Write>(&mut self, output: &mut W) -> io::Result<()>
+        ensures written { OnOk result (Appends (W.contents output.old) (W.contents output.new)
+            (take self.old.len self.old.bytes)) }
+        ensures empty { self.new.len ≡ 0 }
     {
-        &self.bytes[..self.len.min(ROOM)]
+        let len = self.len.min(ROOM);
+        self.len = 0;
+        if len == 0 {
+            return Ok(());
+        }
+        output.write_all(&self.bytes[..len])
+    }
+
+    /// Drops what has been composed.
+    pub fn clear(&mut self)
+        ensures empty { self.new.len ≡ 0 }
+    {
+        self.len = 0;
+    }
+
+    /// Whether there may be no room for another line.
+    #[inline(always)]
+    pub fn is_nearly_full(&self) -> bool {
+        ROOM - LINE - 2 * SHORT_LEN < self.len
+    }
+
+    /// Adds what a view shows of a piece to the text, and returns whether it did: the piece is a short message, is shown as
+    /// digits or raw, without colour, number and time, and there is room. So many messages are written at once.
+    #[inline(always)]
+    pub fn keep(&mut self, view: &View, piece: &Sight<'_>) -> bool
+        ensures kept { IsTrue result → (number : ℕ) (times : Times) → take self.new.len self.new.bytes
+            ≡ take self.old.len self.old.bytes ++ in_view view.now number times (seen_in piece.now) }
+        ensures same { (result ≡ false) → take self.new.len self.new.bytes ≡ take self.old.len self.old.bytes }
+    {
+        match view.style {
+            Style::Hex => self.keep_hex(view, piece),
+            Style::Raw => self.keep_raw(view, piece),
+            Style::Text | Style::Hexdump | Style::Json | Style::Bytes | Style::Pcap => false,
+        }
+    }
+
+    /// Adds what a view shows of a piece as digits.
+    #[inline(always)]
+    fn keep_hex(&mut self, view: &View, piece: &Sight<'_>) -> bool
+        requires style { view.now.style ≡ Hex }
+        ensures kept { IsTrue result → (number : ℕ) (times : Times) → take self.new.len self.new.bytes
+            ≡ take self.old.len self.old.bytes ++ in_view view.now number times (seen_in piece.now) }
+        ensures same { (result ≡ false) → take self.new.len self.new.bytes ≡ take self.old.len self.old.bytes }
+    {
+        if !is_bare(view) || piece.kind != Kind::Message || SHORT_LEN < piece.bytes.len() {
+            return false;
+        }
+        if ROOM < self.len || ROOM - self.len < LINE + 2 * piece.bytes.len() {
+            return false;
+        }
+        if view.filter.passes(piece) {
+            self.append_hex(piece);
+        }
+        true
+    }
+
+    /// Adds what a view shows of a piece raw.
+    #[inline(always)]
+    fn keep_raw(&mut self, view: &View, piece: &Sight<'_>) -> bool
+        requires style { view.now.style ≡ Raw }
+        ensures kept { IsTrue result → (number : ℕ) (times : Times) → take self.new.len self.new.bytes
+            ≡ take self.old.len self.old.bytes ++ in_view view.now number times (seen_in piece.now) }
+        ensures same { (result ≡ false) → take self.new.len self.new.bytes ≡ take self.old.len self.old.bytes }
+    {
+        if view.number || piece.kind != Kind::Message || SHORT_LEN < piece.bytes.len() {
+            return false;
+        }
+        if ROOM < self.len || ROOM - self.len <= piece.bytes.len() {
+            return false;
+        }
+        if view.filter.passes(piece) {
+            self.append(piece.bytes);
+            self.append(b"\n");
+        }
+        true
     }
 
     /// Composes what a view shows of a piece that has this number and these times, and returns whether it did: the piece is a
-    /// short message, is shown as digits, as JSON or raw, without colour, number and time, and its text has room.
+    /// short message, is shown as JSON, without colour, number and time, and its text has room.
     #[inline(always)]
     pub fn compose(&mut self, view: &View, number: u64, times: &Times, piece: &Sight<'_>) -> bool
         ensures shown { IsTrue result → take self.new.len self.new.bytes
             ≡ in_view view.now number times.now (seen_in piece.now) }
     {
-        if !is_bare(view) || piece.kind != Kind::Message || SHORT_LEN < piece.bytes.len() {
+        if view.style != Style::Json || !is_bare(view) {
+            return false;
+        }
+        if piece.kind != Kind::Message || SHORT_LEN < piece.bytes.len() {
             return false;
         }
         self.len = 0;
@@ -79,29 +171,28 @@ impl Composed {
             (styled style false number Untimed times (seen_in piece.now))) }
     {
         match style {
-            Style::Hex => self.put_hex(piece),
-            Style::Raw => {
-                self.put(piece.bytes)?;
-                self.put(b"\n")
-            }
             Style::Json => self.put_json(number, piece),
-            Style::Text | Style::Hexdump | Style::Bytes | Style::Pcap => Err(Full),
+            Style::Hex | Style::Text | Style::Raw | Style::Hexdump | Style::Bytes | Style::Pcap => {
+                Err(Full)
+            }
         }
     }
 
     /// Adds the line of a message, with its bytes as digits.
-    fn put_hex(&mut self, piece: &Sight<'_>) -> Result<(), Full>
+    #[inline(always)]
+    fn append_hex(&mut self, piece: &Sight<'_>)
         requires message { piece.now.kind ≡ Message }
-        ensures put { OnOk result (Appends (contents_of self.old) (contents_of self.new)
-            (hex_line false (seen_in piece.now))) }
+        requires room { self.old.len + (50 + 2 * length piece.now.bytes.now) ≤ 2048 }
+        ensures text { take self.new.len self.new.bytes
+            ≡ take self.old.len self.old.bytes ++ hex_line false (seen_in piece.now) }
     {
-        self.put(b"message ")?;
-        self.put_decimal(piece.len as u64)?;
+        self.append(b"message ");
+        self.append_decimal(piece.len as u64);
         if piece.bytes.len() > 0 {
-            self.put(b" ")?;
-            self.put_digits(piece.bytes)?;
+            self.append(b" ");
+            self.append_digits(piece.bytes);
         }
-        self.put(b"\n")
+        self.append(b"\n");
     }
 
     /// Adds a message as an object of JSON on a line.
@@ -159,7 +250,7 @@ impl Composed {
         ensures put { IfOk result (λ rest. WritesFront (contents_of self.old) (contents_of self.new) text.now rest.now) }
         ensures shorter { IfOk result (λ rest. 0 < length text.now → length rest.now < length text.now) }
     {
-        let run = plain_run(text);
+        let run = visible_run(text);
         self.put(&text.as_bytes()[..run])?;
         let mut chars = text[run..].chars();
         match chars.next() {
@@ -203,33 +294,58 @@ impl Composed {
         self.put_digits(&[(unit / 256) as u8, (unit % 256) as u8])
     }
 
-    /// Adds a number. The lengths of the shortest messages have one digit.
+    /// Adds a number.
+    #[tactic(auto, unfolding(crate::specs::Composed::contents_of))]
     #[inline(always)]
     fn put_decimal(&mut self, number: u64) -> Result<(), Full>
         ensures put { OnOk result (Appends (contents_of self.old) (contents_of self.new) (decimal number)) }
     {
-        if number < 10 {
-            return self.put(&[b'0' + number as u8]);
+        if ROOM < self.len || ROOM - self.len < 40 {
+            return Err(Full);
         }
-        self.put(Buffer::new().format(number).as_bytes())
+        self.append_decimal(number);
+        Ok(())
     }
 
     /// Adds bytes as lower-case hexadecimal digits.
+    #[tactic(auto, unfolding(crate::specs::Composed::contents_of))]
     #[inline(always)]
     fn put_digits(&mut self, bytes: &[u8]) -> Result<(), Full>
         ensures put { OnOk result (Appends (contents_of self.old) (contents_of self.new) (encode_lower bytes.now)) }
     {
-        let mut at = self.len;
-        if ROOM < at || (ROOM - at) / 2 < bytes.len() {
+        if ROOM < self.len || (ROOM - self.len) / 2 < bytes.len() {
             return Err(Full);
         }
-        'by_byte: for i in 0..bytes.len() {
-            self.bytes[at] = digit(bytes[i] / 16);
-            self.bytes[at + 1] = digit(bytes[i] % 16);
-            at += 2;
-        }
-        self.len = at;
+        self.append_digits(bytes);
         Ok(())
+    }
+
+    /// Adds a number, for which 40 bytes are enough. The lengths of the shortest messages have one digit.
+    #[inline(always)]
+    fn append_decimal(&mut self, number: u64)
+        requires room { self.old.len + 40 ≤ 2048 }
+        ensures len { self.new.len ≤ self.old.len + 40 }
+        ensures text { take self.new.len self.new.bytes ≡ take self.old.len self.old.bytes ++ decimal number }
+    {
+        if number < 10 {
+            self.append(&[b'0' + number as u8]);
+        } else {
+            self.append(Buffer::new().format(number).as_bytes());
+        }
+    }
+
+    /// Adds bytes that have room as lower-case hexadecimal digits.
+    #[inline(always)]
+    fn append_digits(&mut self, bytes: &[u8])
+        requires room { self.old.len + 2 * length bytes.now ≤ 2048 }
+        ensures len { self.new.len ≡ self.old.len + 2 * length bytes.now }
+        ensures text { take self.new.len self.new.bytes
+            ≡ take self.old.len self.old.bytes ++ encode_lower bytes.now }
+    {
+        let at = self.len;
+        let end = at + 2 * bytes.len();
+        fill_digits(&mut self.bytes[at..end], bytes);
+        self.len = end;
     }
 
     /// Adds bytes.
@@ -238,14 +354,28 @@ impl Composed {
     fn put(&mut self, bytes: &[u8]) -> Result<(), Full>
         ensures put { OnOk result (Appends (contents_of self.old) (contents_of self.new) bytes.now) }
     {
-        let at = self.len;
-        if ROOM < at || ROOM - at < bytes.len() {
+        if ROOM < self.len || ROOM - self.len < bytes.len() {
             return Err(Full);
         }
-        let end = at + bytes.len();
-        self.bytes[at..end].copy_from_slice(bytes);
-        self.len = end;
+        self.append(bytes);
         Ok(())
+    }
+
+    /// Adds bytes that have room. A few are copied in vectors, without a call.
+    #[inline(always)]
+    fn append(&mut self, bytes: &[u8])
+        requires room { self.old.len + length bytes.now ≤ 2048 }
+        ensures len { self.new.len ≡ self.old.len + length bytes.now }
+        ensures text { take self.new.len self.new.bytes ≡ take self.old.len self.old.bytes ++ bytes.now }
+    {
+        let at = self.len;
+        let end = at + bytes.len();
+        if bytes.is_empty() || WINDOW < bytes.len() {
+            self.bytes[at..end].copy_from_slice(bytes);
+        } else {
+            copy_window(bytes, &mut self.bytes, at);
+        }
+        self.len = end;
     }
 }
 
@@ -255,17 +385,4 @@ fn is_bare(view: &View) -> bool
         → (view.now.color ≡ false) × (view.now.number ≡ false) × (view.now.stamp ≡ Untimed) }
 {
     !view.color && !view.number && view.stamp == Stamp::Untimed
-}
-
-/// The lower-case hexadecimal digit of a number below 16. It is computed, and not looked up, so that many are at once.
-#[inline(always)]
-fn digit(number: u8) -> u8
-    requires below { number < 16 }
-    ensures digit { result ≡ slice_index lower_digits number }
-{
-    if number < 10 {
-        b'0' + number
-    } else {
-        b'a' - 10 + number
-    }
 }

@@ -1,5 +1,6 @@
 //! Text as a string of JSON has it, without characters that a terminal acts on.
-ghost use Rattle.std.specs.Prelude.{◌≡◌, ◌<◌, All, IfOk, IsTrue, OnOk, length, take};
+ghost use Rattle.std.specs.Prelude.{◌≡◌, ◌<◌, ◌++◌, All, IfOk, IsTrue, OnOk, drop, false, length, take};
+ghost use Rattle.std.specs.Char.{encode_utf8};
 ghost use Rattle.std.specs.Io.KnownBytes.{Appends};
 ghost use Rattle.std.specs.Str.{IsCharBoundary};
 ghost use Rattle.cobs_live.specs.Escaped.{WritesFront, char_escape, escaped, is_hidden, is_plain_byte, text_escaped, unit_escape};
@@ -35,12 +36,12 @@ pub fn write_escaped<W: Write>(output: &mut W, text: &str) -> io::Result<()>
     Ok(())
 }
 
-/// Writes as much at once as needs no escape, and the character behind it, and returns the rest.
+/// Writes as much at once as needs no escape, and the character after it, and returns the rest.
 fn write_run<'a, W: Write>(output: &mut W, text: &'a str) -> io::Result<&'a str>
     ensures written { IfOk result (λ rest. WritesFront (W.contents output.old) (W.contents output.new) text.now rest.now) }
     ensures shorter { IfOk result (λ rest. 0 < length text.now → length rest.now < length text.now) }
 {
-    let run = plain_run(text);
+    let run = visible_run(text);
     output.write_all(&text.as_bytes()[..run])?;
     let mut chars = text[run..].chars();
     match chars.next() {
@@ -52,8 +53,35 @@ fn write_run<'a, W: Write>(output: &mut W, text: &'a str) -> io::Result<&'a str>
     }
 }
 
+/// How many bytes at the front are characters that need no escape. Those of ASCII are told by their bytes, which is faster.
+pub(crate) fn visible_run(text: &str) -> usize
+    ensures boundary { IsCharBoundary text.now result }
+    ensures same { text_escaped text.now ≡ take result text.now ++ text_escaped (drop result text.now) }
+{
+    let bytes = text.as_bytes();
+    let mut run = plain_run(text);
+    'by_char: while run < bytes.len() && 128 <= bytes[run] {
+        let Some(c) = text[run..].chars().next() else {
+            return run;
+        };
+        if needs_escape(c) {
+            return run;
+        }
+        run += c.len_utf8();
+        run += plain_run(&text[run..]);
+    }
+    run
+}
+
+/// Whether a string of JSON doesn't have a character as it is.
+fn needs_escape(c: char) -> bool
+    ensures same { (result ≡ false) → (escaped c ≡ encode_utf8 c) }
+{
+    is_hidden(c) || c == '"' || c == '\\'
+}
+
 /// How many bytes at the front are characters of ASCII that need no escape.
-pub(crate) fn plain_run(text: &str) -> usize
+fn plain_run(text: &str) -> usize
     ensures boundary { IsCharBoundary text.now result }
     ensures plain { All (λ byte. IsTrue (is_plain_byte byte)) (take result text.now) }
 {

@@ -6,6 +6,7 @@ ghost use Rattle.cobs.specs.Feed.{DecoderAfter, Idle};
 ghost use Rattle.cobs.specs.Fields.Decoders.{phase_at, phase_of};
 ghost use Rattle.cobs.specs.Sentinel.{xor_each};
 ghost use Rattle.cobs.specs.Stream.{Outcome};
+ghost use Rattle.cobs_live.specs.Composed.{with_text};
 ghost use Rattle.cobs_live.specs.Counted.{IsTallyOf};
 ghost use Rattle.cobs_live.specs.declared.clock.Moment.{Moment};
 ghost use Rattle.cobs_live.specs.declared.shown.Settings.{Settings};
@@ -25,12 +26,13 @@ use crate::shown::{Settings, View, show_end, show_hang_up, show_piece, sight_of,
 use crate::tally::{Counting, Tally};
 use cobs::laws::{law_6, law_9, law_12};
 use cobs::{DecoderPhase, UnbufferedDecoder};
+use cobs_bytes::lanes::xor_bytes;
 use cobs_bytes::window::first_zero;
 use std::alloc::{AllocError, Global};
 use std::io::{BufWriter, ErrorKind, Write};
 use std::rt::Clock;
 
-/// Among how many bytes the end of a short frame is looked for: first among a few, which cost a third of the instructions.
+/// Among how many bytes the end of a short frame is looked for: first among a few, which are one vector.
 const NEAREST: usize = 16;
 
 const NEAR: usize = 64;
@@ -191,7 +193,7 @@ impl<'a> Watch<'a> {
         let bytes = &mut chunk[..count];
         self.clock.update(timer);
         self.tally.count_bytes(count);
-        xor_bytes(bytes, self.settings.sentinel);
+        change_sentinel(bytes, self.settings.sentinel);
         let bytes = behind_first(&mut self.skipping, bytes);
         show_bytes(
             &mut self.decoder,
@@ -285,16 +287,13 @@ fn has_begun(phase: DecoderPhase) -> bool
 }
 
 /// XORs each byte with the sentinel, so that frames for that sentinel are frames for 0. For 0 nothing changes, and the bytes
-/// aren't gone over: 6 % of the instructions of `--raw` on telemetry.
-fn xor_bytes(bytes: &mut [u8], sentinel: u8)
+/// aren't read.
+fn change_sentinel(bytes: &mut [u8], sentinel: u8)
     ensures { bytes.new ≡ xor_each sentinel bytes.old }
 {
     law_6();
-    if sentinel == 0 {
-        return;
-    }
-    for byte in bytes.iter_mut() {
-        *byte ^= sentinel;
+    if sentinel != 0 {
+        xor_bytes(bytes, sentinel);
     }
 }
 
@@ -346,11 +345,12 @@ fn show_bytes<W: Write>(
         };
         let piece = sight_of(&view.checksum, end, message);
         tally.count_piece(piece.kind);
-        let times = clock.advance();
         let piece = with_part(view.partial, &piece, message);
-        show_at_once(output, &mut composed, view, tally.pieces, &times, &piece)?;
+        show_at_once(output, &mut composed, view, tally.pieces, clock, &piece)?;
+        clock.advance();
         at += count;
     }
+    composed.write_to(output)?;
     Ok(())
 }
 
@@ -363,8 +363,11 @@ fn front(bytes: &[u8]) -> &[u8]
     ensures front { result.now ≡ take (length result.now) bytes.now }
     ensures within { length result.now ≤ length bytes.now }
 {
-    if let Some(end) = end_within(bytes, NEAREST) {
-        return &bytes[..end];
+    if NEAREST <= bytes.len() {
+        let zero = first_zero(&bytes[..NEAREST]);
+        if zero < NEAREST {
+            return &bytes[..zero + 1];
+        }
     }
     if let Some(end) = end_within(bytes, NEAR) {
         return &bytes[..end];
@@ -383,7 +386,8 @@ fn end_within(bytes: &[u8], most: usize) -> Option<usize>
     if zero < near { Some(zero + 1) } else { None }
 }
 
-/// Shows a piece that has this number and these times: in one call of the output, if its text can be composed.
+/// Shows a piece that has this number and these times: in one call of the output, if its text can be composed, or later, with
+/// others, if it is kept with what has been composed.
 #[inline(always)]
 fn show_at_once<W: Write>(
     output: &mut W,
@@ -393,14 +397,23 @@ fn show_at_once<W: Write>(
     times: &Times,
     piece: &Sight<'_>,
 ) -> Result<(), WatchFault>
-    ensures shown { OnOk result (Appends (W.contents output.old) (W.contents output.new)
-        (in_view view.now number times.now (seen_in piece.now))) }
+    ensures shown { OnOk result (Appends (with_text (W.contents output.old) composed.old)
+        (with_text (W.contents output.new) composed.new) (in_view view.now number times.now (seen_in piece.now))) }
     ensures fault { IfErr result
         (λ fault. (fault ≢ WatchFault.ReadFailed) × (fault ≢ WatchFault.OutOfMemory)) }
 {
+    if composed.keep(view, piece) {
+        if !composed.is_nearly_full() {
+            return Ok(());
+        }
+        composed.write_to(output)?;
+        return Ok(());
+    }
+    composed.write_to(output)?;
     if composed.compose(view, number, times, piece) {
-        output.write_all(composed.text())?;
+        composed.write_to(output)?;
     } else {
+        composed.clear();
         show_piece(output, view, number, times, piece)?;
     }
     Ok(())

@@ -183,6 +183,7 @@ pub fn with_part<'a>(partial: bool, piece: &Sight<'a>, buffer: &'a [u8]) -> Sigh
 
 impl Filter {
     /// Returns whether a piece is shown.
+    #[inline(always)]
     pub(crate) fn passes(&self, piece: &Sight<'_>) -> bool
         ensures passes { result ≡ passes self.now (seen_in piece.now) }
     {
@@ -193,6 +194,7 @@ impl Filter {
     }
 
     /// Returns whether pieces of this kind are shown.
+    #[inline(always)]
     fn has_kind(&self, kind: Kind) -> bool
         ensures kind { result ≡ has_kind self.now kind }
     {

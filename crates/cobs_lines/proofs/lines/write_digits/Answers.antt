@@ -3,7 +3,7 @@ use Rattle.std.proofs.KnownBytes.{Appends-nil, Appends-trans}
 use Rattle.std.proofs.Math.Seq.{take-add}
 use Rattle.hex.specs.Hex.{encode_lower, lower_digits}
 use Rattle.hex.proofs.HexLemmas.{length-encode_with}
-use Rattle.cobs_lines.proofs.LineLemmas.{encode_with-append, encode_with-nil, of_ok}
+use Rattle.cobs_lines.proofs.LineLemmas.{encode_with-append, encode_with-nil}
 use Rattle.cobs_lines.proofs.lines.write_digits.Goals as goal
 
 pub by_chunk-init : goal.by_chunk-init
@@ -19,15 +19,14 @@ by_chunk-preserved g c =
     let count : length chunk ≡ end - at = omega (arith, length-take (end - at) (drop at bytes), length-drop at bytes, c.min-end.ensures) in
     let fits : length (take (2 * (end - at)) c.by_chunk.digits) ≡ 2 * length chunk =
     omega (arith, length-take (2 * (end - at)) c.by_chunk.digits, c.by_chunk.invariant.room, count, c.min-end.ensures) in
-    let ok = c.encode_to_slice.ensures.fits.1 fits in
-    let digits : c.encode_to_slice.new.output ≡ encode_lower chunk = of_ok _ ok c.encode_to_slice.ensures.written in
-    let whole : encode_lower (take end bytes) ≡ encode_lower (take at bytes) ++ c.encode_to_slice.new.output =
+    let digits : c.fill_digits.new.room ≡ encode_lower chunk = c.fill_digits.ensures.digits in
+    let whole : encode_lower (take end bytes) ≡ encode_lower (take at bytes) ++ c.fill_digits.new.room =
     ap (λ (n : ℕ). encode_lower (take n bytes)) is ∙ ap encode_lower (take-add at (end - at) bytes) ∙ encode_with-append lower_digits (take at bytes) chunk ∙ ap (λ (l : List ℕ). encode_lower (take at bytes) ++ l) (sym digits) in
     record {
       within = omega (arith, c.min-end.ensures);
       room = omega (
         arith,
-        length-append c.encode_to_slice.new.output (drop (2 * (end - at)) c.by_chunk.digits),
+        length-append c.fill_digits.new.room (drop (2 * (end - at)) c.by_chunk.digits),
         length-drop (2 * (end - at)) c.by_chunk.digits,
         ap length digits,
         length-encode_with lower_digits chunk,

@@ -9,22 +9,22 @@ use Rattle.cobs_live.proofs.escape.write_run.Goals as goal
 pub returns-in_ok-write_char-in-Some-clause-written : goal.returns-in_ok-write_char-in-Some-clause-written
 returns-in_ok-write_char-in-Some-clause-written g c =
     let text : List ℕ = c.args.text.now in
-    let run : ℕ = c.plain_run-run.result in
+    let run : ℕ = c.visible_run-run.result in
     let split : drop run text ≡ encode_utf8 c.in-Some.c ++ c.as_str.result.now = search rules in
-    let utf8 = IsUtf8-drop text run c.utf8.text c.plain_run-run.ensures.boundary in
+    let utf8 = IsUtf8-drop text run c.utf8.text c.visible_run-run.ensures.boundary in
     record {
       done = take run text ++ escaped c.in-Some.c;
       written = Appends-trans _ _ _ _ _ (rw c.as_bytes.ensures.value at c.in_ok-write_all.ensures.bytes) c.in_ok-write_char-in-Some.ensures.written;
-      is = front_escaped text c.as_str.result.now run c.in-Some.c c.utf8.text utf8 c.plain_run-run.ensures.plain split;
+      is = front_escaped text c.as_str.result.now run c.in-Some.c utf8 c.visible_run-run.ensures.same split;
     }
 
 pub returns-in-None-clause-written : goal.returns-in-None-clause-written
 returns-in-None-clause-written g c =
     let text : List ℕ = c.args.text.now in
-    let run : ℕ = c.plain_run-run.result in
+    let run : ℕ = c.visible_run-run.result in
     let none : length (drop run text) ≡ 0 = search rules in
     record {
       done = take run text;
       written = rw c.as_bytes.ensures.value at c.in_ok-write_all.ensures.bytes;
-      is = front_ended text run c.utf8.text c.plain_run-run.ensures.plain none;
+      is = front_ended text run c.visible_run-run.ensures.same none;
     }

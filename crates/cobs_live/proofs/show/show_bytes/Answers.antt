@@ -2,12 +2,12 @@ use Rattle.std.proofs.Common.{◌≡◌, ◌+◌, ◌-◌, ◌++◌, ℕ, List, 
 use Rattle.cobs.specs.FeedPiece.{outcome_at}
 use Rattle.cobs_live.specs.Seen.{Seen, seen_in}
 use Rattle.cobs_live.proofs.PartLemmas.{IsLastPiece-taken}
-use Rattle.cobs_live.proofs.ShowLemmas.{ShowsBytes-start, ShowsBytes-piece, ShowsBytes-rest, shown_now, take-part, take-whole_part}
+use Rattle.cobs_live.proofs.ShowLemmas.{ShowsBytes-piece, ShowsBytes-rest, ShowsBytes-start, ShowsBytes-through, shown_now, take-part, take-whole_part, with_text-empty}
 use Rattle.cobs_live.proofs.TimeLemmas.{IsReadAt-next}
 use Rattle.cobs_live.proofs.show.show_bytes.Goals as goal
 
 pub by_part-init : goal.by_part-init
-by_part-init g c = record { within = omega arith; len = refl; so_far = λ p d gone read t times r. ShowsBytes-start (assumption c.law_9.ensures) _ times p _ _ gone read _ _ _ d t r }
+by_part-init g c = record { within = omega arith; len = refl; so_far = λ p d gone read t times r. rw (with_text-empty (g.W.Write.contents c.args.output.now) c.new-composed.result c.new-composed.ensures.empty) (ShowsBytes-start (assumption c.law_9.ensures) _ times p _ _ gone read _ _ _ d t r) }
 
 pub by_part-preserved : goal.by_part-preserved
 by_part-preserved g c =
@@ -24,8 +24,8 @@ by_part-preserved g c =
           let counted = c.count_piece.ensures.one_more _ _ _ (outcome_at c.in-Some.end c.feed_piece.new.dest) (sym (ap (λ (seen : Seen). seen.kind) c.sight_of-piece.ensures.seen)) s.tallied in
           let last = IsLastPiece-taken (assumption c.law_9.ensures) c.law_12.ensures.last_ended h _ s.taken c.args.view.now.checksum c.args.view.now.partial (seen_in c.sight_of-piece.result) c.sight_of-piece.ensures.seen in
           rw is (ShowsBytes-piece (assumption c.law_9.ensures) s (take count part) (outcome_at c.in-Some.end c.feed_piece.new.dest) last.piece h.takes.len (h.takes.after _ s.taken) (h.takes.outcomes _ s.taken) last.ended
-          (shown_now c.args.view.now times _ _ _ _ _ _ _ _ last.piece (c.with_part-piece.ensures.seen ∙ last.seen_so) counted s.timed (rw c.advance-times.ensures.times at c.in_ok-show_at_once.ensures.shown)) counted
-          (IsReadAt-next times _ _ _ _ s.timed c.advance-times.ensures.last c.advance-times.ensures.next)));
+          (shown_now c.args.view.now times _ _ _ _ _ _ _ _ last.piece (c.with_part-piece.ensures.seen ∙ last.seen_so) counted s.timed c.in_ok-show_at_once.ensures.shown) counted
+          (IsReadAt-next times _ _ _ _ s.timed c.advance.ensures.last c.advance.ensures.next)));
     }
 
 pub by_part-preserved-in_default : goal.by_part-preserved-in_default
@@ -44,4 +44,4 @@ by_part-preserved-in_default g c =
 
 pub returns-clause-shown : goal.returns-clause-shown
 returns-clause-shown g c = λ p d gone read t times r.
-    rw (take_all c.by_part.at c.args.bytes.now (omega arith)) at (c.by_part.invariant.so_far p d gone read t times r)
+    ShowsBytes-through _ _ _ (rw (take_all c.by_part.at c.args.bytes.now (omega arith)) at (c.by_part.invariant.so_far p d gone read t times r)) c.in_ok-write_to.ensures.written

@@ -2,6 +2,7 @@ use Rattle.std.proofs.Common.{◌≡◌, ◌≤◌, ◌-◌, ℕ, List, length, 
 use Rattle.cobs.specs.Feed.{DecoderAfter}
 use Rattle.cobs.specs.Fields.Decoders.{phase_of}
 use Rattle.cobs.specs.Stream.{Outcome}
+use Rattle.cobs_live.specs.Composed.{with_text}
 use Rattle.cobs_live.specs.Counted.{IsTallyOf}
 use Rattle.cobs_live.specs.Live.{ShowsBytes}
 use Rattle.cobs_live.specs.Timed.{IsReadAt}
@@ -13,7 +14,7 @@ invariant-by_part g l = record {
   within : l.at ≤ length l.bytes;
   len : length l.message ≡ length l.fn.message;
   so_far : (p : List ℕ) → DecoderAfter l.fn.message (phase_of l.fn.decoder) p → (gone : List Outcome) (read : ℕ) → IsTallyOf l.view.checksum l.fn.tally gone read →
-      (times : ℕ → Moment) → IsReadAt times (length gone) l.fn.clock → ShowsBytes l.view times (length l.fn.message) p (take l.at l.bytes) gone read l.message (phase_of l.decoder) (g.W.Write.contents l.fn.output) (g.W.Write.contents l.output) l.tally l.clock;
+      (times : ℕ → Moment) → IsReadAt times (length gone) l.fn.clock → ShowsBytes l.view times (length l.fn.message) p (take l.at l.bytes) gone read l.message (phase_of l.decoder) (g.W.Write.contents l.fn.output) (with_text (g.W.Write.contents l.output) l.composed) l.tally l.clock;
 }
 
 abbrev pub decreases-by_part : goal.decreases-by_part

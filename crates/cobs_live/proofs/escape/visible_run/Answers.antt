@@ -1,0 +1,33 @@
+use Rattle.std.proofs.Common.{◌≡◌, ◌+◌, ◌++◌, ℕ, List, drop, subst, rules}
+use Rattle.std.specs.Char.{encode_utf8}
+use Rattle.std.specs.Str.{IsCharBoundary}
+use Rattle.std.proofs.lemmas.Str.{IsCharBoundary-from_rest}
+use Rattle.cobs_live.proofs.EscapeLemmas.{front_run, past_char, past_char_run, run_past}
+use Rattle.cobs_live.proofs.escape.visible_run.Goals as goal
+
+pub by_char-init : goal.by_char-init
+by_char-init c = record {
+  boundary = c.plain_run-run.ensures.boundary;
+  same = front_run c.args.text.now c.plain_run-run.result c.utf8.text c.plain_run-run.ensures.plain;
+}
+
+pub range_from-requires-in-by_char : goal.range_from-requires-in-by_char
+range_from-requires-in-by_char c =
+    let split : drop c.by_char.run c.args.text.now ≡ encode_utf8 c.in-Some.c ++ c.next.new.self.rest.now = search rules in
+    λ _. past_char c.args.text.now c.next.new.self.rest.now c.by_char.run c.in-Some.c c.len_utf8-run.result c.utf8.text c.by_char.invariant.boundary split c.len_utf8-run.ensures.value
+
+pub by_char-preserved : goal.by_char-preserved
+by_char-preserved c =
+    let text : List ℕ = c.args.text.now in
+    let run : ℕ = c.by_char.run in
+    let rest : List ℕ = c.next.new.self.rest.now in
+    let at : ℕ = run + c.len_utf8-run.result in
+    let more : ℕ = c.plain_run-run-in-by_char.result in
+    let held = c.by_char.invariant in
+    let split : drop run text ≡ encode_utf8 c.in-Some.c ++ rest = search rules in
+    let behind = past_char text rest run c.in-Some.c c.len_utf8-run.result c.utf8.text held.boundary split c.len_utf8-run.ensures.value in
+    let same = past_char_run text rest run c.in-Some.c c.len_utf8-run.result c.utf8.text held.boundary split c.len_utf8-run.ensures.value (c.needs_escape.ensures.same c.if-needs_escape.false) held.same in
+    record {
+      boundary = IsCharBoundary-from_rest text at more behind.0 (subst (λ (l : List ℕ). IsCharBoundary l more) c.range_from-in-by_char.ensures.value c.plain_run-run-in-by_char.ensures.boundary);
+      same = run_past text c.range_from-in-by_char.result.now at more c.utf8.text behind c.range_from-in-by_char.ensures.value c.plain_run-run-in-by_char.ensures.plain same;
+    }
