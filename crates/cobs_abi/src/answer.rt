@@ -4,7 +4,7 @@ ghost use Rattle.cobs_abi.specs.Answer.{result_by};
 
 use cobs::DecodeError;
 
-/// The call did what it is for.
+/// The call succeeded.
 pub const OK: u32 = 0;
 
 /// All bytes were taken, and no frame has ended in them.
@@ -28,7 +28,7 @@ pub struct Answer {
     pub length: usize,
 }
 
-/// The result of a call that did what it is for: this many bytes taken, and this many at the front of the buffer.
+/// The result of a call that succeeded: this many bytes taken, and this many at the front of the buffer.
 pub fn done(consumed: usize, length: usize) -> Answer
     ensures { result ≡ record { status = OK; consumed = consumed; length = length } }
 {

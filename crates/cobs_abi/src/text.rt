@@ -7,7 +7,7 @@ use crate::answer::{BROKEN, EMPTY, MORE, OK, TOO_SMALL};
 /// The version: 10,000 times the major number, 100 times the minor one, and the patch's.
 pub const VERSION: u32 = 10000;
 
-/// Returns what a status means.
+/// Returns the meaning of a status.
 pub fn words(status: u32) -> &'static str
     ensures { result.now ≡ words status }
 {

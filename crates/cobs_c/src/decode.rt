@@ -144,7 +144,7 @@ fn decode_long_in_place(buffer: &mut [u8], consumed: &mut usize) -> (u32, usize)
             result_by(consumed, room, Ok(report.frame_size()))
         }
         Err(DecodeError::InvalidFrame { decoded_bytes }) => {
-            // The frame's end is behind the bytes that were decoded, and nothing there has changed.
+            // The frame's end is after the bytes that were decoded, and nothing there has changed.
             let end = decoded_bytes + first_sentinel(&buffer[decoded_bytes..], 0);
             let error = DecodeError::InvalidFrame { decoded_bytes };
             result_by(with_zero(end, room), room, Err(error))

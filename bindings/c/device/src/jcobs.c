@@ -288,7 +288,7 @@ static JCOBS_INLINE size_t jcobs_held(const jcobs_decoder *decoder, size_t room)
     return decoder->written < room ? decoder->written : room;
 }
 
-/* The result of a call that did what it is for: this many bytes taken, and this many at the front of the buffer. */
+/* The result of a call that succeeded: this many bytes taken, and this many at the front of the buffer. */
 static jcobs_answer jcobs_done(size_t consumed, size_t length)
 {
     return jcobs_answered(JCOBS_OK, consumed, length);
@@ -473,31 +473,23 @@ static JCOBS_INLINE int jcobs_covers_overhead(size_t len, size_t spare)
     return rows + 1 < more || 2 * rows + len % 256 <= 254 * more;
 }
 
-/* Whether room bytes, from the code of an open block, are enough once the block has taken these bytes: counted
- * block by block. */
-static int jcobs_fits_each(unsigned char code, const unsigned char *bytes, size_t bytes_len, size_t room)
+/* Whether fewer blocks than spare become full, and are followed by a byte, once the open block with this code has
+ * taken these bytes: whether the frame needs less than spare bytes beside them and the open block. */
+static int jcobs_fits_each(unsigned char code, const unsigned char *bytes, size_t bytes_len, size_t spare)
 {
-    size_t left = room;
+    size_t left = spare;
 
     for (size_t i = 0; i < bytes_len; i++) {
         if (code == JCOBS_FULL) {
-            if (left < JCOBS_FULL) {
+            left--;
+            if (left == 0) {
                 return 0;
             }
-            left -= JCOBS_FULL;
             code = 1;
         }
-        if (bytes[i] != 0) {
-            code++;
-        } else {
-            if (left < (size_t)code) {
-                return 0;
-            }
-            left -= (size_t)code;
-            code = 1;
-        }
+        code = bytes[i] != 0 ? (unsigned char)(code + 1) : 1;
     }
-    return (size_t)code <= left;
+    return 1;
 }
 
 /* Whether room bytes, from the code of an open block, are enough once the block has taken these bytes. It reads
@@ -510,7 +502,7 @@ static int jcobs_has_room(unsigned char code, const unsigned char *bytes, size_t
         return 0;
     }
     size_t spare = room - held - bytes_len;
-    return jcobs_covers_overhead(held + bytes_len, spare) || jcobs_fits_each(code, bytes, bytes_len, room);
+    return jcobs_covers_overhead(held + bytes_len, spare) || jcobs_fits_each(code, bytes, bytes_len, spare);
 }
 
 /* Makes an encoder that has taken nothing yet, for a buffer of one byte at least: the frame of the empty message
@@ -661,7 +653,7 @@ static jcobs_answer jcobs_encode_within(unsigned char *buffer, size_t buffer_len
     return jcobs_done(message_len, length);
 }
 
-/* Encodes the message of message_len bytes that lies in the buffer, behind the room for the longest frame's other
+/* Encodes the message of message_len bytes that lies in the buffer, after the room for the longest frame's other
  * bytes, to the front of the buffer, if the longest frame fits. Otherwise nothing is written.
  * Proved, by the contract in encode.rt: if the longest frame fits, the buffer begins with the message's, and bytes
  * after that are as they were; if it doesn't, the status is TOO_SMALL, and the buffer is as it was. */
