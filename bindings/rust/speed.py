@@ -1,5 +1,8 @@
 #!/usr/bin/env python3
-"""Prints the table of speeds for README.md from what bench/run.sh has measured: speed.py CSV.. -- CSV..
+"""Prints tables of speeds beside the crate `cobs`, from what bench/run.sh has measured.
+
+usage: speed.py CSV.. -- CSV..    for README.md
+       speed.py below             for docs/PERFORMANCE.md: each call and kind of messages below 0.8 of `cobs`, from bench/results
 
 The files after the two dashes are of programs with link-time optimization. Of each measurement the best one counts. A line of
 a file has a speed for each implementation, in the order of WHO in bench/src/calls.rs.
@@ -19,7 +22,17 @@ NAMES = {
     "tried encoder 1": "errors by `?`: `CobsEncoder::push` of 1 byte", "tried encoder 4": "of 4 bytes", "tried encoder 8": "of 8 bytes",
     "encoder state": "`EncoderState::push`",
 }  # fmt: skip
-CALLS = Path(__file__).resolve().parents[2] / "bench/src/calls.rs"
+BENCH = Path(__file__).resolve().parents[2] / "bench"
+CALLS = BENCH / "src/calls.rs"
+# Why a call is slower than that of `cobs`, in the rows below LEAST.
+LEAST = 0.8
+SHORT, INLINED, ORDER = 1, 2, 3
+REASONS = {
+    "encoder 8": INLINED, "encoder 64": INLINED, "push 8": SHORT, "push 64": SHORT, "push whole": SHORT,
+    "counted feed": INLINED, "method feed": INLINED, "counted push 1": INLINED, "counted push 4": INLINED, "counted push 8": SHORT,
+    "tried encoder 1": INLINED, "tried encoder 4": INLINED, "tried encoder 8": INLINED,
+    "encoder state": ORDER,
+}  # fmt: skip
 WHO = re.findall(r'"(.*?)"', re.search(r"pub const WHO: .*?=\s*\[(.*?)\];", CALLS.read_text(), re.S)[1])
 PLACES = [WHO.index(name) for name in ("libjcobs", "jcobs", "cobs")]
 
@@ -44,19 +57,48 @@ def ratios(found, call, other):
     return f"{statistics.median(row[0] for row in rows):.1f}; {least:.2f} ({kind})"
 
 
-def slower(found):
-    """Where the crate `cobs` is faster: each call, with the kinds of messages, or how many if they are many."""
-    parts, base = [], ""
+def full_names():
+    """The calls with their names, each of which has its function."""
+    base = ""
     for call, name in NAMES.items():
         base = base if name.startswith("of ") else name.partition(" of ")[0]
+        full = f"{base} {name}" if name.startswith("of ") else name
+        yield call, f"errors counted: {full}" if call.startswith(("counted push", "method")) else full
+
+
+def ratios_of(file):
+    """For each call the kinds of messages, with the ratio to the crate `cobs` in this file of bench/results."""
+    table = file.read_text().partition("| / the crate `cobs` |")[2].partition("\n\n")[0]
+    head, _, *rows = [[cell.strip() for cell in line.strip("| ").split("|")] for line in table.splitlines()]
+    return {call: [(row[0], float(row[at])) for row in rows if row[at] != "-"] for at, call in enumerate(head, 1)}
+
+
+def below():
+    """The rows of the table of what is below LEAST, without and with link-time optimization."""
+    tables = [ratios_of(BENCH / "results" / name) for name in ("rust.txt", "rust-lto.txt")]
+    for call, name in full_names():
+        cells = [[f"{kind} {ratio:.2f}" for kind, ratio in table[call] if ratio < LEAST] for table in tables]
+        if any(cells):
+            rows = " | ".join("; ".join(cell) or "-" for cell in cells)
+            yield len(cells[0]), len(cells[1]), f"| {name} | {rows} | {REASONS.get(call, '-')} |"
+
+
+def slower(found):
+    """Where the crate `cobs` is faster: each call, with the kinds of messages, or how many if they are many."""
+    parts = []
+    for call, name in full_names():
         kinds = [kind for (of, kind), speeds in found.items() if of == call and speeds[2] and speeds[1] < speeds[2]]
         if kinds:
-            full = f"{base} {name}" if name.startswith("of ") else name
-            parts.append(f"{full} ({', '.join(kinds) if len(kinds) < 4 else f'{len(kinds)} kinds'})")
+            parts.append(f"{name} ({', '.join(kinds) if len(kinds) < 4 else f'{len(kinds)} kinds'})")
     return "; ".join(parts) or "nowhere"
 
 
 def main():
+    if sys.argv[1:] == ["below"]:
+        rows = list(below())
+        print("| call | without LTO | with LTO | reason |\n|---|---|---|---|", *(row[2] for row in rows), sep="\n")
+        print(f"\n{sum(row[0] for row in rows)} rows without LTO, {sum(row[1] for row in rows)} with it.")
+        return
     dashes = sys.argv.index("--")
     plain, linked = best(sys.argv[1:dashes]), best(sys.argv[dashes + 1 :])
     print("| call | / `cobs` | / `cobs`, with LTO | / `libjcobs` |\n|---|---|---|---|")

@@ -111,14 +111,20 @@ mod enc;
 mod frames;
 #[forbid(unsafe_code)]
 mod memory;
-// What is written there is the proved source, whose layout and loops aren't changed for a lint. Labels name its loops for
-// the proofs; and without some feature not every function is called.
+#[allow(unused_labels, reason = "labels name the loops for the proofs")]
 #[allow(
-    unused_labels,
     dead_code,
     unused_imports,
-    clippy::all,
-    clippy::pedantic
+    reason = "files are translated as a whole, and without some feature not every function is called"
+)]
+#[allow(
+    clippy::len_zero,
+    clippy::manual_ok_err,
+    clippy::manual_range_contains,
+    clippy::manual_unwrap_or,
+    clippy::manual_unwrap_or_default,
+    clippy::needless_range_loop,
+    reason = "these are the proved bodies, which aren't changed for a lint"
 )]
 #[doc(hidden)]
 #[forbid(unsafe_code)]

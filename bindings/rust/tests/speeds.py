@@ -1,19 +1,22 @@
 #!/usr/bin/env python3
 """Measures flash and instructions of this crate on each target, beside its feature `small` and the crate `cobs`.
 
-usage: tests/speeds.py [--docs] CRATE [TARGET..]
+usage: tests/speeds.py [--docs] [CRATE [TARGET..]]
 
 CRATE has the sources of the crate `cobs` 0.5.1, as cargo downloads them. The figures of the chosen targets replace those in
-bench/results/rust-targets.csv; --docs writes the tables of that file into README.md.
+bench/results/rust-targets.csv; --docs writes the tables of that file into README.md. Without CRATE nothing is measured.
 
 - Flash: what a call adds to a program, with `opt-level=s` and fat link-time optimization (targets/sizes.rs). memcpy, memmove,
-  memset and memcmp aren't counted: a program has them once.
+  memset and memcmp aren't counted: a program has them once. Tables for unwinding are left out, as firmware has none.
 - Instructions: of a call, counted in a trace of qemu-user, with `opt-level=3` and without link-time optimization
   (targets/speed.rs). The time under an emulator isn't that of a processor, and instructions aren't either, but on a controller
-  most of them take one cycle.
+  most of them take one cycle. The programs for Linux have the memcpy of Debian's C library.
+- Time: of a call in WebAssembly, in Node, the least of rounds in which the three take turns (targets/speed.mjs).
 
 RUSTC is the compiler, else Debian's /usr/bin/rustc. If it has no library for a target, `core` is built of RUST_SRC, else of
-/usr/src/rustc-VERSION/library (Debian's rust-web-src), once: it stays in target/sysroot-VERSION.
+/usr/src/rustc-VERSION/library (Debian's rust-web-src), once: it stays in target/sysroot-VERSION. Linkers and emulators are
+Debian's gcc-arm-none-eabi, gcc-riscv64-unknown-elf, gcc-arm-linux-gnueabihf, gcc-i686-linux-gnu and gcc-aarch64-linux-gnu with
+their libc6-dev-*-cross, lld, qemu-user and nodejs.
 """
 import mmap
 import os
@@ -25,20 +28,50 @@ import sys
 import tempfile
 from concurrent.futures import ThreadPoolExecutor
 from pathlib import Path
+from typing import NamedTuple
 
 HERE = Path(__file__).resolve().parent
 RUST = HERE.parent
 ROOT = RUST.parent.parent
 FIGURES = ROOT / "bench/results/rust-targets.csv"
 RUSTC = os.environ.get("RUSTC", "/usr/bin/rustc")
-# The triple, flags of the compiler, the emulator, and a linker.
+
+
+class Target(NamedTuple):
+    """A triple of rustc, its linker, an emulator, flags of the compiler, and what links with a C library if it has one."""
+
+    triple: str
+    linker: str
+    emulator: str
+    flags: str = ""
+    with_libc: str = ""
+
+    @property
+    def is_web(self):
+        return self.triple.startswith("wasm32")
+
+
 TARGETS = {
-    "Cortex-M4": ("thumbv7em-none-eabi", "-C target-cpu=cortex-m4", "qemu-arm", "arm-none-eabi-ld"),
-    "Cortex-M0": ("thumbv6m-none-eabi", "", "qemu-arm", "arm-none-eabi-ld"),
-    "RV32IMAC": ("riscv32imac-unknown-none-elf", "", "qemu-riscv32", "riscv64-unknown-elf-ld -m elf32lriscv"),
+    "Cortex-M4": Target("thumbv7em-none-eabi", "arm-none-eabi-ld", "qemu-arm", "-C target-cpu=cortex-m4"),
+    "Cortex-M0": Target("thumbv6m-none-eabi", "arm-none-eabi-ld", "qemu-arm"),
+    "RV32IMAC": Target("riscv32imac-unknown-none-elf", "riscv64-unknown-elf-ld -m elf32lriscv", "qemu-riscv32"),
+    "armv7": Target("armv7-unknown-linux-gnueabihf", "arm-linux-gnueabihf-ld", "qemu-arm", "", "arm-linux-gnueabihf-gcc"),
+    "i586, no SSE": Target("i586-unknown-linux-gnu", "i686-linux-gnu-ld", "qemu-i386 -cpu pentium2", "", "i686-linux-gnu-gcc"),
+    "i686, SSE2": Target("i686-unknown-linux-gnu", "i686-linux-gnu-ld", "qemu-i386", "", "i686-linux-gnu-gcc"),
+    "aarch64": Target("aarch64-unknown-linux-gnu", "aarch64-linux-gnu-ld", "qemu-aarch64", "", "aarch64-linux-gnu-gcc"),
+    "x86-64": Target("x86_64-unknown-linux-gnu", "x86_64-linux-gnu-ld", "qemu-x86_64", "", "x86_64-linux-gnu-gcc"),
+    "wasm32": Target("wasm32-unknown-unknown", "wasm-ld --no-entry", "node", "-C target-feature=-simd128"),
+    "wasm32, SIMD": Target("wasm32-unknown-unknown", "wasm-ld --no-entry", "node", "-C target-feature=+simd128"),
 }
 WHO = ("jcobs", "small", "cobs")
-SIZED = {"feed": "`feed`", "push": "`push`", "encoder": "`CobsEncoder`", "decode": "`decode`", "in place": "in place", "encode": "`encode`"}
+SIZED = {
+    "feed": "`feed`",
+    "push": "`push`",
+    "encoder": "`CobsEncoder`",
+    "decode": "`decode`",
+    "in place": "in place",
+    "encode": "`encode`",
+}
 # The order of CALLS in speed.rs, and of its messages.
 CALLS = ("`feed`", "`push`, whole", "`push`, 8", "`CobsEncoder`, whole", "`CobsEncoder`, 8", "`decode`", "in place", "`encode`")
 KINDS = ("no zeros", "zeros", "random", "10 % zeros", "zero at every 16")
@@ -58,18 +91,18 @@ class Build:
     """The libraries and programs of a target, in a folder of their own."""
 
     def __init__(self, name, crate, work):
-        self.triple, flags, self.emulator, self.linker = TARGETS[name]
+        self.target = TARGETS[name]
         self.crate, self.work = crate, work
-        self.flags = [*flags.split(), "--target", self.triple, "--cap-lints", "allow", "-C", "panic=abort"]
+        self.flags = [*self.target.flags.split(), "--target", self.target.triple, "--cap-lints", "allow", "-C", "panic=abort"]
         sysroot = Path(run(RUSTC, "--print", "sysroot").strip())
-        if not list((sysroot / "lib/rustlib" / self.triple / "lib").glob("libcore-*.rlib")):
-            self.flags += ["--sysroot", self.core()]
+        if not list((sysroot / "lib/rustlib" / self.target.triple / "lib").glob("libcore-*.rlib")):
+            self.flags += ["--sysroot", self.core(re.sub(r"\W+", "-", name))]
 
-    def core(self):
+    def core(self, name):
         """A sysroot with `core` and the functions that compilers call, built if it isn't there."""
         version = re.search(r"rustc (\S+)", run(RUSTC, "--version"))[1]
-        sysroot = RUST / f"target/sysroot-{version}"
-        library = sysroot / "lib/rustlib" / self.triple / "lib"
+        sysroot = RUST / f"target/sysroot-{version}/{name}"
+        library = sysroot / "lib/rustlib" / self.target.triple / "lib"
         if (library / "libcore.rlib").exists():
             return sysroot
         source = Path(os.environ.get("RUST_SRC", f"/usr/src/rustc-{version}/library"))
@@ -79,9 +112,20 @@ class Build:
         more += ["-Z", "force-unstable-if-unmarked", "--crate-type", "rlib", "--out-dir", made, *self.flags]
         unstable = {**os.environ, "RUSTC_BOOTSTRAP": "1"}
         run(RUSTC, *more, "--crate-name", "core", source / "core/src/lib.rs", env=unstable)
-        features = [word for name in ("compiler-builtins", "mem") for word in ("--cfg", f'feature="{name}"')]
+        chosen = ("compiler-builtins",) if self.target.with_libc else ("compiler-builtins", "mem")
+        features = [word for name in chosen for word in ("--cfg", f'feature="{name}"')]
         builtins = source / "compiler-builtins/compiler-builtins/src/lib.rs"
-        run(RUSTC, *more, *features, "--crate-name", "compiler_builtins", "--extern", f"core={made}/libcore.rlib", builtins, env=unstable)
+        run(
+            RUSTC,
+            *more,
+            *features,
+            "--crate-name",
+            "compiler_builtins",
+            "--extern",
+            f"core={made}/libcore.rlib",
+            builtins,
+            env=unstable,
+        )
         library.mkdir(parents=True, exist_ok=True)
         for name in ("libcompiler_builtins.rlib", "libcore.rlib"):
             shutil.move(made / name, library / name)
@@ -113,11 +157,36 @@ class Build:
         """The bytes of code and data of a program with this call."""
         program = self.work / f"{call}-of-{who}".replace(" ", "-")
         made = program.with_suffix(".a")
-        kind = ["--crate-type", "staticlib", "--crate-name", "sizes", "--edition", "2024", "--cfg", f'call="{call}"', "-C", "opt-level=s"]
-        more = ["-C", "lto=fat", "-C", "codegen-units=1", "-C", "panic=abort", "-L", libraries, "--extern", f"by={libraries}/lib{who}.rlib"]
+        kind = [
+            "--crate-type",
+            "staticlib",
+            "--crate-name",
+            "sizes",
+            "--edition",
+            "2024",
+            "--cfg",
+            f'call="{call}"',
+            "-C",
+            "opt-level=s",
+        ]
+        more = [
+            "-C",
+            "lto=fat",
+            "-C",
+            "codegen-units=1",
+            "-C",
+            "force-unwind-tables=no",
+            "-L",
+            libraries,
+            "--extern",
+            f"by={libraries}/lib{who}.rlib",
+        ]
         run(RUSTC, *self.flags, *kind, *more, "-o", made, HERE / "targets/sizes.rs")
         kept = [f"-u{name}" for name in MEMORY]
-        run(*self.linker.split(), "--gc-sections", "-estart", "--unresolved-symbols=ignore-all", *kept, made, "-o", program)
+        if self.target.is_web:
+            run(*self.target.linker.split(), "--strip-all", "--export=start", "--allow-undefined", *kept, made, "-o", program)
+            return program.stat().st_size
+        run(*self.target.linker.split(), "--gc-sections", "-estart", "--unresolved-symbols=ignore-all", *kept, made, "-o", program)
         text, data = run("size", program).splitlines()[1].split()[:2]
         return int(text) + int(data)
 
@@ -128,7 +197,12 @@ class Build:
         kind = ["--crate-name", "speed", "--edition", "2024", "-C", "opt-level=3", "-C", "codegen-units=1", "-L", libraries]
         kind += ["--extern", f"by={libraries}/lib{who}.rlib", HERE / "targets/speed.rs"]
         run(RUSTC, *self.flags, *kind, "--crate-type", "staticlib", "-o", made)
-        run(*self.linker.split(), "--gc-sections", "--no-relax", "-estart", made, "-o", program)
+        if self.target.is_web:
+            run(*self.target.linker.split(), "--export=lay_out", "--export=repeat", made, "-o", program)
+        elif self.target.with_libc:
+            run(self.target.with_libc, "-static", "-Wl,--gc-sections,--defsym=main=start", made, "-o", program)
+        else:
+            run(*self.target.linker.split(), "--gc-sections", "--no-relax", "-estart", made, "-o", program)
         return program
 
 
@@ -156,6 +230,12 @@ def counted(trace):
     return counts
 
 
+def timed(programs):
+    """The nanoseconds of each call, in the order of speed.rs, for each of these modules."""
+    lines = run("node", HERE / "targets/speed.mjs", *programs).splitlines()
+    return zip(*(map(float, line.split(";")) for line in lines))
+
+
 def measured(name, crate):
     """The lines of the file of figures for a target."""
     with tempfile.TemporaryDirectory() as folder, ThreadPoolExecutor() as pool:
@@ -163,13 +243,16 @@ def measured(name, crate):
         small, fast = pool.map(build.libraries, "s3")
         jobs = {(call, who): pool.submit(build.size, small, who, call) for call in ("none", *SIZED) for who in WHO}
         programs = list(pool.map(lambda who: build.program(fast, who), WHO))
-        counts = map(counted, pool.map(lambda program: traced(build.emulator, program), programs))
         for call in SIZED:
             sizes = [jobs[call, who].result() - jobs["none", who].result() for who in WHO]
             yield f"{name};bytes;{call};;;{';'.join(map(str, sizes))}"
+        if build.target.is_web:
+            unit, counts = "nanoseconds", timed(programs)
+        else:
+            unit, counts = "instructions", map(counted, pool.map(lambda program: traced(build.target.emulator, program), programs))
         rows = [(kind, length, call) for kind in KINDS for length in LENGTHS for call in CALLS]
         for (kind, length, call), *figures in zip(rows, *counts, strict=True):
-            yield f"{name};instructions;{call};{kind};{length};{';'.join(map(str, figures))}"
+            yield f"{name};{unit};{call};{kind};{length};{';'.join(map(str, figures))}"
 
 
 def tables(lines):
@@ -189,18 +272,20 @@ def tables(lines):
         for place, who in enumerate(("this crate", "with `small`")):
             cells = []
             for call in CALLS:
-                found = [float(row[7]) / float(row[5 + place]) for row in rows if row[0] == name and row[1] != "bytes" and row[2] == call]
+                found = [
+                    float(row[7]) / float(row[5 + place]) for row in rows if row[0] == name and row[1] != "bytes" and row[2] == call
+                ]
                 cells.append(f"{statistics.median(found):.2f}; {min(found):.2f}")
             yield f"| {name} | {who} | {' | '.join(cells)} |"
 
 
 def main():
     words = [word for word in sys.argv[1:] if word != "--docs"]
-    if not words or unknown(words[1:]):
+    if unknown(words[1:]):
         raise SystemExit(__doc__)
-    for name in words[1:] or TARGETS:
+    lines = FIGURES.read_text().splitlines() if FIGURES.exists() else []
+    for name in words[1:] or TARGETS if words else ():
         found = list(measured(name, Path(words[0]).resolve()))
-        lines = FIGURES.read_text().splitlines() if FIGURES.exists() else []
         lines = [line for line in lines if line.split(";")[0] != name] + found
         FIGURES.write_text("\n".join(lines) + "\n")
         print(f"{name} is measured")

@@ -1,12 +1,13 @@
 #!/bin/sh
 # Runs the crate's tests as programs for other targets: targets.sh [TARGET..] [-- FLAG..]
 #
-# aarch64 (NEON), armv7, i686 and s390x (big-endian) by qemu-user, with the tests that come with the package and the cases of
-# conformance/; wasm32 in Node, with SIMD and without, on random messages and streams (wasm/). Each needs a compiler that has
-# the target's library: rustup's, Debian's /usr/bin/rustc, or the one that RUSTC names. A target that lacks something is
-# skipped by name. FLAG.. choose tests, as those of cargo test: targets.sh s390x -- --test model
+# aarch64 (NEON), armv7 and s390x (big-endian) by qemu-user, and i686, with the tests that come with the package and the cases
+# of conformance/; wasm32 in Node, with SIMD and without, on random messages and streams (wasm/). Each needs a compiler that has
+# the target's library: rustup's, Debian's /usr/bin/rustc, or the one that RUSTC names. debian-rustc.sh unpacks one for the
+# first four; for wasm32 Debian's lld and the `core` that speeds.py has built for it are enough. A target that lacks something
+# is skipped by name. FLAG.. choose tests, as those of cargo test: targets.sh s390x -- --test model
 #
-# Prints a line for each part; the last line counts them. Not a part of run.sh: it takes minutes.
+# Prints a line for each part; the last line counts them. Not a part of run.sh: it takes about ten minutes a target.
 #
 # The functions are called by 'part'. Lists of flags are meant to be split.
 # shellcheck disable=SC2086,SC2317
@@ -44,11 +45,22 @@ tests() { # NAME TARGET LINKER RUNNER
     cargo test --target "$2" $flags && cargo test --target "$2" $flags --features small
 }
 
+# Debian's compiler with the `core` of speeds.py.
+with_built_core() {
+    built=$(find "$rust"/target/sysroot-*/wasm32 -name wasm32-unknown-unknown 2>/dev/null | tail -1)
+    [ -n "$built" ] && command -v wasm-ld >/dev/null || return 1
+    mkdir -p "$work/sysroot/lib/rustlib" &&
+        ln -s "$(/usr/bin/rustc --print sysroot)"/lib/rustlib/* "$built" "$work/sysroot/lib/rustlib" &&
+        printf '#!/bin/sh\nexec /usr/bin/rustc --sysroot %s "$@"\n' "$work/sysroot" >"$work/rustc" && chmod +x "$work/rustc" &&
+        echo "$work/rustc"
+}
+
 # Built for WebAssembly, and run in Node beside a loop over single bytes in JavaScript.
 in_node() { # NAME FLAG..
     called=$1
     shift
     export "RUSTC=$compiler"
+    [ "$compiler" != "$work/rustc" ] || export CARGO_TARGET_WASM32_UNKNOWN_UNKNOWN_LINKER=wasm-ld
     RUSTFLAGS="$*" CARGO_TARGET_DIR=$work/$called cargo build --release --target wasm32-unknown-unknown \
         --manifest-path tests/wasm/Cargo.toml $features &&
         node tests/wasm/run.mjs "$work/$called/wasm32-unknown-unknown/release/jcobs_in_node.wasm" >"$work/in-node" &&
@@ -57,8 +69,8 @@ in_node() { # NAME FLAG..
 
 each_linux tests $chosen
 case " $chosen " in *' wasm32 '*)
-    if ! compiler=$(compiler_for wasm32-unknown-unknown); then
-        skip 'on wasm32' 'needs rustup target add wasm32-unknown-unknown'
+    if ! compiler=$(compiler_for wasm32-unknown-unknown) && ! compiler=$(with_built_core); then
+        skip 'on wasm32' 'needs rustup target add wasm32-unknown-unknown, or the core of tests/speeds.py CRATE wasm32 and lld'
     elif has node nodejs 'on wasm32'; then
         features=
         part 'on wasm32' in_node plain -C target-feature=-simd128

@@ -50,7 +50,7 @@ pub use vector::{encode_vec, encode_vec_including_sentinels, encode_vec_with_sen
 /// assert_eq!(len, 5);
 /// assert_eq!(dest, [3, 10, 11, 2, 12, 170]);
 /// ```
-// A short message is encoded in the caller's code then: the library for C encodes 1 to 4 bytes 1.3 to 1.4 times as fast.
+// A short message is encoded in the caller's code then, without a call.
 #[inline(always)]
 pub fn encode(source: &[u8], dest: &mut [u8]) -> usize {
     if 0 < source.len() && source.len() <= WINDOW {
@@ -116,7 +116,7 @@ fn encode_block(source: &[u8], dest: &mut [u8], sentinel: u8) -> usize {
 }
 
 /// Encodes a message of 1 to 4 bytes for this sentinel if its frame fits. Otherwise it returns `None`, and nothing has changed.
-// By an arm for each length, for which compilers write the loops out, it takes half the time of one loop in the Rust crate.
+// It has an arm for each length, so that compilers write the loops out.
 #[inline(always)]
 fn encode_few(source: &[u8], dest: &mut [u8], sentinel: u8) -> Option<usize> {
     if dest.len() <= source.len() {

@@ -48,7 +48,7 @@ pub enum DecodeError {
         decoded_bytes: usize,
     },
 
-    /// The buffer is shorter than what the frame decodes to.
+    /// The buffer is shorter than the frame's output.
     TargetBufTooSmall,
 }
 
@@ -69,7 +69,7 @@ impl core::error::Error for DecodeError {}
 
 /// Why a `push` of a streaming decoder found no message, and after how many bytes.
 ///
-/// The decoder has taken these bytes and none after them, so the caller goes on by pushing the others.
+/// The decoder has taken these bytes and none after them, so the caller continues by pushing the bytes after them.
 ///
 /// ```
 /// use jcobs::{DecodeError, PushError, UnbufferedDecoder};

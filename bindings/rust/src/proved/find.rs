@@ -1,7 +1,7 @@
 // Made by bindings/rust/translate.py from `crates/cobs/src/find.rt`: change that file, and run it again.
 //! Where pieces begin and end.
 
-use crate::proved::cobs_bytes::window::{WIDE_WINDOW, first_zero, has_vectors};
+use crate::proved::cobs_bytes::window::{WIDE_WINDOW, WINDOW, first_zero, has_vectors, zeros_at};
 use memchr::memchr;
 
 /// Where the first such byte of a source is, or the source's length if there is none.
@@ -28,4 +28,17 @@ pub(crate) fn len_without_end(source: &[u8], sentinel: u8) -> usize {
     } else {
         source.len()
     }
+}
+
+/// The length of the source before a zero among its first 32 bytes, or its whole length if none is there.
+#[inline(always)]
+pub(crate) fn front_len(source: &[u8]) -> usize {
+    if source.len() < WINDOW {
+        return first_zero(source);
+    }
+    let zeros = zeros_at::<32>(source, 0);
+    if zeros == 0 {
+        return source.len();
+    }
+    zeros.trailing_zeros() as usize
 }

@@ -3,7 +3,7 @@
 //!
 //! `FrameReader` reads chunks of 64 bytes from a file, a socket, a serial port or anything else that is a
 //! `FrameSource`, and returns one outcome a call. It reads only if the bytes that it has kept end no piece, and
-//! no byte is lost: what it has read and not used yet is used first by the next call, after a fault too. No call
+//! no byte is lost: bytes that were read and not used yet are used first by the next call, after a fault too. No call
 //! here allocates. (That a zero ends each piece is Cheshire and Baker's; the rest of this module is our own.)
 
 use crate::proved::dec::{FrameDecoder, PieceEnd};
@@ -40,7 +40,7 @@ pub enum Next {
     },
 }
 
-/// Why a call of `next_frame` found nothing. No byte is lost by it: a later call goes on from there.
+/// Why a call of `next_frame` found nothing. No byte is lost: a later call continues from there.
 ///
 /// ```
 /// use jcobs::{FrameDecoder, FrameReader, FrameSource, Next, ReadFault};
@@ -83,7 +83,7 @@ pub enum ReadFault {
 pub trait FrameSource {
     /// Reads once.
     ///
-    /// `Some(n)` says that the read gave the first n bytes of the chunk, none where the source has come to its end,
+    /// `Some(n)` says that the read gave the first n bytes of the chunk, 0 at the end of the source,
     /// and `None` that it failed.
     ///
     /// ```
@@ -159,7 +159,7 @@ impl<R: Read> FrameSource for Recorded<R> {
     }
 }
 
-/// What a piece that ended so comes to.
+/// Converts a `PieceEnd` to `Next`.
 fn next_at(end: PieceEnd) -> Next {
     match end {
         PieceEnd::Message(n) => Next::Message(n),
@@ -181,7 +181,7 @@ const MOST_READS: usize = 65536;
 
 /// Reads the frames of a stream, one a call, with a decoder of its own.
 ///
-/// The source isn't part of it but given to each call, so a stream may go on in another source.
+/// The source isn't part of it but given to each call, so a stream may continue in another source.
 ///
 /// ```
 /// # #[cfg(feature = "std")] {
@@ -240,7 +240,7 @@ impl<D: FrameDecoder> FrameReader<D> {
         &self.decoder
     }
 
-    /// Feeds bytes until a piece ends: what it comes to, and how many of the bytes were taken.
+    /// Feeds bytes until a piece ends. Returns its outcome and the number of bytes consumed.
     fn feed_through_end(&mut self, bytes: &[u8]) -> Option<(Next, usize)> {
         match self.decoder.feed_piece(bytes) {
             None => {
@@ -254,7 +254,7 @@ impl<D: FrameDecoder> FrameReader<D> {
         }
     }
 
-    /// Returns what the next piece of the stream comes to, once a zero has ended it, or that the source gives no more.
+    /// Returns the outcome of the next piece of the stream, once a zero has ended it, or the end of the source.
     ///
     /// The bytes that are kept from earlier calls are used first, and what is after the zero of the piece that
     /// ends is kept for the next call. While no piece ends, the source is read, at most 65,536 times; nothing is read
@@ -263,7 +263,7 @@ impl<D: FrameDecoder> FrameReader<D> {
     ///
     /// # Errors
     /// `Io` where the last read of this call failed, and `TooManyReads` where this call made 65,536 reads that all gave
-    /// bytes. In both no piece ended, the decoder has taken all bytes that were read, and the next call goes on.
+    /// bytes. In both no piece ended, the decoder has taken all bytes that were read, and the next call continues.
     ///
     /// ```
     /// # #[cfg(feature = "std")] {

@@ -52,7 +52,7 @@ fn frame_outcome(end: PieceEnd, buffer: &[u8]) -> Result<FrameOutcome, AllocErro
 /// Decodes a part of a stream: one outcome for each piece that ends in the bytes, in order.
 ///
 /// The first of these pieces may have begun before this call, and what no zero has ended yet is kept for the next
-/// one: the decoder goes on from where it is. So a stream can be given in parts, cut anywhere, and the results
+/// one: the decoder continues from its state. So a stream can be passed in parts, cut anywhere, and the results
 /// joined are those of the whole stream. Leading and doubled zeros make no piece.
 ///
 /// If the decoder's buffer was written to inside a piece, the bytes of that piece's message, the first that
@@ -60,7 +60,7 @@ fn frame_outcome(end: PieceEnd, buffer: &[u8]) -> Result<FrameOutcome, AllocErro
 ///
 /// # Errors
 /// `AllocError` if memory for an outcome runs out. The outcomes are lost then, and the decoder is idle, so the
-/// next byte begins a new piece. Memory is taken for messages and for the list of outcomes alone: where no piece
+/// next byte begins a new piece. Only messages and the list of outcomes allocate: if no piece
 /// ends, the result is `Ok`.
 ///
 /// ```

@@ -1,11 +1,12 @@
 //! Calls of this crate, or of the crate `cobs`, whose instructions are counted: `by` is one of the two.
 //!
-//! Under an emulator each call runs between `begin` and `end`, in the order of CALLS for each message; `speeds.py` counts. Each
-//! result is compared with a loop over single bytes.
+//! Under an emulator each call runs between `begin` and `end`, in the order of CALLS for each message; `speeds.py` counts. In
+//! WebAssembly `speed.mjs` takes the time of `repeat`. Each result is compared with a loop over single bytes.
 #![no_std]
 #![no_main]
 
 use by::{CobsDecoder, CobsEncoder};
+#[cfg(not(target_arch = "wasm32"))]
 use core::arch::asm;
 use core::hint::black_box;
 
@@ -19,7 +20,10 @@ const CALLS: [fn(&mut Work) -> usize; 8] = [
     in_place,
     encode,
 ];
+const IN_PLACE: usize = 6;
+#[cfg(not(target_arch = "wasm32"))]
 const KINDS: usize = 5;
+#[cfg(not(target_arch = "wasm32"))]
 const LENGTHS: [usize; 4] = [8, 64, 200, 1500];
 const ROOM: usize = 1600;
 
@@ -88,7 +92,7 @@ impl Work {
     fn is_right(&self, call: usize, len: usize) -> bool {
         let (written, expected) = match call {
             3 | 4 | 7 => (&self.room, &self.stream[..self.stream_len - 1]),
-            6 => (&self.copy, &self.message[..self.len]),
+            IN_PLACE => (&self.copy, &self.message[..self.len]),
             _ => (&self.room, &self.message[..self.len]),
         };
         written[..len] == *expected
@@ -181,16 +185,47 @@ fn panic(_: &core::panic::PanicInfo) -> ! {
 
 /// What ends a program without a system call. The emulator then says that it caught a signal.
 fn stop() -> ! {
+    #[cfg(target_arch = "wasm32")]
+    core::arch::wasm32::unreachable();
     // SAFETY: nothing runs after it.
+    #[cfg(not(target_arch = "wasm32"))]
     unsafe {
-        #[cfg(target_arch = "arm")]
-        asm!("udf #0");
+        #[cfg(any(target_arch = "arm", target_arch = "aarch64"))]
+        asm!("udf #0", options(noreturn));
         #[cfg(target_arch = "riscv32")]
-        asm!("unimp");
+        asm!("unimp", options(noreturn));
+        #[cfg(any(target_arch = "x86", target_arch = "x86_64"))]
+        asm!("ud2", options(noreturn));
     }
-    loop {}
 }
 
+/// Makes a message of this kind and length, and its frame.
+#[cfg(target_arch = "wasm32")]
+#[unsafe(no_mangle)]
+extern "C" fn lay_out(kind: usize, len: usize) {
+    // SAFETY: there is one thread, and this is its only reference.
+    let work = unsafe { &mut *core::ptr::addr_of_mut!(WORK) };
+    work.lay_out(kind, len);
+}
+
+/// Makes a call so many times, each over a fresh copy if it is in place, and returns whether the last result was right.
+#[cfg(target_arch = "wasm32")]
+#[unsafe(no_mangle)]
+extern "C" fn repeat(call: usize, times: usize) -> bool {
+    // SAFETY: there is one thread, and this is its only reference.
+    let work = unsafe { &mut *core::ptr::addr_of_mut!(WORK) };
+    let function = black_box(CALLS[call]);
+    let mut len = 0;
+    for _ in 0..times {
+        if call == IN_PLACE {
+            work.copy[..work.stream_len].copy_from_slice(&work.stream[..work.stream_len]);
+        }
+        len = function(work);
+    }
+    work.is_right(call, len)
+}
+
+#[cfg(not(target_arch = "wasm32"))]
 #[unsafe(no_mangle)]
 #[inline(never)]
 extern "C" fn begin() {
@@ -198,6 +233,7 @@ extern "C" fn begin() {
     unsafe { asm!("nop") };
 }
 
+#[cfg(not(target_arch = "wasm32"))]
 #[unsafe(no_mangle)]
 #[inline(never)]
 extern "C" fn end() {
@@ -206,12 +242,14 @@ extern "C" fn end() {
 }
 
 /// Is called if all results are right.
+#[cfg(not(target_arch = "wasm32"))]
 #[unsafe(no_mangle)]
 #[inline(never)]
 extern "C" fn done() -> ! {
     stop()
 }
 
+#[cfg(not(target_arch = "wasm32"))]
 #[unsafe(no_mangle)]
 extern "C" fn start() -> ! {
     // SAFETY: there is one thread, and this is its only reference.

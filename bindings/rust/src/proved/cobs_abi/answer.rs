@@ -3,7 +3,7 @@
 
 use crate::proved::DecodeError;
 
-/// The call did what it is for.
+/// The call succeeded.
 pub const OK: u32 = 0;
 
 /// All bytes were taken, and no frame has ended in them.
@@ -27,7 +27,7 @@ pub struct Answer {
     pub length: usize,
 }
 
-/// The result of a call that did what it is for: this many bytes taken, and this many at the front of the buffer.
+/// The result of a call that succeeded: this many bytes taken, and this many at the front of the buffer.
 #[inline]
 pub fn done(consumed: usize, length: usize) -> Answer {
     Answer {

@@ -1,5 +1,5 @@
 // Made by bindings/rust/translate.py from `crates/cobs_abi/src/lib.rt`: change that file, and run it again.
-//! What the libraries for C share: the structs and numbers that cross to C, and what each exported call ensures.
+//! Shared by the libraries for C: the structs and numbers that cross to C, and what each exported call ensures.
 //!
 //! `cobs_c` and `cobs_small` export the same calls, with other bodies. Each export cites one definition of `specs/`, named
 //! after what the call does, so that both state the same contract.

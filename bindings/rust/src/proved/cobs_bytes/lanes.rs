@@ -1,6 +1,6 @@
 // Made by bindings/rust/translate.py from `crates/cobs_bytes/src/lanes.rt`: change that file, and run it again.
 //! Stretches of bytes of other lengths than a window's: copied, copied if none is a sentinel, and moved within one buffer,
-//! where the places may overlap. All of a part is loaded before any of it is stored.
+//! whose places may overlap. All of a part is loaded before any of it is stored.
 
 use crate::proved::cobs_bytes::window::{WIDE_WINDOW, WINDOW, by_width, has_vectors};
 use crate::simd::*;
@@ -41,7 +41,7 @@ fn copy_xored_two<const N: usize>(source: &[u8], dest: &mut [u8], sentinel: u8) 
     true
 }
 
-/// Copies all bytes if none is the sentinel, and says whether it did, a byte a turn.
+/// Copies all bytes if none is the sentinel, one byte per iteration, and says whether it did.
 #[inline(always)]
 fn copy_xored_by_byte(source: &[u8], dest: &mut [u8], sentinel: u8) -> bool {
     'by_byte: for i in 0..source.len() {

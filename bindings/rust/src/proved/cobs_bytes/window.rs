@@ -9,7 +9,7 @@ pub const WINDOW: usize = 32;
 /// How many bytes two windows have, which is the most that short data is copied or moved by.
 pub const WIDE_WINDOW: usize = 64;
 
-/// Whether the target has vectors that pay for short data: if not, a byte a turn is faster, and much smaller.
+/// Whether the target has vectors that pay for short data: if not, one byte per iteration is faster, and much smaller.
 // A function without a clause, so that what asks it is proved for both kinds of target.
 #[inline(always)]
 pub fn has_vectors() -> bool {

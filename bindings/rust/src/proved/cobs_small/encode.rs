@@ -35,7 +35,7 @@ pub fn jcobs_encode_terminated(message: &[u8], frame: &mut [u8]) -> Answer {
     done(message.len(), length + 1)
 }
 
-/// Encodes the message of `message_len` bytes that lies in the buffer, behind the room for the longest frame's other bytes,
+/// Encodes the message of `message_len` bytes that lies in the buffer, after the room for the longest frame's other bytes,
 /// to the front of the buffer, if the longest frame fits. Otherwise nothing is written.
 pub fn jcobs_encode_in_place(buffer: &mut [u8], message_len: usize) -> Answer {
     encode_within(buffer, message_len)

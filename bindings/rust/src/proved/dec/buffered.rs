@@ -82,7 +82,7 @@ impl<'a> CobsDecoder<'a> {
     ///
     /// # Errors
     /// A `PushError` has the error of `feed` and how many bytes were taken, the one that raised it included.
-    /// Pushing the bytes after these goes on with the stream: a piece whose zero raised the error is over, and
+    /// To continue with the stream, push the bytes after these: a piece whose zero raised the error is over, and
     /// while a piece is too long for the slice, each push of its bytes takes one, through its zero.
     ///
     /// ```
@@ -112,8 +112,8 @@ impl<'a> CobsDecoder<'a> {
     /// Returns the whole slice, to be written to.
     ///
     /// What is written inside a piece changes no result of this piece: only the bytes of its message are
-    /// then not known. A proof about its caller learns what is in the slice while it is borrowed, and not what the
-    /// decoder is after the write: [`write_dest`](crate::WriteBuffer::write_dest) says that too.
+    /// then not known. A proof about its caller learns the bytes of the slice while it is borrowed, and not the
+    /// decoder's state after the write: [`write_dest`](crate::WriteBuffer::write_dest) says that too.
     ///
     /// ```
     /// # use jcobs::proved::*;

@@ -26,19 +26,19 @@ fn decode_blocks(source: &[u8], dest: &mut [u8], sentinel: u8) -> Result<usize, 
     message_len(progress.written, whole)
 }
 
-/// Decodes the frame at the front of the source, where the sentinel may be any byte, and returns the message's length.
+/// Decodes the frame at the front of the source, for any sentinel, and returns the message's length.
 ///
-/// The frame is what the source has up to its first sentinel or its end; each byte is XORed with the sentinel.
+/// The frame ends at the source's first sentinel, or with the source; each byte is XORed with the sentinel.
 /// The message is then at the front of `dest`, and every byte after it is as it was. Unlike `decode`, this reads a
 /// leading sentinel as an empty message, and returns 0.
 ///
 /// # Errors
 ///
 /// - `EmptyFrame` if the source is empty; `dest` is as it was.
-/// - `TargetBufTooSmall` where the message, or what the whole blocks of a frame give that breaks off inside a block, is
-///   longer than `dest`, which then holds the first bytes of it.
-/// - `InvalidFrame` if the frame breaks off inside a block and that does fit: `dest` begins with what the whole
-///   blocks before it gave, `decoded_bytes` says how many bytes these are, and every byte after them is as it was.
+/// - `TargetBufTooSmall` if the message is longer than `dest`, which then holds its first bytes. For a frame that breaks
+///   off inside a block, the message is that of its whole blocks.
+/// - `InvalidFrame` if the frame breaks off inside a block and that message fits: `dest` begins with it, `decoded_bytes`
+///   says how many bytes these are, and every byte after them is as it was.
 ///
 /// Frames for another sentinel than 0 are Cheshire and Baker's; the results for broken ones are a choice of this
 /// library.
@@ -72,8 +72,8 @@ pub fn decode_with_sentinel(
 
 /// Returns the message of the first frame of the source, in a vector of exactly its bytes.
 ///
-/// The frame is found and read as by [`decode`]. Memory is allocated once, for as many bytes as the source has, so a
-/// message always fits and `TargetBufTooSmall` never comes.
+/// The frame is found and read as in [`decode`]. Memory is allocated once, for as many bytes as the source has, so a
+/// message always fits and `TargetBufTooSmall` is never returned.
 ///
 /// # Errors
 ///
@@ -102,8 +102,8 @@ pub fn decode_vec(source: &[u8]) -> Result<Vec<u8>, DecodeVecError> {
 /// Returns the message of the frame at the front of the source, where the sentinel may be any byte, in a vector of
 /// exactly its bytes.
 ///
-/// The frame is read as by [`decode_with_sentinel`], up to the first sentinel or the source's end; a leading sentinel
-/// gives an empty vector. Memory is allocated, and errors are returned, as by [`decode_vec`].
+/// The frame is read as in [`decode_with_sentinel`], up to the first sentinel or the source's end; a leading sentinel
+/// returns an empty vector. Memory is allocated, and errors are returned, as in [`decode_vec`].
 ///
 /// ```
 /// # use jcobs::proved::*;

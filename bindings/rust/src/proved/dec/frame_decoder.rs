@@ -112,12 +112,12 @@ pub trait FrameDecoder {
 
 /// A decoder whose buffer can be borrowed to be written to.
 ///
-/// Writing changes the buffer's bytes to those that were written, and neither where the decoder is nor which
-/// slice its buffer is. So a decoder that has taken the front of a piece (`PhaseAfter`) still has: each result that
-/// this piece gets is the same, and only the bytes of its message are then not known.
+/// Writing changes the buffer's bytes to those that were written, and neither the decoder's state nor its slice. So a
+/// decoder that has taken the front of a piece (`PhaseAfter`) still has: each result of this piece is the same, and
+/// only the bytes of its message are then unknown.
 ///
 /// Each streaming decoder has a method `dest_mut` of its own too. Of a `CobsDecoder`, whose slice is itself borrowed, a
-/// caller's proof learns through that method only what is in the slice meanwhile. Such a caller writes by
+/// caller's proof learns through that method only the bytes of the slice while it is borrowed. Such a caller writes by
 /// [`write_dest`](WriteBuffer::write_dest), or in code that is generic over this trait.
 ///
 /// ```

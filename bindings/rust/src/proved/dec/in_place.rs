@@ -66,8 +66,8 @@ fn decode_blocks_in_place(buffer: &mut [u8], end: usize) -> Result<usize, Decode
     message_len(progress.written, whole)
 }
 
-/// Decodes the first `len` bytes of the buffer, 254 at most, a byte a turn: each behind the first goes one place to the front,
-/// and is a zero there if it is a code.
+/// Decodes the first `len` bytes of the buffer, 254 at most, one byte per iteration: each byte after the first moves one place
+/// forward, and a code becomes a zero.
 fn write_output_in_place(buffer: &mut [u8], len: usize) {
     let mut missing = buffer[0] - 1;
     'by_byte: for i in 0..len - 1 {
@@ -128,8 +128,8 @@ fn decode_stretch_in_place(buffer: &mut [u8], len: usize) -> bool {
 /// # Errors
 ///
 /// - `EmptyFrame` if the buffer is empty.
-/// - `InvalidFrame` where the frame breaks off inside a block: the buffer begins with what the whole blocks before it
-///   gave, `decoded_bytes` says how many bytes these are, and every other byte is as it was.
+/// - `InvalidFrame` if the frame breaks off inside a block: the buffer begins with the message of the whole blocks before
+///   it, `decoded_bytes` says how many bytes these are, and every other byte is as it was.
 ///
 /// That the bytes after the decoded ones are kept, after an error too, is a choice of this library.
 ///
@@ -205,7 +205,7 @@ pub fn decode_in_place(buff: &mut [u8]) -> Result<usize, DecodeError> {
     Ok(decode_in_place_report(buff)?.frame_size())
 }
 
-/// Decodes the frame at the front of the buffer in its own place, where the sentinel is another byte than 0.
+/// Decodes the frame at the front of the buffer in place, for a sentinel other than 0.
 ///
 /// First every byte of the buffer is XORed with the sentinel, those after the frame too; then it is decoded as by
 /// [`decode_in_place`], with its errors. So the frame ends at the first sentinel or with the buffer, and a leading

@@ -31,7 +31,7 @@ pub enum FrameKind {
 /// its last two blocks are a full one and an empty one; decoders read the two alike. No memory is taken.
 ///
 /// A frame is defined by its blocks, after Cheshire and Baker; which of two frames is the canonical one is said by
-/// their encoder, which gives the shorter.
+/// their encoder, which writes the shorter one.
 ///
 /// ```
 /// # use jcobs::proved::*;

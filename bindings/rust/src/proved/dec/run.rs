@@ -9,7 +9,7 @@ use crate::proved::dec::stretch::write_zeros_at_codes;
 use crate::proved::dec::unbuffered::{START, UnbufferedDecoder};
 use crate::proved::find::zero_or_len;
 
-/// The most bytes that one stretch has: so few that none of its codes can have a whole full block after it.
+/// The most bytes of one stretch: so short that no code in it can be followed by a whole full block.
 pub(crate) const STRETCH_MAX: usize = FULL_BLOCK_BYTES - 1;
 
 impl UnbufferedDecoder {
@@ -132,8 +132,8 @@ impl UnbufferedDecoder {
         true
     }
 
-    /// Takes bytes before a sentinel, as many as one step can, and returns how many: a block of 64 bytes or more or after a
-    /// full one; 32 codes of blocks without bytes; or a stretch. It is 0 only if the first byte has no room.
+    /// Takes the bytes of one step before a sentinel, and returns their number: a block of 64 bytes or more or after a full
+    /// one; 32 codes of blocks without bytes; or a stretch. It is 0 only if the first byte has no room.
     #[inline(always)]
     fn take_part(&mut self, dest: &mut [u8], bytes: &[u8], sentinel: u8) -> usize {
         if self.missing == 0 {

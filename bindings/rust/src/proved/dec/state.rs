@@ -76,7 +76,7 @@ impl DecoderState {
         }
     }
 
-    /// Returns what the table has for this state and this byte: the result, and the state after it.
+    /// Returns the table's row for this state and this byte: the result, and the state after it.
     fn row(&self, byte: u8) -> (Result<DecodeResult, DecodeError>, DecoderState) {
         match (self, byte) {
             (DecoderState::Idle, 0) => (Ok(DecodeResult::NoData), DecoderState::Idle),
@@ -106,10 +106,10 @@ impl DecoderState {
         }
     }
 
-    /// Takes the next byte of a frame, and returns what it brought.
+    /// Takes the next byte of a frame and returns its result.
     ///
-    /// A sentinel, the byte 0, is `DataComplete` where the last block has all the bytes that its code counts,
-    /// and `NoData` where no frame has begun. After each sentinel the state is `Idle`.
+    /// A sentinel, the byte 0, is `DataComplete` if the last block has all bytes that its code counts,
+    /// and `NoData` if no frame has begun. After each sentinel the state is `Idle`.
     ///
     /// Any other byte is a code where no block is open: `DataStart` for the first one, `NoData` after a full
     /// block, and after any other block `DataContinue(0)`, the zero that joins the two blocks. Inside a block it

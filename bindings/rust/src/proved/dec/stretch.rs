@@ -5,8 +5,8 @@ use crate::proved::cobs_bytes::lanes::copy_xored_short;
 use crate::proved::cobs_bytes::window::WIDE_WINDOW;
 use crate::proved::error::DecodeError;
 
-/// Writes a zero over each code in the bytes that follow the first code of a stretch in which no code is behind a full
-/// block. Returns the code of the last part, and how many of its bytes are missing.
+/// Writes a zero over each code in the bytes that follow the first code of a stretch without a code after a full block.
+/// Returns the code of the last part, and how many of its bytes are missing.
 // A recursion, which compilers make a loop that keeps the address of what is left. So the next code is loaded a cycle
 // sooner than by an index, which is a sum; each code waits for the one before it.
 #[inline(always)]
@@ -19,8 +19,8 @@ pub(crate) fn write_zeros_at_codes(dest: &mut [u8], first: usize) -> (u8, u8) {
     write_zeros_at_codes(&mut dest[first..], code as usize)
 }
 
-/// Decodes 2 to 65 bytes, each XORed with the sentinel, if none is one and there is room for as many but one. Returns
-/// how many bytes the last block misses. The bytes of `dest` after the output stay.
+/// Decodes 2 to 65 bytes, each XORed with the sentinel, if none of them is the sentinel and `dest` has room for one byte
+/// fewer. Returns how many bytes of the last block are missing. The bytes of `dest` after the output stay.
 #[inline(always)]
 pub(crate) fn decode_stretch(source: &[u8], dest: &mut [u8], sentinel: u8) -> Option<u8> {
     let len = source.len();
@@ -34,8 +34,9 @@ pub(crate) fn decode_stretch(source: &[u8], dest: &mut [u8], sentinel: u8) -> Op
     Some(left)
 }
 
-/// How many of a piece's last bytes give what a decoder keeps of it: all, or those through a broken last block's code;
-/// and whether it is whole. The bytes before miss `left` bytes of their last block. Each is XORed with the sentinel.
+/// Returns how many of a piece's last bytes to decode so that a broken last block is left out: all, or those through that
+/// block's code; and whether the piece is whole. Of the last block of the bytes before, `left` bytes are missing. Each byte
+/// is XORed with the sentinel.
 pub(crate) fn kept_len(bytes: &[u8], left: usize, sentinel: u8) -> (usize, bool) {
     let mut at = left;
     'by_block: while at < bytes.len() {

@@ -4,7 +4,7 @@
 use crate::proved::cobs_bytes::window::has_vectors;
 use crate::proved::dec::frame_decoder::PieceEnd;
 use crate::proved::error::{DecodeError, DecodeReport, PushError};
-use crate::proved::find::{len_without_end, position_or_len};
+use crate::proved::find::{front_len, len_without_end, position_or_len};
 
 /// The state of an [`UnbufferedDecoder`].
 ///
@@ -280,12 +280,35 @@ impl UnbufferedDecoder {
                     let end = PieceEnd::reported(self.feed(dest, 0))?;
                     return Some((end, bytes.len()));
                 }
+                let front = front_len(bytes);
+                if front < bytes.len() {
+                    return self.feed_front(dest, bytes, front);
+                }
             } else if self.take_short(dest, bytes) {
                 return None;
             }
         }
         if bytes.len() <= FEW {
             return self.feed_each(dest, bytes, 0);
+        }
+        self.feed_piece_long(dest, bytes)
+    }
+
+    /// Does what `feed_piece` does, for an idle decoder and bytes of which the one at `len` is a zero: the piece before it is
+    /// taken as one that is pushed alone. So short pieces that come together are searched and copied without a call.
+    #[inline(never)]
+    fn feed_front(
+        &mut self,
+        dest: &mut [u8],
+        bytes: &[u8],
+        len: usize,
+    ) -> Option<(PieceEnd, usize)> {
+        if bytes.len() <= FEW || 0 < len && len <= VERY_FEW {
+            return self.feed_each(dest, bytes, 0);
+        }
+        if self.take_begun(dest, &bytes[..len], 1) {
+            let end = PieceEnd::reported(self.feed(dest, 0))?;
+            return Some((end, len + 1));
         }
         self.feed_piece_long(dest, bytes)
     }

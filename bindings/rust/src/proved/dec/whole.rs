@@ -9,16 +9,16 @@ use crate::proved::find::len_without_end;
 /// Decodes the first frame of the source into `dest`, and returns how many bytes were consumed and how many the
 /// message has.
 ///
-/// Zeros in front of the frame are skipped. The frame ends at the next zero or with the source, and what is after
-/// that zero has no effect. The first `frame_size` bytes of `dest` are the message, and the others are as they were.
+/// Leading zeros are skipped. The frame ends at the next zero or with the source, and the bytes after that zero have no
+/// effect. The first `frame_size` bytes of `dest` are the message, and the others are as they were.
 /// `parsed_size` counts the skipped zeros, the frame, and the zero after it where there is one.
 ///
 /// # Errors
 ///
 /// - `EmptyFrame` if the source is empty, and `InvalidFrame` with 0 if it has only zeros; `dest` is as it was.
-/// - `TargetBufTooSmall` where `dest` is shorter than what the frame decodes to; it then holds the first bytes of that.
-/// - `InvalidFrame` if the frame breaks off inside a block: `dest` begins with what was decoded, the bytes of the
-///   broken block included, `decoded_bytes` says how many these are, and the others are as they were.
+/// - `TargetBufTooSmall` if `dest` is shorter than the output; it then holds the output's first bytes.
+/// - `InvalidFrame` if the frame breaks off inside a block: `dest` begins with the decoded bytes, those of the broken
+///   block included, `decoded_bytes` says how many these are, and the others are as they were.
 ///
 /// The format is that of Cheshire and Baker's paper; what a broken frame returns is a choice of this library.
 ///

@@ -40,7 +40,8 @@ fn mark_first(dest: &mut [u8], index: usize, next: usize, zeros: u64) -> (usize,
     (index, zeros & zeros.wrapping_sub(1))
 }
 
-/// Marks all zeros of the mask, two a turn, since every other byte may be one. Returns where the next code belongs.
+/// Writes the code at each zero of the mask, two per iteration, because every other byte may be a zero. Returns where the next
+/// code belongs.
 #[inline(always)]
 fn mark_zeros(dest: &mut [u8], index: usize, next: usize, zeros: u64) -> usize {
     let mut index = index;
@@ -97,8 +98,8 @@ pub(crate) fn append_short(
     if test_for_none && mask == 0 {
         return progress_at(start, next + len, false);
     }
-    let (first, left) = mark_first(dest, start, next, mask);
-    let (index, zeros) = mark_first(dest, first, next, left);
+    let (first, others) = mark_first(dest, start, next, mask);
+    let (index, zeros) = mark_first(dest, first, next, others);
     let index = mark_zeros(dest, index, next, zeros);
     progress_at(index, next + len, false)
 }
@@ -117,9 +118,9 @@ fn write_codes_of_zeros(source: &[u8], dest: &mut [u8], at: usize) -> usize {
 /// Takes whole windows of 32 bytes while more than one is left, up to a full block. Returns how many bytes these are, and
 /// how far the frame has come.
 ///
-/// Each window is copied to where the next byte goes. If no zero is near enough to keep the open block from being full,
-/// that block is closed, and the caller goes on by slices after it, since a run that fills one block often fills more.
-/// Otherwise each zero of the window gives its place to the code of the block that it begins, and the last block stays open
+/// Each window is copied to the place of the next byte. If no zero is near enough to keep the open block from being full,
+/// that block is closed, and the caller continues with slices after it, since a run that fills one block often fills more.
+/// Otherwise each zero of the window is replaced by the code of the block that it begins, and the last block stays open
 /// for the next window. A row of zeros needs no copy. Nothing is written after the frame.
 #[inline(always)]
 fn append_windows(
@@ -208,12 +209,12 @@ pub(crate) fn append_rest(
 ) -> EncoderProgress {
     let (mut read, mut progress) = append_long_run(source, run, dest, progress);
     'by_run: while read < source.len() {
-        let (front, behind) = append_front(&source[read..], dest, progress);
+        let (front, reached) = append_front(&source[read..], dest, progress);
         read += front;
-        let left = &source[read..];
-        let (next, behind) = append_long_run(left, position_or_len(left, 0), dest, behind);
+        let rest = &source[read..];
+        let (next, reached) = append_long_run(rest, position_or_len(rest, 0), dest, reached);
         read += next;
-        progress = behind;
+        progress = reached;
     }
     progress
 }
@@ -239,8 +240,8 @@ fn append_parts(
 }
 
 /// Takes a front of `source`, but not all of it: by windows, or without vectors byte by byte, up to a block that is full or
-/// that the next byte may fill. There the caller goes on by slices. Returns how many bytes these are, and how far the frame has
-/// come.
+/// that the next byte may fill. From there the caller continues with slices. Returns how many bytes these are, and how far
+/// the frame has come.
 #[inline(always)]
 fn append_front(
     source: &[u8],
@@ -257,18 +258,19 @@ fn append_front(
 /// Takes `source` into the frame that `dest` holds as far as `progress` says, and returns how far it has come then. The
 /// code of the open block is written only by [`close`]: what is in its place before that doesn't matter.
 ///
-/// Most of it goes by [`append_front`]. What that leaves is mostly short; a long run, or a full block, goes by [`append_rest`].
+/// [`append_front`] takes most of it. What that leaves is usually short; a long run, or a full block, is taken by
+/// [`append_rest`].
 #[inline(always)]
 pub(crate) fn append(source: &[u8], dest: &mut [u8], progress: EncoderProgress) -> EncoderProgress {
     let (read, progress) = append_front(source, dest, progress);
-    let left = &source[read..];
-    if fits_window_and_block(progress, left.len()) {
-        append_short(left, dest, progress, false)
+    let rest = &source[read..];
+    if fits_window_and_block(progress, rest.len()) {
+        append_short(rest, dest, progress, false)
     } else {
         // Field by field, so that what `append_short` returns stays in registers.
         let start = EncoderProgress { ..progress };
-        let behind = append_rest(left, position_or_len(left, 0), dest, start);
-        EncoderProgress { ..behind }
+        let reached = append_rest(rest, position_or_len(rest, 0), dest, start);
+        EncoderProgress { ..reached }
     }
 }
 

@@ -8,7 +8,7 @@ use crate::proved::error::DestBufTooSmallError;
 /// Encodes a message that comes in pieces, straight into a slice of the caller's.
 ///
 /// However the message is cut into pieces, the frame is the one that [`encode`](crate::encode) writes. While bytes are
-/// taken, the slice begins with that frame of what was taken so far, but for the code of the block that is still open;
+/// taken, the slice begins with that frame of what was taken so far, except the code of the block that is still open;
 /// [`finalize`](CobsEncoder::finalize) writes this last code. The encoder needs no room beyond the frame's.
 ///
 /// The blocks are those of the paper by Cheshire and Baker; the calls are those of the crate `cobs`.

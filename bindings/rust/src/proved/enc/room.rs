@@ -1,5 +1,5 @@
 // Made by bindings/rust/translate.py from `crates/cobs/src/enc/room.rt`: change that file, and run it again.
-//! Whether a frame fits, before a byte of it is written; and what is taken if it does.
+//! Decides whether a frame fits, before a byte of it is written, and then encodes.
 
 use crate::proved::block::{FULL_BLOCK_BYTES, FULL_CODE};
 use crate::proved::enc::blocks::{append, append_rest};
@@ -10,30 +10,22 @@ use memchr::memrchr;
 /// The code of a full block, as a byte.
 const FULL: u8 = FULL_CODE as u8;
 
-/// Whether `room` bytes, from the code of an open block, are enough once the block has taken these bytes: counted block by
-/// block.
-fn fits_each(code: u8, bytes: &[u8], room: usize) -> bool {
-    let mut left = room;
+/// Whether fewer blocks than `spare` become full, and are followed by a byte, once the open block with this code has taken
+/// these bytes: whether the frame needs less than `spare` bytes beside them and the open block.
+fn fits_each(code: u8, bytes: &[u8], spare: usize) -> bool {
+    let mut left = spare;
     let mut code = code;
     'by_byte: for i in 0..bytes.len() {
         if code == FULL {
-            if left < FULL as usize {
+            left -= 1;
+            if left == 0 {
                 return false;
             }
-            left -= FULL as usize;
             code = 1;
         }
-        if bytes[i] != 0 {
-            code += 1;
-        } else {
-            if left < code as usize {
-                return false;
-            }
-            left -= code as usize;
-            code = 1;
-        }
+        code = if bytes[i] != 0 { code + 1 } else { 1 };
     }
-    code as usize <= left
+    true
 }
 
 /// Whether `spare` bytes cover the overhead of every message of `len` bytes: whether `len` is at most 254 times `spare`. It
@@ -58,13 +50,13 @@ pub(crate) fn has_room(code: u8, bytes: &[u8], room: usize) -> bool {
         return false;
     }
     let spare = room - held - bytes.len();
-    covers_overhead(held + bytes.len(), spare) || fits_each(code, bytes, room)
+    covers_overhead(held + bytes.len(), spare) || fits_each(code, bytes, spare)
 }
 
 /// Whether `room` bytes, counted from the index of an open block with this code, are enough for the frame once the
 /// block has taken `source`.
 ///
-/// The full blocks are counted, but for a last one. A block can't be full if one of its next 254 bytes is a zero:
+/// All full blocks except a last one are counted. A block can't be full if one of its next 254 bytes is a zero:
 /// the last such zero is as far as a search goes at once. A run that fills a block is searched for its end, as by the
 /// encoder, and has a full block for each 254 of its bytes. If that is the first run, its length is returned, so that the
 /// encoder doesn't search for its end again, else 0.
@@ -125,8 +117,8 @@ pub(crate) fn try_append(source: &[u8], dest: &mut [u8], progress: &mut EncoderP
     *progress = if run == 0 {
         append(source, dest, start)
     } else {
-        let behind = append_rest(source, run, dest, start);
-        EncoderProgress { ..behind }
+        let reached = append_rest(source, run, dest, start);
+        EncoderProgress { ..reached }
     };
     true
 }

@@ -77,7 +77,7 @@ pub fn encode_including_sentinels(source: &[u8], dest: &mut [u8]) -> usize {
     len + 2
 }
 
-/// Does what [`encode_including_sentinels`] does, where the frame and both sentinels fit `dest`.
+/// Does what [`encode_including_sentinels`] does, if the frame and both sentinels fit `dest`.
 ///
 /// # Errors
 /// `DestBufTooSmallError` exactly if the three together are longer than `dest`. Then no byte of `dest` has changed,

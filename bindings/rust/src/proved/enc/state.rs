@@ -13,13 +13,13 @@
 /// ```
 #[derive(Debug, Clone, Copy, PartialEq, Eq)]
 pub enum PushResult {
-    /// The byte goes to the end.
+    /// The byte is appended.
     AddSingle(u8),
 
-    /// The byte at the index becomes the code, and a placeholder goes to the end.
+    /// The byte at the index becomes the code, and a placeholder is appended.
     ModifyFromStartAndSkip((usize, u8)),
 
-    /// The byte at the index becomes the code, and the last byte and then a placeholder go to the end.
+    /// The byte at the index becomes the code, and the last byte and then a placeholder are appended.
     ModifyFromStartAndPushAndSkip((usize, u8, u8)),
 }
 
@@ -27,7 +27,7 @@ pub enum PushResult {
 ///
 /// The state holds no output, so a caller can stream the encoded bytes into a container of its own. That output begins
 /// as one placeholder, a byte of any value. Each result of [`push`](EncoderState::push) says what a byte of the message
-/// changes in it, and [`finalize`](EncoderState::finalize) gives the last change. A caller who carries out all of them
+/// changes in it, and [`finalize`](EncoderState::finalize) returns the last change. A caller who carries out all of them
 /// has the frame of the message whose last block isn't full. That is the frame that [`encode`](crate::encode) writes,
 /// but where the message's last run of nonzero bytes has a positive length divisible by 254: then it is the longer
 /// frame, the encoded one with a `1` after it.
@@ -83,7 +83,7 @@ impl EncoderState {
         self.code_index < usize::MAX - self.code as usize
     }
 
-    /// Takes the next byte of the message, and returns what it changes in the output.
+    /// Takes the next byte of the message and returns the change of the output.
     ///
     /// Indices count bytes from the start of the output.
     ///

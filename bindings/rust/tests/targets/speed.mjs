@@ -1,0 +1,40 @@
+// Prints the nanoseconds of each call of speed.rs in these modules, a line for each message and call: speed.mjs MODULE..
+//
+// The modules take turns in each round, and the least time of each counts.
+import { readFile } from 'node:fs/promises'
+import { hrtime } from 'node:process'
+
+const CALLS = 8
+const KINDS = 5
+const LENGTHS = [8, 64, 200, 1500]
+const ROUNDS = 30
+const ROUND = 200_000 // Nanoseconds, about.
+
+const modules = await Promise.all(
+  process.argv.slice(2).map(async (file) => (await WebAssembly.instantiate(await readFile(file))).instance.exports),
+)
+
+function taken(module, call, times) {
+  const start = hrtime.bigint()
+  if (!module.repeat(call, times)) {
+    throw new Error(`call ${call} has a wrong result`)
+  }
+  return Number(hrtime.bigint() - start) / times
+}
+
+for (let kind = 0; kind < KINDS; kind++) {
+  for (const length of LENGTHS) {
+    modules.forEach((module) => module.lay_out(kind, length))
+    for (let call = 0; call < CALLS; call++) {
+      // The first calls are run before the engine has optimized them.
+      const times = modules.map((module) => Math.ceil(ROUND / Math.max(taken(module, call, 2000), 1)))
+      const least = modules.map(() => Infinity)
+      for (let round = 0; round < ROUNDS; round++) {
+        modules.forEach((module, place) => {
+          least[place] = Math.min(least[place], taken(module, call, times[place]))
+        })
+      }
+      console.log(least.map((time) => time.toFixed(1)).join(';'))
+    }
+  }
+}
