@@ -162,6 +162,15 @@ def check_subinterpreters():
         run_interpreter(INTERPRETER)
 
 
+def check_counts_of_immortal_objects():
+    """From 3.12 on bytes of length 1 are shared by all interpreters, so a call leaves their count as it is."""
+    counts = []
+    decoder = jcobs._backend.core.Decoder(9, 0)
+    decoder.feed(b"\x01", (bytes,) * 3)
+    decoder.feed(b"\0", (lambda data: counts.append(sys.getrefcount(b"\0")),) * 3)
+    assert sys.version_info < (3, 12) or counts == [sys.getrefcount(b"\0")], counts
+
+
 def check_interpreters_at_once():
     """From 3.12 on each interpreter has a GIL of its own: if they shared a count, this would end by a signal."""
     with concurrent.futures.ThreadPoolExecutor(2) as pool:
@@ -179,5 +188,6 @@ check_threads_in_one_decoder()
 check_encoder_by_two_threads()
 check_errors_of_a_buffer()
 check_subinterpreters()
+check_counts_of_immortal_objects()
 check_interpreters_at_once()
 assert not FAILED, FAILED

@@ -6,14 +6,13 @@ import io
 import os
 import signal
 import socket
-import stat
 import sys
 import threading
 
 import pytest
 
 import jcobs
-from test_readers import KINDS, ends
+from test_readers import KINDS, ends, hang_up
 
 MESSAGES = [b"%d\0" % number * (number % 7) + b"%d" % number for number in range(20_000)]
 STREAM = b"".join(jcobs.encode(message, terminated=True) for message in MESSAGES)
@@ -23,14 +22,11 @@ def sent(end):
     """A thread that sends the stream to a raw file."""
 
     def send():
-        with end:
-            for at in range(0, len(STREAM), 100):
-                left = STREAM[at : at + 100]
-                while left:
-                    left = left[end.write(left) :]
-            if stat.S_ISSOCK(os.fstat(end.fileno()).st_mode):  # a pipe ends by `close`
-                with socket.socket(fileno=os.dup(end.fileno())) as sock:
-                    sock.shutdown(socket.SHUT_WR)
+        for at in range(0, len(STREAM), 100):
+            left = STREAM[at : at + 100]
+            while left:
+                left = left[end.write(left) :]
+        hang_up(end)
 
     sender = threading.Thread(target=send)
     sender.start()

@@ -9,6 +9,7 @@ import os
 import shutil
 import socket
 import ssl
+import stat
 import subprocess
 import threading
 import time
@@ -120,6 +121,14 @@ def ends(kind):
     source, sink = os.pipe()
     with os.fdopen(source, "rb", buffering=-1 if "buffered" in kind else 0) as file, os.fdopen(sink, "wb", 0) as end:
         yield file, end
+
+
+def hang_up(end):
+    """Ends the stream that a raw file writes to."""
+    if stat.S_ISSOCK(os.fstat(end.fileno()).st_mode):  # a pipe ends by `close`
+        with socket.socket(fileno=os.dup(end.fileno())) as sock:
+            sock.shutdown(socket.SHUT_WR)
+    end.close()
 
 
 KINDS = ["pipe", "buffered pipe", "socket", "socket as a file"]
@@ -276,18 +285,19 @@ def test_reads_with_timeouts_lose_nothing(kind, schedule):
     found = []
     with ends("pipe" if kind == "memory" else kind) as (file, end):
         reader = jcobs.FrameReader(io.BytesIO(rest) if kind == "memory" else file)
-        for count, timeout, reads in schedule:
+        with pytest.raises(EOFError, match="the stream ended$"):  # for bytes in memory perhaps within the schedule
+            for count, timeout, reads in schedule:
+                if kind != "memory":
+                    end.write(rest[:count])
+                rest = rest[count:]
+                for _ in range(reads if timeout is not None else 0):
+                    found.append(reader.read(timeout))
             if kind != "memory":
-                end.write(rest[:count])
-            rest = rest[count:]
-            for _ in range(reads if timeout is not None else 0):
-                found.append(reader.read(timeout))
-        if kind != "memory":
-            end.write(rest)
-        while sum(one is not None for one in found) < len(messages):
-            found.append(reader.read(timeout=60))
-        assert [one.data for one in found if one is not None] == messages
-        assert reader.read(timeout=0) is None if kind != "memory" else not reader.unfinished
+                end.write(rest)
+                hang_up(end)
+            while True:
+                found.append(reader.read(timeout=60))
+    assert [one.data for one in found if one is not None] == messages
 
 
 @pytest.mark.parametrize("kind", KINDS)
