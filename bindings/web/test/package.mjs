@@ -22,7 +22,7 @@ const has = (command) => {
 };
 const skip = (part, why) => console.log(`skipped: ${part}: ${why}`);
 const DIST = ["auto.cjs", "auto.js", "auto.node.js", "integrity.json", "jcobs.cjs", "jcobs.d.cts", "jcobs.js", "node.js", "serialport.cjs", "serialport.d.cts"];
-const TOP = ["LICENSE-APACHE", "LICENSE-MIT", "README.md", "examples/first.js", "examples/serial.js", "jcobs.d.ts", "package.json", "serialport.d.ts", "serialport.js"];
+const TOP = ["LICENSE-APACHE", "LICENSE-MIT", "README.md", "auto.d.ts", "examples/first.js", "examples/serial.js", "external.d.ts", "jcobs.d.ts", "package.json", "serialport.d.ts", "serialport.js"];
 const PACKED = [...TOP, ...DIST.map((name) => `dist/${name}`)].sort();
 const SAID = "3 10 11 2 12\n10 11 0 12\n3 10 11 2 12 0\n9 0 1 8 6\n";
 
@@ -162,12 +162,24 @@ try {
   if (has("tsc")) {
     await check("the examples compile in strict TypeScript", () =>
       run("tsc", "--noEmit", "--strict", "--allowJs", "--checkJs", "--target", "es2022", "--module", "node16", "--moduleResolution", "node16", "--lib", "es2022,dom", "first.js", "serial.js"));
-    await writeFile(join(folder, "paths.ts"), 'import { decode } from "jcobs";\nimport { encode } from "jcobs/auto";\nimport { FrameDecoderTransform } from "jcobs/serialport";\nexport { load } from "jcobs/external";\nexport const use = (bytes: Uint8Array): Uint8Array => decode(encode(bytes));\nexport type Kept = FrameDecoderTransform["skipped"];\nexport const none: Kept = 0;\n');
+    const paths = [
+      'import { decode } from "jcobs";',
+      'import { encode } from "jcobs/auto";',
+      'import { FrameDecoderTransform } from "jcobs/serialport";',
+      'export { load } from "jcobs/external";',
+      "export const use = (bytes: Uint8Array): Uint8Array => decode(encode(bytes));",
+      'export type Kept = FrameDecoderTransform["skipped"];',
+      "export const none: Kept = 0;",
+    ];
+    for (const name of ["paths.ts", "paths.cts"]) await writeFile(join(folder, name), `${paths.join("\n")}\n`); // the second is CommonJS
     await mkdir(join(folder, "node_modules/@types/node"), { recursive: true }); // what of Node's types these files use
     await writeFile(join(folder, "node_modules/@types/node/index.d.ts"), 'declare module "node:stream" { export class Transform { constructor(options?: object); } }\n');
-    for (const [resolution, module] of [["node", "es2022"], ["node16", "node16"], ["nodenext", "nodenext"]]) {
-      await check(`each path of the package has its types with the module resolution ${resolution}`, () =>
-        run("tsc", "--noEmit", "--strict", "--target", "es2022", "--module", module, "--moduleResolution", resolution, "--lib", "es2022,dom", "--types", "node", "paths.ts"));
+    for (const [resolution, module, source] of [
+      ["node", "es2022", "paths.ts"], ["node16", "node16", "paths.ts"], ["node16", "node16", "paths.cts"],
+      ["nodenext", "nodenext", "paths.ts"], ["nodenext", "nodenext", "paths.cts"],
+    ]) {
+      await check(`each path of the package has its types with the module resolution ${resolution}: ${source}`, () =>
+        run("tsc", "--noEmit", "--strict", "--target", "es2022", "--module", module, "--moduleResolution", resolution, "--lib", "es2022,dom", "--types", "node", source));
     }
   } else skip("the examples' types", "tsc is not there: install Debian's node-typescript");
   const sending = "const sender = new FrameEncoderTransform();\nsender.on('data', (frame) => console.log([...frame.subarray(0, 3)].join()));\nsender.write(Uint8Array.of(7, 0));\n";

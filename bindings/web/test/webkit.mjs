@@ -3,7 +3,9 @@
 // It needs a display: xvfb-run gives one.
 import { spawn } from "node:child_process";
 import { readdir } from "node:fs/promises";
+import { request } from "node:http";
 import { createServer } from "node:net";
+import { json } from "node:stream/consumers";
 import { serve } from "../serve.mjs";
 import { check, count, equal, holds, report, until } from "./tally.mjs";
 
@@ -18,9 +20,15 @@ const port = await new Promise((done) => {
 const env = { ...process.env, WEBKIT_DISABLE_SANDBOX_THIS_IS_DANGEROUS: "1", WEBKIT_DISABLE_COMPOSITING_MODE: "1" };
 const driver = spawn("WebKitWebDriver", [`--port=${port}`], { env, stdio: "ignore" });
 
+const LONGEST = 1_800_000; // milliseconds of a script, on a machine that is busy with other work
+
+/** The value that the driver replies with. `fetch` would give up after five minutes without a reply. */
 async function call(method, path, body) {
-  const response = await fetch(`http://127.0.0.1:${port}${path}`, { method, body: body && JSON.stringify(body), signal: AbortSignal.timeout(660_000) });
-  const { value } = await response.json();
+  const response = await new Promise((done, failed) => {
+    const options = { host: "127.0.0.1", port, path, method, agent: false, signal: AbortSignal.timeout(LONGEST + 60_000) };
+    request(options, done).on("error", failed).end(body && JSON.stringify(body));
+  });
+  const { value } = await json(response);
   if (value?.error) throw new Error(`${path}: ${value.error}: ${value.message}`);
   return value;
 }
@@ -59,7 +67,7 @@ try {
   const started = await call("POST", "/session", { capabilities: { alwaysMatch: { "webkitgtk:browserOptions": options } } });
   session = started.sessionId;
   console.log(`webkit: in ${started.capabilities.browserName} ${started.capabilities.browserVersion}`);
-  await call("POST", `/session/${session}/timeouts`, { script: 600_000 });
+  await call("POST", `/session/${session}/timeouts`, { script: LONGEST });
   const names = (await readdir(folder)).filter((name) => name.endsWith(".txt")).sort();
 
   await go("test/speed.html");
