@@ -13,8 +13,9 @@
 #   jcobs-VERSION-page.tar.gz              the page, as static files for any server
 #   SHA256SUMS
 # The libraries in them are those of the folders prebuilt/, whose sums are compared first. Then the toolchain proves and
-# builds them again, and the module, in some minutes, and the bytes are compared; not with --as-built. Each artifact is
-# unpacked or installed elsewhere, and an example of it runs. No network is used.
+# builds them again, and the module, in some minutes, and the bytes are compared, and Frama-C proves all contracts of
+# check/frama-c; not with --as-built. Each artifact is unpacked or installed elsewhere, and an example of it runs. No
+# network is used.
 #
 # REPOSITORY=https://.. makes the packages for registries: their metadata name this address, and their READMEs say how to
 # install from the registry. Without it they name none, and their READMEs say how to install the file beside them.
@@ -336,6 +337,13 @@ elif command -v rt >/dev/null || [ -x /opt/rattle/bin/rt ]; then
     [ ! -e "$tree/bindings/programs/x86_64-linux" ] || part 'the programs, built again' programs_again
 else
     skip 'the libraries, the programs and the module, built again' "needs Rattle's toolchain"
+fi
+
+name='all contracts of jcobs.c in Frama-C'
+if [ "$again" = no ]; then
+    skip "$name" '--as-built'
+elif has frama-c frama-c-base "$name" && has why3 why3 "$name" && has z3 z3 "$name" && has cvc4 cvc4 "$name"; then
+    part "$name" "$root/check/frama-c/prove.py"
 fi
 
 part 'source archive' source_archive && has cc gcc 'the source archive runs' && part 'the source archive runs' source_runs

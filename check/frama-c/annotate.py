@@ -118,7 +118,7 @@ def annotated(source, notes):
         name = title.partition(", before ")[2]
         if name not in functions:
             sys.exit(f"there is no function for the part '{title}'")
-        inserted[functions[name][0]][:0] = comments(notes[title][""])
+        inserted.setdefault(functions[name][0], [])[:0] = comments(notes[title][""])
     out = []
     for at, line in enumerate(lines):
         out += [*inserted.get(at, []), line]

@@ -1,13 +1,13 @@
 #!/usr/bin/env python3
 """Proves the contracts of the files *.acsl for jcobs.c with Frama-C.
 
-usage: check/frama-c/prove.py [--source FILE] [--cache FOLDER] [FUNCTION..]
+usage: check/frama-c/prove.py [--short] [--source FILE] [--cache FOLDER] [FUNCTION..]
 
 It needs Debian's frama-c-base, why3, z3 and cvc4. annotate.py writes a copy of jcobs.c, or of FILE, with the contracts in
-it; then the plug-in WP makes the goals of each function, or only of the named ones, and gives them to the two provers. The
-goals are those of the contract, and for each access, division, shift and signed operation that C defines it. A prover stops
-after a number of its own steps, so that the outcome doesn't depend on the machine's speed. With a cache, goals that were
-proved before aren't proved again.
+it; then the plug-in WP makes the goals of each function, or only of the named ones, and gives them to the two provers. With
+--short it leaves out the functions that take many bytes. The goals are those of the contract, and for each access, division,
+shift and signed operation that C defines it. A prover stops after a number of its own steps, so that the outcome doesn't
+depend on the machine's speed. With a cache, goals that were proved before aren't proved again.
 
 It prints each goal without a proof, and then the number of goals; the status is 0 only if all are proved.
 """
@@ -29,20 +29,36 @@ SOURCE = TOP / "bindings/c/source/jcobs.c"
 READ = ["-machdep", "x86_64", "-simplify-cfg", f"-cpp-extra-args=-I{TOP}/bindings/c/include -U__GNUC__"]
 # Steps of a prover, and seconds that are only for a prover that hangs.
 PROVE = ["-wp", "-wp-rte", "-wp-split", "-wp-prover", "z3,cvc4", "-wp-steps", "1500000", "-wp-timeout", "600"]
-GOAL = re.compile(r"^\[wp\] .*Goal typed_(?:cast_)?(\w+)(?! : Valid)\b(?!.* : Valid)", re.M)
-LEMMAS = [] if not any("void frame_grows" in part[""] for part in annotate.table().values()) else ["frame_grows"]
+LOCAL = re.compile(r"&(?:here|encoder|decoder)\b")
+GOAL = re.compile(r"^\[wp\] .*Goal typed_(?:cast_)?(?:ref_)?(\w+)(?! : Valid)\b(?!.* : Valid)", re.M)
+# What is proved as a function that only Frama-C sees.
+LEMMAS = ["frame_grows", "frame_goes_on"]
+# The functions that take many bytes, whose goals need most of the time.
+LONG = [
+    "jcobs_decoder_feed_each", "jcobs_decode_each", "jcobs_decoder_push", "jcobs_decode", "frame_grows", "frame_goes_on", "jcobs_fits_each",
+    "jcobs_has_room", "jcobs_try_encode_each", "jcobs_write_frame", "jcobs_encode", "jcobs_encode_terminated",
+    "jcobs_encoder_append_each", "jcobs_encoder_push_each", "jcobs_encode_each", "jcobs_encoder_push", "jcobs_move_bytes",
+    "jcobs_decode_blocks", "jcobs_decode_in_place", "jcobs_xor", "jcobs_encode_with_sentinel",
+    "jcobs_encode_terminated_with_sentinel", "jcobs_decode_in_place_with_sentinel", "jcobs_decoder_push_with_sentinel",
+    "jcobs_encoder_finish_with_sentinel", "jcobs_encoder_finish_terminated_with_sentinel",
+]  # fmt: skip
 COUNT = re.compile(r"\[wp\] Proved goals: +(\d+) / (\d+)")
 
 
 def models(source, names):
-    """The functions that have a contract, by the model of memory that WP needs: only the second one has a cast from void *."""
+    """The functions that have a contract, by the model of memory that WP needs.
+
+    A function that has a cast from void * needs one with casts. One that has a state as a local variable, and passes its
+    address, is proved with references: for WP each state is then a variable of its own.
+    """
     lines = source.splitlines()
-    found = {"Typed": [], "Typed+cast": []}
+    found = {}
     for name, (first, last) in annotate.functions_of(source).items():
         if name in annotate.table() and (not names or name in names):
-            cast = any("void *" in line for line in lines[first:last])
-            found["Typed+cast" if cast else "Typed"].append(name)
-    found["Typed"] += [name for name in LEMMAS if name in names or not names]
+            text = "\n".join(lines[first:last])
+            model = "Typed" + "+cast" * ("void *" in text) + "+ref" * bool(LOCAL.search(text))
+            found.setdefault(model, []).append(name)
+    found.setdefault("Typed", []).extend(name for name in LEMMAS if name in names or not names)
     return found
 
 
@@ -86,8 +102,11 @@ def main():
     parser = argparse.ArgumentParser()
     parser.add_argument("--source", type=Path, default=SOURCE)
     parser.add_argument("--cache", type=Path)
+    parser.add_argument("--short", action="store_true")
     parser.add_argument("functions", nargs="*")
     options = parser.parse_args()
+    if options.short:
+        options.functions = [name for name in annotate.table() if name not in LONG]
     found = proved(options.source.read_text(), options.functions, options.cache)
     if found is None:
         sys.exit(2)

@@ -1,0 +1,160 @@
+#!/usr/bin/env python3
+"""Makes wrong changes to jcobs.c, one at a time, and shows which part of this folder notices each.
+
+usage: check/wrong.py [--markdown] [NUMBER..]
+
+For each change it compiles steps.c with the changed file, with sanitizers, and runs it; and it gives Frama-C the clause of
+the changed function that the change contradicts. The clause is rejected if a goal of it has no proof within SECONDS; without
+the change, each is proved. Run it on a machine with little other work, as provers need their time.
+
+It prints a line for each change; the status is 0 only if both notice each.
+"""
+import argparse
+import os
+import subprocess
+import sys
+import tempfile
+from pathlib import Path
+
+TOP = Path(__file__).resolve().parent.parent
+sys.dont_write_bytecode = True
+sys.path.insert(0, str(TOP / "check/frama-c"))
+import annotate  # noqa: E402
+import prove  # noqa: E402
+
+SECONDS = 20
+FLAGS = ["-std=c99", "-O1", "-fsanitize=address,undefined", "-fno-sanitize-recover=all", "-DMARGIN=0", "-DDEPTH=3"]
+# The function, the clause, what the text says, which of these places (0 is the first), and what it says then.
+DECODER = [
+    ("jcobs_joint_after", "", "code == JCOBS_FULL ? 0 : 1", 0, "code == JCOBS_FULL ? 1 : 0"),
+    ("jcobs_decoder_take_byte", "took", "decoder->too_long != 0", 0, "decoder->too_long == 0"),
+    ("jcobs_decoder_take_byte", "@rte", "dest_len <= at", 0, "dest_len < at"),
+    ("jcobs_decoder_take_byte", "@rte", "dest_len <= at", 1, "dest_len < at"),
+    ("jcobs_decoder_take_byte", "took", "dest[at] = byte;", 0, "dest[at] = 0;"),
+    ("jcobs_decoder_take_byte", "took", "decoder->missing--;", 0, ";"),
+    ("jcobs_decoder_take_byte", "took", "decoder->joint != 0", 0, "decoder->joint == 0"),
+    ("jcobs_decoder_take_byte", "took", "dest[at] = 0;", 0, "dest[at] = 1;"),
+    ("jcobs_decoder_take_byte", "took", "(byte - 1)", 0, "(byte)"),
+    ("jcobs_decoder_end", "reset", "decoder->joint = 0;", 0, "decoder->joint = 1;"),
+    ("jcobs_decoder_end", "reported", "ended.missing != 0", 0, "ended.missing > 1"),
+    ("jcobs_decoder_end", "reported", "len < ended.written", 0, "len <= ended.written"),
+    ("jcobs_decoder_end", "reported", " && ended.joint == 0", 0, ""),
+    ("jcobs_piece_end_reported", "", "JCOBS_IS_BROKEN, returned.count", 0, "JCOBS_IS_MESSAGE, returned.count"),
+    ("jcobs_decoder_feed_each", "through_zero", "end.count, taken)", 0, "end.count, taken - 1)"),
+    ("jcobs_decoder_feed_each", "pushed", "decoder->missing = here.missing;", 0, "decoder->missing = 0;"),
+    ("jcobs_decoder_feed_each", "too_long", "byte == 0", 0, "byte <= 1"),
+    ("jcobs_held", "", "? decoder->written : room", 0, "? room : room"),
+    ("jcobs_result_of", "broken", "found.count < room ? found.count : room", 0, "found.count"),
+    ("jcobs_decoder_reset", "", "decoder->missing = 0;", 0, "decoder->missing = 1;"),
+    ("jcobs_decoder_is_idle_inside", "", "decoder->joint == 0 && ", 0, ""),
+    ("jcobs_result_for_end", "", "length = end.count;", 0, "length = room;"),
+    ("jcobs_decode", "decoded", "return jcobs_answered(pushed.status, pushed.consumed", 0,
+     "return jcobs_answered(pushed.status, source_len"),
+]  # fmt: skip
+ENCODER = [
+    ("jcobs_covers_overhead", "", "<= 254 * more", 0, "<= 255 * more"),
+    ("jcobs_covers_overhead", "", "spare <= rows", 0, "spare < rows"),
+    ("jcobs_has_room", "", "room - held <= bytes_len", 0, "room - held < bytes_len"),
+    ("jcobs_encoder_append_byte", "code", "dest[encoder->index] = code;", 0, "dest[encoder->index] = 255;"),
+    ("jcobs_encoder_append_byte", "index", "encoder->index = next;", 0, "encoder->index = next + 1;"),
+    ("jcobs_encoder_append_byte", "byte", "dest[next] = byte;", 0, "dest[next] = code;"),
+    ("jcobs_encoder_append_byte", "taken", "== JCOBS_FULL_BLOCK_BYTES", 0, "== JCOBS_FULL_BLOCK_BYTES - 1"),
+    ("jcobs_encoder_append_byte", "full_code", "dest[encoder->index] = JCOBS_FULL_CODE;", 0, "dest[encoder->index] = code;"),
+    ("jcobs_encoder_append_byte", "index", "encoder->index = next + 1;", 0, "encoder->index = next;"),
+    ("jcobs_encoder_append_byte", "full", "encoder->full = 1;", 0, "encoder->full = 0;"),
+    ("jcobs_encoder_append_byte", "taken", "encoder->taken = code;", 0, "encoder->taken = 0;"),
+    ("jcobs_close", "@rte", "index < dest_len", 0, "index <= dest_len"),
+    ("jcobs_close", "kept", "progress.is_full ? dest[index] : code", 0, "code"),
+    ("jcobs_close", "length", "return index + (size_t)code;", 0, "return index;"),
+    ("jcobs_encoder_progress", "", "(encoder->taken + 1)", 0, "(encoder->taken)"),
+    ("jcobs_encoder_is_within", "", "253 < encoder->taken", 0, "254 < encoder->taken"),
+    ("jcobs_encoder_is_within", "", "(size_t)encoder->taken < len", 0, "(size_t)encoder->taken <= len"),
+    ("jcobs_encoder_feed_inside", "room", "<= (size_t)taken + 1", 0, "< (size_t)taken + 1"),
+    ("jcobs_encoder_finalize", "ok", "jcobs_encoder_reset_inside(encoder);", 0, ";"),
+    ("jcobs_encoder_append_each", "state", "self->full = encoder.full;", 0, "self->full = 0;"),
+    ("jcobs_encoder_push_each", "fits", "dest_len - encoder->index))", 0, "dest_len))"),
+    ("jcobs_encode_terminated", "ok", "to[length] = 0;", 0, "to[length] = 1;"),
+    ("jcobs_finish_terminated", "ok", "returned.length + 1", 0, "returned.length"),
+]  # fmt: skip
+CHANGES = DECODER + ENCODER
+
+
+def changed(source, name, before, which, after):
+    """The source with this change in a function."""
+    lines = source.splitlines(keepends=True)
+    first, last = annotate.functions_of(source)[name]
+    text = "".join(lines[first : last + 1])
+    at = -1
+    for _ in range(which + 1):
+        at = text.find(before, at + 1)
+        if at < 0:
+            sys.exit(f"{name} has no '{before}' at the place {which}")
+    return "".join([*lines[:first], text[:at] + after + text[at + len(before) :], *lines[last + 1 :]])
+
+
+def compiled(folder, source, name):
+    """Compiles a file of C with sanitizers."""
+    command = [os.environ.get("CC", "cc"), *FLAGS, f"-I{TOP}/bindings/c/include", "-c", "-o", str(folder / name)]
+    subprocess.run([*command, str(source)], check=True)
+
+
+def steps_notice(folder, text):
+    """Whether steps.c, which is compiled already, fails with this text of jcobs.c."""
+    (folder / "changed.c").write_text(text)
+    compiled(folder, folder / "changed.c", "changed.o")
+    linked = [os.environ.get("CC", "cc"), *FLAGS, "-o", str(folder / "steps")]
+    subprocess.run([*linked, str(folder / "steps.o"), str(folder / "changed.o")], check=True)
+    try:
+        return subprocess.run([folder / "steps"], capture_output=True, timeout=600).returncode != 0
+    except subprocess.TimeoutExpired:
+        return True
+
+
+def frama_c_rejects(folder, environment, text, name, clause):
+    """Whether Frama-C has no proof of a clause of this function in this text."""
+    copy = folder / "copy.c"
+    copy.write_text(annotate.annotated(text, annotate.table()))
+    (model,) = [model for model, functions in prove.models(text, [name]).items() if functions]
+    limits = ["-wp-steps", "1500000", "-wp-timeout", str(SECONDS), "-wp-par", "2"]
+    asked = "-wp-prop=" + {"": "-@assigns", "@rte": "rte"}.get(clause, clause)
+    command = ["frama-c", *prove.READ, str(copy), "-wp", "-wp-rte", "-wp-split", "-wp-prover", "z3,cvc4", *limits]
+    said = subprocess.run(
+        [*command, "-wp-model", model, "-wp-fct", name, asked], env=environment, capture_output=True, text=True
+    ).stdout
+    count = prove.COUNT.search(said)
+    if not count or count[2] == "0":
+        sys.exit(f"{name}: Frama-C has no goal for '{asked}'\n" + "\n".join(said.splitlines()[-5:]))
+    return count[1] != count[2]
+
+
+def row(folder, environment, number):
+    """The words of the table for a change, and whether both parts notice it."""
+    name, clause, before, which, after = CHANGES[number - 1]
+    text = changed(prove.SOURCE.read_text(), name, before, which, after)
+    noticed = steps_notice(folder, text), frama_c_rejects(folder, environment, text, name, clause)
+    by = {"": "the result", "@rte": "each access"}.get(clause, f"`{clause}`")
+    said = f"`{before.strip()}` is removed" if after in ("", ";") else f"`{before}` becomes `{after}`"
+    words = ["noticed" if seen else "not noticed" for seen in noticed]
+    return [str(number), f"`{name}`", said.replace("|", "\\|"), words[0], f"{words[1]}, by {by}"], all(noticed)
+
+
+def main():
+    parser = argparse.ArgumentParser()
+    parser.add_argument("--markdown", action="store_true")
+    parser.add_argument("numbers", type=int, nargs="*")
+    options = parser.parse_args()
+    missed = 0
+    with tempfile.TemporaryDirectory() as made:
+        folder = Path(made)
+        environment = prove.configured(folder)
+        compiled(folder, TOP / "check/steps.c", "steps.o")
+        for number in options.numbers or range(1, len(CHANGES) + 1):
+            words, both = row(folder, environment, number)
+            missed += not both
+            print("| " + " | ".join(words) + " |" if options.markdown else "  ".join(words), flush=True)
+    print(f"= {missed} changes aren't noticed by both", file=sys.stderr)
+    sys.exit(1 if missed else 0)
+
+
+if __name__ == "__main__":
+    main()
