@@ -155,6 +155,8 @@ if [ -n "$docs" ]; then
     put README.md speed
     if [ -n "$linked" ]; then
         cp "$out/rust-lto.txt" "$here/results"
+        python3 "$top/bindings/rust/speed.py" below >"$out/below.md"
         put bindings/rust/README.md crate
+        put docs/PERFORMANCE.md below
     fi
 fi

@@ -4,10 +4,11 @@
 usage: tests/prebuilt.py [--write NAME..]
 
 prebuilt.sums has, for each of BUILDS, the toolchain that built it, and the sums of its crates (their .rt and .antt files
-and their lines of crates.txt, for the crate and all below it), of the files that build it, and of what was
-built. --write is for the commands that build, which call it at their end. Here the sums are compared, which takes a
-second: it prints what differs and the command that builds it again, and the status is then 1. tests/release.sh builds
-all again and compares the bytes.
+without comments, and their lines of crates.txt, for the crate and all below it), of the files that build it, and of
+what was built. So who mends a comment needs no toolchain: no comment comes into what is built. --write is for the
+commands that build, which call it at their end. Here the sums are compared, which takes a second: it prints what
+differs and the command that builds it again, and the status is then 1. tests/release.sh builds all again and
+compares the bytes.
 """
 import re
 import subprocess
@@ -61,11 +62,23 @@ def with_those_below(crates, lines):
     return list(found)
 
 
+# A literal, which is kept, or a comment. A lifetime ('a) is no literal, and has no second quote a character later.
+RT_COMMENT = re.compile(r"""("(?:\\.|[^"\\])*"|'(?:\\.|[^'\\])')|//.*?(?=\n|\Z)""", re.DOTALL)
+ANTT_COMMENT = re.compile(r"(?:^|(?<=\s))--(?=\s|$).*$", re.MULTILINE)
+
+
+def without_comments(path):
+    """The text of a source without its comments, empty lines, and spaces at the ends of lines."""
+    text = path.read_text()
+    text = RT_COMMENT.sub(lambda found: found[1] or "", text) if path.suffix == ".rt" else ANTT_COMMENT.sub("", text)
+    return "\n".join(line.rstrip() for line in text.splitlines() if line.strip())
+
+
 def sum_of_crate(crate, line):
     folder, found = TOP / "crates" / crate, sha256(line.encode())
     parts = [path for path in folder.iterdir() if path.is_dir() and path.name not in ("out", "must-fail")]
     for path in sorted(path for part in parts for path in part.rglob("*") if path.suffix in (".rt", ".antt")):
-        found.update(f"\n{path.relative_to(folder)} {sha256(path.read_bytes()).hexdigest()}".encode())
+        found.update(f"\n{path.relative_to(folder)} {sha256(without_comments(path).encode()).hexdigest()}".encode())
     return found.hexdigest()
 
 
