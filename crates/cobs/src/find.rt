@@ -49,6 +49,8 @@ pub(crate) fn len_without_end(source: &[u8], sentinel: u8) -> usize
 #[inline(always)]
 pub(crate) fn front_len(source: &[u8]) -> usize
     ensures within { result ≤ length source.now }
+    ensures near { result < length source.now → result < 32 }
+    ensures before { result < length source.now → HasNoZero (take result source.now) }
     ensures stop { result < length source.now → slice_index source.now result ≡ 0 }
 {
     if source.len() < WINDOW {

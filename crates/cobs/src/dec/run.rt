@@ -13,7 +13,7 @@ use crate::dec::stretch::write_zeros_at_codes;
 use crate::dec::unbuffered::{START, UnbufferedDecoder};
 use crate::find::zero_or_len;
 use cobs_bytes::lanes::{copy_xored, copy_xored_short};
-use cobs_bytes::window::{WIDE_WINDOW, WINDOW, is_all, write_row};
+use cobs_bytes::window::{WIDE_WINDOW, WINDOW, copy_window, is_all, write_row};
 
 /// The most bytes of one stretch: so short that no code in it can be followed by a whole full block.
 pub(crate) const STRETCH_MAX: usize = FULL_BLOCK_BYTES - 1;
@@ -161,6 +161,27 @@ impl UnbufferedDecoder {
         true
     }
 
+    /// Takes the code at the front of a piece, and `len` bytes after it, none of them a zero, that are copied to the front of
+    /// `dest`.
+    #[inline(always)]
+    fn begin(&mut self, dest: &mut [u8], code: u8, len: usize)
+        requires idle { phase_of self.old ≡ Idle }
+        requires code { code ≢ 0 }
+        requires few { (0 < len) × (len < 254) }
+        requires room { len ≤ length dest.old }
+        requires nonzero { HasNoZero (take len dest.old) }
+        ensures fed { (before xs : List ℕ) → len ≤ length before → length xs ≡ len → dest.old ≡ xs ++ drop len before
+            → FeedsQuietly before (phase_of self.old) (code ∷ xs) dest.new (phase_of self.new) }
+        ensures begun { (self.new.too_long ≡ 0) × (0 < self.new.written) }
+    {
+        // No number of the idle decoder is read, so that none has to be loaded.
+        let mut begun = START;
+        begun.joint = joint_after(code);
+        begun.missing = code - 1;
+        begun.take_copied(dest, len);
+        *self = begun;
+    }
+
     /// Takes the code at the front of a piece and the bytes after it at once, if they are 2 to 65 bytes that end the piece or 2 to
     /// 31 others, none is a zero and they have room, and says whether it did. More bytes than that are worth a search. `zeros` is 0
     /// only if no zero follows them.
@@ -186,11 +207,28 @@ impl UnbufferedDecoder {
         if code == 0 || !copy_xored_short(&bytes[1..], dest, 0) {
             return false;
         }
-        let mut begun = START;
-        begun.joint = joint_after(code);
-        begun.missing = code - 1;
-        begun.take_copied(dest, len - 1);
-        *self = begun;
+        self.begin(dest, code, len - 1);
+        true
+    }
+
+    /// Takes the code at the front of a piece and the bytes after it at once, all those before the zero that ends it, if they have
+    /// room, and says whether it did. It is asked for 2 bytes or more.
+    #[inline(always)]
+    pub(crate) fn take_front(&mut self, dest: &mut [u8], bytes: &[u8]) -> bool
+        requires idle { phase_of self.old ≡ Idle }
+        requires few { length bytes.now < 32 }
+        requires nonzero { HasNoZero bytes.now }
+        ensures fed { IsTrue result → FeedsQuietly dest.old (phase_of self.old) bytes.now dest.new (phase_of self.new) }
+        ensures begun { IsTrue result → (self.new.too_long ≡ 0) × (0 < self.new.written) }
+        ensures kept { result ≡ false → (dest.new ≡ dest.old) × (self.new ≡ self.old) }
+    {
+        let len = bytes.len();
+        if len < 2 || dest.len() < len - 1 {
+            return false;
+        }
+        let code = bytes[0];
+        let _zeros = copy_window(&bytes[1..], dest, 0);
+        self.begin(dest, code, len - 1);
         true
     }
 

@@ -268,17 +268,22 @@ impl UnbufferedDecoder {
     {
         if has_vectors() && VERY_FEW < bytes.len() {
             if self.is_idle() {
-                let len = len_without_end(bytes, 0);
-                if self.take_begun(dest, &bytes[..len], bytes.len() - len) {
-                    if len == bytes.len() {
-                        return None;
-                    }
-                    let end = PieceEnd::reported(self.feed(dest, 0))?;
-                    return Some((end, bytes.len()));
-                }
                 let front = front_len(bytes);
-                if front < bytes.len() {
-                    return self.feed_front(dest, bytes, front);
+                if front + 1 < bytes.len() {
+                    // A short piece, and others behind it.
+                    if self.take_front(dest, &bytes[..front]) {
+                        let end = PieceEnd::reported(self.feed(dest, 0))?;
+                        return Some((end, front + 1));
+                    }
+                } else {
+                    let len = len_without_end(bytes, 0);
+                    if self.take_begun(dest, &bytes[..len], bytes.len() - len) {
+                        if len == bytes.len() {
+                            return None;
+                        }
+                        let end = PieceEnd::reported(self.feed(dest, 0))?;
+                        return Some((end, bytes.len()));
+                    }
                 }
             } else if self.take_short(dest, bytes) {
                 return None;
@@ -286,25 +291,6 @@ impl UnbufferedDecoder {
         }
         if bytes.len() <= FEW {
             return self.feed_each(dest, bytes, 0);
-        }
-        self.feed_piece_long(dest, bytes)
-    }
-
-    /// Does what `feed_piece` does, for an idle decoder and bytes of which the one at `len` is a zero: the piece before it is
-    /// taken as one that is pushed alone. So short pieces that come together are searched and copied without a call.
-    #[inline(never)]
-    fn feed_front(&mut self, dest: &mut [u8], bytes: &[u8], len: usize) -> Option<(PieceEnd, usize)>
-        requires idle { phase_of self.old ≡ Idle }
-        requires within { len < length bytes.now }
-        requires zero { slice_index bytes.now len ≡ 0 }
-        ensures takes { TakesPiece dest.old (phase_of self.old) bytes.now result dest.new (phase_of self.new) }
-    {
-        if bytes.len() <= FEW || 0 < len && len <= VERY_FEW {
-            return self.feed_each(dest, bytes, 0);
-        }
-        if self.take_begun(dest, &bytes[..len], 1) {
-            let end = PieceEnd::reported(self.feed(dest, 0))?;
-            return Some((end, len + 1));
         }
         self.feed_piece_long(dest, bytes)
     }

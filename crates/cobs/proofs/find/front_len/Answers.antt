@@ -1,8 +1,9 @@
-use Rattle.std.proofs.Common.{◌≡◌, ◌≢◌, ◌<◌, ◌≤◌, ℕ, List, length, take, get_or, ap, sym, ◌∙◌, arith, length-take-le}
-use Rattle.std.proofs.lemmas.List.{get_or-take}
+use Rattle.std.proofs.lemmas.List.{get_or-take, take-take}
+use Rattle.std.proofs.Common.{◌≡◌, ◌≢◌, ◌<◌, ◌≤◌, ℕ, List, length, take, get_or, ap, sym, subst, ◌∙◌, arith, length-take-le}
 use lib.Count.{count_trailing_zeros}
+use Rattle.cobs_bytes.specs.Bytes.{HasNoZero}
 use Rattle.cobs_bytes.specs.Mask.{zero_mask}
-use Rattle.cobs_bytes.proofs.bytes.MaskLemmas.{lowest_bit, nonzero_len, nonzero_len-at, nonzero_len-lt}
+use Rattle.cobs_bytes.proofs.bytes.MaskLemmas.{lowest_bit, nonzero_len, nonzero_len-at, nonzero_len-before, nonzero_len-lt}
 use Rattle.cobs.proofs.find.front_len.Goals as goal
 
 -- the lowest bit of the mask says where the first zero of the 32 bytes is
@@ -19,6 +20,11 @@ module _ (source : List ℕ) (zeros : ℕ) (long : 32 ≤ length source) (is : z
   within : count_trailing_zeros 64 zeros < 32
   within = omega (arith, place, nonzero_len-lt front front_some, length-take-le 32 source long)
 
+  before : HasNoZero (take (count_trailing_zeros 64 zeros) source)
+  before =
+      let same : take (count_trailing_zeros 64 zeros) front ≡ take (count_trailing_zeros 64 zeros) source = take-take _ 32 source (omega (arith, within)) in
+      subst HasNoZero (ap (λ (k : ℕ). take k front) (sym place) ∙ same) (nonzero_len-before front front_some)
+
   stop : get_or source (count_trailing_zeros 64 zeros) 0 ≡ 0
   stop =
       sym (get_or-take 32 source _ 0 within)
@@ -33,3 +39,9 @@ returns-clause-within c =
 pub returns-clause-stop : goal.returns-clause-stop
 returns-clause-stop c _ =
     stop c.args.source.now c.zeros_at-zeros.result (omega (arith, c.if-source-lt-WINDOW.false)) c.zeros_at-zeros.ensures c.if-zeros-eq0.false
+
+pub returns-clause-near : goal.returns-clause-near
+returns-clause-near c _ = within c.args.source.now c.zeros_at-zeros.result (omega (arith, c.if-source-lt-WINDOW.false)) c.zeros_at-zeros.ensures c.if-zeros-eq0.false
+
+pub returns-clause-before : goal.returns-clause-before
+returns-clause-before c _ = before c.args.source.now c.zeros_at-zeros.result (omega (arith, c.if-source-lt-WINDOW.false)) c.zeros_at-zeros.ensures c.if-zeros-eq0.false

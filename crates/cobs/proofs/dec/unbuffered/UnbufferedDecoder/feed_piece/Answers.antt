@@ -1,23 +1,50 @@
-use Rattle.std.proofs.Common.{◌≡◌, ◌<◌, ◌+◌, ◌-◌, List, ℕ, Option, Result, None, Some, sym, subst, arith, get_or, length, take, take_all}
+use Rattle.std.proofs.Common.{◌≡◌, ◌≢◌, ◌<◌, ◌+◌, ◌-◌, List, ℕ, zero, suc, Bool, true, false, eqb, Option, Result, None, Some, inl, inr, refl, sym, subst, arith, get_or, length, take, take_all}
 use Rattle.std.proofs.Math.Seq.{take-length}
 use Rattle.cobs.specs.Feed.{Feeds, Phase}
+use Rattle.cobs.specs.Fields.Decoders.{phase_of, phase_with}
 use Rattle.cobs.specs.FeedPiece.{TakesPiece, end_reported}
 use Rattle.cobs.specs.Internal.FeedsQuietly.{FeedsQuietly}
 use Rattle.cobs.specs.declared.dec.frame_decoder.PieceEnd.{PieceEnd}
+use Rattle.cobs.specs.declared.dec.state.DecoderState.TheVariants.{Grab, GrabChain}
 use Rattle.cobs.specs.declared.error.DecodeError.{DecodeError}
-use Rattle.cobs.proofs.streaming.ByByteLemmas.{piece-nothing, piece-more, piece-ended}
+use Rattle.cobs.proofs.streaming.ByByteLemmas.{piece-nothing, piece-ended}
 use Rattle.cobs.proofs.streaming.RunLemmas.{piece-run}
 use Rattle.cobs.proofs.dec.unbuffered.UnbufferedDecoder.feed_piece.Goals as goal
 use Rattle.cobs_bytes.proofs.bytes.XoredLemmas.{xor_each-zero}
-use Rattle.cobs.proofs.dec.unbuffered.UnbufferedDecoder.feed_piece.Goals.{then-has_vectors+then-bytes-gt-VERY_FEW+then-is_idle+else-take_begun+else-front-bytes, then-has_vectors+then-bytes-gt-VERY_FEW+else-is_idle+else-take_short, else-has_vectors}
+use Rattle.cobs.proofs.dec.unbuffered.UnbufferedDecoder.feed_piece.Goals.{then-has_vectors+then-bytes-gt-VERY_FEW+then-is_idle+then-front-bytes+else-take_front, then-has_vectors+then-bytes-gt-VERY_FEW+then-is_idle+else-front-bytes+else-take_begun, then-has_vectors+then-bytes-gt-VERY_FEW+else-is_idle+else-take_short, else-has_vectors}
 
 -- bytes were fed of which none ends a piece
 quietly : (bytes buffer buffer' : List ℕ) (phase phase' : Phase) → FeedsQuietly buffer phase bytes buffer' phase' → TakesPiece buffer phase bytes None buffer' phase'
 quietly bytes buffer buffer' phase phase' fed =
     rw (take_all (0 + length bytes) bytes (omega arith)) at (piece-run bytes 0 (length bytes) (omega arith) (piece-nothing _ _) (rw (← take-length bytes) at fed))
 
--- all bytes but the last were fed, none of which ends a piece, and then that one, a zero
-module _ (bytes buffer between buffer' : List ℕ) (phase phase_between phase' : Phase) (result : Result (Option ℕ) DecodeError) (len : ℕ) (whole : len + 1 ≡ length bytes) (zero : get_or bytes len 0 ≡ 0)
+-- a zero ends a piece of which a byte is written
+ended_at : (is_full : Bool) (left count : ℕ) (buffer buffer' : List ℕ) (phase' : Phase) (result : Result (Option ℕ) DecodeError)
+    → Feeds buffer (phase_with is_full left (suc count)) 0 result buffer' phase' → end_reported result ≢ None
+ended_at false zero count buffer buffer' phase' result f none = elim (f.result_by_table (Grab 0) refl) [
+  | inl is ↦ let e = rw is at none in cc
+  | inr is ↦ let e = rw is.0 at none in cc
+]
+ended_at false (suc left) count buffer buffer' phase' result f none = elim (f.result_by_table (Grab (suc left)) refl) [
+  | inl is ↦ let e = rw is at none in cc
+  | inr is ↦ let e = rw is.0 at none in cc
+]
+ended_at true zero count buffer buffer' phase' result f none = elim (f.result_by_table (GrabChain 0) refl) [
+  | inl is ↦ let e = rw is at none in cc
+  | inr is ↦ let e = rw is.0 at none in cc
+]
+ended_at true (suc left) count buffer buffer' phase' result f none = elim (f.result_by_table (GrabChain (suc left)) refl) [
+  | inl is ↦ let e = rw is at none in cc
+  | inr is ↦ let e = rw is.0 at none in cc
+]
+
+ended_by : (written missing joint too_long : ℕ) (buffer buffer' : List ℕ) (phase' : Phase) (result : Result (Option ℕ) DecodeError) → too_long ≡ 0 → 0 < written
+    → Feeds buffer (phase_of (record { written = written; missing = missing; joint = joint; too_long = too_long })) 0 result buffer' phase' → end_reported result ≢ None
+ended_by zero missing joint too_long buffer buffer' phase' result going some f = absurd (omega arith)
+ended_by (suc count) missing joint too_long buffer buffer' phase' result going some f = ended_at (eqb joint 0) missing count buffer buffer' phase' result (rw going at f)
+
+-- the first bytes were fed, none of which ends a piece, and then a zero
+module _ (bytes buffer between buffer' : List ℕ) (phase phase_between phase' : Phase) (result : Result (Option ℕ) DecodeError) (len : ℕ) (within : len < length bytes) (zero : get_or bytes len 0 ≡ 0)
     (fed : FeedsQuietly buffer phase (take len bytes) between phase_between) (feeds : Feeds between phase_between 0 result buffer' phase') where
   before : TakesPiece buffer phase (take len bytes) None between phase_between
   before =
@@ -27,13 +54,8 @@ module _ (bytes buffer between buffer' : List ℕ) (phase phase_between phase' :
   last : Feeds between phase_between (get_or bytes len 0) result buffer' phase'
   last = subst (λ (b : ℕ). Feeds between phase_between b result buffer' phase') (sym zero) feeds
 
-  ended : (end : PieceEnd) → end_reported result ≡ Some end → TakesPiece buffer phase bytes (Some (end, length bytes)) buffer' phase'
-  ended end is = subst (λ (k : ℕ). TakesPiece buffer phase bytes (Some (end, k)) buffer' phase') whole (piece-ended bytes _ (omega arith) before last end zero is)
-
-  more : end_reported result ≡ None → TakesPiece buffer phase bytes None buffer' phase'
-  more is =
-      let all : take (len + 1) bytes ≡ bytes = take_all (len + 1) bytes (omega arith) in
-      rw all at (piece-more bytes _ (omega arith) before last (λ _. is))
+  ended : (end : PieceEnd) → end_reported result ≡ Some end → TakesPiece buffer phase bytes (Some (end, len + 1)) buffer' phase'
+  ended end is = piece-ended bytes _ within before last end zero is
 
 pub returns-then-len-bytes : goal.returns-then-len-bytes
 returns-then-len-bytes c =
@@ -43,15 +65,29 @@ returns-then-len-bytes c =
 
 pub returns-in_err-end : goal.returns-in_err-end
 returns-in_err-end c =
-    let e = c.len_without_end-len.ensures in
-    let whole : c.len_without_end-len.result + 1 ≡ length c.args.bytes.now = omega (arith, e.last, e.within, c.if-len-bytes.false) in
-    record { takes = rw c.from_residual.ensures (more _ _ _ _ _ _ _ _ _ whole (e.stop (omega (arith, whole))) (c.take_begun.ensures.fed c.if-take_begun.true) c.feed.ensures.feeds (sym c.in_err-end.ensures.end)) }
+    let n = c.take_front.new.self in
+    let begun = c.take_front.ensures.begun c.if-take_front.true in
+    absurd (ended_by n.written n.missing n.joint n.too_long _ _ _ _ begun.0 begun.1 c.feed.ensures.feeds (sym c.in_err-end.ensures.end))
+
+pub returns-then-take_front : goal.returns-then-take_front
+returns-then-take_front c =
+    let within : c.front_len-front.result < length c.args.bytes.now = omega (arith, c.if-front-bytes.true) in
+    let e = c.front_len-front.ensures in
+    record { takes = ended _ _ _ _ _ _ _ _ _ within (e.stop within) (c.take_front.ensures.fed c.if-take_front.true) c.feed.ensures.feeds _ (sym c.in_ok-end.ensures.end) }
+
+pub returns-in_err-end-2 : goal.returns-in_err-end-2
+returns-in_err-end-2 c =
+    let n = c.take_begun.new.self in
+    let begun = c.take_begun.ensures.begun c.if-take_begun.true in
+    absurd (ended_by n.written n.missing n.joint n.too_long _ _ _ _ begun.0 begun.1 c.feed-then-take_begun.ensures.feeds (sym c.in_err-end-2.ensures.end))
 
 pub returns-then-take_begun : goal.returns-then-take_begun
 returns-then-take_begun c =
     let e = c.len_without_end-len.ensures in
     let whole : c.len_without_end-len.result + 1 ≡ length c.args.bytes.now = omega (arith, e.last, e.within, c.if-len-bytes.false) in
-    record { takes = ended _ _ _ _ _ _ _ _ _ whole (e.stop (omega (arith, whole))) (c.take_begun.ensures.fed c.if-take_begun.true) c.feed.ensures.feeds _ (sym c.in_ok-end.ensures.end) }
+    let within : c.len_without_end-len.result < length c.args.bytes.now = omega (arith, whole) in
+    let taken = ended _ _ _ _ _ _ _ _ _ within (e.stop within) (c.take_begun.ensures.fed c.if-take_begun.true) c.feed-then-take_begun.ensures.feeds _ (sym c.in_ok-end-2.ensures.end) in
+    record { takes = rw whole at taken }
 
 pub returns-then-take_short : goal.returns-then-take_short
 returns-then-take_short c = record { takes = quietly _ _ _ _ _ (c.take_short.ensures.fed c.if-take_short.true) }
@@ -60,7 +96,10 @@ pub returns-then-bytes-le-FEW : goal.returns-then-bytes-le-FEW
 returns-then-bytes-le-FEW c =
     let taken = rw (xor_each-zero c.args.bytes.now) at c.feed_each.ensures.takes in
     elim c.if-has_vectors.branch [
-      | then-has_vectors+then-bytes-gt-VERY_FEW+then-is_idle+else-take_begun+else-front-bytes w ↦
+      | then-has_vectors+then-bytes-gt-VERY_FEW+then-is_idle+then-front-bytes+else-take_front w ↦
+          let kept = w.take_front.ensures.kept w.if-take_front.false in
+          record { takes = rw (w.dest-is, w.self-is, kept.0, kept.1) at taken }
+      | then-has_vectors+then-bytes-gt-VERY_FEW+then-is_idle+else-front-bytes+else-take_begun w ↦
           let kept = w.take_begun.ensures.kept w.if-take_begun.false in
           record { takes = rw (w.dest-is, w.self-is, kept.0, kept.1) at taken }
       | then-has_vectors+then-bytes-gt-VERY_FEW+else-is_idle+else-take_short w ↦
@@ -73,7 +112,10 @@ pub returns : goal.returns
 returns c =
     let taken = c.feed_piece_long.ensures.takes in
     elim c.if-has_vectors.branch [
-      | then-has_vectors+then-bytes-gt-VERY_FEW+then-is_idle+else-take_begun+else-front-bytes w ↦
+      | then-has_vectors+then-bytes-gt-VERY_FEW+then-is_idle+then-front-bytes+else-take_front w ↦
+          let kept = w.take_front.ensures.kept w.if-take_front.false in
+          record { takes = rw (w.dest-is, w.self-is, kept.0, kept.1) at taken }
+      | then-has_vectors+then-bytes-gt-VERY_FEW+then-is_idle+else-front-bytes+else-take_begun w ↦
           let kept = w.take_begun.ensures.kept w.if-take_begun.false in
           record { takes = rw (w.dest-is, w.self-is, kept.0, kept.1) at taken }
       | then-has_vectors+then-bytes-gt-VERY_FEW+else-is_idle+else-take_short w ↦
@@ -81,8 +123,3 @@ returns c =
           record { takes = rw (w.dest-is, w.self-is, kept.0, kept.1) at taken }
       | else-has_vectors w ↦ record { takes = rw (w.dest-is, w.self-is) at taken }
     ]
-
-pub returns-then-front-bytes : goal.returns-then-front-bytes
-returns-then-front-bytes c =
-    let kept = c.take_begun.ensures.kept c.if-take_begun.false in
-    record { takes = rw (kept.0, kept.1) at c.feed_front.ensures.takes }

@@ -1,4 +1,4 @@
-use Rattle.std.proofs.Common.{ℕ, ◌+◌, List, [], ◌∷◌, ◌++◌, set, subst, sym, refl}
+use Rattle.std.proofs.Common.{ℕ, ◌+◌, List, [], ◌∷◌, ◌++◌, set, subst, sym, refl, arith}
 use Rattle.cobs.specs.Grammar.{IsOpenFrame}
 use Rattle.cobs.specs.OpenBlock.{OpenBlock, AgreeOutside, IsOpenOutput}
 use Rattle.cobs.proofs.encoding.OpenLemmas.{open-zero, open-more, open-full}
@@ -19,17 +19,17 @@ returns-then-byte-eq0-clause-after c = λ m o.
 pub returns-then-self-clause-carried : goal.returns-then-self-clause-carried
 returns-then-self-clause-carried c = λ m g x o.
     let o' = subst (λ (s : OpenBlock). IsOpenOutput g s m) (sym c.self.view_is) o in
-    open-full m o'.0 g c.self.inside.code_index c.self.inside.code o'.1 o'.2 c.args.byte x c.if-byte-eq0.false c.if-self.true
+    open-full m o'.0 g c.self.inside.code_index c.self.inside.code o'.1 o'.2 c.args.byte x c.if-byte-eq0.false (omega (arith, c.if-self.true))
 
 pub returns-then-self-clause-after : goal.returns-then-self-clause-after
 returns-then-self-clause-after c = λ m o.
     let r = returns-then-self-clause-carried c m (set o.0 c.args.self.now.index 0) 0 (o.0, o.1, (0, refl)) in (r.0, r.1)
 
-pub returns-else-self-clause-carried : goal.returns-else-self-clause-carried
-returns-else-self-clause-carried c = λ m g x o.
+pub returns-clause-carried : goal.returns-clause-carried
+returns-clause-carried c = λ m g x o.
     let o' = subst (λ (s : OpenBlock). IsOpenOutput g s m) (sym c.self.view_is) o in
-    open-more m o'.0 g c.self.inside.code_index c.self.inside.code o'.1 o'.2 c.args.byte c.if-byte-eq0.false c.if-self.false
+    open-more m o'.0 g c.self.inside.code_index c.self.inside.code o'.1 o'.2 c.args.byte c.if-byte-eq0.false (λ is. c.if-self.false (omega (arith, is)))
 
-pub returns-else-self-clause-after : goal.returns-else-self-clause-after
-returns-else-self-clause-after c = λ m o.
-    let r = returns-else-self-clause-carried c m (set o.0 c.args.self.now.index 0) 0 (o.0, o.1, (0, refl)) in (r.0, r.1)
+pub returns-clause-after : goal.returns-clause-after
+returns-clause-after c = λ m o.
+    let r = returns-clause-carried c m (set o.0 c.args.self.now.index 0) 0 (o.0, o.1, (0, refl)) in (r.0, r.1)
