@@ -296,6 +296,8 @@ impl UnbufferedDecoder {
     }
 
     /// Does what `feed_piece` does, without a question of its own for short pieces.
+    // Inlined, its registers would be saved for each short piece too.
+    #[inline(never)]
     fn feed_piece_long(&mut self, dest: &mut [u8], bytes: &[u8]) -> Option<(PieceEnd, usize)>
         ensures takes { TakesPiece dest.old (phase_of self.old) bytes.now result dest.new (phase_of self.new) }
     {
