@@ -54,8 +54,8 @@ REWORDED = {
     ", as [`CobsDecoder::push`](crate::CobsDecoder::push) does, with its errors.": ".\nThe error says how many bytes were taken.",
     "CobsDecoder::new(&mut buffer); let rejected = PushError": "UnbufferedDecoder::new();\nlet rejected = PushError",
     "decoder.push(&[3, 7, 0, 2, 9, 0]), Err(rejected)": "decoder.push(&mut buffer, &[3, 7, 0, 2, 9, 0]), Err(rejected)",
-    "Contracts see a source by its own relation of steps: a read, that is a failure or the bytes that it gave, takes it from one"
-    " state to the next.": "[`FrameReader::next_frame`] panics if a read says that it gave more than 64 bytes.",
+    "Contracts describe a source by a relation that it defines: which read (a failure, or the bytes that it gave) leads from one"
+    " state of it to which other.": "[`FrameReader::next_frame`] panics if a read says that it gave more than 64 bytes.",
     " Contracts see it as its decoder and the bytes that it has read and not yet fed to the decoder.": "",
     "Contracts see it as the bytes of its buffer and its phase. ": "",
     "[`decode_short`](crate::decode_short)": "`decode_short`",

@@ -305,7 +305,7 @@ static JCOBS_INLINE jcobs_answer jcobs_result_of(const jcobs_decoder *decoder, j
     case JCOBS_IS_MESSAGE:
         return jcobs_done(found.consumed, found.count);
     case JCOBS_IS_BROKEN:
-        /* No more than the buffer has, unless the state is corrupt. */
+        /* The count is at most room, unless the state is corrupt. */
         return jcobs_answered(JCOBS_BROKEN, found.consumed, found.count < room ? found.count : room);
     default:
         return jcobs_answered(JCOBS_TOO_SMALL, found.consumed, room);
@@ -460,8 +460,8 @@ size_t jcobs_max_length(size_t message_len)
 }
 
 /* Whether spare bytes cover the overhead of every message of len bytes: whether len is at most 254 times spare. It
- * needs no division, for which small processors have no instruction, and no product is too large: for each 256
- * bytes of len, 254 are taken from both sides first. */
+ * needs no division, for which small processors have no instruction. So that no product is too large, it subtracts
+ * 254 from both sides for each 256 bytes of len. */
 static JCOBS_INLINE int jcobs_covers_overhead(size_t len, size_t spare)
 {
     size_t rows = len / 256;
@@ -473,8 +473,8 @@ static JCOBS_INLINE int jcobs_covers_overhead(size_t len, size_t spare)
     return rows + 1 < more || 2 * rows + len % 256 <= 254 * more;
 }
 
-/* Whether fewer blocks than spare become full, and are followed by a byte, once the open block with this code has
- * taken these bytes: whether the frame needs less than spare bytes beside them and the open block. */
+/* Whether fewer than spare blocks become full and are followed by another byte, once the open block with this code
+ * has taken these bytes. Each such block needs one byte of the frame for the code after it. */
 static int jcobs_fits_each(unsigned char code, const unsigned char *bytes, size_t bytes_len, size_t spare)
 {
     size_t left = spare;
@@ -492,8 +492,8 @@ static int jcobs_fits_each(unsigned char code, const unsigned char *bytes, size_
     return 1;
 }
 
-/* Whether room bytes, from the code of an open block, are enough once the block has taken these bytes. It reads
- * the bytes only if their number doesn't decide that. */
+/* Whether room bytes, counted from the code of an open block, are enough for the frame once the block has taken
+ * these bytes. It reads the bytes only if their number doesn't decide that. */
 static int jcobs_has_room(unsigned char code, const unsigned char *bytes, size_t bytes_len, size_t room)
 {
     size_t held = (size_t)code - 1;
@@ -537,8 +537,8 @@ static JCOBS_INLINE void jcobs_encoder_append_byte(jcobs_encoder *encoder, unsig
     }
 }
 
-/* Writes the open block's code, if that is part of the frame, and returns where the frame ends. Its place is free
- * before. */
+/* Writes the open block's code, if that is part of the frame, and returns where the frame ends. The byte in its
+ * place may have any value before. */
 static JCOBS_INLINE size_t jcobs_close(unsigned char *dest, size_t dest_len, jcobs_progress progress)
 {
     size_t index = progress.index;
@@ -588,7 +588,7 @@ static JCOBS_NOINLINE size_t jcobs_write_frame(const unsigned char *message, siz
     return 0;
 }
 
-/* The result of a call that took and left nothing, since the buffer is too short. */
+/* The result of a call that consumed and wrote nothing, since the buffer is too short. */
 static jcobs_answer jcobs_too_small(void)
 {
     return jcobs_answered(JCOBS_TOO_SMALL, 0, 0);

@@ -65,8 +65,8 @@ pub enum ReadFault {
 
 /// A source of the bytes of a stream.
 ///
-/// Contracts see a source by its own relation of steps: a read, that is a failure or the bytes that it gave, takes
-/// it from one state to the next.
+/// Contracts describe a source by a relation that it defines: which read (a failure, or the bytes that it gave) leads from
+/// one state of it to which other.
 ///
 /// ```
 /// let mut source = Recorded::new([2, 7].as_slice());
@@ -76,7 +76,7 @@ pub enum ReadFault {
 /// assert_eq!(rt; source.read_some(&mut chunk), Some(0));
 /// ```
 pub trait FrameSource {
-    /// Whether this read may take the source from the one state to the other.
+    /// Whether this read may lead from the first state of the source to the second.
     ghost step: { Self → Option (List ℕ) → Self → Type 0 };
 
     /// Reads once.

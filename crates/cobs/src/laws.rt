@@ -125,7 +125,7 @@ pub fn law_4()
     ensures grows { (m d : List ℕ) → encoded_len m ≤ encoded_len (m ++ d) }
 {}
 
-/// Messages with equal encoded frames are equal, and a frame has one message at all.
+/// Messages with equal encoded frames are equal, and a frame has only one message.
 ///
 /// So nothing of a message is lost in its frame, and a receiver can't read another message out of it than the sender
 /// put in.
@@ -230,10 +230,10 @@ pub fn law_8()
         → Reads (f ++ g) (m ++ joint (last_of r.blocks) ++ k) }
 {}
 
-/// A stream may be cut anywhere: it has the outcomes of its first part, and then those of the second part after what
-/// the first left unended. What both leave unended is what the second part leaves after that. After a zero nothing is
-/// left; bytes without a zero have no outcome, and are all left. The pieces themselves join as the outcomes do, and
-/// nonzero bytes with a zero after them are one piece.
+/// A stream may be cut anywhere. Its outcomes are those of the first part, and then those of the second part with the
+/// unended bytes of the first before it. Its unended bytes are those of that second stream. A stream that ends in a zero
+/// has no unended bytes; in one without a zero all bytes are unended, and there is no outcome. The pieces themselves join
+/// as the outcomes do, and nonzero bytes with a zero after them are one piece.
 ///
 /// So a receiver may be given a stream in parts of any length, as reads happen to bring it, and gets what one call over
 /// the whole stream would give: `decode_stream`, `push` and `FrameReader` rest on this.
@@ -303,8 +303,8 @@ pub fn law_10()
 
 /// A frame in a stream is decoded as its message in each buffer that holds the message.
 ///
-/// So what was sent as frames with a sentinel after each is decoded as exactly the messages, and no frame, the longer
-/// one of a message with two included, is taken for broken or for too long.
+/// So messages that were sent as frames with a sentinel after each are decoded as exactly these messages. No frame is
+/// reported as broken or too long, also not the longer frame of a message that has two.
 ///
 /// ```
 /// fn encode_for_stream(message: &[u8], dest: &mut [u8]) -> usize
@@ -328,9 +328,10 @@ pub fn law_11()
 
 /// A stream's first piece. In a stream that begins with a nonzero byte the first piece is the bytes before the first
 /// zero, and, in a buffer of the stream's length, it is decoded as a message exactly if it reads as that message. Zeros
-/// before the first piece are skipped: after them the first piece ends where the next zero is, and if nothing is
-/// after them, there is none. What is before the first zero, or before the first sentinel, is found by its end. While
-/// no piece has ended, the unended rest is the last piece; a zero then ends it.
+/// before the first piece are skipped: after them the first piece ends at the next zero, and if nothing is after them,
+/// there is none. If the first n bytes have no zero, and the byte after them is a zero or there is none, they are the bytes
+/// before the first zero; likewise for any sentinel. While no piece has ended, the unended rest is the last piece; a zero
+/// then ends it.
 ///
 /// So `decode`, into a buffer as long as its source, and `decode_in_place` both return an error, or both the same
 /// message.
@@ -401,8 +402,8 @@ pub fn law_13()
 
 /// A decoder has taken nothing of a piece exactly if it is idle.
 ///
-/// So a decoder that a zero has left idle is one that [`FrameReader::new`](crate::FrameReader::new) accepts, and a new
-/// one is one that reads a frame and its zero by `push`.
+/// So [`FrameReader::new`](crate::FrameReader::new) accepts a decoder that was fed a zero last, and `push` of a new decoder
+/// reads a frame and its zero.
 ///
 /// ```
 /// fn reader_after_zero(mut decoder: CobsDecoderOwned) -> FrameReader<CobsDecoderOwned>

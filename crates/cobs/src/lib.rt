@@ -53,7 +53,7 @@
 //! - The size of a buffer: [`max_encoding_length`]. Whether bytes are a frame: [`frame_kind`].
 //! - A fact to cite in a proof of your own: [`laws`].
 //!
-//! A call that allocates takes an allocator first and returns a `Result`. Each call is proved to meet its contract, to
+//! A call that allocates has an allocator as its first argument and returns a `Result`. Each call is proved to meet its contract, to
 //! be safe and to end. In the examples `rt` is the argument of `main`, and `alloc` is `rt.alloc()`.
 #![tactic(auto)]
 

@@ -16,7 +16,7 @@ use crate::enc::encode;
 use crate::max_encoding_length;
 use std::alloc::{AllocError, Global};
 
-/// What became of a piece of a stream: a nonempty stretch of bytes that a zero ended.
+/// The outcome of a piece of a stream: one or more nonzero bytes that a zero ended.
 ///
 /// ```
 /// let mut decoder = CobsDecoderHeapless::<4>::new();
@@ -36,7 +36,7 @@ pub enum FrameOutcome {
     TooLong,
 }
 
-/// The outcome of a piece that ended so, over the buffer that it left.
+/// The outcome of the piece with this end, whose output is in `buffer`.
 fn frame_outcome(alloc: Global, end: PieceEnd, buffer: &[u8]) -> Result<FrameOutcome, AllocError>
     requires { IsWithin (length buffer.now) end }
     ensures { IfOk result (λ outcome. outcome_in outcome ≡ outcome_at end buffer.now) }
@@ -149,10 +149,10 @@ pub fn encode_frames(alloc: Global, messages: &[Vec<u8>]) -> Result<Vec<u8>, All
 }
 
 /// Returns how many bytes have room for the frames of the messages and a zero after each: the sum of
-/// [`max_encoding_length`](crate::max_encoding_length) plus 1 over the messages. `None` where that is no `usize`.
+/// [`max_encoding_length`](crate::max_encoding_length) plus 1 over the messages. `None` if the sum doesn't fit a `usize`.
 ///
 /// This is the test for what [`encode_frames`] asks of its caller, and how many bytes that call then asks memory for.
-/// No memory is taken here.
+/// This function allocates nothing.
 ///
 /// ```
 /// let messages = [b"hi".to_vec(alloc)?, Vec::new(alloc)];

@@ -39,7 +39,7 @@ pub fn done(consumed: usize, length: usize) -> Answer
     }
 }
 
-/// The result of a call that took and left nothing, since the buffer is too short.
+/// The result of a call that consumed and wrote nothing, since the buffer is too short.
 pub fn too_small() -> Answer
     ensures { result ≡ record { status = TOO_SMALL; consumed = 0; length = 0 } }
 {

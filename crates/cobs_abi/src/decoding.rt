@@ -45,7 +45,7 @@ pub fn result_of(
     };
     match end {
         PieceEnd::Message(length) => done(consumed, length),
-        // No more than the buffer has, unless the state is corrupt.
+        // The count is at most `room`, unless the state is corrupt.
         PieceEnd::Broken(count) => Answer {
             status: BROKEN,
             consumed,

@@ -1,4 +1,4 @@
-//! Windows and stretches of bytes, in vectors: where their zeros are, and copied, XORed, moved and written.
+//! Functions over windows and slices of bytes, in vectors: they find zeros, copy, XOR, move and write.
 //!
 //! The part of `cobs` that knows nothing of frames. Its names aren't stable: call `cobs`.
 #![tactic(auto)]

@@ -11,15 +11,15 @@ pub const WINDOW: usize = 32;
 /// How many bytes two windows have, which is the most that short data is copied or moved by.
 pub const WIDE_WINDOW: usize = 64;
 
-/// Whether the target has vectors that pay for short data: if not, one byte per iteration is faster, and much smaller.
-// A function without a clause, so that what asks it is proved for both kinds of target.
+/// Whether the target has vectors that make short data faster. If not, a loop over bytes is faster, and much smaller.
+// It has no clause, so that its callers are proved for both kinds of target.
 #[inline(always)]
 pub fn has_vectors() -> bool {
     true
 }
 
-/// Calls a function over vectors of `N` bytes with the greatest `N`, up to 32, that is at most `len`: two of them, which
-/// may overlap, are `len` bytes, if these are at least one and at most 64. Halved, so that a few bytes ask three times.
+/// Calls a function over vectors of `N` bytes with the greatest `N`, up to 32, that is at most `len`. Two such vectors, which
+/// may overlap, cover `len` bytes, if `len` is 1 to 64. The tests are nested, so that each width needs two or three.
 macro_rules! by_width {
     ($len:expr, $call:ident($($value:expr),*)) => {{
         let len = $len;
@@ -124,7 +124,7 @@ fn copy_two<const N: usize>(source: &[u8], dest: &mut [u8], at: usize) -> u64
     zeros
 }
 
-/// Copies up to 32 bytes to `dest`, from `at` on, and returns which are zeros: bit `i` is set where byte `i` is one.
+/// Copies up to 32 bytes to `dest`, from `at` on, and returns which are zeros: bit `i` is set if byte `i` is a zero.
 #[inline(always)]
 pub fn copy_window(source: &[u8], dest: &mut [u8], at: usize) -> u64
     requires some { 0 < length source.now }

@@ -46,9 +46,9 @@ pub extern "C" fn jcobs_encode(message: &[u8], frame: &mut [u8]) -> Answer
 {
     law_4();
     let len = message.len();
-    // A message that can't fill a block is seen to fit at once, and a short one encoded here, without a call. Asked first for a
-    // few bytes, compilers give them code without the other cases. As the message is a byte shorter than its frame, its length
-    // isn't kept in a register. One and two bytes take .88 of the time, 16 bytes .92.
+    // A message that can't fill a block fits if `frame` is longer, and is encoded here, without a call. A few bytes are tested
+    // for first, so that compilers give them code without the other cases. The message is one byte shorter than its frame, so
+    // its length needs no register. This makes short messages faster.
     if len < frame.len() {
         if len < FEW {
             let length = encode(message, frame);

@@ -31,7 +31,7 @@ pub fn max_encoding_length(alloc: Global, arguments: &[&str]) -> Result<CallResu
     Ok(returned)
 }
 
-/// The frame handed out.
+/// Runs `encode_vec`, which returns the frame.
 pub fn encode_vec(alloc: Global, arguments: &[&str]) -> Result<CallResult, CaseFault> {
     let [message] = arguments else {
         return Err(CaseFault::Malformed);
@@ -40,7 +40,7 @@ pub fn encode_vec(alloc: Global, arguments: &[&str]) -> Result<CallResult, CaseF
     said(alloc, &frame)
 }
 
-/// The frame between two zeros, handed out.
+/// Runs `encode_vec_including_sentinels`, which returns the frame between two zeros.
 pub fn encode_vec_including_sentinels(
     alloc: Global,
     arguments: &[&str],

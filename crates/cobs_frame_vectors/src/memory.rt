@@ -1,8 +1,9 @@
 //! Out of memory.
 //!
-//! Each call that allocates has a test of its own. In a plain run it gives its value. `tests/fail-alloc.sh` runs a copy in
-//! which one growth of each test fails, the first, the second and so on: a call is then out of memory exactly if the
-//! growth was one of its own, and its test says so. The script ends when no test does.
+//! Each call that allocates has a test of its own, in which it succeeds. `tests/fail-alloc.sh` runs copies in which one
+//! allocation of each test fails: in the first copy the first one, in the second copy the second, and so on. Then the call
+//! returns an error exactly if the failed allocation was one of its own, and its test ends with the words `out of memory`.
+//! The script stops at the first copy in which no test ends so.
 use crate::messages::encode_few;
 use crate::slices::{CallResult, VectorCall, rejected, vector};
 use cobs::{
@@ -38,8 +39,8 @@ fn is_next_failing(alloc: Global) -> bool {
     false
 }
 
-/// What was done is out of memory exactly if a growth of its own failed, so that none fails after it. Then the
-/// test ends with these words.
+/// Checks that the call returned out of memory exactly if one of its own allocations failed: then none fails after it, as
+/// only one does in each test. If so, the test ends with the words `out of memory`.
 fn check_growths(rt: &impl Abort, alloc: Global, returned: Result<(), AllocError>) {
     let has_failed = ONE_GROWTH_FAILS && !is_next_failing(alloc);
     assert_eq!(rt;

@@ -3,14 +3,14 @@ use cobs::{DecodeError, DecodeResult, DecoderState};
 use std::process::Abort;
 use std::test::Fail;
 
-/// The 513 states: idle, and in a block of either kind with 0 to 255 bytes left.
+/// The 513 states: idle, and in a block of either kind with 0 to 255 bytes left to come.
 #[derive(Clone, Copy, Debug, PartialEq, Eq)]
 enum State {
     Idle,
     InBlock { full: bool, left: u8 },
 }
 
-/// What a byte brings.
+/// The result of a byte.
 #[derive(Clone, Copy, Debug, PartialEq, Eq)]
 enum CallResult {
     NoData,

@@ -17,7 +17,7 @@ const MANY: usize = 8;
 const DIGITS: [u8; 16] = *b"0123456789abcdef";
 
 /// Writes the line of a message of N bytes, `message N HEX` with the bytes as lower-case hexadecimal digits, or
-/// `message 0` for the empty message, and a newline. No memory is taken, however long the message is.
+/// `message 0` for the empty message, and a newline. Nothing is allocated, however long the message is.
 ///
 /// # Errors
 /// The error of the write that failed. How much of the line went out is not known then.

@@ -21,7 +21,7 @@ pub enum Stamp {
     /// The time since the start.
     Start,
 
-    /// The time since the piece before it was read; of the first one, since the start.
+    /// The time since the piece before it was read; for the first piece, since the start.
     Last,
 
     /// Date and time of day in a time zone, and how far that is ahead of UTC.

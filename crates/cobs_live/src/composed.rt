@@ -88,7 +88,7 @@ impl Composed {
     }
 
     /// Adds what a view shows of a piece to the text, and returns whether it did: the piece is a short message, is shown as
-    /// digits or raw, without colour, number and time, and there is room. So many messages are written at once.
+    /// digits or raw, without colour, number and time, and there is room. So one write can have the text of many messages.
     #[inline(always)]
     pub fn keep(&mut self, view: &View, piece: &Sight<'_>) -> bool
         ensures kept { IsTrue result → (number : ℕ) (times : Times) → take self.new.len self.new.bytes

@@ -67,7 +67,7 @@ fn write_cell<W: Write>(output: &mut W, row: &[u8], i: usize) -> io::Result<()>
     }
 }
 
-/// Writes each byte as a character of ASCII, or as a dot, all at once.
+/// Writes each byte as an ASCII character, or as a dot, in one write.
 fn write_characters<W: Write>(output: &mut W, row: &[u8]) -> io::Result<()>
     requires few { length row.now ≤ 16 }
     ensures written { OnOk result
@@ -80,7 +80,7 @@ fn write_characters<W: Write>(output: &mut W, row: &[u8]) -> io::Result<()>
     output.write_all(shown)
 }
 
-/// Makes each byte a character of ASCII, or a dot.
+/// Replaces each byte by an ASCII character, or by a dot.
 fn to_characters(bytes: &mut [u8])
     ensures shown { bytes.new ≡ map character bytes.old }
 {
@@ -89,7 +89,7 @@ fn to_characters(bytes: &mut [u8])
     }
 }
 
-/// A byte as a character of ASCII, or a dot.
+/// A byte as an ASCII character, if it is visible or a blank, and otherwise a dot.
 fn character(byte: u8) -> u8
     ensures shown { result ≡ character byte }
 {

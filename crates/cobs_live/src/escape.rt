@@ -53,7 +53,8 @@ fn write_run<'a, W: Write>(output: &mut W, text: &'a str) -> io::Result<&'a str>
     }
 }
 
-/// How many bytes at the front are characters that need no escape. Those of ASCII are told by their bytes, which is faster.
+/// How many bytes at the front are characters that need no escape. Bytes of ASCII are tested without decoding characters,
+/// which is faster.
 pub(crate) fn visible_run(text: &str) -> usize
     ensures boundary { IsCharBoundary text.now result }
     ensures same { text_escaped text.now ≡ take result text.now ++ text_escaped (drop result text.now) }

@@ -6,7 +6,7 @@ use std::alloc::AllocError;
 use std::io::{self, ErrorKind};
 use thiserror::Error;
 
-/// Why a run ended early.
+/// Why showing or sending ended early.
 #[derive(Debug, PartialEq, Eq, Drop, Error)]
 pub enum WatchFault {
     /// A read failed for another reason than an interruption. All that had ended before it is shown.

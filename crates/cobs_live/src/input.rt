@@ -21,8 +21,8 @@ pub enum Came {
 
 /// An input that is read while an output waits.
 ///
-/// Contracts see it by its own relation of steps: a read, with what the output held when it was made, takes it from one
-/// state to the next. So a theorem over any such input says what had left the program at each read.
+/// Contracts describe an input by a relation that it defines: which read leads from one state of it to which other, and what
+/// the output held when the read began. So a theorem about any such input can say what had been written at each read.
 pub trait LiveInput<W: Write + Drop> {
     /// The bytes that reads will give from here on, where they are known.
     ghost remaining: { Self → Option (List ℕ) };
@@ -49,7 +49,7 @@ pub trait LiveLines<W: Write + Drop> {
     /// Whether this read may take the input from the one state to the other.
     ghost step: { Self → ReadEvent ℕ → Self → Type 0 };
 
-    /// Reads through the next newline, or to the end, and puts the bytes behind those of `line`, as `BufRead::read_until` does.
+    /// Reads through the next newline, or to the end, and appends the bytes to `line`, as `BufRead::read_until` does.
     fn read_line_beside(&mut self, output: &BufWriter<W>, line: &mut Vec<u8>) -> io::Result<usize>
         ensures ok { IfOk result (λ n. vec_len line.new ≡ vec_len line.old + n) }
         ensures stops { StopsAt (appended_bytes line.old.items line.new.items) 10 }

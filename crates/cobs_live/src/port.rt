@@ -7,7 +7,7 @@ use std::rt::Clock;
 use std::thread;
 use std::time::Duration;
 
-/// For how many milliseconds a reader or a writer that has nothing to give or no room is left alone.
+/// How many milliseconds pass before a reader that had nothing to give, or a writer that had no room, is tried again.
 const PAUSE: u64 = 5;
 
 /// A reader or a writer that may be non-blocking: where it would block, it is tried again after a pause.
@@ -90,7 +90,7 @@ impl<C: Clock + Drop, W: Write + Drop> Write for Port<'_, C, W> {
     }
 }
 
-/// For how many milliseconds a line that hung up is left alone before it is opened again.
+/// How many milliseconds after a hang-up a line is opened again.
 const REST: u64 = 200;
 
 /// What opens a line.
@@ -174,7 +174,7 @@ fn is_hang_up(given: &io::Result<usize>) -> bool {
     }
 }
 
-/// A writer, and a log that gets what it has taken.
+/// A writer, and a log that gets the bytes that the writer has accepted.
 #[derive(Drop)]
 pub struct Logged<W, L> {
     inner: W,
@@ -224,7 +224,7 @@ impl<W: Write + Drop, L: Write + Drop> Write for Logged<W, L> {
 
     ghost contents = { λ logged. W.contents (logged_inner logged) };
 
-    /// Writes, and what is taken to the log too.
+    /// Writes, and writes the bytes that were accepted to the log too.
     fn write(&mut self, buf: &[u8]) -> io::Result<usize>
         ensures bound { WritesAtMost result buf.now }
         ensures bytes { WriteAppends (W.contents self.old.inner) (W.contents self.new.inner) result buf.now }

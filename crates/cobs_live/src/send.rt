@@ -22,18 +22,18 @@ pub struct Settings {
     /// Whether a line is the hexadecimal digits of a message, and not the message itself.
     pub hex: bool,
 
-    /// The checksum that is behind each message in its frame, if any.
+    /// The checksum that follows each message in its frame, if any.
     pub checksum: Option<Checksum>,
 
     /// The byte that ends each frame.
     pub sentinel: u8,
 }
 
-/// Sends each line of the input, without its newline, as a frame and its sentinel, and flushes the output after it. With a
-/// checksum, it is behind the line's bytes in the frame.
+/// Sends each line of the input, without its newline, as a frame and its sentinel, and flushes the output after it. If a
+/// checksum is set, it follows the line's bytes in the frame.
 ///
-/// The result is whether each line was sent: one that isn't hexadecimal digits, where these are wanted, is named on
-/// `errors` with its number, counted from 1, and skipped. An interrupted read is tried again. Memory is taken for one
+/// Returns whether every line was sent. If the lines are to be hexadecimal digits, a line that isn't is skipped, and
+/// reported on `errors` with its number, counted from 1. An interrupted read is tried again. Memory is allocated for one
 /// line and its frame.
 ///
 /// - `ReadFailed`: a read failed, or memory ran out while a line was read. All lines before it were sent.
@@ -137,7 +137,7 @@ fn is_digit(byte: u8) -> bool
     !(byte == b' ' || byte == b'\t' || byte == b'\r')
 }
 
-/// Sends a message, with its checksum behind it if it is to have one.
+/// Sends a message, with its checksum after it if one is set.
 fn send_message<W: Write + Drop>(
     alloc: Global,
     settings: &Settings,
@@ -158,7 +158,7 @@ fn send_message<W: Write + Drop>(
     Ok(())
 }
 
-/// The frame and the sentinel of a message, with its checksum behind it if it is to have one.
+/// The frame and the sentinel of a message, with its checksum after it if one is set.
 fn summed_frame(
     alloc: Global,
     sentinel: u8,
@@ -174,7 +174,7 @@ fn summed_frame(
     ended_frame(alloc, sentinel, &whole)
 }
 
-/// A message with its checksum behind it.
+/// A message with its checksum after it.
 pub fn with_sum(alloc: Global, checksum: &Checksum, message: &[u8]) -> Result<Vec<u8>, AllocError>
     ensures sum { IfOk result (λ whole. whole.items ≡ with_sum (Some checksum.now) message.now) }
 {

@@ -44,9 +44,9 @@ pub const CHUNK_LEN: usize = 65_536;
 /// the line ends no piece: it is shown, and before it whether one has begun, and the bytes that follow are skipped up to the
 /// first sentinel.
 ///
-/// This is one [`Watch::show_next`] after another: each reads once, and before it the output has been flushed. So
-/// whatever has ended in the bytes that came has left the program while the next ones are waited for. Memory is
-/// allocated before the first read alone: for a message of the greatest length, and for a chunk of the input.
+/// It calls [`Watch::show_next`] again and again: each call reads once, and flushes the output before it reads. So all
+/// pieces that have ended in the bytes so far have been written before the program waits for more. Memory is allocated
+/// only before the first read: for a message of the greatest length, and for a chunk of the input.
 ///
 /// The counts are written to `errors` at the end, also at a fault, if `counting` says so; and with `counting.every` those so
 /// far, each time that bytes come and this many milliseconds have passed since the start, or since they were written last. A
@@ -243,8 +243,8 @@ impl<'a> Watch<'a> {
     }
 }
 
-/// Reads once into the chunk, and again if the read was interrupted, and returns what came. Every read of a run is made here,
-/// where the output holds nothing back.
+/// Reads once into the chunk, and again if the read was interrupted, and returns what came. Every read of [`run_show`] is
+/// made here, when the output holds nothing back.
 fn read_chunk<S: LiveInput<W>, W: Write + Drop>(
     input: &mut S,
     output: &BufWriter<W>,
@@ -297,7 +297,7 @@ fn change_sentinel(bytes: &mut [u8], sentinel: u8)
     }
 }
 
-/// The bytes behind the first zero, if it is still awaited; else all of them.
+/// Returns the bytes after the first zero, if that zero is still awaited, and otherwise all of them.
 fn behind_first<'a>(skipping: &mut bool, bytes: &'a [u8]) -> &'a [u8]
     ensures begun { result.now ≡ begun skipping.old bytes.now }
     ensures skips { skipping.new ≡ skips_on skipping.old bytes.now }
@@ -354,8 +354,8 @@ fn show_bytes<W: Write>(
     Ok(())
 }
 
-/// The bytes that the decoder is given at once: those through the first zero, if it is near, since a decoder takes a short
-/// frame that it is given alone in one step; else all.
+/// The bytes to give to the decoder at once: those through the first zero, if that is near, and otherwise all. A decoder
+/// takes a short frame in one step if it gets nothing else.
 #[inline(always)]
 fn front(bytes: &[u8]) -> &[u8]
     requires some { 0 < length bytes.now }

@@ -58,8 +58,8 @@ pub struct Filter {
     /// Whether it is shown that a piece has begun that no sentinel ended, and that the line hung up.
     pub unfinished: bool,
 
-    /// The least and the greatest number of bytes that a piece decodes to, if it is shown. A piece that is too long is
-    /// taken to decode to `usize::MAX` bytes.
+    /// The least and the greatest number of bytes that a piece decodes to, if it is shown. A piece that is too long counts
+    /// as `usize::MAX` bytes.
     pub min: usize,
     pub max: usize,
 
@@ -109,7 +109,7 @@ pub struct Settings {
     pub skip_first: bool,
 }
 
-/// A piece that ended so, over the buffer that it left; each message is to end with such a checksum.
+/// The piece with this end, whose output is in `buffer`. If there is a checksum, each message should end with one.
 pub fn sight_of<'a>(checksum: &Option<Checksum>, end: PieceEnd, buffer: &'a [u8]) -> Sight<'a>
     requires within { IsWithin (length buffer.now) end }
     ensures seen { seen_in result ≡ seen_of checksum.now (outcome_at end buffer.now) }
@@ -142,8 +142,8 @@ fn message_sight<'a>(checksum: &Option<Checksum>, message: &'a [u8]) -> Sight<'a
     }
 }
 
-/// What is sent with a checksum is shown as it was: a message with its checksum behind it is seen as that message. (A law:
-/// this function does nothing when it runs.)
+/// A message that is sent with a checksum is shown as it was: the message with its checksum after it is seen as that
+/// message. (A law: this function does nothing when it runs.)
 pub fn sum_law()
     ensures back { (checksum : Checksum) (message : List ℕ)
         → seen_message (Some checksum) (with_sum (Some checksum) message)

@@ -26,7 +26,7 @@ pub struct Tally {
 /// When the tally is written to standard error.
 #[derive(Debug, PartialEq, Eq, Clone, Copy)]
 pub struct Counting {
-    /// Whether at the end of a run, however it ends.
+    /// Whether at the end of the input, or when a fault ends the program.
     pub at_end: bool,
 
     /// Each time that bytes come and this many milliseconds have passed, if a number is given.

@@ -1,5 +1,5 @@
 //! Tests of `cobs_live`: readers and writers that give little, are interrupted, or fail, which no contract speaks of; and
-//! callers of its promise that a run is live.
+//! callers that use its promise to show a piece before the next read.
 #![tactic(auto)]
 
 pub mod recorder;

@@ -1,4 +1,4 @@
-//! What the contracts leave open: that runs succeed, and what readers and writers that fail or give little lead to.
+//! What the contracts don't say: that calls succeed, and the results if readers and writers fail or give little.
 
 mod faults;
 mod live;

@@ -16,7 +16,7 @@ fn encode_pieces(rt: &impl Abort, pieces: &[&[u8]], slice: &mut [u8]) -> usize {
     encoder.finalize()
 }
 
-/// Encodes the message in pieces of one size, the last being what is left.
+/// Encodes the message in pieces of one size; the last piece has the bytes that are left.
 pub fn encode_in_pieces(
     rt: &impl Abort,
     alloc: Global,

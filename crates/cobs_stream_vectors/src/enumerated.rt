@@ -67,7 +67,7 @@ struct Streamed<'a> {
     room: usize,
 }
 
-/// The outcomes of the pieces that a stream has, over a buffer of `room` bytes.
+/// The outcomes of the pieces of a stream, in a buffer of `room` bytes.
 fn outcomes_of(alloc: Global, stream: &[u8], room: usize) -> Result<Vec<FrameOutcome>, AllocError> {
     let mut outcomes = Vec::new(alloc);
     let mut rest = stream;

@@ -12,13 +12,13 @@ use std::test::Fail;
 /// What a reader gives.
 #[derive(Clone, Copy)]
 enum Given {
-    /// The bytes, at most this many a read.
+    /// The bytes, at most this many per read.
     Bytes(&'static [u8], usize),
 
-    /// This many zeros and then the bytes, one a read.
+    /// This many zeros and then the bytes, one per read.
     Zeros(u64, &'static [u8]),
 
-    /// The bytes, one a read, of which the second one fails, by an interruption or not.
+    /// The bytes, one per read. The second read fails: it is interrupted if the flag is true, and times out otherwise.
     Failing(&'static [u8], bool),
 }
 

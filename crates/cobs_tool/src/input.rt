@@ -15,7 +15,7 @@ pub const READ_LEN: usize = 8_192;
 /// Reads to the end of the input, that is, to the first read that gives 0 bytes.
 ///
 /// - `ReadFailed`: a read failed. An interrupted read is a failed read, and is not tried again.
-/// - `InputTooLong`: a read brought the byte after the first [`MAX_INPUT`]. No memory was taken for that read.
+/// - `InputTooLong`: a read brought the byte after the first [`MAX_INPUT`]. No memory was allocated for that read.
 /// - `OutOfMemory`: memory for a read's bytes ran out.
 ///
 /// Nothing is read once a read has failed, has given 0 bytes or has brought too many.

@@ -37,8 +37,8 @@ pub fn run_mode<R: Read, W: Write>(
 /// Prints the encoded frame of the input and the zero after it, as two hexadecimal digits a byte.
 ///
 /// The whole input is one message. It is read to its end first, and the whole line is made before any of it is written.
-/// So every fault but `WriteFailed` has written nothing. How much went out before a `WriteFailed`, and whether an
-/// interrupted write is tried again, is left open.
+/// So after every fault except `WriteFailed` nothing has been written. How much was written before a `WriteFailed`, and
+/// whether an interrupted write is tried again, isn't specified.
 ///
 /// - `ReadFailed`: a read failed. An interrupted read is a failed read.
 /// - `InputTooLong`: the reader gave more than [`MAX_INPUT`] bytes.

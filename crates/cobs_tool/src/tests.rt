@@ -160,8 +160,8 @@ fn rows_are_written(rt: HostRuntime) {
     check_rows(&rt, rt.alloc(), &ROWS);
 }
 
-/// The read of this number fails by this fault, where the input is read so often: once for each byte, and once more to
-/// find the end.
+/// Makes the read with this number fail with this fault, if there is one: there are as many reads as bytes, and one more
+/// for the end.
 fn check_read(rt: &impl Abort, alloc: Global, row: &Row, fault: ErrorKind, failing: usize) {
     let (mode, bytes, written) = row;
     let mut input = ByteReader {
@@ -189,7 +189,7 @@ fn check_read(rt: &impl Abort, alloc: Global, row: &Row, fault: ErrorKind, faili
     }
 }
 
-/// Each read of each row fails in turn, by either fault, until none is left to fail.
+/// Makes each read of each row fail, one at a time, with either fault, and then none.
 fn check_reads(rt: &impl Abort, alloc: Global, rows: &[Row]) {
     for row in rows {
         let (_, bytes, _) = row;
@@ -205,7 +205,7 @@ fn each_read_may_fail(rt: HostRuntime) {
     check_reads(&rt, rt.alloc(), &ROWS);
 }
 
-/// The write of this number fails, where so much is written, and otherwise each flush does where this is said.
+/// Makes the write with this number fail, if there is one, and each flush if `fails_to_flush`.
 fn check_write(rt: &impl Abort, alloc: Global, row: &Row, failing: usize, fails_to_flush: bool) {
     let (mode, bytes, written) = row;
     let mut input = *bytes;
@@ -228,7 +228,7 @@ fn check_write(rt: &impl Abort, alloc: Global, row: &Row, failing: usize, fails_
     }
 }
 
-/// Each write of each row fails in turn, until none is left to fail, and then each flush.
+/// Makes each write of each row fail, one at a time, then none, and then the flush.
 fn check_writes(rt: &impl Abort, alloc: Global, rows: &[Row]) {
     for row in rows {
         let (_, _, written) = row;

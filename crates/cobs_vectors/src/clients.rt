@@ -98,7 +98,7 @@ pub fn resync_by_piece<D: FrameDecoder>(decoder: &mut D)
     let _ended = decoder.feed_piece(&[0]);
 }
 
-/// Handles the zero behind a frame whose bytes were fed one by one: the message is at the front of the buffer.
+/// Handles the zero after a frame whose bytes were fed one by one: the message is at the front of the buffer.
 pub fn on_zero<D: FrameDecoder>(decoder: &mut D) -> usize
     ensures { (f m : List ℕ) → DecoderAfter (D.bytes decoder.old) (D.phase decoder.old) f
         → Reads f m → length m ≤ length (D.bytes decoder.old)
@@ -229,7 +229,7 @@ pub fn no_other(message: &[u8], frame: &mut [u8], buffer: &mut [u8]) -> Option<u
     }
 }
 
-/// Encodes a message of two pieces: what is behind its frame is as it was.
+/// Encodes a message of two pieces: the bytes after its frame are as they were.
 pub fn encode_two(
     first: &[u8],
     second: &[u8],

@@ -42,7 +42,7 @@ const OUTPUT_LEN: usize = 131_072;
 /// The system's number for why a read or a write failed last, if there is one.
 type Reason = Cell<Option<i32>>;
 
-/// Why a run of `show` failed.
+/// Why `show` failed.
 #[derive(Drop)]
 struct Reasons {
     /// The last error of its input and of standard output.
@@ -188,8 +188,8 @@ fn show(rt: &HostRuntime, task: &ShowTask<'_>, zone: TimeZone<'_>) -> anyhow::Re
     }
 }
 
-/// Opens a log. Its descriptor is a second one, which is never 0, 1 or 2: if standard output or error is closed, the first one
-/// takes that number, and what is written there would be in the log.
+/// Opens a log. Its descriptor is a second one, which is never 0, 1 or 2: if standard output or error is closed, the first
+/// descriptor has that number, and the log would have all that the program writes there.
 fn open_log(rt: &HostRuntime, path: &str) -> io::Result<File> {
     let first = File::options().append(true).create(true).open(rt, path)?;
     first.try_clone()
@@ -307,8 +307,8 @@ fn not_opened(rt: &HostRuntime, path: &str, error: &io::Error) -> ExitCode {
     ExitCode::FAILURE
 }
 
-/// The status of a run of `show` that met this fault. If it was its log that couldn't be written, or a line that has a path that
-/// couldn't be read, that file is named.
+/// The status of `show` after this fault. If its log couldn't be written, or a line that has a path couldn't be read, the
+/// message names that file.
 fn show_faulted(
     rt: &HostRuntime,
     task: &ShowTask<'_>,
@@ -328,7 +328,7 @@ fn show_faulted(
     ExitCode::FAILURE
 }
 
-/// The status of a run that met this fault: success where nobody reads the output any more.
+/// The status of the program after this fault: success if nobody reads the output any more.
 fn faulted(rt: &HostRuntime, fault: WatchFault, reason: Option<i32>) -> ExitCode {
     if fault == WatchFault::OutputClosed {
         return ExitCode::SUCCESS;

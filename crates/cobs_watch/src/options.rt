@@ -46,7 +46,7 @@ pub(crate) struct ShowTask<'a> {
     /// Whether it is opened again after a hang-up.
     pub(crate) reconnect: bool,
 
-    /// The path of a file that gets what is shown too.
+    /// The path of a file to which everything that is shown is also written.
     pub(crate) log: Option<&'a str>,
 }
 

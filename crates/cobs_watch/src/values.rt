@@ -15,7 +15,7 @@ pub(crate) fn wrong<T>(alloc: Global, message: &str) -> Result<T, Error>
     Err(Command::new(alloc, "cobs_watch").error(ErrorKind::ValueValidation, message)?)
 }
 
-/// The number that an option was given, decimal or behind `0x` hexadecimal.
+/// The number that an option was given: decimal, or hexadecimal after `0x`.
 ///
 /// # Errors
 /// An error that names the option if its value isn't a number, or is above `max`.
@@ -39,7 +39,7 @@ pub(crate) fn number_of(
     }
 }
 
-/// The number that a text is, decimal or behind `0x` hexadecimal.
+/// The number that a text is: decimal, or hexadecimal after `0x`.
 fn parsed(text: &str) -> Option<u64> {
     match text.strip_prefix("0x") {
         Some(digits) => u64::from_str_radix(digits, 16).ok(),

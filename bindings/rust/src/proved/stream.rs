@@ -13,7 +13,7 @@ use crate::proved::max_encoding_length;
 #[cfg(feature = "alloc")]
 use alloc::vec::Vec;
 
-/// What became of a piece of a stream: a nonempty stretch of bytes that a zero ended.
+/// The outcome of a piece of a stream: one or more nonzero bytes that a zero ended.
 ///
 /// ```
 /// # #[cfg(feature = "alloc")] {
@@ -39,7 +39,7 @@ pub enum FrameOutcome {
     TooLong,
 }
 
-/// The outcome of a piece that ended so, over the buffer that it left.
+/// The outcome of the piece with this end, whose output is in `buffer`.
 #[cfg(feature = "alloc")]
 fn frame_outcome(end: PieceEnd, buffer: &[u8]) -> Result<FrameOutcome, AllocError> {
     match end {
@@ -127,10 +127,10 @@ pub fn encode_frames(messages: &[Vec<u8>]) -> Result<Vec<u8>, AllocError> {
 }
 
 /// Returns how many bytes have room for the frames of the messages and a zero after each: the sum of
-/// [`max_encoding_length`](crate::max_encoding_length) plus 1 over the messages. `None` where that is no `usize`.
+/// [`max_encoding_length`](crate::max_encoding_length) plus 1 over the messages. `None` if the sum doesn't fit a `usize`.
 ///
 /// This is the test for what [`encode_frames`] asks of its caller, and how many bytes that call then asks memory for.
-/// No memory is taken here.
+/// This function allocates nothing.
 ///
 /// ```
 /// # use jcobs::proved::*;

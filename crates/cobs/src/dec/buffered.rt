@@ -86,12 +86,12 @@ impl<'a> CobsDecoder<'a> {
     ///
     /// `Ok(None)`: all bytes were taken, and no piece has ended in them. `Ok(Some(report))`: a whole frame has ended;
     /// `frame_size` is the length of its message, which is at the front of the slice, and `parsed_size` counts
-    /// the bytes that were taken, the zero after the frame included. The others have no effect yet: push them next.
+    /// the bytes that were taken, the zero after the frame included. The bytes after them have no effect: push them next.
     ///
     /// # Errors
     /// A `PushError` has the error of `feed` and how many bytes were taken, the one that raised it included.
-    /// To continue with the stream, push the bytes after these: a piece whose zero raised the error is over, and
-    /// while a piece is too long for the slice, each push of its bytes takes one, through its zero.
+    /// To continue with the stream, push the bytes after these. If a zero raised the error, its piece is over. If a piece
+    /// is too long for the slice, each push takes one byte of it and returns the error again, until its zero is taken.
     ///
     /// ```
     /// let mut buffer = [0; 2];

@@ -1,4 +1,5 @@
-//! What every decoder takes at once: bytes up to a sentinel, copied as slices, and then a zero written at each code.
+//! The walk of every decoder over the bytes before a sentinel. A step takes a long block, 32 codes of blocks without bytes,
+//! or a *stretch*: bytes that are copied at once, with the codes among them, before a zero is written over each code.
 ghost use Rattle.std.specs.Prelude.{IsTrue, ◌++◌, drop, ◌≡◌, ◌≢◌, ◌<◌, ◌≤◌, ◌+◌, ◌-◌, ◌∷◌, [], length, take, slice_index, false, List, ℕ};
 ghost use Rattle.cobs.specs.Feed.{Idle, Overlong};
 ghost use Rattle.cobs.specs.Fields.Decoders.{phase_of};
@@ -19,7 +20,7 @@ use cobs_bytes::window::{WIDE_WINDOW, WINDOW, copy_window, is_all, write_row};
 pub(crate) const STRETCH_MAX: usize = FULL_BLOCK_BYTES - 1;
 
 impl UnbufferedDecoder {
-    /// Takes the code of the block after a whole one, and writes the zero that joins the two.
+    /// Takes the code of the block after a whole one, and writes the zero that joins the two, unless the first is full.
     #[inline(always)]
     pub(crate) fn take_joint(&mut self, dest: &mut [u8], code: u8)
         requires going { self.old.too_long ≡ 0 }
@@ -40,7 +41,7 @@ impl UnbufferedDecoder {
         self.missing = code - 1;
     }
 
-    /// Returns how many of `len` bytes one stretch can have: it ends where a full block does.
+    /// Returns how many of `len` bytes one stretch can have: it ends with the open block, if that is full.
     #[inline(always)]
     pub(crate) fn stretch_len(&self, len: usize) -> usize
         ensures within { result ≤ len }
@@ -139,8 +140,8 @@ impl UnbufferedDecoder {
         len
     }
 
-    /// Takes all bytes at once if they are fewer than 32, none is a zero, they have room and no full block ends in them, and
-    /// says whether it did.
+    /// Takes all bytes at once if they are fewer than 32, none is a zero, they have room and no full block ends in them.
+    /// Returns whether it did.
     #[inline(always)]
     pub(crate) fn take_short(&mut self, dest: &mut [u8], bytes: &[u8]) -> bool
         ensures fed { IsTrue result → FeedsQuietly dest.old (phase_of self.old) bytes.now dest.new (phase_of self.new) }
@@ -232,8 +233,9 @@ impl UnbufferedDecoder {
         true
     }
 
-    /// Takes the bytes of one step before a sentinel, and returns their number: a block of 64 bytes or more or after a full
-    /// one; 32 codes of blocks without bytes; or a stretch. It is 0 only if the first byte has no room.
+    /// Takes the bytes of one step before a sentinel, and returns their number, which is 0 only if the first byte has no
+    /// room. A step is a block that has 64 bytes or more or follows a full one, or 32 codes of blocks without bytes, or a
+    /// stretch.
     #[inline(always)]
     fn take_part(&mut self, dest: &mut [u8], bytes: &[u8], sentinel: u8) -> usize
         requires going { self.old.too_long ≡ 0 }

@@ -29,7 +29,7 @@ pub enum DecoderState {
     GrabChain(u8),
 }
 
-/// What a byte brought that is no error.
+/// The result of one byte, if it isn't an error.
 ///
 /// ```
 /// let mut state = DecoderState::default();

@@ -1,4 +1,4 @@
-//! The step that a streaming decoder takes for each byte, and the loop of such steps.
+//! The step of a streaming decoder for each byte, and the loop of such steps.
 ghost use Rattle.std.specs.Prelude.{◌≡◌, ◌≢◌, length};
 ghost use Rattle.cobs.specs.Feed.{Idle};
 ghost use Rattle.cobs.specs.FeedPiece.{TakesPiece};

@@ -10,10 +10,11 @@ use crate::error::DecodeError;
 use cobs_bytes::lanes::copy_xored_short;
 use cobs_bytes::window::WIDE_WINDOW;
 
-/// Writes a zero over each code in the bytes that follow the first code of a stretch without a code after a full block.
-/// Returns the code of the last part, and how many of its bytes are missing.
-// A recursion, which compilers make a loop that keeps the address of what is left. So the next code is loaded a cycle
-// sooner than by an index, which is a sum; each code waits for the one before it.
+/// Writes a zero over each code in `dest`, which has the copied bytes after the code `first`. The caller ensures that no code
+/// among them follows a full block, since no zero belongs there. Returns the code of the last part, and how many of its
+/// bytes are missing.
+// A recursion, which compilers turn into a loop that keeps the address of the remaining bytes. With an index, which has to be
+// added first, each code would be loaded a cycle later, and each waits for the one before it.
 #[inline(always)]
 pub(crate) fn write_zeros_at_codes(dest: &mut [u8], first: usize) -> (u8, u8)
     requires byte { first < 256 }
@@ -28,8 +29,8 @@ pub(crate) fn write_zeros_at_codes(dest: &mut [u8], first: usize) -> (u8, u8)
     write_zeros_at_codes(&mut dest[first..], code as usize)
 }
 
-/// Decodes 2 to 65 bytes, each XORed with the sentinel, if none of them is the sentinel and `dest` has room for one byte
-/// fewer. Returns how many bytes of the last block are missing. The bytes of `dest` after the output stay.
+/// Decodes 2 to 65 bytes for a sentinel, if none of them is the sentinel and `dest` has room for one byte fewer. Returns
+/// how many bytes of the last block are missing. The bytes of `dest` after the output stay.
 #[inline(always)]
 pub(crate) fn decode_stretch(source: &[u8], dest: &mut [u8], sentinel: u8) -> Option<u8>
     ensures taken { (2 ≤ length source.now) × (length source.now ≤ 65) → length source.now ≤ length dest.old + 1
@@ -55,9 +56,9 @@ pub(crate) fn decode_stretch(source: &[u8], dest: &mut [u8], sentinel: u8) -> Op
     Some(left)
 }
 
-/// Returns how many of a piece's last bytes to decode so that a broken last block is left out: all, or those through that
-/// block's code; and whether the piece is whole. Of the last block of the bytes before, `left` bytes are missing. Each byte
-/// is XORed with the sentinel.
+/// Returns how many of a piece's last bytes to decode, and whether the piece is whole. They are all of them if it is;
+/// otherwise those through the code of the broken last block, whose bytes aren't kept. In these last bytes, the first
+/// `left` belong to a block that began before them. Each byte is XORed with the sentinel.
 pub(crate) fn kept_len(bytes: &[u8], left: usize, sentinel: u8) -> (usize, bool)
     requires left { left ≤ length bytes.now }
     requires nonzero { HasNoZero (xor_each sentinel bytes.now) }
@@ -79,7 +80,7 @@ pub(crate) fn kept_len(bytes: &[u8], left: usize, sentinel: u8) -> (usize, bool)
     (at, true)
 }
 
-/// The result for a frame that gave `len` bytes, and is whole or broken.
+/// The result for a frame that was decoded to `len` bytes, and is whole or broken.
 #[inline(always)]
 pub(crate) fn message_len(len: usize, whole: bool) -> Result<usize, DecodeError>
     ensures whole { IsTrue whole → result ≡ Ok len }

@@ -178,12 +178,12 @@ pub fn law_20()
     ensures all_kept { (p : List ℕ) → IsWhole p → kept_output p ≡ output p }
 {}
 
-/// Gives the outcomes of a stream for an idle decoder that takes one piece: the stream has the piece's outcome and then
-/// those of the bytes after it, and leaves unended what they leave. If no piece ends it has none, and the decoder has taken
-/// what it leaves.
+/// Gives the outcomes of a stream whose first piece an idle decoder reads by `feed_piece`. They are the outcome of that
+/// piece, and then those of the bytes after it; the stream's unended bytes are those of the bytes after it. If no piece
+/// ends, there is no outcome, and the decoder has taken the unended bytes.
 ///
-/// So a loop over `feed_piece` is proved by one equation: the outcomes found so far, and those of the bytes that are
-/// left, are the stream's.
+/// So a loop over `feed_piece` is proved by one equation: the outcomes found so far, followed by those of the bytes that
+/// are left, are the outcomes of the stream.
 ///
 /// ```
 /// fn first_outcome<D: FrameDecoder>(decoder: &mut D, stream: &[u8]) -> bool

@@ -1,4 +1,4 @@
-//! Readers and writers that give or take little, are interrupted, or fail.
+//! Readers that give little, writers that accept little, and both if they are interrupted or fail.
 ghost use Rattle.std.specs.Prelude.{◌≡◌, []};
 ghost use Rattle.std.specs.Io.Buffered.{writer_buffer};
 
@@ -125,7 +125,7 @@ fn a_failed_write_ends_a_run(rt: HostRuntime) -> Result<(), Fail> {
     Ok(())
 }
 
-/// Opens a line that gives these bytes, each second time and thrice in all.
+/// Opens a line that gives these bytes. Every second attempt to open it succeeds, three in all.
 #[derive(Drop)]
 struct Plug<'a> {
     bytes: &'a [u8],

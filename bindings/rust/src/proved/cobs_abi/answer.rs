@@ -37,7 +37,7 @@ pub fn done(consumed: usize, length: usize) -> Answer {
     }
 }
 
-/// The result of a call that took and left nothing, since the buffer is too short.
+/// The result of a call that consumed and wrote nothing, since the buffer is too short.
 #[inline]
 pub fn too_small() -> Answer {
     Answer {

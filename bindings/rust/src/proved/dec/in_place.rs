@@ -10,15 +10,15 @@ use crate::proved::dec::unbuffered::{START, UnbufferedDecoder};
 use crate::proved::error::{DecodeError, DecodeReport};
 use crate::proved::find::{len_without_end, zero_or_len};
 
-/// Moves the `len` bytes from `read` on to where `at` is, before them; each other byte there stays.
+/// Moves the `len` bytes from `read` on back to `at`, which is at most `read`. Bytes that no moved byte replaces stay.
 #[inline(always)]
 fn move_back(buffer: &mut [u8], at: usize, read: usize, len: usize) {
     move_to_front(&mut buffer[at..], read - at, len);
 }
 
 impl UnbufferedDecoder {
-    /// Takes bytes of the buffer that it writes to, from `read` to `end`, as many as one step can take, and returns how
-    /// many: as `take_part`, and a block's first bytes with its code.
+    /// Takes the bytes of one step, from `read` on and before `end`, of the buffer that it also writes to. Returns how many:
+    /// as `take_part`, but of a long block also only its first bytes.
     #[inline(always)]
     fn take_part_in_place(&mut self, buffer: &mut [u8], read: usize, end: usize) -> usize {
         let code = buffer[read];
@@ -44,7 +44,7 @@ impl UnbufferedDecoder {
         len
     }
 
-    /// Takes the bytes of the buffer that it writes to, from `read` to `end`.
+    /// Takes the bytes from `read` on and before `end`, of the buffer that it also writes to.
     #[inline]
     fn take_in_place(&mut self, buffer: &mut [u8], read: usize, end: usize) {
         let mut at = read;
@@ -54,7 +54,7 @@ impl UnbufferedDecoder {
     }
 }
 
-/// Decodes the blocks in the first `end` bytes of the buffer, and returns how many bytes they give.
+/// Decodes the blocks in the first `end` bytes of the buffer, and returns the length of their output.
 #[inline(never)]
 fn decode_blocks_in_place(buffer: &mut [u8], end: usize) -> Result<usize, DecodeError> {
     // A block that begins before the last 254 bytes is whole.
@@ -122,7 +122,7 @@ fn decode_stretch_in_place(buffer: &mut [u8], len: usize) -> bool {
 ///
 /// The first `frame_size` bytes of the buffer are then the message, and every other byte is as it was. `parsed_size`
 /// counts the bytes before the zero or the end; the zero isn't counted. Unlike `decode`, this reads a leading zero as
-/// an empty message, and returns the sizes 0 and 0. `TargetBufTooSmall` never comes, since a message is shorter than
+/// an empty message, and returns the sizes 0 and 0. It never returns `TargetBufTooSmall`, since a message is shorter than
 /// its frame.
 ///
 /// # Errors
@@ -142,7 +142,7 @@ fn decode_stretch_in_place(buffer: &mut [u8], len: usize) -> bool {
 /// assert_eq!(buf, [10, 11, 0, 12, 12, 0]);
 /// # Ok::<(), Box<dyn std::error::Error>>(())
 /// ```
-// For a frame of some bytes, a call with its result in memory takes as long as the decoding.
+// Inlined, because a call that returns its result in memory costs as much as decoding a frame of a few bytes.
 #[inline(always)]
 pub fn decode_in_place_report(buf: &mut [u8]) -> Result<DecodeReport, DecodeError> {
     if buf.is_empty() {
@@ -161,7 +161,8 @@ pub fn decode_in_place_report(buf: &mut [u8]) -> Result<DecodeReport, DecodeErro
 
 /// Decodes a short frame as [`decode_in_place_report`] does, or returns `None` and leaves the buffer as it was.
 ///
-/// A buffer is taken if it has 2 to 65 bytes before its first zero, which are a whole frame, and at most this zero after them.
+/// It decodes a buffer that has 2 to 65 bytes before its first zero, which are a whole frame, and at most this zero after
+/// them.
 /// [`decode_in_place_report`] asks this first. If the target has vectors, it calls nothing, as
 /// `decode_short`.
 ///

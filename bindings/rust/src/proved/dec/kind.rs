@@ -27,11 +27,11 @@ pub enum FrameKind {
 
 /// Returns whether the bytes are a frame, and whether they are the one that encoders give for its message.
 ///
-/// The bytes are taken without sentinels around them. A frame is longer than its message's encoded one exactly if
-/// its last two blocks are a full one and an empty one; decoders read the two alike. No memory is taken.
+/// The bytes are a frame without the sentinels around it. It is longer than its message's encoded frame exactly if its last
+/// two blocks are a full one and an empty one; decoders read the two alike. Nothing is allocated.
 ///
-/// A frame is defined by its blocks, after Cheshire and Baker; which of two frames is the canonical one is said by
-/// their encoder, which writes the shorter one.
+/// A frame is defined by its blocks, after Cheshire and Baker. Of two frames the shorter one is the canonical one, because
+/// their encoder writes it.
 ///
 /// ```
 /// # use jcobs::proved::*;

@@ -1,5 +1,6 @@
 // Made by bindings/rust/translate.py from `crates/cobs/src/dec/run.rt`: change that file, and run it again.
-//! What every decoder takes at once: bytes up to a sentinel, copied as slices, and then a zero written at each code.
+//! The walk of every decoder over the bytes before a sentinel. A step takes a long block, 32 codes of blocks without bytes,
+//! or a *stretch*: bytes that are copied at once, with the codes among them, before a zero is written over each code.
 
 use crate::proved::block::FULL_BLOCK_BYTES;
 use crate::proved::cobs_bytes::lanes::{copy_xored, copy_xored_short};
@@ -13,7 +14,7 @@ use crate::proved::find::zero_or_len;
 pub(crate) const STRETCH_MAX: usize = FULL_BLOCK_BYTES - 1;
 
 impl UnbufferedDecoder {
-    /// Takes the code of the block after a whole one, and writes the zero that joins the two.
+    /// Takes the code of the block after a whole one, and writes the zero that joins the two, unless the first is full.
     #[inline(always)]
     pub(crate) fn take_joint(&mut self, dest: &mut [u8], code: u8) {
         if self.joint != 0 {
@@ -24,7 +25,7 @@ impl UnbufferedDecoder {
         self.missing = code - 1;
     }
 
-    /// Returns how many of `len` bytes one stretch can have: it ends where a full block does.
+    /// Returns how many of `len` bytes one stretch can have: it ends with the open block, if that is full.
     #[inline(always)]
     pub(crate) fn stretch_len(&self, len: usize) -> usize {
         if self.joint == 0 {
@@ -85,8 +86,8 @@ impl UnbufferedDecoder {
         len
     }
 
-    /// Takes all bytes at once if they are fewer than 32, none is a zero, they have room and no full block ends in them, and
-    /// says whether it did.
+    /// Takes all bytes at once if they are fewer than 32, none is a zero, they have room and no full block ends in them.
+    /// Returns whether it did.
     #[inline(always)]
     pub(crate) fn take_short(&mut self, dest: &mut [u8], bytes: &[u8]) -> bool {
         let at = self.written;
@@ -132,8 +133,9 @@ impl UnbufferedDecoder {
         true
     }
 
-    /// Takes the bytes of one step before a sentinel, and returns their number: a block of 64 bytes or more or after a full
-    /// one; 32 codes of blocks without bytes; or a stretch. It is 0 only if the first byte has no room.
+    /// Takes the bytes of one step before a sentinel, and returns their number, which is 0 only if the first byte has no
+    /// room. A step is a block that has 64 bytes or more or follows a full one, or 32 codes of blocks without bytes, or a
+    /// stretch.
     #[inline(always)]
     fn take_part(&mut self, dest: &mut [u8], bytes: &[u8], sentinel: u8) -> usize {
         if self.missing == 0 {

@@ -1,5 +1,5 @@
 // Made by bindings/rust/translate.py from `crates/cobs/src/dec/step.rt`: change that file, and run it again.
-//! The step that a streaming decoder takes for each byte, and the loop of such steps.
+//! The step of a streaming decoder for each byte, and the loop of such steps.
 
 use crate::proved::block::FULL_CODE;
 use crate::proved::dec::frame_decoder::PieceEnd;

@@ -11,7 +11,7 @@ use crate::proved::find::len_without_end;
 ///
 /// Leading zeros are skipped. The frame ends at the next zero or with the source, and the bytes after that zero have no
 /// effect. The first `frame_size` bytes of `dest` are the message, and the others are as they were.
-/// `parsed_size` counts the skipped zeros, the frame, and the zero after it where there is one.
+/// `parsed_size` counts the skipped zeros, the frame, and the zero after it if there is one.
 ///
 /// # Errors
 ///
@@ -20,7 +20,7 @@ use crate::proved::find::len_without_end;
 /// - `InvalidFrame` if the frame breaks off inside a block: `dest` begins with the decoded bytes, those of the broken
 ///   block included, `decoded_bytes` says how many these are, and the others are as they were.
 ///
-/// The format is that of Cheshire and Baker's paper; what a broken frame returns is a choice of this library.
+/// The format is that of Cheshire and Baker's paper; the results for a broken frame are a choice of this library.
 ///
 /// ```
 /// # use jcobs::proved::*;
@@ -69,9 +69,9 @@ fn decode_long(source: &[u8], dest: &mut [u8]) -> Result<DecodeReport, DecodeErr
 
 /// Decodes a short frame as [`decode`] does, or returns `None` and leaves `dest` as it was.
 ///
-/// A source is taken if it has 2 to 65 bytes before its first zero, at most this zero after them, and `dest` has room for one
-/// byte fewer than the frame has. [`decode`] asks this first. It calls nothing, to be compiled into the code of a function
-/// that decodes small frames.
+/// It decodes a source that has 2 to 65 bytes before its first zero, and at most this zero after them, if `dest` has room for
+/// one byte fewer than the frame has. [`decode`] calls it first. It calls nothing itself, so that it can be compiled into
+/// a function that decodes small frames.
 ///
 /// ```
 /// # use jcobs::proved::*;

@@ -8,7 +8,7 @@ use crate::proved::cobs_bytes::window::{
 use crate::proved::enc::progress::EncoderProgress;
 use crate::proved::find::position_or_len;
 
-/// Fewer bytes go one by one, in place of a window: in the Rust crate 1 byte takes .65 of the time, 4 bytes .61.
+/// Fewer bytes are appended one by one: in the Rust crate that is faster than a window.
 pub(crate) const FEW: usize = 8;
 
 /// The mask of a window that has no byte but zeros.
@@ -24,14 +24,15 @@ fn progress_at(index: usize, next: usize, is_full: bool) -> EncoderProgress {
     }
 }
 
-/// Whether `len` bytes, one at least, are no more than a window and can't fill the open block.
+/// Whether `len` bytes are at least one and at most a window, and can't fill the open block.
 #[inline(always)]
 pub(crate) fn fits_window_and_block(progress: EncoderProgress, len: usize) -> bool {
     0 < len && len <= WINDOW && progress.code as usize + len < FULL_CODE
 }
 
-/// Writes the code of the open block, which the mask's first zero closes, and returns where the next code belongs, and
-/// the mask without that zero. No branch asks whether there is one: if not, the open block's code doesn't matter.
+/// Writes the code of the open block, which the mask's first zero closes. Returns where the next code belongs, and the mask
+/// without that zero. No branch asks whether the mask has a zero: if not, the byte that is written doesn't matter, since the
+/// block stays open.
 #[inline(always)]
 fn mark_first(dest: &mut [u8], index: usize, next: usize, zeros: u64) -> (usize, u64) {
     let place = next + zeros.trailing_zeros() as usize;
@@ -79,8 +80,9 @@ pub(crate) fn append_few(
     progress_at(index, next, false)
 }
 
-/// Takes a `source` of up to 32 bytes that can't fill the open block, by few branches that could be guessed wrong: two
-/// zeros are marked before it is asked how many there are. With `test_for_none` it is asked first whether there is one.
+/// Takes a `source` of up to 32 bytes that can't fill the open block. It has few branches that a processor could predict
+/// wrong: two zeros are marked before a branch depends on their number. `test_for_none` says that a branch should first ask
+/// whether there is any zero.
 #[inline(always)]
 pub(crate) fn append_short(
     source: &[u8],
@@ -104,7 +106,8 @@ pub(crate) fn append_short(
     progress_at(index, next + len, false)
 }
 
-/// Writes the codes of the zeros that a source begins with, 32 at a time while more are left, and returns how many.
+/// Writes the codes of the zeros that a source begins with, 32 at a time while more than 32 bytes are left, and returns how
+/// many codes these are.
 #[inline(always)]
 fn write_codes_of_zeros(source: &[u8], dest: &mut [u8], at: usize) -> usize {
     let mut len = 0;
@@ -115,8 +118,8 @@ fn write_codes_of_zeros(source: &[u8], dest: &mut [u8], at: usize) -> usize {
     len
 }
 
-/// Takes whole windows of 32 bytes while more than one is left, up to a full block. Returns how many bytes these are, and
-/// how far the frame has come.
+/// Takes windows of 32 bytes while more bytes than one window are left, up to a full block. Returns how many bytes it took,
+/// and how far the frame has come.
 ///
 /// Each window is copied to the place of the next byte. If no zero is near enough to keep the open block from being full,
 /// that block is closed, and the caller continues with slices after it, since a run that fills one block often fills more.
@@ -167,7 +170,7 @@ fn append_windows(
 }
 
 /// Takes the first run of `source`, which has `run` bytes, and the zero after it. The run is cut into blocks of at most
-/// 254 bytes, each copied as one slice. Returns how many bytes these are, and how far the frame has come.
+/// 254 bytes, each copied as one slice. Returns how many bytes it took, and how far the frame has come.
 #[inline(always)]
 fn append_long_run(
     source: &[u8],
@@ -199,7 +202,7 @@ fn append_long_run(
     (read + 1, progress_at(next, next + 1, false))
 }
 
-/// Takes a `source` whose first run has `run` bytes: by that run, then by a front up to the next long one, in turn.
+/// Takes a `source` whose first run has `run` bytes: that run, then in turn a front up to the next long run, and that run.
 #[inline(never)]
 pub(crate) fn append_rest(
     source: &[u8],
@@ -219,8 +222,8 @@ pub(crate) fn append_rest(
     progress
 }
 
-/// Takes bytes one by one while more than one is left and the next one can't fill the open block. Returns how many these are,
-/// and how far the frame has come.
+/// Takes bytes one by one while more than one is left and the next one can't fill the open block. Returns how many bytes it
+/// took, and how far the frame has come.
 #[inline(always)]
 fn append_parts(
     source: &[u8],
@@ -239,9 +242,9 @@ fn append_parts(
     }
 }
 
-/// Takes a front of `source`, but not all of it: by windows, or without vectors byte by byte, up to a block that is full or
-/// that the next byte may fill. From there the caller continues with slices. Returns how many bytes these are, and how far
-/// the frame has come.
+/// Takes a front of `source`, but not all of it, up to a block that is full or that the next byte may fill. It takes windows,
+/// or single bytes if the target has no vectors. The caller continues with slices. Returns how many bytes it took, and how
+/// far the frame has come.
 #[inline(always)]
 fn append_front(
     source: &[u8],
@@ -255,11 +258,11 @@ fn append_front(
     }
 }
 
-/// Takes `source` into the frame that `dest` holds as far as `progress` says, and returns how far it has come then. The
-/// code of the open block is written only by [`close`]: what is in its place before that doesn't matter.
+/// Takes `source` into the frame in `dest`, which has come as far as `progress` says, and returns how far it then has come.
+/// [`close`] writes the code of the open block: the byte in its place before that doesn't matter.
 ///
-/// [`append_front`] takes most of it. What that leaves is usually short; a long run, or a full block, is taken by
-/// [`append_rest`].
+/// [`append_front`] takes most bytes. Those after them are usually few; [`append_rest`] takes them if they are more than a
+/// window, or may fill the open block.
 #[inline(always)]
 pub(crate) fn append(source: &[u8], dest: &mut [u8], progress: EncoderProgress) -> EncoderProgress {
     let (read, progress) = append_front(source, dest, progress);
@@ -274,9 +277,10 @@ pub(crate) fn append(source: &[u8], dest: &mut [u8], progress: EncoderProgress) 
     }
 }
 
-/// Writes the open block's code, if that is part of the frame, and returns where the frame ends. Its place is free before.
-// The room is asked for first: else compilers ask whether the block is full in the caller's loop of single bytes, which takes
-// up to twice the time in the Rust crate with link-time optimization.
+/// Writes the open block's code, if that is part of the frame, and returns where the frame ends. The byte in its place may
+/// have any value before.
+// The room is tested first. Otherwise compilers test whether the block is full in the caller's loop over single bytes, which
+// can make that loop half as fast in the Rust crate with link-time optimization.
 #[inline(always)]
 pub(crate) fn close(dest: &mut [u8], progress: EncoderProgress) -> usize {
     let EncoderProgress { index, code, .. } = progress;

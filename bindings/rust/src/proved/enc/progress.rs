@@ -21,7 +21,7 @@ pub struct EncoderProgress {
     /// The code that the open block has so far, which is one more than it has bytes: from 1 to 254.
     pub code: u8,
 
-    /// Whether the frame's last block is full, so that the open one is only the place after it.
+    /// Whether the frame's last block is full. Then the open block is only the place after it, and no part of the frame.
     pub is_full: bool,
 }
 

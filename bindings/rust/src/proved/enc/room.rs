@@ -10,8 +10,8 @@ use memchr::memrchr;
 /// The code of a full block, as a byte.
 const FULL: u8 = FULL_CODE as u8;
 
-/// Whether fewer blocks than `spare` become full, and are followed by a byte, once the open block with this code has taken
-/// these bytes: whether the frame needs less than `spare` bytes beside them and the open block.
+/// Whether fewer than `spare` blocks become full and are followed by another byte, once the open block with this code has
+/// taken these bytes. Each such block needs one byte of the frame for the code after it.
 fn fits_each(code: u8, bytes: &[u8], spare: usize) -> bool {
     let mut left = spare;
     let mut code = code;
@@ -29,8 +29,8 @@ fn fits_each(code: u8, bytes: &[u8], spare: usize) -> bool {
 }
 
 /// Whether `spare` bytes cover the overhead of every message of `len` bytes: whether `len` is at most 254 times `spare`. It
-/// needs no division, for which small processors have no instruction, and no product is too large: for each 256 bytes of `len`,
-/// 254 are taken from both sides first.
+/// needs no division, for which small processors have no instruction. So that no product is too large, it subtracts 254 from
+/// both sides for each 256 bytes of `len`.
 #[inline(always)]
 fn covers_overhead(len: usize, spare: usize) -> bool {
     let rows = len / 256;
@@ -41,8 +41,8 @@ fn covers_overhead(len: usize, spare: usize) -> bool {
     rows + 1 < more || 2 * rows + len % 256 <= 254 * more
 }
 
-/// Whether `room` bytes, from the code of an open block, are enough once the block has taken these bytes. It reads the
-/// bytes only if their number doesn't decide that.
+/// Whether `room` bytes, counted from the code of an open block, are enough for the frame once the block has taken these
+/// bytes. It reads the bytes only if their number doesn't decide that.
 #[inline]
 pub(crate) fn has_room(code: u8, bytes: &[u8], room: usize) -> bool {
     let held = code as usize - 1;
@@ -56,10 +56,10 @@ pub(crate) fn has_room(code: u8, bytes: &[u8], room: usize) -> bool {
 /// Whether `room` bytes, counted from the index of an open block with this code, are enough for the frame once the
 /// block has taken `source`.
 ///
-/// All full blocks except a last one are counted. A block can't be full if one of its next 254 bytes is a zero:
-/// the last such zero is as far as a search goes at once. A run that fills a block is searched for its end, as by the
-/// encoder, and has a full block for each 254 of its bytes. If that is the first run, its length is returned, so that the
-/// encoder doesn't search for its end again, else 0.
+/// It counts all full blocks except a last one. A block can't become full if one of its next 254 bytes is a zero, so the
+/// count continues after the last such zero. If there is none, the run fills the block, and has a full block for each 254
+/// of its bytes: its end is searched for, as the encoder does. Returns `None` if the frame doesn't fit; otherwise the
+/// length of the first run, if that was searched, so that the encoder needn't search it again, and else 0.
 #[inline(never)]
 fn fits(code: usize, source: &[u8], room: usize) -> Option<usize> {
     if room < source.len() {
@@ -97,9 +97,9 @@ fn fits(code: usize, source: &[u8], room: usize) -> Option<usize> {
     None
 }
 
-/// Takes `source` as [`append`] does, if the frame fits `dest` then, and says whether it does. The lengths mostly decide,
-/// as a frame is longest without zeros; pushes of 64 bytes would take a tenth longer by [`fits`]. A long run that it has
-/// found isn't searched for again. A function of its own, so that short pushes don't pay for the registers.
+/// Takes `source` as [`append`] does, if the frame then fits `dest`, and returns whether it does. Usually the two lengths
+/// decide, since a frame is longest without zeros; calling [`fits`] each time would be slower. A long run that [`fits`] has
+/// searched isn't searched again. It isn't inlined, so that short pushes save no registers for it.
 #[inline(never)]
 pub(crate) fn try_append(source: &[u8], dest: &mut [u8], progress: &mut EncoderProgress) -> bool {
     // Field by field, here and below: fields that were stored one by one can't be loaded at once without waiting.
