@@ -711,7 +711,7 @@ static int jcobs_encoder_push_each(jcobs_encoder *encoder, unsigned char *dest, 
     return 1;
 }
 
-/* Returns where the frame ends that an encoder has written so far. */
+/* Returns the length of the frame that an encoder has written so far. */
 static JCOBS_INLINE size_t jcobs_end_of(const jcobs_encoder *encoder)
 {
     jcobs_progress progress = jcobs_encoder_progress(encoder);
@@ -905,7 +905,7 @@ static JCOBS_INLINE size_t jcobs_move_bytes(unsigned char *buffer, size_t from, 
     }
 }
 
-/* Decodes the blocks in the first end bytes of the buffer, and returns how many bytes they give. */
+/* Decodes the blocks in the first end bytes of the buffer, and returns the length of their output. */
 static JCOBS_NOINLINE jcobs_outcome jcobs_decode_blocks(unsigned char *buffer, size_t end)
 {
     size_t read = 0;

@@ -51,7 +51,7 @@ pub use vector::{encode_vec, encode_vec_including_sentinels, encode_vec_with_sen
 /// assert_eq!(rt; len, 5);
 /// assert_eq!(rt; dest, [3, 10, 11, 2, 12, 170]);
 /// ```
-// A short message is encoded in the caller's code then, without a call.
+// Inlined, so that a short message is encoded in the caller's code, without a call.
 #[inline(always)]
 #[tactic(auto, using(crate::proofs::encoding::TakingLemmas::from_start))]
 pub fn encode(source: &[u8], dest: &mut [u8]) -> usize
@@ -68,7 +68,8 @@ pub fn encode(source: &[u8], dest: &mut [u8]) -> usize
     encode_long(source, dest)
 }
 
-/// Does what [`encode`] does, for any length: apart, so that a short message doesn't pay for the loop's registers.
+/// Does what [`encode`] does, for any length. It is a function of its own, so that a short message saves no registers for
+/// the loop.
 #[inline(never)]
 #[tactic(auto, using(crate::proofs::encoding::TakingLemmas::from_start))]
 fn encode_long(source: &[u8], dest: &mut [u8]) -> usize
@@ -122,7 +123,7 @@ fn try_encode_any(source: &[u8], dest: &mut [u8]) -> Result<usize, DestBufTooSma
     ensures rest { IfOk result (λ n. drop n dest.new ≡ drop n dest.old) }
     ensures rejected { OnErr result (dest.new ≡ dest.old) }
 {
-    // A message that can't fill a block is seen to fit at once.
+    // The frame of a message of up to 254 bytes is one byte longer than the message.
     if source.len() < dest.len().min(FULL_CODE) {
         return Ok(encode(source, dest));
     }
@@ -143,7 +144,7 @@ fn encode_block(source: &[u8], dest: &mut [u8], sentinel: u8) -> usize
     ensures len { result ≡ encoded_len source.now }
     ensures rest { drop result dest.new ≡ drop result dest.old }
 {
-    // The length by that of the message, which the caller may know.
+    // The length is computed from the message's, which a compiler may know.
     let _len = encode(source, dest);
     let len = source.len() + 1;
     xor_bytes(&mut dest[..len], sentinel);

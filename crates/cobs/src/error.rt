@@ -1,4 +1,4 @@
-//! What a call returns that has no message or frame, and the sizes of a decoded message.
+//! Errors, and the sizes of a decoded message.
 ghost use Rattle.std.specs.Prelude.{◌≡◌};
 ghost use Rattle.cobs.specs.Fields.Report.{frame_size_of, parsed_size_of};
 
@@ -32,7 +32,7 @@ pub enum DecodeError {
     /// The frame breaks off inside a block, or no frame is there.
     #[error("frame with invalid format, written {decoded_bytes} to decoded buffer")]
     InvalidFrame {
-        /// How many bytes it gave, which are at the front of a buffer of the caller's.
+        /// How many bytes were decoded. They are at the front of the buffer, if the caller passed one.
         decoded_bytes: usize,
     },
 
@@ -64,7 +64,7 @@ pub struct PushError {
     pub parsed_size: usize,
 }
 
-/// Why a source gave no vector. (A choice of this library: memory may run out, and nothing aborts.)
+/// Why a call returned no vector. (A choice of this library: memory may run out, and nothing aborts.)
 ///
 /// ```
 /// let rejected = Err(DecodeVecError::Decode(DecodeError::EmptyFrame));

@@ -124,7 +124,7 @@ impl<R: Read> Recorded<R> {
         Self { reader }
     }
 
-    /// Returns the reader, as the reads so far have left it.
+    /// Returns the reader, in its state after the reads so far.
     ///
     /// ```
     /// let source = Recorded::new([1, 0].as_slice());
@@ -164,7 +164,7 @@ fn next_at(end: PieceEnd) -> Next
     }
 }
 
-/// Whether a piece is unfinished after these bytes, given whether one was before them.
+/// Whether a piece is unfinished after these bytes. `before` says whether one was unfinished before them.
 fn is_unfinished(before: bool, bytes: &[u8]) -> bool
     ensures unfinished { (p : List ℕ) → before ≡ is_nonempty p → HasNoZero p →
         result ≡ is_nonempty (unended (p ++ bytes.now)) }
@@ -285,7 +285,7 @@ impl<D: FrameDecoder> FrameReader<D> {
     /// stream may go on, in this source or in another one.
     ///
     /// # Errors
-    /// `Io` where the last read of this call failed, and `TooManyReads` where this call made 65,536 reads that all gave
+    /// `Io` if the last read of this call failed, and `TooManyReads` if this call made 65,536 reads that all gave
     /// bytes. In both no piece ended, the decoder has taken all bytes that were read, and the next call continues.
     ///
     /// ```

@@ -55,9 +55,9 @@ pub fn law_1()
 
 /// Each message has exactly one encoded frame.
 ///
-/// So what encoders give may be compared byte by byte, be it to find a message in a store or to check a signature, and
-/// two encoders that keep to the definition agree. By its length `try_encode` and `CobsEncoder` decide whether it fits.
-/// If the message is one of bytes, so is its frame.
+/// So encoded frames can be compared byte by byte, to find a message in a store or to check a signature, and two encoders
+/// that keep to the definition agree. The length of this frame decides whether `try_encode` and `CobsEncoder` accept the
+/// message. If the message is one of bytes, so is its frame.
 ///
 /// ```
 /// fn encode_again(message: &[u8], frame: &[u8], dest: &mut [u8]) -> usize
@@ -84,8 +84,8 @@ pub fn law_2()
 
 /// All frames of a message: the encoded one and, only if the message ends in a full run, that one followed by 01.
 ///
-/// The second is one byte longer. A receiver that wants one frame a message, as a request protocol that compares
-/// frames, rejects just this second one; [`frame_kind`](crate::frame_kind) distinguishes them.
+/// The second is one byte longer. A receiver that accepts only one frame for each message, such as a protocol that compares
+/// frames, rejects just the second one; [`frame_kind`](crate::frame_kind) distinguishes them.
 ///
 /// ```
 /// fn is_frame_for(piece: &[u8], message: &[u8], buffer: &mut [u8]) -> bool
@@ -147,9 +147,9 @@ pub fn law_5()
 
 /// No byte of a frame for a sentinel is that sentinel, and a second XOR restores the frame for 0.
 ///
-/// This is what COBS is for: whoever puts the sentinel between frames can find their ends by looking for it. `free` is
-/// said of a frame that is sent, `received` of one that has come. Bytes without the sentinel have no zero after the
-/// XOR, and an XOR with 0 changes nothing.
+/// This is the purpose of COBS: if the sentinel is put between frames, their ends are found by looking for it. The clause
+/// `free` is about a frame that is sent, `received` about one that was received. Bytes without the sentinel have no zero
+/// after the XOR, and an XOR with 0 changes nothing.
 ///
 /// ```
 /// fn as_received<'a>(frame: &'a [u8], sentinel: u8) -> &'a [u8]
@@ -199,11 +199,11 @@ pub fn law_7()
     ensures message { (p q k m : List ℕ) → Reads (p ++ q) m → Reads p k → IsFront k m }
 {}
 
-/// Frames joined without a sentinel read as their messages joined, with a zero between them unless the first frame ends
-/// in a full block.
+/// Two frames without a sentinel between them read as their two messages joined, with a zero between them unless the first
+/// frame ends in a full block.
 ///
-/// So a sentinel that was lost between two frames makes them one message, which a receiver can't distinguish from one
-/// that was sent so: to notice it, put a check of your own into the message.
+/// So if the sentinel between two frames is lost, a receiver reads one message, and can't know that it was sent as two. To
+/// notice that, put a checksum of your own into the message.
 ///
 /// ```
 /// fn join(alloc: Global, first: &[u8], second: &[u8]) -> Result<Vec<u8>, AllocError>
@@ -269,11 +269,11 @@ pub fn law_9()
     ensures { StreamLaw }
 {}
 
-/// Damage between two sentinels stays between them: bytes that are changed, lost or added there, sentinels too, leave the
-/// outcomes before the first and after the second as they are. If no sentinel is between them, one piece
-/// is, with one outcome; two sentinels side by side have none between them.
+/// Damage between two sentinels stays between them: if bytes there, also sentinels, are changed, lost or added, the
+/// outcomes before the first and after the second are unchanged. If no sentinel is between the two, they enclose one piece,
+/// with one outcome, or nothing if they are adjacent.
 ///
-/// So a receiver of a noisy link, or a reader of a damaged file of records, loses no message but those that the damage
+/// So a receiver of a noisy link, or a reader of a damaged file of records, loses only the messages that the damage
 /// touches.
 ///
 /// ```
@@ -371,8 +371,8 @@ pub fn law_12()
 /// The open frame of a streaming encoder: where the frame so far ends, and how the open frame of an
 /// [`EncoderState`](crate::EncoderState) differs from the encoded one.
 ///
-/// So the placeholder is always within the output of a caller who carries out each push result, and the frame that this
-/// caller gets is the encoded one, unless the message ends in a full run: then it has one 01 more.
+/// So if a caller carries out each push result, the placeholder is always within the output. The caller's frame is the
+/// encoded one, unless the message ends in a full run: then it has one 01 more.
 ///
 /// ```
 /// fn as_encoded<'a>(frame: &'a [u8], message: &[u8], index: usize, code: u8) -> &'a [u8]

@@ -1,9 +1,9 @@
 //! Whole streams: the outcomes of all pieces that end in some bytes, and frames one after another.
 //!
-//! A stream is cut at its zeros. What is between two of them is a piece, and each nonempty piece is judged by
-//! itself: it is a message, or it breaks off inside a block, or it decodes to more than the buffer holds. So what
-//! is damaged in one piece is gone at the next zero. (That a zero ends each frame is Cheshire and Baker's; how broken
-//! and too long pieces are reported is a choice of this library.)
+//! A stream is cut at its zeros. The bytes between two zeros are a piece, unless there are none. Each piece is decoded
+//! by itself: it is a message, or it breaks off inside a block, or it decodes to more than the buffer holds. So damage to
+//! one piece has no effect after the next zero. (That a zero ends each frame is Cheshire and Baker's; how broken and too
+//! long pieces are reported is a choice of this library.)
 ghost use Rattle.std.specs.Prelude.{◌≡◌, ℕ, ◌+◌, ◌<◌, ◌≤◌, ◌^◌, List, [], ◌++◌, All, length, map, take, option_to_list, IfOk, IfSome, IsOk, IsSome, ◌↔◌, OnOk, OnErr, Contains};
 ghost use Rattle.cobs.specs.Feed.{DecoderAfter, PhaseAfter};
 ghost use Rattle.cobs.specs.Length.{max_encoded_len};
@@ -50,12 +50,12 @@ fn frame_outcome(alloc: Global, end: PieceEnd, buffer: &[u8]) -> Result<FrameOut
 
 /// Decodes a part of a stream: one outcome for each piece that ends in the bytes, in order.
 ///
-/// The first of these pieces may have begun before this call, and what no zero has ended yet is kept for the next
-/// one: the decoder continues from its state. So a stream can be passed in parts, cut anywhere, and the results
-/// joined are those of the whole stream. Leading and doubled zeros make no piece.
+/// The first of these pieces may have begun before this call, and the next call continues a piece that hasn't ended:
+/// the decoder keeps its state. So a stream can be passed in parts, cut anywhere, and the joined results are those of the
+/// whole stream. Leading and doubled zeros make no piece.
 ///
-/// If the decoder's buffer was written to inside a piece, the bytes of that piece's message, the first that
-/// comes out, aren't determined; its length is, and so is everything after it.
+/// If the caller wrote to the decoder's buffer inside a piece, the bytes of that piece's message, the first outcome,
+/// aren't determined. Its length is, and so is everything after it.
 ///
 /// # Errors
 /// `AllocError` if memory for an outcome runs out. The outcomes are lost then, and the decoder is idle, so the
@@ -87,7 +87,7 @@ pub fn decode_stream<D: FrameDecoder>(
         → PhaseAfter (length (D.bytes decoder.old)) (D.phase decoder.old) p
         → stream_outcomes (p ++ bytes.now) (length (D.bytes decoder.old)) ≡ [] → IsOk result }
 
-    // If the buffer was written to inside p, the same but for the bytes of the first message.
+    // If the buffer was written to inside p, the same except for the bytes of the first message.
     ensures alike { (p : List ℕ)
         → PhaseAfter (length (D.bytes decoder.old)) (D.phase decoder.old) p
         → IfOk result (λ found. AreAlikeAtFirst (outcomes_in found.items)
@@ -151,7 +151,8 @@ pub fn encode_frames(alloc: Global, messages: &[Vec<u8>]) -> Result<Vec<u8>, All
 /// Returns how many bytes have room for the frames of the messages and a zero after each: the sum of
 /// [`max_encoding_length`](crate::max_encoding_length) plus 1 over the messages. `None` if the sum doesn't fit a `usize`.
 ///
-/// This is the test for what [`encode_frames`] asks of its caller, and how many bytes that call then asks memory for.
+/// A caller of [`encode_frames`] tests its precondition with this function. The result is the number of bytes that it
+/// allocates.
 /// This function allocates nothing.
 ///
 /// ```

@@ -10,7 +10,7 @@ use crate::answer::{Answer, OK, done, too_small};
 use cobs::laws::{law_2, law_13};
 use cobs::{UnbufferedEncoder, encode_in_place, max_encoding_overhead};
 
-/// Returns where the frame ends that an encoder has written so far.
+/// Returns the length of the frame that an encoder has written so far.
 #[inline(always)]
 pub fn end_of(encoder: &UnbufferedEncoder) -> usize
     requires { end_of (reached_by encoder.now) < 2 ^ 64 }

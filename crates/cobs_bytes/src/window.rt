@@ -1,4 +1,4 @@
-//! Windows of up to 64 bytes, in vectors: where their zeros are, copied, and written.
+//! Functions over windows of up to 64 bytes, in vectors: they find zeros, copy, and write.
 ghost use Rattle.std.specs.Prelude.{◌≡◌, ◌<◌, ◌≤◌, ◌+◌, ◌^◌, ◌++◌, ◌↔◌, IsTrue, length, take, drop, replicate, slice_index};
 ghost use Rattle.cobs_bytes.specs.Bytes.{HasNoZero};
 ghost use Rattle.cobs_bytes.specs.Mask.{zero_mask};

@@ -32,7 +32,7 @@ fn head_end(bytes: &[u8], sentinel: u8) -> usize
 }
 
 /// How many bytes the source has up to the end of its first piece, with the zero after it if there is one, or
-/// `None` where it has no piece.
+/// `None` if it has no piece.
 fn first_piece_end(source: &[u8]) -> Option<usize>
     ensures none { result ≡ None → first_piece source.now ≡ None }
     ensures some { IfSome result

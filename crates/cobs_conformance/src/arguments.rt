@@ -13,13 +13,13 @@ pub const MAX_BYTES: usize = 131_072;
 /// Their digits.
 pub const MAX_DIGITS: usize = 2 * MAX_BYTES;
 
-/// The word for no bytes, and for a number where there is none.
+/// The word for no bytes, and for no number.
 pub const NONE: &str = "-";
 
 /// The bytes that a word's hexadecimal digits stand for; none for `-`.
 ///
 /// # Errors
-/// `Malformed` for anything else, and for more than [`MAX_BYTES`] bytes. `OutOfMemory` where memory ran out.
+/// `Malformed` for anything else, and for more than [`MAX_BYTES`] bytes. `OutOfMemory` if memory ran out.
 pub fn bytes_of(alloc: Global, word: &str) -> Result<Vec<u8>, CaseFault>
     ensures none { word.now ≡ codes "-" → IfOk result (λ bytes. bytes.items ≡ []) }
     ensures digits { word.now ≢ codes "-"

@@ -7,8 +7,8 @@ use std::alloc::Global;
 /// Makes the call of this name.
 ///
 /// # Errors
-/// `Malformed` where no call has the name or the arguments aren't its own, `NotCallable` where they break what the call
-/// asks of its caller, `OutOfMemory`.
+/// `Malformed` if no call has the name or the arguments aren't its own, `NotCallable` if they break the call's precondition,
+/// `OutOfMemory`.
 pub fn result_of_call(
     alloc: Global,
     call: &str,

@@ -95,7 +95,7 @@ impl CallResult {
         Ok(())
     }
 
-    /// Adds hexadecimal digits, or `-` where there is no byte.
+    /// Adds hexadecimal digits, or `-` if there is no byte.
     pub fn say_bytes(&mut self, bytes: &[u8]) -> Result<(), AllocError>
         ensures words { OnOk result (words_of self.new ≡ words_of self.old ++ bytes_word bytes.now ∷ []) }
     {

@@ -66,7 +66,7 @@ pub fn verdict_of(alloc: Global, line: &str) -> Result<Verdict, AllocError>
     }
 }
 
-/// The words of a case, or `None` where they aren't a case's.
+/// The words of a case, or `None` if they aren't one.
 fn case_of<'a>(words: &'a [&'a str]) -> Option<Case<'a>>
     ensures call { IfSome result (λ case. case.call ≡ slice_index_or words.now 2 case.call) }
     ensures each_word { IfSome result (λ case.

@@ -52,7 +52,7 @@ pub fn encode_vec_including_sentinels(
     said(alloc, &delimited)
 }
 
-/// The frame for a sentinel, handed out.
+/// Runs `encode_vec_with_sentinel`, which returns the frame for a sentinel.
 pub fn encode_vec_with_sentinel(
     alloc: Global,
     arguments: &[&str],
@@ -114,7 +114,7 @@ pub fn encode_with_sentinel(alloc: Global, arguments: &[&str]) -> Result<CallRes
     said_in(alloc, len, &buffer)
 }
 
-/// The frame in a buffer, where it fits.
+/// Runs `try_encode`, which writes the frame to a buffer if it fits.
 pub fn try_encode(alloc: Global, arguments: &[&str]) -> Result<CallResult, CaseFault> {
     let [message, buffer] = arguments else {
         return Err(CaseFault::Malformed);
@@ -128,7 +128,7 @@ pub fn try_encode(alloc: Global, arguments: &[&str]) -> Result<CallResult, CaseF
     Ok(returned)
 }
 
-/// The frame between two zeros in a buffer, where it fits.
+/// Runs `try_encode_including_sentinels`, which writes the frame between two zeros to a buffer if it fits.
 pub fn try_encode_including_sentinels(
     alloc: Global,
     arguments: &[&str],
@@ -145,7 +145,7 @@ pub fn try_encode_including_sentinels(
     Ok(returned)
 }
 
-/// The frame for a sentinel in a buffer, where it fits.
+/// Runs `try_encode_with_sentinel`, which writes the frame for a sentinel to a buffer if it fits.
 pub fn try_encode_with_sentinel(
     alloc: Global,
     arguments: &[&str],

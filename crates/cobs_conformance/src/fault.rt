@@ -10,7 +10,7 @@ pub enum CaseFault {
     /// The line isn't in the format: no such call, an argument too few or too many, a word that can't be read.
     Malformed,
 
-    /// The arguments break what the call asks of its caller, such as room for the frame.
+    /// The arguments break the call's precondition, such as room for the frame.
     NotCallable,
 
     /// Memory ran out.

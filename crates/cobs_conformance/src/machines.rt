@@ -5,8 +5,8 @@ use crate::fault::CaseFault;
 use cobs::{DecodeResult, DecoderState, EncoderState, PushResult};
 use std::alloc::Global;
 
-/// The encoding state machine after a message: its result for one more byte, where it then is, and the frame that
-/// a caller has who carries out each result.
+/// The encoding state machine after a message: its result for one more byte, its state after that, and the frame of a
+/// caller that carries out each result.
 pub fn encoder_state(alloc: Global, arguments: &[&str]) -> Result<CallResult, CaseFault> {
     let [message, byte] = arguments else {
         return Err(CaseFault::Malformed);

@@ -1,9 +1,9 @@
-//! This library held against the vectors.
+//! Runs the conformance cases through this library.
 //!
 //! `cobs_conformance` reads cases from standard input, one a line, in the format of conformance/README.md. It makes
 //! each call, compares the result and every byte of the buffer after it, and prints a line for each case that differs:
-//! its name, the result that is wanted and the result that came. The last line is `N cases, M differ`. The exit status
-//! is 0 where M is 0, and else 1; it is 2 where the input can't be read to its end or memory is wanting.
+//! its name, the expected result and the actual one. The last line is `N cases, M differ`. The exit status is 0 if M is 0,
+//! and otherwise 1. It is 2 if the input can't be read to its end or memory runs out.
 #![tactic(auto)]
 
 mod agree;

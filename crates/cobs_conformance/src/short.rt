@@ -25,7 +25,7 @@ pub fn words_of(alloc: Global, line: &str) -> Result<Vec<String>, CaseFault>
 /// A word written out: what its parts stand for, one after another.
 ///
 /// # Errors
-/// `Malformed` for a part that can't be read, and for more than [`MAX_DIGITS`] digits. `OutOfMemory` where memory ran out.
+/// `Malformed` for a part that can't be read, and for more than [`MAX_DIGITS`] digits. `OutOfMemory` if memory ran out.
 fn written_out(alloc: Global, word: &str) -> Result<String, CaseFault>
     ensures text { IfOk result (λ text. string_bytes text ≡ word_text word.now) }
     ensures limit { IfOk result (λ text. length (string_bytes text) ≤ MAX_DIGITS) }

@@ -100,11 +100,11 @@ impl Streaming for ByBytes {
 }
 
 /// A streaming decoder over a buffer, given pieces: each of the three decoders by pushes, byte by byte, and by
-/// `feed_piece`, whose results are compared with those to the zeros. If one comes to something else than the first, its
-/// result follows, so the case differs.
+/// `feed_piece`, whose results are compared with those at the zeros. If a result differs from the first one, it is added to
+/// the text, so the case differs.
 ///
 /// # Errors
-/// `Malformed` too where [`heapless`] knows no buffer of this length.
+/// `Malformed` also if [`heapless`] knows no buffer of this length.
 pub fn decoder(alloc: Global, arguments: &[&str]) -> Result<CallResult, CaseFault> {
     let [buffer, pieces @ ..] = arguments else {
         return Err(CaseFault::Malformed);

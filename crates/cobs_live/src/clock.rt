@@ -110,7 +110,7 @@ impl<'a, C: Clock + Drop> Timer<'a, C> {
         })
     }
 
-    /// The time now. It never goes back: it is the last one where the clock did, or can't be read.
+    /// The time now. It never goes back: if the clock did, or can't be read, it is the last time again.
     fn read(&self, last: Moment) -> Moment
         ensures later { last.millis ≤ result.millis }
     {

@@ -24,10 +24,10 @@ pub enum Came {
 /// Contracts describe an input by a relation that it defines: which read leads from one state of it to which other, and what
 /// the output held when the read began. So a theorem about any such input can say what had been written at each read.
 pub trait LiveInput<W: Write + Drop> {
-    /// The bytes that reads will give from here on, where they are known.
+    /// The bytes that reads will give from here on, if they are known.
     ghost remaining: { Self → Option (List ℕ) };
 
-    /// Whether this read may take the input from the one state to the other.
+    /// Whether this read may lead from the first state of the input to the second.
     ghost step: { Self → ReadEvent (Option ℕ) → Self → Type 0 };
 
     /// Reads once, as `Read::read` does, or says that the line hung up.
@@ -43,10 +43,10 @@ pub trait LiveInput<W: Write + Drop> {
 
 /// An input that is read line by line while an output waits, seen as `LiveInput` is: a read is that of one line.
 pub trait LiveLines<W: Write + Drop> {
-    /// The bytes that reads will give from here on, where they are known.
+    /// The bytes that reads will give from here on, if they are known.
     ghost remaining: { Self → Option (List ℕ) };
 
-    /// Whether this read may take the input from the one state to the other.
+    /// Whether this read may lead from the first state of the input to the second.
     ghost step: { Self → ReadEvent ℕ → Self → Type 0 };
 
     /// Reads through the next newline, or to the end, and appends the bytes to `line`, as `BufRead::read_until` does.

@@ -10,7 +10,7 @@ use std::time::Duration;
 /// How many milliseconds pass before a reader that had nothing to give, or a writer that had no room, is tried again.
 const PAUSE: u64 = 5;
 
-/// A reader or a writer that may be non-blocking: where it would block, it is tried again after a pause.
+/// A reader or a writer that may be non-blocking: if it would block, it is tried again after a pause.
 #[derive(Drop)]
 pub struct Port<'a, C, F> {
     clock: C,

@@ -95,7 +95,7 @@ fn outcomes_of(alloc: Global, stream: &[u8], room: usize) -> Result<Vec<FrameOut
 }
 
 impl Check for Streamed<'_> {
-    /// Each piece comes to what the reference reads.
+    /// Checks that each piece has the outcome that the reference has.
     fn check<D: StreamingDecoder + Drop>(
         &self,
         rt: &impl Abort,

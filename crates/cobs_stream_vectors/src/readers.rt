@@ -180,7 +180,7 @@ const READERS: [&[ReaderRow]; 12] = [
         &[Found::Io, Found::Message(&[5]), END],
         5,
     )],
-    // zeros without end are given up at each call, after as many reads as it makes at most
+    // each call gives up on endless zeros, after the most reads that it makes
     &[(Given::Zeros(u64::MAX, &[]), &[Found::TooManyReads], 65_536)],
     &[(
         Given::Zeros(u64::MAX, &[]),

@@ -192,7 +192,7 @@ fn a_stream_gives_the_same_outcomes_however_it_is_cut(rt: HostRuntime) -> Result
     check_cuts(&rt, rt.alloc(), &CASES)
 }
 
-/// A stream that comes to these outcomes, then this many others, and then these.
+/// A stream that has these outcomes, then this many others, and then these.
 #[derive(Drop)]
 struct Damage<'a> {
     stream: &'a [u8],
@@ -281,7 +281,7 @@ fn write_at(rt: &impl Abort, list: &mut Vec<u8>, at: usize, byte: u8) {
     list[at] = byte;
 }
 
-/// The byte of each place changed to each other one, left out, and changed to zero.
+/// Checks streams in which the byte at each place is replaced by each other nonzero byte, removed, or replaced by a zero.
 fn check_places(
     rt: &impl Abort,
     alloc: Global,

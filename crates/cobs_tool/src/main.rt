@@ -48,7 +48,7 @@ fn main(rt: HostRuntime) -> ExitCode {
     }
 }
 
-/// The mode that the program's arguments ask for, or `None` where they ask for none or can't be read.
+/// The mode that the program's arguments ask for, or `None` if they ask for none or can't be read.
 fn mode_of_arguments(rt: &HostRuntime) -> Option<Mode> {
     let words: Vec<String> = env::args(rt).ok()?.skip(1).collect(rt.alloc()).ok()?;
     mode_of(&words)

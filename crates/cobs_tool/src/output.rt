@@ -1,4 +1,4 @@
-//! Writing what was made of the input.
+//! Writes the output.
 ghost use Rattle.std.specs.Prelude.{◌≡◌, OnOk, IfErr};
 ghost use Rattle.std.specs.Io.KnownBytes.{Appends};
 

@@ -1,5 +1,5 @@
-//! What the contracts leave open: that calls succeed, what a failing reader or writer leads to, and the printed text
-//! against values from elsewhere.
+//! What the contracts don't say: that calls succeed, the result if a reader or writer fails, and the printed text compared
+//! with values from elsewhere.
 
 use crate::fault::ToolFault;
 use crate::mode::{Mode, mode_of};
@@ -40,7 +40,7 @@ const ROWS: [Row; 11] = [
     (Mode::Decode, b"\xff", b"unfinished\n"),
 ];
 
-/// Gives one byte a read. The read numbered `failing`, from 0 on, fails.
+/// Gives one byte per read. The read numbered `failing`, from 0 on, fails.
 #[derive(Drop)]
 struct ByteReader<'a> {
     bytes: &'a [u8],
@@ -63,7 +63,7 @@ impl Read for ByteReader<'_> {
     }
 }
 
-/// Takes one byte a write. The write numbered `failing`, from 0 on, fails, and each flush does where this is said.
+/// Accepts one byte per write. The write numbered `failing`, from 0 on, fails, and each flush if `fails_to_flush`.
 #[derive(Drop)]
 struct ByteWriter {
     bytes: Vec<u8>,

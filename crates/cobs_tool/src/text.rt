@@ -18,7 +18,7 @@ pub fn fault_line(fault: &ToolFault) -> &'static str
 }
 
 /// The bytes on one line: two lower-case hexadecimal digits a byte, one space between two bytes, then a newline. The
-/// line is the newline alone where there is no byte.
+/// line is only the newline if there is no byte.
 pub fn hex_line(alloc: Global, bytes: &[u8]) -> Result<String, AllocError>
     ensures digits { IfOk result (λ line. string_bytes line ≡ hex_line bytes.now) }
 {

@@ -124,8 +124,8 @@ pub fn write_ended(message: &[u8], dest: &mut [u8], sentinel: u8) -> usize
     len
 }
 
-/// Encodes the message that lies in the buffer in its own place, with a zero after the frame, where nothing else is
-/// changed: the last byte of the buffer is a place of its own.
+/// Encodes a message that lies in the buffer in its own place, and writes a zero after the frame. Nothing after that zero is
+/// changed.
 pub fn end_in_place(buffer: &mut [u8], message_len: usize) -> usize
     requires { max_encoded_len message_len < length buffer.old }
     ensures frame { IsEncodedFrame (take result buffer.new) (message_in message_len buffer.old) }
@@ -140,7 +140,7 @@ pub fn end_in_place(buffer: &mut [u8], message_len: usize) -> usize
     len
 }
 
-/// Writes the frame of the message between two zeros, and gives what is between them: there is no other.
+/// Writes the frame of the message between two zeros, and returns the bytes between them, which have no zero.
 pub fn write_between<'a>(message: &[u8], dest: &'a mut [u8]) -> &'a [u8]
     requires { encoded_len message.now + 2 ≤ length dest.old }
     ensures { HasNoZero result.now }
@@ -150,7 +150,7 @@ pub fn write_between<'a>(message: &[u8], dest: &'a mut [u8]) -> &'a [u8]
     &written[1..len - 1]
 }
 
-/// The same, where it fits.
+/// The same, if it fits.
 pub fn try_write_between<'a>(
     message: &[u8],
     dest: &'a mut [u8],
@@ -192,7 +192,7 @@ pub fn ended_frame_for(alloc: Global, sentinel: u8, message: &[u8]) -> Result<Ve
     Ok(frame)
 }
 
-/// The frames of the messages, or `None` where they are too many for a vector.
+/// The frames of the messages, or `None` if they are too many for a vector.
 pub fn frames_of(alloc: Global, messages: &[Vec<u8>]) -> Result<Option<Vec<u8>>, AllocError>
     ensures { IfOk result (λ found. IfSome found (λ bytes. AreFrames (messages_in messages.now) bytes.items)) }
 {
@@ -202,7 +202,7 @@ pub fn frames_of(alloc: Global, messages: &[Vec<u8>]) -> Result<Option<Vec<u8>>,
     Ok(Some(encode_frames(alloc, messages)?))
 }
 
-/// Pushes a zero, which changes no byte of the buffer in any phase: also where that was written to inside a piece.
+/// Pushes a zero, which changes no byte of the buffer in any phase, also if the caller wrote to it inside a piece.
 pub fn push_zero(decoder: &mut CobsDecoderOwned)
     ensures same_bytes { owned_buffer decoder.new ≡ owned_buffer decoder.old }
 {
@@ -274,7 +274,7 @@ pub fn push_reads_heapless<const N: usize>(
     came_to(returned, decoder.dest(), message)
 }
 
-/// The byte of the message that a result gives.
+/// The byte of the message that a result has.
 fn byte_given(returned: Result<DecodeResult, DecodeError>) -> Option<u8>
     ensures { option_to_list result ≡ data_of returned }
 {
@@ -312,8 +312,8 @@ pub fn decode_by_state(alloc: Global, frame: &[u8]) -> Result<Option<Vec<u8>>, A
     }
 }
 
-/// Feeds a byte to a decoder and to the state machine that is where the decoder does: then their states are equal
-/// again, unless the decoder's buffer is now too short.
+/// Feeds a byte to a decoder and to a state machine with an equal state. Then their states are equal again, unless the
+/// decoder's buffer is now too short.
 pub fn feed_both(decoder: &mut CobsDecoderOwned, state: &mut DecoderState, byte: u8)
     requires { state_in (owned_phase decoder.old) ≡ Some state.old }
     ensures { owned_phase decoder.new ≢ Overlong → state_in (owned_phase decoder.new) ≡ Some state.new }

@@ -181,7 +181,7 @@ pub fn kind_by_code(piece: &[u8]) -> FrameKind
     }
 }
 
-/// Decodes a piece from code to code: returns whether it is whole, and what its whole blocks give.
+/// Decodes a piece from code to code: returns whether it is whole, and its output, without the bytes of a broken block.
 pub fn decode_by_code(alloc: Global, piece: &[u8]) -> Result<(bool, Vec<u8>), AllocError>
     requires { IsPiece piece.now }
     ensures whole { IfOk result (λ found. found.0 ≡ is_whole piece.now) }

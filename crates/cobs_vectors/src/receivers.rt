@@ -138,7 +138,7 @@ pub fn message_in_place(piece: &mut [u8]) -> Option<usize>
     }
 }
 
-/// The same by the form that also says where the piece ended.
+/// The same with the form that also returns where the piece ended.
 pub fn report_in_place(piece: &mut [u8]) -> Option<usize>
     requires { IsPiece piece.old }
     ensures { (m : List ℕ) → (IsSomeAnd result (λ n. BeginsWith piece.new n m) ↔ Reads piece.old m) }

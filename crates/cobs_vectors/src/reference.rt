@@ -1,8 +1,8 @@
-//! The format once more, written for plainness and not for speed, to compare the library with.
+//! The format once more, written to be plain and not fast, to compare the library with.
 use std::alloc::{AllocError, Global};
 
-/// The encoded frame of a message: each run of nonzero bytes in blocks of up to 254 bytes, where the first block that
-/// is shorter carries the zero after the run. The last run carries none, and needs no such block after a full one.
+/// The encoded frame of a message. Each run of nonzero bytes is cut into blocks of up to 254 bytes; the first block that is
+/// shorter stands for the zero after the run. No zero follows the last run, so it needs no such block after a full one.
 pub fn frame_of(alloc: Global, message: &[u8]) -> Result<Vec<u8>, AllocError> {
     let mut frame = Vec::new(alloc);
     let mut block = Vec::new(alloc);
@@ -43,7 +43,7 @@ pub struct Reading {
     /// The bytes of its blocks, with the zeros that join them.
     pub output: Vec<u8>,
 
-    /// How many of them are before the bytes of its last block, where that one breaks off.
+    /// How many of them are before the bytes of its last block, if that breaks off, and otherwise all.
     pub kept: usize,
 
     /// Whether its last block has as many bytes as its code says.
@@ -82,7 +82,7 @@ pub fn reading_of(alloc: Global, piece: &[u8]) -> Result<Reading, AllocError> {
     })
 }
 
-/// What is before the first zero, and what is after it where there is one.
+/// The bytes before the first zero, and the bytes after it if there is one.
 pub fn split_at_zero(bytes: &[u8]) -> (&[u8], Option<&[u8]>) {
     for (at, byte) in bytes.iter().enumerate() {
         if *byte == 0 {

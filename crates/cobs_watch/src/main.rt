@@ -79,10 +79,10 @@ fn run(rt: &HostRuntime) -> anyhow::Result<ExitCode> {
     }
 }
 
-/// The arguments, the program's own name in front.
+/// The arguments; the first one is the program's own name.
 ///
 /// # Errors
-/// A wrong argument where one isn't UTF-8, and out of memory.
+/// A wrong argument if one isn't UTF-8, and out of memory.
 fn words_of(rt: &HostRuntime) -> Result<Vec<String>, clap::Error> {
     match env::args(rt) {
         Ok(words) => Ok(words.collect(rt.alloc())?),
@@ -224,7 +224,7 @@ fn first_line<'a>(rt: &HostRuntime, device: &Device<'a>) -> Option<Line<'a>> {
     }
 }
 
-/// Writes what a capture begins with, where that is the style.
+/// Writes the head of a capture, if that is the style.
 fn begin<W: Write + Drop>(output: &mut BufWriter<W>, style: Style) -> io::Result<()>
     requires flushed { writer_buffer output.old ≡ [] }
     ensures flushed { OnOk result (writer_buffer output.new ≡ []) }
@@ -236,7 +236,7 @@ fn begin<W: Write + Drop>(output: &mut BufWriter<W>, style: Style) -> io::Result
     output.flush()
 }
 
-/// Shows what a reader gives, and returns the status.
+/// Shows the bytes of a reader, and returns the status.
 fn show_reader<R: Read + Drop, W: Write + Drop>(
     rt: &HostRuntime,
     task: &ShowTask<'_>,
@@ -251,7 +251,7 @@ fn show_reader<R: Read + Drop, W: Write + Drop>(
     show_input(rt, task, zone, &mut input, reasons, output)
 }
 
-/// Shows what an input gives, and returns the status.
+/// Shows the bytes of an input, and returns the status.
 fn show_input<S: LiveInput<W>, W: Write + Drop>(
     rt: &HostRuntime,
     task: &ShowTask<'_>,
@@ -293,7 +293,7 @@ fn send(rt: &HostRuntime, settings: &send::Settings) -> anyhow::Result<ExitCode>
     ) {
         Ok(true) => Ok(ExitCode::SUCCESS),
         Ok(false) => Ok(ExitCode::FAILURE),
-        // A read that fails for the system's sake has a reason: memory ran out for a line.
+        // If the system failed the read, there is a reason. There is none if memory ran out for a line.
         Err(WatchFault::ReadFailed) if reason.get().is_none() => {
             Ok(faulted(rt, WatchFault::OutOfMemory, None))
         }
@@ -301,7 +301,7 @@ fn send(rt: &HostRuntime, settings: &send::Settings) -> anyhow::Result<ExitCode>
     }
 }
 
-/// The status where a file can't be opened.
+/// The status if a file can't be opened.
 fn not_opened(rt: &HostRuntime, path: &str, error: &io::Error) -> ExitCode {
     let _ = eprintln!(rt; "cobs_watch: {path}: {error}");
     ExitCode::FAILURE

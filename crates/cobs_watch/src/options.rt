@@ -21,7 +21,7 @@ pub(crate) const STDIN: &str = "-";
 /// The version of the release, that of the file VERSION.
 const VERSION: &str = "1.0.0";
 
-/// What the program is to do.
+/// The program's task.
 #[derive(Debug, PartialEq, Eq, Drop)]
 pub(crate) enum Task<'a> {
     /// Show a stream.
@@ -31,7 +31,7 @@ pub(crate) enum Task<'a> {
     Send(send::Settings),
 }
 
-/// What is shown, and how.
+/// How a stream is shown, and which one.
 #[derive(Debug, PartialEq, Eq, Drop)]
 pub(crate) struct ShowTask<'a> {
     pub(crate) settings: Settings,
@@ -110,7 +110,7 @@ fn style<'a>(alloc: Global, name: &'a str) -> Result<Arg<'a>, AllocError> {
     flag(alloc, name).group("style")
 }
 
-/// A style that writes messages alone.
+/// A style that writes only messages.
 fn bare_style<'a>(alloc: Global, name: &'a str) -> Result<Arg<'a>, AllocError> {
     style(alloc, name)?.conflicts_with_all(["number", "time", "partial"].as_slice())
 }
@@ -211,7 +211,7 @@ fn stamp_of(matches: &ArgMatches<'_>) -> Stamp {
     }
 }
 
-/// Whether lines have colours. Beside a log they have none, since it gets the same bytes.
+/// Whether lines have colours. With a log they have none, since it gets the same bytes.
 ///
 /// # Errors
 /// An error if colours were asked for, and a log.

@@ -56,7 +56,7 @@ pub(crate) fn sentinel_of(alloc: Global, matches: &ArgMatches<'_>) -> Result<u8,
 /// The checksum that was asked for, if any.
 ///
 /// # Errors
-/// An error that names a part that isn't a parameter, where there is no checksum of that name.
+/// If no checksum has that name: an error that names a part that isn't a parameter.
 pub(crate) fn checksum_of(
     alloc: Global,
     matches: &ArgMatches<'_>,

@@ -50,7 +50,7 @@ pub use vector::{encode_vec, encode_vec_including_sentinels, encode_vec_with_sen
 /// assert_eq!(len, 5);
 /// assert_eq!(dest, [3, 10, 11, 2, 12, 170]);
 /// ```
-// A short message is encoded in the caller's code then, without a call.
+// Inlined, so that a short message is encoded in the caller's code, without a call.
 #[inline(always)]
 pub fn encode(source: &[u8], dest: &mut [u8]) -> usize {
     if 0 < source.len() && source.len() <= WINDOW {
@@ -60,7 +60,8 @@ pub fn encode(source: &[u8], dest: &mut [u8]) -> usize {
     encode_long(source, dest)
 }
 
-/// Does what [`encode`] does, for any length: apart, so that a short message doesn't pay for the loop's registers.
+/// Does what [`encode`] does, for any length. It is a function of its own, so that a short message saves no registers for
+/// the loop.
 #[inline(never)]
 fn encode_long(source: &[u8], dest: &mut [u8]) -> usize {
     if source.is_empty() {
@@ -94,7 +95,7 @@ pub fn try_encode(source: &[u8], dest: &mut [u8]) -> Result<usize, DestBufTooSma
 
 /// Does what [`try_encode`] does, for any length.
 fn try_encode_any(source: &[u8], dest: &mut [u8]) -> Result<usize, DestBufTooSmallError> {
-    // A message that can't fill a block is seen to fit at once.
+    // The frame of a message of up to 254 bytes is one byte longer than the message.
     if source.len() < dest.len().min(FULL_CODE) {
         return Ok(encode(source, dest));
     }
@@ -108,7 +109,7 @@ fn try_encode_any(source: &[u8], dest: &mut [u8]) -> Result<usize, DestBufTooSma
 /// Encodes a message that can't fill a block, and whose frame fits, for this sentinel.
 #[inline(always)]
 fn encode_block(source: &[u8], dest: &mut [u8], sentinel: u8) -> usize {
-    // The length by that of the message, which the caller may know.
+    // The length is computed from the message's, which a compiler may know.
     let _len = encode(source, dest);
     let len = source.len() + 1;
     xor_bytes(&mut dest[..len], sentinel);

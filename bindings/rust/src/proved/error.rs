@@ -1,5 +1,5 @@
 // Made by bindings/rust/translate.py from `crates/cobs/src/error.rt`: change that file, and run it again.
-//! What a call returns that has no message or frame, and the sizes of a decoded message.
+//! Errors, and the sizes of a decoded message.
 
 use crate::memory::AllocError;
 
@@ -44,7 +44,7 @@ pub enum DecodeError {
 
     /// The frame breaks off inside a block, or no frame is there.
     InvalidFrame {
-        /// How many bytes it gave, which are at the front of a buffer of the caller's.
+        /// How many bytes were decoded. They are at the front of the buffer, if the caller passed one.
         decoded_bytes: usize,
     },
 
@@ -101,7 +101,7 @@ impl core::fmt::Display for PushError {
 
 impl core::error::Error for PushError {}
 
-/// Why a source gave no vector. (A choice of this library: memory may run out, and nothing aborts.)
+/// Why a call returned no vector. (A choice of this library: memory may run out, and nothing aborts.)
 ///
 /// ```
 /// # use jcobs::proved::*;

@@ -133,7 +133,7 @@ impl<R: Read> Recorded<R> {
         Self { reader }
     }
 
-    /// Returns the reader, as the reads so far have left it.
+    /// Returns the reader, in its state after the reads so far.
     ///
     /// ```
     /// # #[cfg(feature = "std")] {
@@ -168,7 +168,7 @@ fn next_at(end: PieceEnd) -> Next {
     }
 }
 
-/// Whether a piece is unfinished after these bytes, given whether one was before them.
+/// Whether a piece is unfinished after these bytes. `before` says whether one was unfinished before them.
 fn is_unfinished(before: bool, bytes: &[u8]) -> bool {
     match bytes {
         [] => before,
@@ -262,7 +262,7 @@ impl<D: FrameDecoder> FrameReader<D> {
     /// stream may go on, in this source or in another one.
     ///
     /// # Errors
-    /// `Io` where the last read of this call failed, and `TooManyReads` where this call made 65,536 reads that all gave
+    /// `Io` if the last read of this call failed, and `TooManyReads` if this call made 65,536 reads that all gave
     /// bytes. In both no piece ended, the decoder has taken all bytes that were read, and the next call continues.
     ///
     /// ```

@@ -1,10 +1,10 @@
 // Made by bindings/rust/translate.py from `crates/cobs/src/stream.rt`: change that file, and run it again.
 //! Whole streams: the outcomes of all pieces that end in some bytes, and frames one after another.
 //!
-//! A stream is cut at its zeros. What is between two of them is a piece, and each nonempty piece is judged by
-//! itself: it is a message, or it breaks off inside a block, or it decodes to more than the buffer holds. So what
-//! is damaged in one piece is gone at the next zero. (That a zero ends each frame is Cheshire and Baker's; how broken
-//! and too long pieces are reported is a choice of this library.)
+//! A stream is cut at its zeros. The bytes between two zeros are a piece, unless there are none. Each piece is decoded
+//! by itself: it is a message, or it breaks off inside a block, or it decodes to more than the buffer holds. So damage to
+//! one piece has no effect after the next zero. (That a zero ends each frame is Cheshire and Baker's; how broken and too
+//! long pieces are reported is a choice of this library.)
 
 use crate::memory::AllocError;
 use crate::proved::dec::{FrameDecoder, PieceEnd};
@@ -51,12 +51,12 @@ fn frame_outcome(end: PieceEnd, buffer: &[u8]) -> Result<FrameOutcome, AllocErro
 
 /// Decodes a part of a stream: one outcome for each piece that ends in the bytes, in order.
 ///
-/// The first of these pieces may have begun before this call, and what no zero has ended yet is kept for the next
-/// one: the decoder continues from its state. So a stream can be passed in parts, cut anywhere, and the results
-/// joined are those of the whole stream. Leading and doubled zeros make no piece.
+/// The first of these pieces may have begun before this call, and the next call continues a piece that hasn't ended:
+/// the decoder keeps its state. So a stream can be passed in parts, cut anywhere, and the joined results are those of the
+/// whole stream. Leading and doubled zeros make no piece.
 ///
-/// If the decoder's buffer was written to inside a piece, the bytes of that piece's message, the first that
-/// comes out, aren't determined; its length is, and so is everything after it.
+/// If the caller wrote to the decoder's buffer inside a piece, the bytes of that piece's message, the first outcome,
+/// aren't determined. Its length is, and so is everything after it.
 ///
 /// # Errors
 /// `AllocError` if memory for an outcome runs out. The outcomes are lost then, and the decoder is idle, so the
@@ -129,7 +129,8 @@ pub fn encode_frames(messages: &[Vec<u8>]) -> Result<Vec<u8>, AllocError> {
 /// Returns how many bytes have room for the frames of the messages and a zero after each: the sum of
 /// [`max_encoding_length`](crate::max_encoding_length) plus 1 over the messages. `None` if the sum doesn't fit a `usize`.
 ///
-/// This is the test for what [`encode_frames`] asks of its caller, and how many bytes that call then asks memory for.
+/// A caller of [`encode_frames`] tests its precondition with this function. The result is the number of bytes that it
+/// allocates.
 /// This function allocates nothing.
 ///
 /// ```

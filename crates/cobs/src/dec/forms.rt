@@ -18,7 +18,7 @@ use crate::find::{len_without_end, position_or_len};
 use cobs_bytes::window::WIDE_WINDOW;
 use std::alloc::Global;
 
-/// Decodes the blocks of a source that has no sentinel, and returns how many bytes they give.
+/// Decodes the blocks of a source that has no sentinel, and returns the length of their output.
 fn decode_blocks(source: &[u8], dest: &mut [u8], sentinel: u8) -> Result<usize, DecodeError>
     requires { HasNoZero (xor_each sentinel source.now) }
     ensures returned { result ≡ head_result_within (xor_each sentinel source.now) (length dest.old) }
@@ -119,8 +119,7 @@ pub fn decode_vec(alloc: Global, source: &[u8]) -> Result<Vec<u8>, DecodeVecErro
     Ok(message)
 }
 
-/// Returns the message of the frame at the front of the source, where the sentinel may be any byte, in a vector of
-/// exactly its bytes.
+/// Returns the message of the frame at the front of the source, for any sentinel, in a vector of exactly its bytes.
 ///
 /// The frame is read as in [`decode_with_sentinel`], up to the first sentinel or the source's end; a leading sentinel
 /// returns an empty vector. Memory is allocated, and errors are returned, as in [`decode_vec`].

@@ -68,7 +68,7 @@ pub trait FrameDecoder {
     /// The phase that it is in.
     ghost phase: { Self → Phase };
 
-    /// Which slice its buffer is, where it borrows one.
+    /// Which slice its buffer is, if it borrows one.
     ghost loan: { Self → ℕ };
 
     /// Takes the next byte of the stream, as [`CobsDecoder::feed`](crate::CobsDecoder::feed) does, with its errors.
@@ -85,11 +85,11 @@ pub trait FrameDecoder {
     /// Takes bytes of the stream through the first zero that ends a piece.
     ///
     /// `None` says that no piece ended in these bytes, and that all were taken. `Some((end, count))` says that a piece
-    /// ended with the byte at index `count - 1`, and how; the bytes after it had no effect, and those of the
+    /// ended with the byte at index `count - 1`, and how. The bytes after that one had no effect, and the bytes of the
     /// buffer after the output are as they were. A piece that is too long for the buffer ends at its zero, as every
-    /// other: so no byte has to be given one by one.
+    /// other, so the caller never has to feed single bytes.
     ///
-    /// An implementation has no need to write this method, which feeds one byte after another; the decoders of this
+    /// An implementation needn't have this method: the provided one feeds one byte after another. The decoders of this
     /// library copy whole blocks instead.
     ///
     /// ```
@@ -147,7 +147,7 @@ pub trait WriteBuffer: FrameDecoder {
     /// The decoder with other bytes in its buffer.
     ghost with_bytes: { Self → List ℕ → Self };
 
-    /// Returns the whole buffer, to be written to: the decoder ends with the bytes that are left there.
+    /// Returns the whole buffer, to be written to: its bytes are then those that the caller has written.
     ///
     /// ```
     /// let mut decoder = CobsDecoderHeapless::<2>::new();

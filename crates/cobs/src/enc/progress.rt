@@ -1,6 +1,6 @@
 //! How far a frame that is being written has come.
 
-/// How far the frame in a buffer has come, in plain numbers: where an [`UnbufferedEncoder`] is. (A choice of this
+/// How far the frame in a buffer has come, in plain numbers: the state of an [`UnbufferedEncoder`]. (A choice of this
 /// library.)
 ///
 /// ```

@@ -12,7 +12,7 @@ use std::alloc::{AllocError, Global};
 /// Returns the encoded frame of `source`, in a vector of exactly its bytes. No sentinel is before or after it.
 ///
 /// Precondition: [`max_encoding_length`](crate::max_encoding_length) of the message's length fits a `usize`. Memory is
-/// asked for once, for that many bytes.
+/// allocated once, for that many bytes.
 ///
 /// # Errors
 /// `AllocError` if that memory runs out.
@@ -62,7 +62,7 @@ pub fn encode_vec_including_sentinels(alloc: Global, source: &[u8]) -> Result<Ve
 /// [`encode_vec`], XORed with `sentinel`.
 ///
 /// Precondition: [`max_encoding_length`](crate::max_encoding_length) of the message's length fits a `usize`. Memory is
-/// asked for once, for that many bytes.
+/// allocated once, for that many bytes.
 ///
 /// # Errors
 /// `AllocError` if that memory runs out.

@@ -10,9 +10,9 @@ ghost use Rattle.cobs.specs.Piece.{IsWhole, is_whole, kept_output, output};
 ghost use Rattle.cobs.specs.Stream.{stream_outcomes, unended};
 ghost use Rattle.cobs.specs.declared.dec.frame_decoder.PieceEnd.{PieceEnd};
 
-/// The length of an encoded frame, counted block by block: nonzero bytes, fewer than 255, have a block of their own at
-/// the end of the message; fewer than 254 have one before a zero; 254 have one if the message continues. Which nonzero
-/// bytes they are is no matter.
+/// The length of an encoded frame, counted block by block. Up to 254 nonzero bytes have a block of their own at the end of
+/// the message; up to 253 have one before a zero; 254 have one if the message continues. The values of the nonzero bytes
+/// don't matter.
 ///
 /// So one pass over the message decides whether a frame fits, before a byte is written.
 ///
@@ -67,9 +67,8 @@ pub fn law_16()
     ensures { EncoderLaw }
 {}
 
-/// A decoder, byte by byte. The step of the table takes a byte in any phase as the streaming decoders do. Bytes that
-/// are taken one by one, none of them a zero that ends a piece, are all taken as `feed_piece` takes them; and so are
-/// those through the first zero that ends one.
+/// A decoder, byte by byte. The step of the table takes a byte in any phase as the streaming decoders do. Taking bytes one
+/// by one, through the first zero that ends a piece or all of them if there is none, is the same as one `feed_piece`.
 ///
 /// So your own decoder that keeps to the step decodes what the streaming decoders decode, and a loop over
 /// `feed_byte` is a `feed_piece`.
@@ -101,7 +100,7 @@ pub fn law_17()
 /// returns the message too; and so does a push of the frame and its zero. The buffer then begins with the message. No
 /// other piece is decoded as a message.
 ///
-/// So what a sender made by [`encode`](crate::encode) is read whichever way its bytes are handed over.
+/// So a frame that [`encode`](crate::encode) wrote is read, whichever of these calls its bytes are passed to.
 ///
 /// ```
 /// fn end_frame(decoder: &mut CobsDecoderOwned) -> Result<Option<usize>, DecodeError>
@@ -149,9 +148,9 @@ pub fn law_19()
         → IsFrame (code ∷ bytes) → ⊥ }
 {}
 
-/// Gives the output of a block before other bytes: its bytes, and the zero after them unless it is full. It is whole,
-/// and with it the other bytes are whole exactly if they are. Of bytes that are fewer than their first code says,
-/// nothing is kept; of whole ones everything is.
+/// Gives the output of a block and of other bytes after it. The block's output is its bytes, and a zero unless it is full.
+/// A block is whole; with other bytes after it, it is whole exactly if these are. If bytes are fewer than their first code
+/// says, the kept output is empty; if they are whole, it is the whole output.
 ///
 /// So your own decoder that goes from code to code writes what [`decode_in_place`](crate::decode_in_place) does.
 ///

@@ -4,7 +4,7 @@
 use crate::proved::cobs_abi::answer::{Answer, OK, done, too_small};
 use crate::proved::{UnbufferedEncoder, encode_in_place, max_encoding_overhead};
 
-/// Returns where the frame ends that an encoder has written so far.
+/// Returns the length of the frame that an encoder has written so far.
 #[inline(always)]
 pub fn end_of(encoder: &UnbufferedEncoder) -> usize {
     let progress = encoder.progress();

@@ -1,5 +1,5 @@
 // Made by bindings/rust/translate.py from `crates/cobs_bytes/src/window.rt`: change that file, and run it again.
-//! Windows of up to 64 bytes, in vectors: where their zeros are, copied, and written.
+//! Functions over windows of up to 64 bytes, in vectors: they find zeros, copy, and write.
 
 use crate::simd::*;
 

@@ -28,7 +28,7 @@ fn move_bytes(buffer: &mut [u8], from: usize, to: usize, len: usize) -> usize {
     }
 }
 
-/// Decodes the blocks in the first `end` bytes of the buffer, and returns how many bytes they give.
+/// Decodes the blocks in the first `end` bytes of the buffer, and returns the length of their output.
 // A function of its own, so that its loops have all registers of a small processor.
 #[inline(never)]
 fn decode_blocks(buffer: &mut [u8], end: usize) -> Result<usize, DecodeError> {

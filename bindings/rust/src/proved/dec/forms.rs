@@ -11,7 +11,7 @@ use crate::proved::find::{len_without_end, position_or_len};
 #[cfg(feature = "alloc")]
 use alloc::vec::Vec;
 
-/// Decodes the blocks of a source that has no sentinel, and returns how many bytes they give.
+/// Decodes the blocks of a source that has no sentinel, and returns the length of their output.
 fn decode_blocks(source: &[u8], dest: &mut [u8], sentinel: u8) -> Result<usize, DecodeError> {
     // A block that begins before the last 254 bytes is whole.
     let tail = source.len().saturating_sub(FULL_BLOCK_BYTES);
@@ -99,8 +99,7 @@ pub fn decode_vec(source: &[u8]) -> Result<Vec<u8>, DecodeVecError> {
     Ok(message)
 }
 
-/// Returns the message of the frame at the front of the source, where the sentinel may be any byte, in a vector of
-/// exactly its bytes.
+/// Returns the message of the frame at the front of the source, for any sentinel, in a vector of exactly its bytes.
 ///
 /// The frame is read as in [`decode_with_sentinel`], up to the first sentinel or the source's end; a leading sentinel
 /// returns an empty vector. Memory is allocated, and errors are returned, as in [`decode_vec`].

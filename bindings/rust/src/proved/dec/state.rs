@@ -111,7 +111,7 @@ impl DecoderState {
     /// A sentinel, the byte 0, is `DataComplete` if the last block has all bytes that its code counts,
     /// and `NoData` if no frame has begun. After each sentinel the state is `Idle`.
     ///
-    /// Any other byte is a code where no block is open: `DataStart` for the first one, `NoData` after a full
+    /// Any other byte is a code if no block is open: `DataStart` for the first one, `NoData` after a full
     /// block, and after any other block `DataContinue(0)`, the zero that joins the two blocks. Inside a block it
     /// is `DataContinue` of the byte itself.
     ///

@@ -56,7 +56,8 @@ fn mark_zeros(dest: &mut [u8], index: usize, next: usize, zeros: u64) -> usize {
     index
 }
 
-/// Takes the first `len` bytes of a source, which can't fill the open block, one by one. A zero gives its place to the next code.
+/// Takes the first `len` bytes of a source, which can't fill the open block, one by one. At a zero's place the next code is
+/// written.
 /// If the target has vectors, no branch asks for zeros, since such a processor may guess it wrong: the open block's code is
 /// written for each byte.
 #[inline(always)]

@@ -1,7 +1,7 @@
 // Made by bindings/rust/translate.py from `crates/cobs/src/enc/progress.rt`: change that file, and run it again.
 //! How far a frame that is being written has come.
 
-/// How far the frame in a buffer has come, in plain numbers: where an [`UnbufferedEncoder`](crate::proved::UnbufferedEncoder) is.
+/// How far the frame in a buffer has come, in plain numbers: the state of an [`UnbufferedEncoder`](crate::proved::UnbufferedEncoder).
 ///
 /// ```
 /// use jcobs::UnbufferedEncoder;

@@ -11,7 +11,7 @@ use alloc::vec::Vec;
 /// Returns the encoded frame of `source`, in a vector of exactly its bytes. No sentinel is before or after it.
 ///
 /// Precondition: [`max_encoding_length`](crate::max_encoding_length) of the message's length fits a `usize`. Memory is
-/// asked for once, for that many bytes.
+/// allocated once, for that many bytes.
 ///
 /// # Errors
 /// `AllocError` if that memory runs out.
@@ -61,7 +61,7 @@ pub fn encode_vec_including_sentinels(source: &[u8]) -> Result<Vec<u8>, AllocErr
 /// [`encode_vec`], XORed with `sentinel`.
 ///
 /// Precondition: [`max_encoding_length`](crate::max_encoding_length) of the message's length fits a `usize`. Memory is
-/// asked for once, for that many bytes.
+/// allocated once, for that many bytes.
 ///
 /// # Errors
 /// `AllocError` if that memory runs out.
