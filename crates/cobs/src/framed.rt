@@ -1,9 +1,9 @@
 //! A reader of frames over any source of bytes.
 //!
 //! `FrameReader` reads chunks of 64 bytes from a file, a socket, a serial port or anything else that is a
-//! `FrameSource`, and returns one outcome a call. It reads only if the bytes that it has kept end no piece, and
-//! no byte is lost: bytes that were read and not used yet are used first by the next call, after a fault too. No call
-//! here allocates. (That a zero ends each piece is Cheshire and Baker's; the rest of this module is our own.)
+//! `FrameSource`, and returns one outcome for each call. It reads only if the bytes that it has kept end no piece. No
+//! byte is lost: the next call first uses the bytes that were read and not used yet, also after a fault. No call here
+//! allocates. (That a zero ends each piece is Cheshire and Baker's; the rest of this module is our own.)
 ghost use Rattle.std.specs.Prelude.{◌≡◌, ℕ, ◌≤◌, List, [], ◌∷◌, ◌++◌, length, take, drop, Option, option_map, IfOk, IfNone, IfSome, OnSome, MatchOption};
 ghost use Rattle.cobs.specs.Grammar.{HasNoZero};
 ghost use Rattle.cobs.specs.Stream.{Outcome, stream_outcomes, unended, is_nonempty};
@@ -95,7 +95,7 @@ pub trait FrameSource {
         ensures step { step self.old (option_map (λ n. take n chunk.new) result) self.new };
 }
 
-/// Any reader as a source of bytes: one `read` a call, and each error of it is a failed read.
+/// Any reader as a source of bytes: one `read` for each call, and each error of it is a failed read.
 ///
 /// ```
 /// let mut source = Recorded::new([1, 0, 2].as_slice());
@@ -178,7 +178,7 @@ fn is_unfinished(before: bool, bytes: &[u8]) -> bool
 /// How many reads a call makes at most.
 const MOST_READS: usize = 65536;
 
-/// Reads the frames of a stream, one a call, with a decoder of its own.
+/// Reads the frames of a stream, one for each call, with a decoder of its own.
 ///
 /// The source isn't part of it but given to each call, so a stream may continue in another source. Contracts see it as
 /// its decoder and the bytes that it has read and not yet fed to the decoder.
@@ -279,10 +279,10 @@ impl<D: FrameDecoder> FrameReader<D> {
 
     /// Returns the outcome of the next piece of the stream, once a zero has ended it, or the end of the source.
     ///
-    /// The bytes that are kept from earlier calls are used first, and what is after the zero of the piece that
-    /// ends is kept for the next call. While no piece ends, the source is read, at most 65,536 times; nothing is read
-    /// after a piece's end, after a read that failed, or after one that gave no bytes. After `Next::End` the
-    /// stream may go on, in this source or in another one.
+    /// Bytes that earlier calls have kept are used first, and the bytes after the zero of the piece that ends are kept
+    /// for the next call. While no piece ends, the source is read, at most 65,536 times. Nothing is read after a
+    /// piece's end, after a read that failed, or after one that gave no bytes. After `Next::End` the stream may
+    /// continue, in this source or in another one.
     ///
     /// # Errors
     /// `Io` if the last read of this call failed, and `TooManyReads` if this call made 65,536 reads that all gave

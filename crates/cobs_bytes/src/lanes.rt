@@ -1,5 +1,5 @@
-//! Stretches of bytes of other lengths than a window's: copied, copied if none is a sentinel, and moved within one buffer,
-//! whose places may overlap. All of a part is loaded before any of it is stored.
+//! Functions over bytes of any number: they copy, copy if no byte is a sentinel, and move within one buffer, where the old
+//! place and the new one may overlap. All bytes of a vector are loaded before any of them is stored.
 ghost use Rattle.std.specs.Prelude.{◌≡◌, ◌<◌, ◌≤◌, ◌+◌, ◌++◌, length, take, drop, IsTrue, false};
 ghost use Rattle.cobs_bytes.specs.Bytes.{HasNoZero, xor_each};
 
@@ -20,7 +20,7 @@ fn move_two<const N: usize>(buffer: &mut [u8], from: usize, len: usize)
     back.copy_to_slice(&mut buffer[len - N..]);
 }
 
-/// Moves the `len` bytes from `from` on to the front of the buffer; the bytes after them there stay.
+/// Moves the `len` bytes from `from` on to the front of the buffer. Bytes that no moved byte replaces stay.
 // A call of `copy_within` costs more than the moves themselves if these are a few windows.
 #[inline(always)]
 pub fn move_to_front(buffer: &mut [u8], from: usize, len: usize)
@@ -34,7 +34,7 @@ pub fn move_to_front(buffer: &mut [u8], from: usize, len: usize)
     }
 }
 
-/// Copies `N` to `2 * N` bytes, as two parts that may overlap, if none is the sentinel, and says whether it did.
+/// Copies `N` to `2 * N` bytes, as two parts that may overlap, if none is the sentinel, and returns whether it did.
 #[inline(always)]
 fn copy_xored_two<const N: usize>(source: &[u8], dest: &mut [u8], sentinel: u8) -> bool
     requires lanes { N ≤ 64 }
@@ -59,7 +59,7 @@ fn copy_xored_two<const N: usize>(source: &[u8], dest: &mut [u8], sentinel: u8) 
     true
 }
 
-/// Copies all bytes if none is the sentinel, one byte per iteration, and says whether it did.
+/// Copies all bytes if none is the sentinel, one byte per iteration, and returns whether it did.
 #[inline(always)]
 fn copy_xored_by_byte(source: &[u8], dest: &mut [u8], sentinel: u8) -> bool
     requires room { length source.now ≤ length dest.old }
@@ -79,7 +79,7 @@ fn copy_xored_by_byte(source: &[u8], dest: &mut [u8], sentinel: u8) -> bool
     true
 }
 
-/// Copies up to 64 bytes if none is the sentinel, and says whether it did.
+/// Copies up to 64 bytes, each XORed with the sentinel, if none is the sentinel, and returns whether it did.
 #[inline(always)]
 pub fn copy_xored_short(source: &[u8], dest: &mut [u8], sentinel: u8) -> bool
     requires some { 0 < length source.now }
@@ -111,7 +111,7 @@ fn copy_xored_slice(source: &[u8], dest: &mut [u8], sentinel: u8)
 }
 
 /// Copies all bytes, each XORed with the sentinel, to the front of `dest`: as one slice if they are more than 32.
-// Up to that a call costs more than the copy. The bytes that are copied so have no sentinel.
+// For up to 32 bytes a call costs more than the copy. If a sentinel is among them, they are copied as a slice too.
 #[inline(always)]
 pub fn copy_xored(source: &[u8], dest: &mut [u8], sentinel: u8)
     requires { length source.now ≤ length dest.old }

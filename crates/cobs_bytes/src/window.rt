@@ -69,7 +69,7 @@ pub fn copy_at<const N: usize>(source: &[u8], read: usize, dest: &mut [u8], at: 
     bytes.simd_eq(Simd::splat(0)).to_bitmask()
 }
 
-/// Which of `N` to `2 * N` bytes are zeros, by two parts that may overlap.
+/// Which of `N` to `2 * N` bytes are zeros, as two parts that may overlap.
 #[inline(always)]
 fn zeros_of_two<const N: usize>(source: &[u8]) -> u64
     requires lanes { N ≤ 32 }

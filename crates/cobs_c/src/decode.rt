@@ -50,8 +50,8 @@ fn first_piece_end(source: &[u8]) -> Option<usize>
     Some(if end < source.len() { end + 1 } else { end })
 }
 
-/// Returns the status and the length for a source whose first frame has this error, or that has none, and a buffer of `room`
-/// bytes. These stay in registers so.
+/// Returns the status and the length for a source whose first frame has this error, or that has no frame, and a buffer of
+/// `room` bytes. It returns two numbers, which stay in registers, and no `Answer`.
 #[inline(never)]
 fn rejected(source: &[u8], room: usize, error: DecodeError, consumed: &mut usize) -> (u32, usize)
     requires { Err error ≡ result_of_decode source.now room }
@@ -69,8 +69,8 @@ fn rejected(source: &[u8], room: usize, error: DecodeError, consumed: &mut usize
     (returned.status, returned.length)
 }
 
-/// Does what [`jcobs_decode`] does if that isn't by [`decode_short`], with a result as that of [`rejected`]. It is apart so
-/// that a short frame doesn't pay for the registers that it needs.
+/// Does what [`jcobs_decode`] does for a source that [`decode_short`] doesn't decode. Its result is as that of [`rejected`]. It
+/// is a function of its own, so that a short frame saves no registers for it.
 #[inline(never)]
 fn decode_long(source: &[u8], message: &mut [u8], consumed: &mut usize) -> (u32, usize)
     ensures decodes { Decodes source.now message.old
@@ -128,8 +128,8 @@ fn with_zero(end: usize, len: usize) -> usize
     if end < len { end + 1 } else { len }
 }
 
-/// Does what [`jcobs_decode_in_place`] does if that isn't by [`decode_short_in_place`]; apart, and in registers, as
-/// [`decode_long`].
+/// Does what [`jcobs_decode_in_place`] does for a buffer that [`decode_short_in_place`] doesn't decode. It is a function of
+/// its own, and returns two numbers, for the reasons of [`decode_long`].
 #[inline(never)]
 fn decode_long_in_place(buffer: &mut [u8], consumed: &mut usize) -> (u32, usize)
     ensures decodes { DecodesInPlace buffer.old

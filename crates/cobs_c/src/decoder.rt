@@ -33,7 +33,7 @@ pub extern "C" fn jcobs_decoder_push(
     ensures decodes { DecodesNext decoder.old buffer.old bytes.now result
         decoder.new buffer.new }
 {
-    // One byte is worth no search and no copy.
+    // For one byte a search and a copy would cost more.
     if bytes.len() == 1 {
         return decode_byte(decoder, buffer, bytes[0]);
     }

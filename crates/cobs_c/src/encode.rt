@@ -25,7 +25,7 @@ pub extern "C" fn jcobs_max_length(message_len: usize) -> usize
 }
 
 /// Does what [`jcobs_encode`] does with any message, and returns how many bytes were taken and the length, which is 0 if the
-/// frame doesn't fit. It is apart so that a short message doesn't pay for the registers that it needs.
+/// frame doesn't fit. It is a function of its own, so that a short message saves no registers for it.
 #[inline(never)]
 fn encode_long(message: &[u8], frame: &mut [u8]) -> (usize, usize)
     ensures encodes { Encodes message.now frame.old

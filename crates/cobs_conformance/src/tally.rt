@@ -12,7 +12,7 @@ pub struct Tally {
 }
 
 impl Tally {
-    /// No case yet.
+    /// A tally of no case.
     pub fn new() -> Tally
         ensures cases { result.cases ≡ 0 }
         ensures differing { result.differing ≡ 0 }

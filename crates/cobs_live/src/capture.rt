@@ -5,7 +5,7 @@ ghost use Rattle.cobs_live.specs.Capture.{capture_head, record_head, word};
 
 use std::io::{self, Write};
 
-/// Writes what a capture begins with.
+/// Writes the head of a capture.
 pub fn write_capture_head<W: Write>(output: &mut W) -> io::Result<()>
     ensures written { OnOk result
         (Appends (W.contents output.old) (W.contents output.new) capture_head) }
@@ -15,7 +15,7 @@ pub fn write_capture_head<W: Write>(output: &mut W) -> io::Result<()>
     ])
 }
 
-/// Writes what a record begins with, by the time in milliseconds since 1970 and the number of bytes.
+/// Writes the head of a record: the time, from milliseconds since 1970, and the number of bytes.
 pub fn write_record_head<W: Write>(output: &mut W, time: u64, len: usize) -> io::Result<()>
     ensures written { OnOk result
         (Appends (W.contents output.old) (W.contents output.new) (record_head time len)) }

@@ -4,12 +4,12 @@ ghost use Rattle.cobs_live.specs.Crc.{IsTable, after_byte, crc};
 
 use crate::crc::{Params, table_of};
 
-/// A cyclic redundancy check that follows each message, and in which order its bytes do.
+/// A cyclic redundancy check that follows each message, and the order of its bytes.
 #[derive(Debug, PartialEq, Eq, Drop)]
 pub struct Checksum {
     pub params: Params,
 
-    /// Whether the lowest byte comes first, and not the highest.
+    /// Whether the lowest byte comes first. Otherwise the highest does.
     pub little: bool,
 
     /// How each byte changes a register. With this table a byte costs fewer than half as many instructions as bit by bit.
@@ -52,7 +52,7 @@ impl Checksum {
         low ^ params.xorout
     }
 
-    /// The register after a byte more.
+    /// The register one byte later.
     fn after_byte(&self, register: u32, byte: u8) -> u32
         ensures after { result ≡ after_byte self.now.params register byte }
     {

@@ -33,7 +33,7 @@ pub enum Stamp {
 pub struct Moment {
     pub millis: u64,
 
-    /// What clocks show then, if they are ahead of UTC by this offset.
+    /// Date and time of day then, on a clock that is ahead of UTC by this offset.
     pub civil: DateTime,
     pub offset: Offset,
 
@@ -87,7 +87,7 @@ pub struct Timer<'a, C> {
     zone: TimeZone<'a>,
     start: Instant,
 
-    /// What it read at the start, in milliseconds.
+    /// Its time at the start, in milliseconds.
     pub base: u64,
 }
 
@@ -158,7 +158,7 @@ impl Times {
         self.next = timer.read(self.last);
     }
 
-    /// Goes on to the piece after this one.
+    /// Continues with the piece after this one.
     pub fn advance(&mut self)
         ensures last { self.new.last ≡ self.old.next }
         ensures next { self.new.next ≡ self.old.next }

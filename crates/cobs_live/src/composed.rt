@@ -26,11 +26,11 @@ use std::str;
 /// The longest message whose text is composed, in bytes.
 const SHORT_LEN: usize = 256;
 
-/// How many bytes a line has at most beside the digits of its message: a word, a number of up to 40 digits, a space and a
-/// newline.
+/// How many bytes a line has at most, not counting the digits of its message: a word, a number of up to 40 digits, a space
+/// and a newline.
 const LINE: usize = 50;
 
-/// How many bytes of a text have room.
+/// How many bytes a text may have.
 const ROOM: usize = 2_048;
 
 /// There is no room for a text.
@@ -38,7 +38,7 @@ const ROOM: usize = 2_048;
 struct Full;
 
 /// A text that is composed before it is written. A call of a writer, which may fail, costs more than the bytes of a short
-/// message, so each message makes one.
+/// message, so each message has at most one.
 #[derive(Drop)]
 pub struct Composed {
     bytes: [u8; ROOM],
@@ -163,7 +163,7 @@ impl Composed {
         self.put_message(view.style, number, piece).is_ok()
     }
 
-    /// Adds what a style makes of a message that has this number.
+    /// Adds a message that has this number, in a style.
     #[inline(always)]
     fn put_message(&mut self, style: Style, number: u64, piece: &Sight<'_>) -> Result<(), Full>
         requires message { piece.now.kind ≡ Message }
@@ -245,7 +245,7 @@ impl Composed {
         Ok(())
     }
 
-    /// Adds as much at once as needs no escape, and the character after it, and returns the rest.
+    /// Adds all characters up to the first that needs an escape, at once, and that one; returns the rest.
     fn put_run<'a>(&mut self, text: &'a str) -> Result<&'a str, Full>
         ensures put { IfOk result (λ rest. WritesFront (contents_of self.old) (contents_of self.new) text.now rest.now) }
         ensures shorter { IfOk result (λ rest. 0 < length text.now → length rest.now < length text.now) }

@@ -30,7 +30,7 @@ pub enum Crc {
     Crc32,
 }
 
-/// What the catalogue of parametrised CRC algorithms says of a check. Polynomial and start are in the high bits.
+/// The parameters of a check, as in the catalogue of parametrised CRC algorithms. Polynomial and start are in the high bits.
 #[derive(Debug, PartialEq, Eq, Clone, Copy)]
 pub struct Params {
     /// How many bytes the checksum has, from 1 to 4.
@@ -39,13 +39,13 @@ pub struct Params {
     /// The polynomial without its highest power.
     pub poly: u32,
 
-    /// What the register starts as.
+    /// The register at the start.
     pub init: u32,
 
     /// Whether the lowest bit of each byte comes first, and of the register too.
     pub reflected: bool,
 
-    /// What the register is XORed with at the end.
+    /// The number with which the register is XORed at the end.
     pub xorout: u32,
 }
 
@@ -78,7 +78,7 @@ impl Crc {
 /// The lowest value that has the highest bit of a register.
 const HIGH: u32 = 0x8000_0000;
 
-/// For each byte, what it makes of a register that has it in the high bits, and nothing else.
+/// For each byte, the register eight bits later, if at first it has that byte in its high bits and zeros below.
 pub(crate) fn table_of(poly: u32) -> [u32; 256]
     ensures table { IsTable poly result }
 {
@@ -89,7 +89,7 @@ pub(crate) fn table_of(poly: u32) -> [u32; 256]
     words
 }
 
-/// What a byte makes of a register that has it in the high bits, and nothing else.
+/// The register eight bits later, if at first it has this byte in its high bits and zeros below.
 fn word_of(poly: u32, byte: u32) -> u32
     requires byte { byte < 256 }
     ensures word { result ≡ word_of poly byte }
@@ -101,7 +101,7 @@ fn word_of(poly: u32, byte: u32) -> u32
     register
 }
 
-/// The register after a bit more.
+/// The register one bit later.
 fn shifted(poly: u32, register: u32) -> u32
     ensures shifted { result ≡ shifted poly register }
 {

@@ -1,14 +1,14 @@
-//! Bytes sixteen a line, as `hexdump -C` prints them.
+//! Bytes, sixteen per line, as `hexdump -C` prints them.
 ghost use Rattle.std.specs.Prelude.{◌≡◌, ◌+◌, ◌<◌, ◌≤◌, OnOk, length, map};
 ghost use Rattle.std.specs.Io.KnownBytes.{Appends};
 ghost use Rattle.cobs_live.specs.Dump.{cell, character, dump, dump_row, upto};
 
 use std::io::{self, Write};
 
-/// How many bytes are built on a line.
+/// How many bytes a line has.
 const ROW: usize = 16;
 
-/// Writes the bytes sixteen a line, each line with the offset of its first byte, the bytes as digits, and the
+/// Writes the bytes, sixteen per line. Each line has the offset of its first byte, the bytes as digits, and the
 /// characters.
 pub fn write_dump<W: Write>(output: &mut W, bytes: &[u8]) -> io::Result<()>
     ensures written { OnOk result

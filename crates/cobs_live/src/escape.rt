@@ -36,7 +36,7 @@ pub fn write_escaped<W: Write>(output: &mut W, text: &str) -> io::Result<()>
     Ok(())
 }
 
-/// Writes as much at once as needs no escape, and the character after it, and returns the rest.
+/// Writes all characters up to the first that needs an escape, at once, and that one; returns the rest.
 fn write_run<'a, W: Write>(output: &mut W, text: &'a str) -> io::Result<&'a str>
     ensures written { IfOk result (λ rest. WritesFront (W.contents output.old) (W.contents output.new) text.now rest.now) }
     ensures shorter { IfOk result (λ rest. 0 < length text.now → length rest.now < length text.now) }

@@ -9,11 +9,11 @@ use thiserror::Error;
 /// Why showing or sending ended early.
 #[derive(Debug, PartialEq, Eq, Drop, Error)]
 pub enum WatchFault {
-    /// A read failed for another reason than an interruption. All that had ended before it is shown.
+    /// A read failed, and wasn't only interrupted. All pieces that had ended before it are shown.
     #[error("read failed")]
     ReadFailed,
 
-    /// A write failed for another reason than an interruption. How much of it went out is not known.
+    /// A write failed, and wasn't only interrupted. How much of it went out is not known.
     #[error("write failed")]
     WriteFailed,
 

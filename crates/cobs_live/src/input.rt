@@ -1,4 +1,4 @@
-//! Inputs that are read beside an output.
+//! Inputs that are read while an output waits.
 ghost use Rattle.std.specs.Prelude.{◌≡◌, ◌+◌, ◌++◌, List, Option, ℕ, IfOk, OnOk, IfSome, vec_len};
 ghost use Rattle.std.specs.Prelude.{length};
 ghost use Rattle.std.specs.Io.{StopsAt, appended_bytes};

@@ -1,4 +1,4 @@
-//! What each style makes of a piece.
+//! Writes a piece in each style.
 ghost use Rattle.std.specs.Prelude.{◌≡◌, OnOk, IfSome, IsSome, ◌↔◌, IsTrue};
 ghost use Rattle.std.specs.Io.KnownBytes.{Appends};
 ghost use Rattle.cobs_lines.specs.Lines.{spaced_digits};
@@ -16,7 +16,7 @@ use cobs_lines::write_digits;
 use std::io::{self, Write};
 use std::str;
 
-/// Writes what a view's style makes of a piece that has this number and these times.
+/// Writes a piece that has this number and these times, in a view's style.
 pub fn write_line<W: Write>(
     output: &mut W,
     view: &View,
@@ -77,7 +77,7 @@ fn write_title<W: Write>(output: &mut W, kind: Kind, len: usize) -> io::Result<(
     }
 }
 
-/// Writes what begins the line of a piece: its title, and a mark if it has bytes that are no message.
+/// Writes the start of a piece's line: its title, and a mark if it has bytes that are no message.
 fn write_heading<W: Write>(output: &mut W, color: bool, piece: &Sight<'_>) -> io::Result<()>
     ensures written { OnOk result (Appends (W.contents output.old) (W.contents output.new)
         (heading color (seen_in piece.now))) }

@@ -1,4 +1,4 @@
-//! Readers and writers that wait, that are opened again, that note why they fail, and that are written twice.
+//! Readers and writers that wait, that are opened again, that note why they fail, and that write to a log too.
 
 use crate::input::{Came, LiveInput};
 use std::cell::Cell;
@@ -35,8 +35,8 @@ impl<'a, C: Clock + Drop, F: Drop> Port<'a, C, F> {
         }
     }
 
-    /// Whether to try again: it would have blocked, and a pause is over. The reason of another error is noted, but for an
-    /// interruption, after which callers try again.
+    /// Returns true if the call would have blocked, after a pause: then it is tried again. For any other error it notes the
+    /// reason, except for an interruption, after which callers try again.
     fn tries_again(&self, done: &io::Result<usize>) -> bool
         ensures failed { IsOk done.now → result ≡ false }
     {
@@ -93,7 +93,7 @@ impl<C: Clock + Drop, W: Write + Drop> Write for Port<'_, C, W> {
 /// How many milliseconds after a hang-up a line is opened again.
 const REST: u64 = 200;
 
-/// What opens a line.
+/// A type that opens a line.
 pub trait Opener<R> {
     /// Opens the line.
     fn open(&self) -> io::Result<R>;

@@ -1,6 +1,6 @@
 //! A piece of a stream, as it is shown.
 
-/// What became of a piece.
+/// The kind of a piece.
 #[derive(Debug, PartialEq, Eq, Clone, Copy)]
 pub enum Kind {
     /// It is a frame of a message.
@@ -19,13 +19,13 @@ pub enum Kind {
 /// A piece, as it is shown.
 #[derive(Clone, Copy)]
 pub struct Sight<'a> {
-    /// What became of it.
+    /// Its kind.
     pub kind: Kind,
 
     /// How many bytes it decodes to; `usize::MAX` if they are too many to be held.
     pub len: usize,
 
-    /// The bytes of a message, without a checksum that is right; of a piece that is broken or too long what was decoded
-    /// of it, or none if that isn't shown.
+    /// The bytes of a message, without its checksum if that is right. For a piece that is broken or too long, the bytes that
+    /// were decoded, or none if they aren't shown.
     pub bytes: &'a [u8],
 }

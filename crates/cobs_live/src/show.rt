@@ -32,28 +32,28 @@ use std::alloc::{AllocError, Global};
 use std::io::{BufWriter, ErrorKind, Write};
 use std::rt::Clock;
 
-/// Among how many bytes the end of a short frame is looked for: first among a few, which are one vector.
+/// The end of a short frame is looked for among this many bytes first, which are one vector, and then among [`NEAR`].
 const NEAREST: usize = 16;
 
 const NEAR: usize = 64;
 
-/// How many bytes are read at once, 64 KiB. What a read gives less is shown at once.
+/// How many bytes a read asks for, 64 KiB. If it gives fewer, they are shown without waiting for more.
 pub const CHUNK_LEN: usize = 65_536;
 
 /// Shows each piece of the input as its sentinel comes, and at the end of the input whether a piece has begun. A hang-up of
-/// the line ends no piece: it is shown, and before it whether one has begun, and the bytes that follow are skipped up to the
+/// the line ends no piece. Whether one has begun is shown, and then the hang-up; the bytes that follow are skipped up to the
 /// first sentinel.
 ///
 /// It calls [`Watch::show_next`] again and again: each call reads once, and flushes the output before it reads. So all
 /// pieces that have ended in the bytes so far have been written before the program waits for more. Memory is allocated
 /// only before the first read: for a message of the greatest length, and for a chunk of the input.
 ///
-/// The counts are written to `errors` at the end, also at a fault, if `counting` says so; and with `counting.every` those so
-/// far, each time that bytes come and this many milliseconds have passed since the start, or since they were written last. A
-/// failure to write them there is no fault.
+/// If `counting` says so, the counts are written to `errors` at the end, also after a fault. With `counting.every` the counts
+/// so far are written too, each time that bytes come and this many milliseconds have passed since the start, or since they
+/// were written last. A failure to write them is no fault.
 ///
-/// - `ReadFailed`: a read failed, as the one of a line that hangs up may. What had ended in all bytes before it is shown, and
-///   whether a piece has begun.
+/// - `ReadFailed`: a read failed, as it may if the line hangs up. All pieces that had ended before are shown, and whether
+///   another has begun.
 /// - `WriteFailed`: a write or a flush failed. How much of it went out is not known.
 /// - `OutputClosed`: the same, since nobody reads the output any more.
 /// - `OutOfMemory`: memory ran out. Nothing was read, and nothing written.
@@ -109,7 +109,7 @@ pub struct Watch<'a> {
     /// When the last piece was read, and when the last bytes.
     clock: Times,
 
-    /// Whether the first sentinel is still awaited, up to which all bytes are skipped.
+    /// Whether all bytes are still skipped, up to the first sentinel.
     skipping: bool,
 }
 
@@ -117,7 +117,7 @@ impl<'a> Watch<'a> {
     ghost use Rattle.cobs_live.specs.Live.{BeginsAnew, HasShownSoFar, HoldsText, IsLiveSoFar, ShowsEnd, ShowsHangUp, ShowsNext};
     ghost use Rattle.cobs_live.specs.Reads.{IsLive};
 
-    /// Shows nothing yet.
+    /// A watch that has shown nothing yet.
     ///
     /// # Errors
     /// `AllocError` if memory for a message of the greatest length runs out.
@@ -138,15 +138,15 @@ impl<'a> Watch<'a> {
     }
 
     /// Reads once into `chunk`, shows each piece that ended in the bytes that came, flushes the output, and returns whether
-    /// the input goes on. At its end, and if the read failed, shows whether a piece has begun that no sentinel ended; and if the
-    /// line hung up, that too.
+    /// the input continues. At its end, and if the read failed, it shows whether a piece has begun that no sentinel ended; if
+    /// the line hung up, it shows that too.
     ///
-    /// Nothing is written before the read, and when it begins the output holds nothing back (`flushed`): what had ended
-    /// has been shown. An interrupted read is tried again.
+    /// Nothing is written before the read. When it begins, the output holds nothing back (`flushed`), so all pieces that had
+    /// ended have been shown. An interrupted read is tried again.
     ///
     /// # Errors
-    /// `ReadFailed` if the read failed; no piece has ended then. `WriteFailed` if a write or a flush failed, and
-    /// `OutputClosed` if that was since nobody reads the output any more.
+    /// `ReadFailed` if the read failed; then no piece has ended. `WriteFailed` if a write or a flush failed, and
+    /// `OutputClosed` if it failed because nobody reads the output any more.
     pub fn show_next<C: Clock + Drop, S: LiveInput<W>, W: Write + Drop>(
         &mut self,
         timer: &Timer<'_, C>,
@@ -386,8 +386,8 @@ fn end_within(bytes: &[u8], most: usize) -> Option<usize>
     if zero < near { Some(zero + 1) } else { None }
 }
 
-/// Shows a piece that has this number and these times: in one call of the output, if its text can be composed, or later, with
-/// others, if it is kept with what has been composed.
+/// Shows a piece that has this number and these times. If its text can be composed, it is written in one call, or kept and
+/// written later with other pieces.
 #[inline(always)]
 fn show_at_once<W: Write>(
     output: &mut W,

@@ -129,7 +129,7 @@ pub fn sight_of<'a>(checksum: &Option<Checksum>, end: PieceEnd, buffer: &'a [u8]
     }
 }
 
-/// A message that is to end with such a checksum.
+/// A message, which should end with the checksum if there is one.
 fn message_sight<'a>(checksum: &Option<Checksum>, message: &'a [u8]) -> Sight<'a>
     ensures seen { seen_in result ≡ seen_message checksum.now message.now }
 {
@@ -161,7 +161,8 @@ fn whole(kind: Kind, bytes: &[u8]) -> Sight<'_>
     }
 }
 
-/// With `partial`, the piece with what the buffer holds of it, if it is broken or too long; else the piece itself.
+/// With `partial`, a piece that is broken or too long also has its bytes that the buffer holds. Otherwise the piece is
+/// unchanged.
 pub fn with_part<'a>(partial: bool, piece: &Sight<'a>, buffer: &'a [u8]) -> Sight<'a>
     ensures seen { seen_in result
         ≡ with_part partial (seen_in piece.now) (held piece.now.kind piece.now.len buffer.now) }

@@ -1,4 +1,4 @@
-//! How much came.
+//! Counts of the pieces and bytes that came.
 ghost use Rattle.cobs.specs.Stream.{Outcome};
 ghost use Rattle.cobs_live.specs.Counted.{IsTallyOf};
 ghost use Rattle.cobs_live.specs.Seen.{seen_of};

@@ -302,7 +302,7 @@ pub fn append_to_log(alloc: Global, log: &[u8], message: &[u8]) -> Result<Vec<u8
     Ok(longer)
 }
 
-/// Appends the frame of the message that a decoder over this buffer came to; nothing for another end.
+/// Appends the frame of a message that was decoded into this buffer, and nothing for any other end of a piece.
 fn relayed(alloc: Global, log: Vec<u8>, end: PieceEnd, buffer: &[u8]) -> Result<Vec<u8>, AllocError>
     requires at_sentinel { IsAtSentinel log.items }
     requires within { IsWithin (length buffer.now) end }

@@ -163,8 +163,8 @@ static JCOBS_INLINE void jcobs_decoder_take_byte(jcobs_decoder *decoder, unsigne
     if (decoder->too_long != 0) {
         return;
     }
-    /* Read once, as compilers read it again after a byte of the buffer is written. Three branches, which a
-     * processor predicts, are faster than one write of a chosen byte. */
+    /* Read once here, because compilers would read it again after they write a byte of the buffer. Three
+     * branches, which a processor predicts, are faster than one write of a chosen byte. */
     size_t at = decoder->written;
     if (decoder->missing != 0) {
         if (dest_len <= at) {
@@ -219,7 +219,8 @@ static JCOBS_INLINE jcobs_outcome jcobs_decoder_end(jcobs_decoder *decoder, size
     if (ended.missing != 0) {
         return jcobs_outcome_of(JCOBS_IS_INVALID_FRAME, ended.written);
     }
-    /* Only so in another buffer than the one that the piece began in, since no more is counted than was written. */
+    /* This happens only if the caller has changed the buffer, since no more is counted than was written to the
+     * first. */
     if (len < ended.written) {
         return jcobs_outcome_of(JCOBS_IS_TARGET_BUF_TOO_SMALL, 0);
     }
@@ -229,9 +230,9 @@ static JCOBS_INLINE jcobs_outcome jcobs_decoder_end(jcobs_decoder *decoder, size
     return jcobs_outcome_of(JCOBS_IS_SOME, ended.written);
 }
 
-/* Takes bytes of a stream of frames for this sentinel, a step each, through the sentinel that ends the first
- * piece, or all of them, as feed_piece does for the sentinel 0. It searches and copies nothing at once, so that it
- * is small, and fast for a few bytes. (A choice of this library.) */
+/* Takes bytes of a stream of frames for this sentinel, one step for each byte, through the sentinel that ends the
+ * first piece, or all of them, as feed_piece does for the sentinel 0. It has no search and no copy of slices, so
+ * it is small, and fast for a few bytes. (A choice of this library.) */
 static JCOBS_INLINE jcobs_found jcobs_decoder_feed_each(jcobs_decoder *decoder, unsigned char *dest, size_t dest_len,
                                                         const unsigned char *bytes, size_t bytes_len,
                                                         unsigned char sentinel)
@@ -260,7 +261,7 @@ static JCOBS_INLINE jcobs_found jcobs_decoder_feed_each(jcobs_decoder *decoder, 
             }
         }
     }
-    /* If the message is too long, only its end counts. */
+    /* Of a piece that is too long, only the end matters. */
     while (taken < bytes_len) {
         unsigned char byte = (unsigned char)(bytes[taken] ^ sentinel);
         taken++;

@@ -14,10 +14,10 @@ use std::alloc::{AllocError, Global};
 
 /// Decodes a stream of frames, each ended by a zero, into a slice that it borrows.
 ///
-/// The decoder takes the stream byte by byte, in calls as they come. When a frame ends, its message is at the
-/// front of the slice, until the next frame begins. Each piece of the stream, that is the bytes between two
-/// zeros, is judged only by its own bytes and the slice's length: after every zero the decoder is idle, so a
-/// broken frame never affects another. That a zero ends each frame is Cheshire and Baker's.
+/// The stream is passed to it in calls of any number of bytes. When a frame ends, its message is at the front of the
+/// slice, until the next frame begins. The outcome of a piece of the stream, that is of the bytes between two zeros,
+/// depends only on these bytes and the slice's length: after every zero the decoder is idle, so a broken frame never
+/// affects another. That a zero ends each frame is Cheshire and Baker's.
 ///
 /// ```
 /// let mut buffer = [0; 8];
@@ -130,9 +130,9 @@ impl<'a> CobsDecoder<'a> {
 
     /// Returns the whole slice, to be written to.
     ///
-    /// What is written inside a piece changes no result of this piece: only the bytes of its message are
-    /// then not known. A proof about its caller learns the bytes of the slice while it is borrowed, and not the
-    /// decoder's state after the write: [`write_dest`](crate::WriteBuffer::write_dest) says that too.
+    /// Writing inside a piece changes no result of this piece; only the bytes of its message are then unknown. From
+    /// this call, a proof about its caller knows the bytes of the slice while it is borrowed, but not the decoder's
+    /// state after the write: [`write_dest`](crate::WriteBuffer::write_dest) says that too.
     ///
     /// ```
     /// let mut buffer = [7; 2];

@@ -1,4 +1,4 @@
-//! The traits of the streaming decoders: what `stream` and `framed` know of one, and writing to its buffer.
+//! The traits of the streaming decoders: the one that `stream` and `framed` use, and one for writing to the buffer.
 ghost use Rattle.std.specs.Prelude.{◌≡◌, ◌≤◌, ℕ, List, length, ◌+◌};
 ghost use Rattle.cobs.specs.Feed.{Feeds, Phase};
 ghost use Rattle.cobs.specs.FeedPiece.{end_reported, TakesPiece};
@@ -129,8 +129,8 @@ pub trait FrameDecoder {
 /// decoder that has taken the front of a piece (`PhaseAfter`) still has: each result of this piece is the same, and
 /// only the bytes of its message are then unknown.
 ///
-/// Each streaming decoder has a method `dest_mut` of its own too. Of a `CobsDecoder`, whose slice is itself borrowed, a
-/// caller's proof learns through that method only the bytes of the slice while it is borrowed. Such a caller writes by
+/// Each streaming decoder has a method `dest_mut` of its own too. With the one of a `CobsDecoder`, whose slice is itself
+/// borrowed, a caller's proof knows only the bytes of the slice while it is borrowed. Such a caller writes with
 /// [`write_dest`](WriteBuffer::write_dest), or in code that is generic over this trait. (The trait is this library's
 /// own.)
 ///

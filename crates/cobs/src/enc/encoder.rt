@@ -9,8 +9,8 @@ use crate::error::DestBufTooSmallError;
 
 /// Encodes a message that comes in pieces, straight into a slice of the caller's.
 ///
-/// However the message is cut into pieces, the frame is the one that [`encode`](crate::encode) writes. While bytes are
-/// taken, the slice begins with that frame of what was taken so far, except the code of the block that is still open;
+/// However the message is cut into pieces, the frame is the one that [`encode`](crate::encode) writes. After each push the
+/// slice begins with that frame of the bytes that were taken so far, except the code of the block that is still open;
 /// [`finalize`](CobsEncoder::finalize) writes this last code. The encoder needs no room beyond the frame's.
 ///
 /// The blocks are those of the paper by Cheshire and Baker; the calls are those of the crate `cobs`.
@@ -36,8 +36,8 @@ impl<'a> CobsEncoder<'a> {
     ghost use Rattle.cobs.specs.Length.{encoded_len};
     ghost use Rattle.cobs.specs.Fields.Encoders.{slice_of, HasTaken, WritesTo, IsOverSameSlice, IsUnchanged};
 
-    /// Makes an encoder that has taken nothing yet, and writes to the front of `out_buf`. No byte of it is changed by
-    /// this.
+    /// Makes an encoder that has taken nothing yet, and that will write to the front of `out_buf`. This call changes no
+    /// byte of it.
     ///
     /// Precondition: the slice has one byte at least, since the frame of the empty message has one.
     ///

@@ -1,6 +1,6 @@
 // Made by bindings/rust/translate.py from `crates/cobs_bytes/src/lanes.rt`: change that file, and run it again.
-//! Stretches of bytes of other lengths than a window's: copied, copied if none is a sentinel, and moved within one buffer,
-//! whose places may overlap. All of a part is loaded before any of it is stored.
+//! Functions over bytes of any number: they copy, copy if no byte is a sentinel, and move within one buffer, where the old
+//! place and the new one may overlap. All bytes of a vector are loaded before any of them is stored.
 
 use crate::proved::cobs_bytes::window::{WIDE_WINDOW, WINDOW, by_width, has_vectors};
 use crate::simd::*;
@@ -14,7 +14,7 @@ fn move_two<const N: usize>(buffer: &mut [u8], from: usize, len: usize) {
     back.copy_to_slice(&mut buffer[len - N..]);
 }
 
-/// Moves the `len` bytes from `from` on to the front of the buffer; the bytes after them there stay.
+/// Moves the `len` bytes from `from` on to the front of the buffer. Bytes that no moved byte replaces stay.
 // A call of `copy_within` costs more than the moves themselves if these are a few windows.
 #[inline(always)]
 pub fn move_to_front(buffer: &mut [u8], from: usize, len: usize) {
@@ -25,7 +25,7 @@ pub fn move_to_front(buffer: &mut [u8], from: usize, len: usize) {
     }
 }
 
-/// Copies `N` to `2 * N` bytes, as two parts that may overlap, if none is the sentinel, and says whether it did.
+/// Copies `N` to `2 * N` bytes, as two parts that may overlap, if none is the sentinel, and returns whether it did.
 #[inline(always)]
 fn copy_xored_two<const N: usize>(source: &[u8], dest: &mut [u8], sentinel: u8) -> bool {
     let at = source.len() - N;
@@ -41,7 +41,7 @@ fn copy_xored_two<const N: usize>(source: &[u8], dest: &mut [u8], sentinel: u8) 
     true
 }
 
-/// Copies all bytes if none is the sentinel, one byte per iteration, and says whether it did.
+/// Copies all bytes if none is the sentinel, one byte per iteration, and returns whether it did.
 #[inline(always)]
 fn copy_xored_by_byte(source: &[u8], dest: &mut [u8], sentinel: u8) -> bool {
     'by_byte: for i in 0..source.len() {
@@ -55,7 +55,7 @@ fn copy_xored_by_byte(source: &[u8], dest: &mut [u8], sentinel: u8) -> bool {
     true
 }
 
-/// Copies up to 64 bytes if none is the sentinel, and says whether it did.
+/// Copies up to 64 bytes, each XORed with the sentinel, if none is the sentinel, and returns whether it did.
 #[inline(always)]
 pub fn copy_xored_short(source: &[u8], dest: &mut [u8], sentinel: u8) -> bool {
     if has_vectors() {
@@ -76,7 +76,7 @@ fn copy_xored_slice(source: &[u8], dest: &mut [u8], sentinel: u8) {
 }
 
 /// Copies all bytes, each XORed with the sentinel, to the front of `dest`: as one slice if they are more than 32.
-// Up to that a call costs more than the copy. The bytes that are copied so have no sentinel.
+// For up to 32 bytes a call costs more than the copy. If a sentinel is among them, they are copied as a slice too.
 #[inline(always)]
 pub fn copy_xored(source: &[u8], dest: &mut [u8], sentinel: u8) {
     let is_short = has_vectors() && !source.is_empty() && source.len() <= WINDOW;

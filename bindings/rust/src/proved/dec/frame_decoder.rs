@@ -1,5 +1,5 @@
 // Made by bindings/rust/translate.py from `crates/cobs/src/dec/frame_decoder.rt`: change that file, and run it again.
-//! The traits of the streaming decoders: what `stream` and `framed` know of one, and writing to its buffer.
+//! The traits of the streaming decoders: the one that `stream` and `framed` use, and one for writing to the buffer.
 
 use crate::proved::error::DecodeError;
 
@@ -116,8 +116,8 @@ pub trait FrameDecoder {
 /// decoder that has taken the front of a piece (`PhaseAfter`) still has: each result of this piece is the same, and
 /// only the bytes of its message are then unknown.
 ///
-/// Each streaming decoder has a method `dest_mut` of its own too. Of a `CobsDecoder`, whose slice is itself borrowed, a
-/// caller's proof learns through that method only the bytes of the slice while it is borrowed. Such a caller writes by
+/// Each streaming decoder has a method `dest_mut` of its own too. With the one of a `CobsDecoder`, whose slice is itself
+/// borrowed, a caller's proof knows only the bytes of the slice while it is borrowed. Such a caller writes with
 /// [`write_dest`](WriteBuffer::write_dest), or in code that is generic over this trait.
 ///
 /// ```

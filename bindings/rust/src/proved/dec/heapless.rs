@@ -37,8 +37,7 @@ impl<const N: usize> CobsDecoderHeapless<N> {
         CobsDecoderHeapless::new_with_vec(ArrayVec::new())
     }
 
-    /// Makes an idle decoder over the vector, which keeps what is in it and is filled with zeros to its capacity,
-    /// `N` bytes.
+    /// Makes an idle decoder over the vector. It keeps the vector's bytes, and adds zeros up to the capacity, `N` bytes.
     ///
     /// ```
     /// # use jcobs::proved::*;

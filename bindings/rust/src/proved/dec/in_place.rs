@@ -95,7 +95,7 @@ fn decode_by_byte_in_place(buffer: &mut [u8], len: usize) -> bool {
     true
 }
 
-/// Decodes the first `len` bytes of the buffer, if these are 2 to 65 and a frame, and says whether it did. If not, every byte
+/// Decodes the first `len` bytes of the buffer, if these are 2 to 65 and a frame, and returns whether it did. If not, every byte
 /// stays. With vectors they are decoded from a copy, which is put back if the frame is broken.
 #[inline(always)]
 fn decode_stretch_in_place(buffer: &mut [u8], len: usize) -> bool {
@@ -163,7 +163,7 @@ pub fn decode_in_place_report(buf: &mut [u8]) -> Result<DecodeReport, DecodeErro
 ///
 /// It decodes a buffer that has 2 to 65 bytes before its first zero, which are a whole frame, and at most this zero after
 /// them.
-/// [`decode_in_place_report`] asks this first. If the target has vectors, it calls nothing, as
+/// [`decode_in_place_report`] calls it first. If the target has vectors, it calls nothing itself, as
 /// `decode_short`.
 ///
 /// ```

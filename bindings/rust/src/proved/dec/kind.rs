@@ -4,7 +4,7 @@
 use crate::proved::block::FULL_CODE;
 use crate::proved::find::position_or_len;
 
-/// What bytes are to a decoder.
+/// Whether bytes are a frame, and which frame of its message.
 ///
 /// ```
 /// use jcobs::{FrameKind, frame_kind};
@@ -17,15 +17,15 @@ pub enum FrameKind {
     /// No message: the list is empty, has a zero, or breaks off inside a block.
     NotAFrame,
 
-    /// The frame that encoders give for its message.
+    /// The frame that encoders write for its message.
     Canonical,
 
-    /// The longer frame of its message: the one that encoders give, followed by a block without bytes. Only a message
+    /// The longer frame of its message: the one that encoders write, followed by a block without bytes. Only a message
     /// whose last run of nonzero bytes fills its blocks has one.
     Longer,
 }
 
-/// Returns whether the bytes are a frame, and whether they are the one that encoders give for its message.
+/// Returns whether the bytes are a frame, and whether they are the one that encoders write for its message.
 ///
 /// The bytes are a frame without the sentinels around it. It is longer than its message's encoded frame exactly if its last
 /// two blocks are a full one and an empty one; decoders read the two alike. Nothing is allocated.

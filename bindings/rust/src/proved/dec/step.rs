@@ -29,7 +29,7 @@ impl UnbufferedDecoder {
                 decoded_bytes: ended.written,
             });
         }
-        // Only so in another buffer than the one that the piece began in, since no more is counted than was written.
+        // This happens only if the caller has changed the buffer, since no more is counted than was written to the first.
         if len < ended.written {
             return Err(DecodeError::TargetBufTooSmall);
         }
@@ -46,8 +46,8 @@ impl UnbufferedDecoder {
         if self.too_long != 0 {
             return;
         }
-        // Read once, as compilers read it again after a byte of the buffer is written. Three branches, which a processor
-        // predicts, are faster than one write of a chosen byte.
+        // Read once here, because compilers would read it again after they write a byte of the buffer. Three branches, which
+        // a processor predicts, are faster than one write of a chosen byte.
         let at = self.written;
         if self.missing != 0 {
             if dest.len() <= at {
@@ -84,9 +84,9 @@ impl UnbufferedDecoder {
         Ok(None)
     }
 
-    /// Takes bytes of a stream of frames for this sentinel, a step each, through the sentinel that ends the first piece, or
-    /// all of them, as [`feed_piece`](Self::feed_piece) does for the sentinel 0. It searches and copies nothing at once, so
-    /// that it is small, and fast for a few bytes.
+    /// Takes bytes of a stream of frames for this sentinel, one step for each byte, through the sentinel that ends the first
+    /// piece, or all of them, as [`feed_piece`](Self::feed_piece) does for the sentinel 0. It has no search and no copy of
+    /// slices, so it is small, and fast for a few bytes.
     ///
     /// ```
     /// use jcobs::{PieceEnd, UnbufferedDecoder};
@@ -124,7 +124,7 @@ impl UnbufferedDecoder {
                 }
             }
         }
-        // If the message is too long, only its end counts.
+        // Of a piece that is too long, only the end matters.
         'to_end: while taken < bytes.len() {
             let byte = bytes[taken] ^ sentinel;
             taken += 1;

@@ -43,7 +43,7 @@ pub fn decode(source: &[u8], dest: &mut [u8]) -> Result<DecodeReport, DecodeErro
     decode_long(source, dest)
 }
 
-/// Does what [`decode`] does, for any source: apart, so that a short frame doesn't pay for the registers that this needs.
+/// Does what [`decode`] does, for any source. It is a function of its own, so that a short frame saves no registers for it.
 #[inline(never)]
 fn decode_long(source: &[u8], dest: &mut [u8]) -> Result<DecodeReport, DecodeError> {
     if source.is_empty() {

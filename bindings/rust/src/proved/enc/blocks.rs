@@ -56,10 +56,9 @@ fn mark_zeros(dest: &mut [u8], index: usize, next: usize, zeros: u64) -> usize {
     index
 }
 
-/// Takes the first `len` bytes of a source, which can't fill the open block, one by one. At a zero's place the next code is
-/// written.
-/// If the target has vectors, no branch asks for zeros, since such a processor may guess it wrong: the open block's code is
-/// written for each byte.
+/// Takes the first `len` bytes of a source, which can't fill the open block, one by one. The next code is written at a zero's
+/// place. If the target has vectors, no branch tests for zeros, since such a processor may predict it wrong: then the open
+/// block's code is written for each byte.
 #[inline(always)]
 pub(crate) fn append_few(
     source: &[u8],
@@ -122,8 +121,8 @@ fn write_codes_of_zeros(source: &[u8], dest: &mut [u8], at: usize) -> usize {
 /// Takes windows of 32 bytes while more bytes than one window are left, up to a full block. Returns how many bytes it took,
 /// and how far the frame has come.
 ///
-/// Each window is copied to the place of the next byte. If no zero is near enough to keep the open block from being full,
-/// that block is closed, and the caller continues with slices after it, since a run that fills one block often fills more.
+/// Each window is copied to the place of the next byte. If no zero comes before the open block is full, that block is
+/// closed, and the caller continues with slices after it, since a run that fills one block often fills more.
 /// Otherwise each zero of the window is replaced by the code of the block that it begins, and the last block stays open
 /// for the next window. A row of zeros needs no copy. Nothing is written after the frame.
 #[inline(always)]
