@@ -156,7 +156,7 @@ static JCOBS_INLINE unsigned char jcobs_joint_after(unsigned char code)
     return code == JCOBS_FULL ? 0 : 1;
 }
 
-/* Takes a byte of a piece, over this buffer. */
+/* Takes a byte of a piece, and writes its output to the buffer. */
 static JCOBS_INLINE void jcobs_decoder_take_byte(jcobs_decoder *decoder, unsigned char *dest, size_t dest_len,
                                                  unsigned char byte)
 {
@@ -204,7 +204,7 @@ static JCOBS_INLINE jcobs_outcome jcobs_piece_end_reported(jcobs_outcome returne
     }
 }
 
-/* Takes a zero, which ends a piece if one has begun, over a buffer of this length. */
+/* Takes a zero, which ends a piece if one has begun. The buffer has this length. */
 static JCOBS_INLINE jcobs_outcome jcobs_decoder_end(jcobs_decoder *decoder, size_t len)
 {
     jcobs_decoder ended = *decoder;
@@ -332,7 +332,7 @@ jcobs_answer jcobs_decoder_push(jcobs_decoder *decoder, void *buffer, size_t buf
     return jcobs_decode_each(decoder, (unsigned char *)buffer, buffer_len, (const unsigned char *)bytes, len, 0);
 }
 
-/* Takes the next byte of the stream, over this buffer. */
+/* Takes the next byte of the stream, and writes its output to the buffer. */
 static JCOBS_INLINE jcobs_outcome jcobs_decoder_step(jcobs_decoder *decoder, unsigned char *dest, size_t dest_len,
                                                      unsigned char byte)
 {
@@ -868,7 +868,7 @@ static jcobs_answer jcobs_result_by(size_t consumed, size_t room, jcobs_outcome 
     return jcobs_answered(status, consumed, length);
 }
 
-/* Returns how many bytes are in front of the first zero. */
+/* Returns how many bytes come before the first zero. */
 static JCOBS_NOINLINE size_t jcobs_len_to_zero(const unsigned char *bytes, size_t bytes_len)
 {
     if (bytes_len == 0) {

@@ -8,20 +8,20 @@ use crate::fault::CaseFault;
 use crate::short::words_of;
 use std::alloc::{AllocError, Global};
 
-/// What came of a line.
+/// The verdict on a line.
 #[derive(Debug, Drop)]
 pub enum Verdict {
     /// The line is empty or a comment.
     NoCase,
 
-    /// The result is the one that is wanted.
+    /// The result is the expected one.
     Agrees,
 
-    /// It isn't, or none came: this says what is wanted and what came.
+    /// The result is another one, or there is none. The text has the expected result and the actual one.
     Differs(String),
 }
 
-/// A line's words by what they are.
+/// A line's words, each under its name.
 #[derive(Debug, Drop)]
 struct Case<'a> {
     name: &'a str,
@@ -30,7 +30,7 @@ struct Case<'a> {
     wanted: &'a [&'a str],
 }
 
-/// Makes the call of a line, and holds its result against the line's.
+/// Makes the call of a line, and compares its result with the line's.
 pub fn verdict_of(alloc: Global, line: &str) -> Result<Verdict, AllocError>
     ensures no_case { (result ≡ Ok Verdict.NoCase) ↔ IsNoCase line.now }
 {

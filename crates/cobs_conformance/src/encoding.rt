@@ -209,7 +209,7 @@ pub fn encode_frames(alloc: Global, arguments: &[&str]) -> Result<CallResult, Ca
     said(alloc, &stream)
 }
 
-/// The bytes alone.
+/// The result with just these bytes.
 fn said(alloc: Global, bytes: &[u8]) -> Result<CallResult, CaseFault> {
     let mut returned = CallResult::new(alloc);
     returned.say_bytes(bytes)?;

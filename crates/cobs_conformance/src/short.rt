@@ -1,4 +1,4 @@
-//! Long words: parts with `+` between two, each digits alone, or digits, `*` and a count.
+//! Long words: parts joined by `+`. Each part is digits, or digits, `*` and a count.
 ghost use Rattle.std.specs.Prelude.{◌≡◌, ◌==◌, ◌<◌, ◌≤◌, IfOk, length, map, string_bytes};
 ghost use Rattle.std.specs.List.{slice_split};
 ghost use Rattle.cobs_conformance.specs.Short.{repeated, word_text};
@@ -50,7 +50,7 @@ fn split(alloc: Global, text: &str, separator: char) -> Result<Vec<&str>, AllocE
     text.split(separator).collect(alloc)
 }
 
-/// What the fields of a part stand for: digits, as often as the number after them says.
+/// The text of a part's fields: digits, repeated as often as the number after them says.
 fn repeated(alloc: Global, fields: &[&str]) -> Result<String, CaseFault>
     ensures text { IfOk result (λ text. string_bytes text
         ≡ repeated (map (λ field. field.now) fields.now)) }

@@ -1,4 +1,4 @@
-//! Calls over slices: the call, its arguments, and what it must return and leave.
+//! Calls over slices: the call, its arguments, its result, and the bytes of the buffer after it.
 use cobs::{
     DecodeError, DecodeReport, DecodeVecError, decode, decode_in_place_report, decode_vec,
     decode_vec_with_sentinel, decode_with_sentinel, encode_vec, encode_vec_including_sentinels,

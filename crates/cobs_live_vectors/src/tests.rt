@@ -20,7 +20,7 @@ use std::rt::Clock;
 use std::test::Fail;
 use std::time::Duration;
 
-/// Four pieces over a buffer of four bytes, and the begin of a fifth.
+/// Four pieces, for a buffer of four bytes, and the start of a fifth.
 const STREAM: &[u8] = b"\x00\x03\x07\x08\x00\x05\x01\x00\x06\x01\x02\x03\x04\x05\x00\x03hi\x00\x02";
 
 /// How they are shown, by style; in a capture with the time of their one read, 250 ms after the start.
@@ -225,7 +225,7 @@ fn reader(bytes: &[u8], failing: usize, fault: ErrorKind) -> ByteReader<'_> {
     }
 }
 
-/// How each piece is shown in a style, over a buffer of four bytes.
+/// How each piece is shown in a style, with a buffer of four bytes.
 fn settings(alloc: Global, style: Style, stamp: Stamp) -> Settings {
     Settings {
         view: View {

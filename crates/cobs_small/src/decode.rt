@@ -9,7 +9,7 @@ use cobs::laws::{law_1, law_9, law_10, law_12, law_14};
 use cobs::{PieceEnd, UnbufferedDecoder};
 use cobs_abi::{Answer, BROKEN, EMPTY, MORE, TOO_SMALL, done};
 
-/// Returns how many bytes are in front of the first zero.
+/// Returns how many bytes come before the first zero.
 // A function of its own, so that its loop has all registers of a small processor.
 #[inline(never)]
 pub(crate) fn len_to_zero(bytes: &[u8]) -> usize

@@ -15,7 +15,7 @@ struct Fed<'a> {
 }
 
 impl Check for Fed<'_> {
-    /// The result of each zero is that of the piece in front of it.
+    /// Checks that the result of each zero is that of the piece before it.
     fn check<D: StreamingDecoder + Drop>(
         &self,
         rt: &impl Abort,

@@ -23,10 +23,10 @@ const FRONTS: [(usize, Parts); 10] = [
     (4, &[&[6, 1, 2, 3, 4, 5]]),
 ];
 
-/// What comes after the write.
+/// The bytes after the write.
 const BEHIND: [&[u8]; 5] = [&[], &[1], &[3], &[2, 9], &[7, 8, 9, 1, 1, 1]];
 
-/// A buffer that is written to inside a piece: whatever comes of it, the decoder is idle after the next zero.
+/// A buffer that is written to inside a piece: whatever the results are, the decoder is idle after the next zero.
 #[derive(Drop)]
 struct Written<'a> {
     front: &'a [u8],

@@ -142,7 +142,7 @@ const OUTCOMES: &[Found] = &[
 
 /// Over a decoder of four bytes.
 const READERS: [&[ReaderRow]; 12] = [
-    // an unfinished piece goes on with another reader
+    // an unfinished piece continues with another reader
     &[
         (
             Given::Bytes(&[2, 5, 0, 3, 1], 64),
@@ -151,7 +151,7 @@ const READERS: [&[ReaderRow]; 12] = [
         ),
         (Given::Bytes(&[7, 0], 64), &[Found::Message(&[1, 7])], 1),
     ],
-    // what was read goes on with another reader too
+    // bytes that were read are kept with another reader too
     &[
         (
             Given::Bytes(&[1, 0, 1, 0, 2, 5, 0], 64),

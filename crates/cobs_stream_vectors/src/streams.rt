@@ -27,13 +27,13 @@ fn outcomes_of(alloc: Global, wanted: &[Wanted]) -> Result<Vec<FrameOutcome>, Al
     Ok(outcomes)
 }
 
-/// A stream, and what comes of it over a buffer of this many bytes.
+/// A stream, and its outcomes in a buffer of this many bytes.
 type Case = (usize, &'static [u8], &'static [Wanted]);
 
 /// Over four bytes: a message, a broken piece, a piece that is too long, and a message.
 const DAMAGED: [u8; 18] = [0, 3, 7, 8, 0, 5, 1, 0, 6, 1, 2, 3, 4, 5, 0, 2, 9, 0];
 
-/// What comes of it.
+/// Its outcomes.
 const OUTCOMES: [Wanted; 4] = [
     Wanted::Message(&[7, 8]),
     Wanted::Broken(1),
@@ -91,7 +91,7 @@ const CASES: [Case; 6] = [
     ),
 ];
 
-/// Appends the outcomes of pushing the bytes, what is not yet consumed again after each result.
+/// Appends the outcomes of pushing the bytes. After each result the bytes that weren't consumed are pushed again.
 fn push_all<D: StreamingDecoder>(
     rt: &impl Abort,
     alloc: Global,

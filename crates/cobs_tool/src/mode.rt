@@ -11,7 +11,7 @@ pub enum Mode {
     /// Write a message's frame and the zero after it.
     Encode,
 
-    /// Print what becomes of each piece of a stream.
+    /// Print the outcome of each piece of a stream.
     Decode,
 }
 

@@ -82,8 +82,7 @@ pub fn run_encode<R: Read, W: Write>(
     write_output(output, &frame)
 }
 
-/// Prints what becomes of each piece of the input, a stream of frames that are each ended by a zero, as
-/// [`report_of`] says it.
+/// Prints the outcome of each piece of the input, a stream of frames that a zero ends each, as [`report_of`] says.
 ///
 /// The input is read, and its faults are reported, as [`run_show`] does it.
 pub fn run_decode<R: Read, W: Write>(

@@ -1,4 +1,4 @@
-//! What becomes of the pieces of a stream, in words.
+//! The outcomes of the pieces of a stream, as lines of text.
 ghost use Rattle.std.specs.Prelude.{◌≡◌, ◌≤◌, ◌++◌, length, IfOk, OnOk, string_bytes};
 ghost use Rattle.cobs.specs.Stream.{Broken, Message};
 ghost use Rattle.cobs_lines.specs.Lines.{outcome_line};

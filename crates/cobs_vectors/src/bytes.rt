@@ -44,7 +44,8 @@ pub fn repeated(alloc: Global, byte: u8, count: usize) -> Result<Vec<u8>, AllocE
     vec![in alloc; byte; count]
 }
 
-/// The `number`th list of `count` parts: its digits to the base of how many parts there are to choose from.
+/// A list of `count` of the parts, chosen by the digits of `number` in the base `parts.len()`. So each number below
+/// `parts.len()` to the power of `count` has a list of its own.
 pub fn chosen(
     alloc: Global,
     parts: &[&[u8]],

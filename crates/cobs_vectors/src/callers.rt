@@ -218,7 +218,7 @@ pub fn push_nothing(decoder: &mut CobsDecoder<'_>)
     let _returned = decoder.push(&[]);
 }
 
-/// Whether a push came to this message, which is then at the buffer's front.
+/// Whether a push decoded this message, which is then at the buffer's front.
 fn came_to(returned: Result<Option<DecodeReport>, PushError>, buffer: &[u8], message: &[u8]) -> bool
     ensures { IsTrue result ↔ PushesMessage returned buffer.now message.now }
 {

@@ -38,7 +38,7 @@ pub fn on_byte<const N: usize>(decoder: &mut CobsDecoderHeapless<N>, byte: u8) -
     }
 }
 
-/// Counts the messages that end in some bytes, and goes on after each error, in any phase.
+/// Counts the messages that end in some bytes, and continues after each error, in any phase.
 pub fn count_messages(decoder: &mut CobsDecoderOwned, bytes: &[u8]) -> usize {
     let mut at = 0;
     let mut count = 0usize;
@@ -112,7 +112,7 @@ pub fn on_zero<D: FrameDecoder>(decoder: &mut D) -> usize
     }
 }
 
-/// Feeds a byte to a decoder and to a `DecoderState` beside it: in every state either both end a message or neither does,
+/// Feeds a byte to a decoder and also to a `DecoderState`: in every state either both end a message or neither does,
 /// unless the output is too long for the decoder's buffer.
 pub fn end_alike<D: FrameDecoder>(decoder: &mut D, state: &mut DecoderState, byte: u8) -> bool
     requires { state_in (D.phase decoder.old) ≡ Some state.old }
@@ -165,7 +165,7 @@ pub fn next_broken<D: FrameDecoder, S: FrameSource>(
     }
 }
 
-/// A serial port that keeps a decoder's state beside its buffer.
+/// A serial port that keeps a decoder's state next to its buffer.
 pub struct Port {
     decoder: UnbufferedDecoder,
     buffer: [u8; 64],

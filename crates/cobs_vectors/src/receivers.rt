@@ -49,7 +49,7 @@ pub fn read_piece<D: FrameDecoder>(decoder: &mut D, ended: &[u8], piece: &[u8]) 
     }
 }
 
-/// What becomes of a piece and its zero in any idle decoder: the piece and the buffer's length alone determine it.
+/// The outcome of a piece and its zero in any idle decoder: only the piece and the buffer's length determine it.
 pub fn end_of<D: FrameDecoder>(decoder: &mut D, ended: &[u8], piece: &[u8]) -> PieceEnd
     requires idle { D.phase decoder.old ≡ Idle }
     requires piece { IsPiece piece.now }

@@ -1,4 +1,4 @@
-//! Callers whose contracts are proved from the public clauses of `cobs` alone, and that a test runs.
+//! Callers whose contracts are proved only from the public clauses of `cobs`, and that a test runs.
 ghost use Rattle.std.specs.Prelude.{◌≡◌, ◌<◌, ◌≤◌, ◌^◌, ◌++◌, ◌↔◌, [], ℕ, All, IsOk, IfOk, length, map, slice_set, take};
 ghost use Rattle.cobs.specs.Fields.Decoders.{borrowed_buffer, borrowed_phase, borrowed_slice};
 ghost use Rattle.cobs.specs.Feed.{DecoderAfter};

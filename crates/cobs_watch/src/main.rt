@@ -106,7 +106,7 @@ fn no_task(rt: &HostRuntime, error: &clap::Error) -> ExitCode {
     faulted(rt, error.into(), reason)
 }
 
-/// Whether lines have colours if the arguments leave it open: standard output is a terminal that has colours, and the variable
+/// Whether lines have colours if the arguments don't say: standard output is a terminal that has colours, and the variable
 /// `NO_COLOR` isn't set, or is empty.
 fn auto_color(rt: &HostRuntime) -> bool {
     let no_color = match env::var(rt, "NO_COLOR") {

@@ -82,7 +82,7 @@ impl<'a> CobsDecoder<'a> {
         self.inner.feed(self.dest, byte)
     }
 
-    /// Takes bytes of the stream, up to the first one whose result by `feed` isn't `Ok(None)`.
+    /// Takes bytes of the stream, through the first one whose result by `feed` isn't `Ok(None)`.
     ///
     /// `Ok(None)`: all bytes were taken, and no piece has ended in them. `Ok(Some(report))`: a whole frame has ended;
     /// `frame_size` is the length of its message, which is at the front of the slice, and `parsed_size` counts
@@ -240,7 +240,7 @@ impl CobsDecoderOwned {
         self.inner.feed(&mut self.dest, byte)
     }
 
-    /// Takes bytes of the stream up to the first one whose result by `feed` isn't `Ok(None)`, as
+    /// Takes bytes of the stream through the first one whose result by `feed` isn't `Ok(None)`, as
     /// [`CobsDecoder::push`](crate::CobsDecoder::push) does, with its errors.
     ///
     /// ```

@@ -86,7 +86,7 @@ impl<const N: usize> CobsDecoderHeapless<N> {
         self.inner.feed(self.dest.as_mut_slice(), byte)
     }
 
-    /// Takes bytes of the stream up to the first one whose result by `feed` isn't `Ok(None)`, as
+    /// Takes bytes of the stream through the first one whose result by `feed` isn't `Ok(None)`, as
     /// [`CobsDecoder::push`](crate::CobsDecoder::push) does, with its errors.
     ///
     /// ```

@@ -48,7 +48,7 @@ pub enum DecodeResult {
     /// The end of a whole frame: the output so far is its message.
     DataComplete,
 
-    /// This byte belongs to the message, at its end.
+    /// This byte is the next one of the message.
     DataContinue(u8),
 }
 

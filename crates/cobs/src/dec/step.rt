@@ -24,7 +24,7 @@ pub(crate) fn joint_after(code: u8) -> u8
 }
 
 impl UnbufferedDecoder {
-    /// Takes a zero, which ends a piece if one has begun, over a buffer of this length.
+    /// Takes a zero, which ends a piece if one has begun. The buffer has this length.
     #[inline(always)]
     fn end(&mut self, len: usize) -> Result<Option<usize>, DecodeError>
         ensures returned { result ≡ end_result len (phase_of self.old) }
@@ -51,7 +51,7 @@ impl UnbufferedDecoder {
         }
     }
 
-    /// Takes a byte of a piece, over this buffer.
+    /// Takes a byte of a piece, and writes its output to the buffer.
     #[inline(always)]
     fn take_byte(&mut self, dest: &mut [u8], byte: u8)
         requires nonzero { byte ≢ 0 }
@@ -86,7 +86,7 @@ impl UnbufferedDecoder {
         self.joint = joint_after(byte);
     }
 
-    /// Takes the next byte of the stream, over this buffer.
+    /// Takes the next byte of the stream, and writes its output to the buffer.
     #[inline(always)]
     pub(crate) fn step(&mut self, dest: &mut [u8], byte: u8) -> Result<Option<usize>, DecodeError>
         ensures returned { result ≡ next_result (length dest.old) (phase_of self.old) byte }

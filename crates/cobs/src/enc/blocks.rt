@@ -18,7 +18,7 @@ pub(crate) const FEW: usize = 8;
 /// The mask of a window that has no byte but zeros.
 const ALL_ZEROS: u64 = 0xffff_ffff;
 
-/// So far: an open block at `index`, and the next byte at `next`.
+/// The progress with an open block at `index`, whose next byte belongs at `next`.
 #[inline(always)]
 fn progress_at(index: usize, next: usize, is_full: bool) -> EncoderProgress
     requires ordered { index < next }

@@ -1,5 +1,5 @@
-//! Laws for your own coder: how long a frame gets block by block, what an encoder over a slice has taken after
-//! each byte, what a decoder has taken, and which frame a piece is. Then what the streaming decoders return for a frame.
+//! Laws for your own coder: the length of a frame block by block, the state of an encoder and of a decoder after each
+//! byte, and which frame a piece is. Also the results of the streaming decoders for a frame.
 ghost use Rattle.std.specs.Prelude.{◌≡◌, ◌≢◌, ◌↔◌, ◌<◌, ◌+◌, ℕ, List, [], ◌∷◌, ◌++◌, length, drop, false, Some, None};
 ghost use Rattle.cobs.specs.Feed.{DecoderAfter, Idle, Phase};
 ghost use Rattle.cobs.specs.FeedPiece.{TakesPiece, outcome_at};
@@ -121,8 +121,9 @@ pub fn law_18()
     ensures { FrameLaw }
 {}
 
-/// Says which frame a block and the bytes after it form. A block alone is a canonical frame. Before other bytes it is a
-/// frame exactly if they are one, and canonical exactly if they are, unless it is full and they are the lone block.
+/// Says which frame a block and the bytes after it form. A block without other bytes is a canonical frame. With other bytes
+/// after it, it is a frame exactly if they are one, and canonical exactly if they are, unless it is full and they are the
+/// lone block.
 /// Bytes that are fewer than their first code says are no frame.
 ///
 /// So your own reader that goes from code to code learns whether it has a frame, and which one.

@@ -5,7 +5,7 @@ use crate::proved::cobs_abi::{Answer, BROKEN, EMPTY, MORE, TOO_SMALL, done};
 use crate::proved::cobs_small::decoder::jcobs_decoder_push;
 use crate::proved::{PieceEnd, UnbufferedDecoder};
 
-/// Returns how many bytes are in front of the first zero.
+/// Returns how many bytes come before the first zero.
 // A function of its own, so that its loop has all registers of a small processor.
 #[inline(never)]
 pub(crate) fn len_to_zero(bytes: &[u8]) -> usize {

@@ -72,7 +72,7 @@ impl<const N: usize> CobsDecoderHeapless<N> {
         self.inner.feed(self.dest.as_mut_slice(), byte)
     }
 
-    /// Takes bytes of the stream up to the first one whose result by `feed` isn't `Ok(None)`.
+    /// Takes bytes of the stream through the first one whose result by `feed` isn't `Ok(None)`.
     /// The error says how many bytes were taken.
     ///
     /// ```
