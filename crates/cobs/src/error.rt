@@ -81,7 +81,8 @@ pub enum DecodeVecError {
     Memory(AllocError),
 }
 
-/// The sizes of a decoded message: how many bytes were consumed for it, and how many it has, named as in the crate `cobs`.
+/// The sizes of a decoded message: how many bytes were consumed for it, and how many it has. The names are those of the
+/// crate `cobs`.
 ///
 /// ```
 /// let report = decode(&[0, 3, 1, 2, 0, 1], &mut [0; 4])?;

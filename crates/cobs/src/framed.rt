@@ -286,7 +286,7 @@ impl<D: FrameDecoder> FrameReader<D> {
     ///
     /// # Errors
     /// `Io` if the last read of this call failed, and `TooManyReads` if this call made 65,536 reads that all gave
-    /// bytes. In both no piece ended, the decoder has taken all bytes that were read, and the next call continues.
+    /// bytes. In both cases no piece ended, the decoder has taken all bytes that were read, and the next call continues.
     ///
     /// ```
     /// let mut reader = FrameReader::new(CobsDecoderHeapless::<8>::new());

@@ -150,7 +150,7 @@ static jcobs_decoder jcobs_decoder_new(void)
     return jcobs_decoder_of(0, 0, 0, 0);
 }
 
-/* Returns what joint is for a block with this code. */
+/* Returns the value of joint after a block with this code. */
 static JCOBS_INLINE unsigned char jcobs_joint_after(unsigned char code)
 {
     return code == JCOBS_FULL ? 0 : 1;

@@ -130,7 +130,8 @@ impl core::fmt::Display for DecodeVecError {
 
 impl core::error::Error for DecodeVecError {}
 
-/// The sizes of a decoded message: how many bytes were consumed for it, and how many it has, named as in the crate `cobs`.
+/// The sizes of a decoded message: how many bytes were consumed for it, and how many it has. The names are those of the
+/// crate `cobs`.
 ///
 /// ```
 /// use jcobs::decode;

@@ -14,7 +14,7 @@ use crate::error::DecodeError;
 /// The code of a full block, as a byte.
 pub(crate) const FULL: u8 = FULL_CODE as u8;
 
-/// Returns what `joint` is for a block with this code.
+/// Returns the value of `joint` after a block with this code.
 #[inline(always)]
 pub(crate) fn joint_after(code: u8) -> u8
     ensures full { code ≡ 255 → result ≡ 0 }
