@@ -184,7 +184,7 @@ impl UnbufferedDecoder {
     }
 
     /// Takes the code at the front of a piece and the bytes after it at once, if they are 2 to 65 bytes that end the piece or 2 to
-    /// 31 others, none is a zero and they have room, and says whether it did. More bytes than that are worth a search. `zeros` is 0
+    /// 31 others, none is a zero and they have room. Returns whether it did. More bytes than that are worth a search. `zeros` is 0
     /// only if no zero follows them.
     #[inline(always)]
     pub(crate) fn take_begun(&mut self, dest: &mut [u8], bytes: &[u8], zeros: usize) -> bool
@@ -212,8 +212,7 @@ impl UnbufferedDecoder {
         true
     }
 
-    /// Takes the code at the front of a piece and the bytes after it at once, all those before the zero that ends it, if they have
-    /// room, and says whether it did. It is asked for 2 bytes or more.
+    /// Takes all bytes of a piece before the zero that ends it at once, if they are 2 or more and have room. Returns whether it did.
     #[inline(always)]
     pub(crate) fn take_front(&mut self, dest: &mut [u8], bytes: &[u8]) -> bool
         requires idle { phase_of self.old ≡ Idle }

@@ -5,7 +5,7 @@ use crate::proved::block::FULL_BLOCK_BYTES;
 use crate::proved::cobs_bytes::lanes::{copy_xored_short, move_to_front, xor_bytes};
 use crate::proved::cobs_bytes::window::{WIDE_WINDOW, WINDOW, has_vectors, is_all, write_row};
 use crate::proved::dec::run::STRETCH_MAX;
-use crate::proved::dec::stretch::{decode_stretch, kept_len, message_len};
+use crate::proved::dec::stretch::{kept_len, message_len, write_zeros_at_codes};
 use crate::proved::dec::unbuffered::{START, UnbufferedDecoder};
 use crate::proved::error::{DecodeError, DecodeReport};
 use crate::proved::find::{len_without_end, zero_or_len};
@@ -96,25 +96,28 @@ fn decode_by_byte_in_place(buffer: &mut [u8], len: usize) -> bool {
 }
 
 /// Decodes the first `len` bytes of the buffer, if these are 2 to 65 and a frame, and returns whether it did. If not, every byte
-/// stays. With vectors they are decoded from a copy, which is put back if the frame is broken.
+/// stays: with vectors they are copied first, and put back if the frame is broken.
 #[inline(always)]
 fn decode_stretch_in_place(buffer: &mut [u8], len: usize) -> bool {
     if !has_vectors() {
         return decode_by_byte_in_place(buffer, len);
     }
     let mut coded = [0; WIDE_WINDOW + 1];
-    if len < 2 || WIDE_WINDOW + 1 < len || !copy_xored_short(&buffer[1..len], &mut coded[1..], 0) {
+    if len < 2 || WIDE_WINDOW + 1 < len || buffer[0] == 0 {
+        return false;
+    }
+    if !copy_xored_short(&buffer[1..len], &mut coded[1..], 0) {
         return false;
     }
     coded[0] = buffer[0];
-    match decode_stretch(&coded[..len], buffer, 0) {
-        Some(0) => true,
-        Some(_) => {
-            buffer[..len].copy_from_slice(&coded[..len]);
-            false
-        }
-        None => false,
+    // Read from the copy, the bytes would have to wait until its vectors are stored.
+    move_to_front(buffer, 1, len - 1);
+    let (_, left) = write_zeros_at_codes(&mut buffer[..len - 1], coded[0] as usize);
+    if left != 0 {
+        buffer[..len].copy_from_slice(&coded[..len]);
+        return false;
     }
+    true
 }
 
 /// Decodes the frame at the front of the buffer in its own place, up to the first zero or the buffer's end, and returns

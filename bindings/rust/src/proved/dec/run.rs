@@ -4,7 +4,7 @@
 
 use crate::proved::block::FULL_BLOCK_BYTES;
 use crate::proved::cobs_bytes::lanes::{copy_xored, copy_xored_short};
-use crate::proved::cobs_bytes::window::{WIDE_WINDOW, WINDOW, is_all, write_row};
+use crate::proved::cobs_bytes::window::{WIDE_WINDOW, WINDOW, copy_window, is_all, write_row};
 use crate::proved::dec::step::joint_after;
 use crate::proved::dec::stretch::write_zeros_at_codes;
 use crate::proved::dec::unbuffered::{START, UnbufferedDecoder};
@@ -105,8 +105,20 @@ impl UnbufferedDecoder {
         true
     }
 
+    /// Takes the code at the front of a piece, and `len` bytes after it, none of them a zero, that are copied to the front of
+    /// `dest`.
+    #[inline(always)]
+    fn begin(&mut self, dest: &mut [u8], code: u8, len: usize) {
+        // No number of the idle decoder is read, so that none has to be loaded.
+        let mut begun = START;
+        begun.joint = joint_after(code);
+        begun.missing = code - 1;
+        begun.take_copied(dest, len);
+        *self = begun;
+    }
+
     /// Takes the code at the front of a piece and the bytes after it at once, if they are 2 to 65 bytes that end the piece or 2 to
-    /// 31 others, none is a zero and they have room, and says whether it did. More bytes than that are worth a search. `zeros` is 0
+    /// 31 others, none is a zero and they have room. Returns whether it did. More bytes than that are worth a search. `zeros` is 0
     /// only if no zero follows them.
     #[inline(always)]
     pub(crate) fn take_begun(&mut self, dest: &mut [u8], bytes: &[u8], zeros: usize) -> bool {
@@ -125,11 +137,20 @@ impl UnbufferedDecoder {
         if code == 0 || !copy_xored_short(&bytes[1..], dest, 0) {
             return false;
         }
-        let mut begun = START;
-        begun.joint = joint_after(code);
-        begun.missing = code - 1;
-        begun.take_copied(dest, len - 1);
-        *self = begun;
+        self.begin(dest, code, len - 1);
+        true
+    }
+
+    /// Takes all bytes of a piece before the zero that ends it at once, if they are 2 or more and have room. Returns whether it did.
+    #[inline(always)]
+    pub(crate) fn take_front(&mut self, dest: &mut [u8], bytes: &[u8]) -> bool {
+        let len = bytes.len();
+        if len < 2 || dest.len() < len - 1 {
+            return false;
+        }
+        let code = bytes[0];
+        let _zeros = copy_window(&bytes[1..], dest, 0);
+        self.begin(dest, code, len - 1);
         true
     }
 

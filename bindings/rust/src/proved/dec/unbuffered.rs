@@ -272,17 +272,22 @@ impl UnbufferedDecoder {
     pub fn feed_piece(&mut self, dest: &mut [u8], bytes: &[u8]) -> Option<(PieceEnd, usize)> {
         if has_vectors() && VERY_FEW < bytes.len() {
             if self.is_idle() {
-                let len = len_without_end(bytes, 0);
-                if self.take_begun(dest, &bytes[..len], bytes.len() - len) {
-                    if len == bytes.len() {
-                        return None;
-                    }
-                    let end = PieceEnd::reported(self.feed(dest, 0))?;
-                    return Some((end, bytes.len()));
-                }
                 let front = front_len(bytes);
-                if front < bytes.len() {
-                    return self.feed_front(dest, bytes, front);
+                if front + 1 < bytes.len() {
+                    // A short piece, and others behind it.
+                    if self.take_front(dest, &bytes[..front]) {
+                        let end = PieceEnd::reported(self.feed(dest, 0))?;
+                        return Some((end, front + 1));
+                    }
+                } else {
+                    let len = len_without_end(bytes, 0);
+                    if self.take_begun(dest, &bytes[..len], bytes.len() - len) {
+                        if len == bytes.len() {
+                            return None;
+                        }
+                        let end = PieceEnd::reported(self.feed(dest, 0))?;
+                        return Some((end, bytes.len()));
+                    }
                 }
             } else if self.take_short(dest, bytes) {
                 return None;
@@ -294,26 +299,9 @@ impl UnbufferedDecoder {
         self.feed_piece_long(dest, bytes)
     }
 
-    /// Does what `feed_piece` does, for an idle decoder and bytes of which the one at `len` is a zero: the piece before it is
-    /// taken as one that is pushed alone. So short pieces that come together are searched and copied without a call.
-    #[inline(never)]
-    fn feed_front(
-        &mut self,
-        dest: &mut [u8],
-        bytes: &[u8],
-        len: usize,
-    ) -> Option<(PieceEnd, usize)> {
-        if bytes.len() <= FEW || 0 < len && len <= VERY_FEW {
-            return self.feed_each(dest, bytes, 0);
-        }
-        if self.take_begun(dest, &bytes[..len], 1) {
-            let end = PieceEnd::reported(self.feed(dest, 0))?;
-            return Some((end, len + 1));
-        }
-        self.feed_piece_long(dest, bytes)
-    }
-
     /// Does what `feed_piece` does, without a question of its own for short pieces.
+    // Inlined, its registers would be saved for each short piece too.
+    #[inline(never)]
     fn feed_piece_long(&mut self, dest: &mut [u8], bytes: &[u8]) -> Option<(PieceEnd, usize)> {
         let mut taken = 0;
         'by_run: while taken < bytes.len() {

@@ -104,16 +104,16 @@ impl EncoderState {
             let returned = PushResult::ModifyFromStartAndSkip((self.code_index, self.code));
             self.code_index += self.code as usize;
             self.code = 1;
-            returned
-        } else if self.code == 254 {
+            return returned;
+        }
+        self.code += 1;
+        if self.code == 255 {
             let returned = PushResult::ModifyFromStartAndPushAndSkip((self.code_index, 255, byte));
             self.code_index += 255;
             self.code = 1;
-            returned
-        } else {
-            self.code += 1;
-            PushResult::AddSingle(byte)
+            return returned;
         }
+        PushResult::AddSingle(byte)
     }
 
     /// Ends the message: the index at which the last code belongs in the output, and that code.

@@ -1,4 +1,4 @@
-use Rattle.std.proofs.Common.{ℕ, List, ◌≢◌, subst, arith, take_all}
+use Rattle.std.proofs.Common.{ℕ, List, ◌≢◌, subst, take_all}
 use Rattle.std.proofs.lemmas.List.Elements.{All-get_or}
 use Rattle.cobs.specs.Grammar.{HasNoZero}
 use Rattle.cobs.specs.declared.dec.kind.FrameKind.TheVariants.{NotAFrame}

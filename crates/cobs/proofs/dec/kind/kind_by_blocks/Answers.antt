@@ -1,9 +1,8 @@
-use Rattle.std.proofs.Common.{ℕ, List, ◌≡◌, ◌+◌, ◌<◌, drop, length, get_or, ap, sym, subst, arith, length-drop}
+use Rattle.std.proofs.Common.{ℕ, List, ◌≡◌, ◌<◌, drop, length, get_or, ap, arith, length-drop}
 use Rattle.std.proofs.lemmas.List.{drop_more, drop-drop}
-use Rattle.std.proofs.lemmas.Bool.{eqb-false}
 use Rattle.cobs.specs.declared.dec.kind.FrameKind.TheVariants.{NotAFrame, Canonical, Longer}
 use Rattle.cobs.proofs.decoding.HeadlineLemmas.{bytes_below}
-use Rattle.cobs.proofs.format.KindLemmas.{BlocksBehind, says, behind-start, one-more, broken-kind, longer-kind, canonical-kind}
+use Rattle.cobs.proofs.format.KindLemmas.{says, behind-start, one-more, broken-kind, longer-kind, canonical-kind}
 use Rattle.cobs.proofs.dec.kind.kind_by_blocks.Goals as goal
 
 -- the code of the block at a place

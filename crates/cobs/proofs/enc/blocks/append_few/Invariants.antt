@@ -1,4 +1,4 @@
-use Rattle.std.proofs.Common.{◌≡◌, ◌<◌, ◌+◌, ◌-◌, false, length}
+use Rattle.std.proofs.Common.{◌≡◌, ◌<◌, ◌+◌, ◌-◌, false}
 use Rattle.cobs.specs.Fields.Progress.{reached_at}
 use Rattle.cobs.specs.Internal.Reaches.{Reaches, start_with}
 use Rattle.cobs.proofs.enc.blocks.append_few.Given as goal

@@ -1,4 +1,4 @@
-use Rattle.std.proofs.Common.{◌+◌, arith}
+use Rattle.std.proofs.Common.{arith}
 use Rattle.std.proofs.lemmas.List.{take_rest}
 use Rattle.cobs.proofs.encoding.TakingLemmas.{front-next}
 use Rattle.cobs.proofs.enc.blocks.append_parts.Goals as goal

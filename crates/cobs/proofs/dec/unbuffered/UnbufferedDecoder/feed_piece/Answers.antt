@@ -1,4 +1,4 @@
-use Rattle.std.proofs.Common.{◌≡◌, ◌≢◌, ◌<◌, ◌+◌, ◌-◌, List, ℕ, zero, suc, Bool, true, false, eqb, Option, Result, None, Some, inl, inr, refl, sym, subst, arith, get_or, length, take, take_all}
+use Rattle.std.proofs.Common.{◌≡◌, ◌≢◌, ◌<◌, ◌+◌, List, ℕ, zero, suc, Bool, true, false, eqb, Option, Result, None, Some, inl, inr, refl, sym, subst, arith, get_or, length, take, take_all}
 use Rattle.std.proofs.Math.Seq.{take-length}
 use Rattle.cobs.specs.Feed.{Feeds, Phase}
 use Rattle.cobs.specs.Fields.Decoders.{phase_of, phase_with}
