@@ -45,11 +45,13 @@ pub(crate) fn len_without_end(source: &[u8], sentinel: u8) -> usize
     }
 }
 
-/// The length of the source before a zero among its first 32 bytes, or its whole length if none is there.
+/// The length of the source before a zero among its first 64 bytes, or its whole length if none was found there: in a source of
+/// 32 to 63 bytes only the first 32 are searched.
+// A second search for the others would cost a source that has its zero at the end, as a frame that is pushed alone.
 #[inline(always)]
 pub(crate) fn front_len(source: &[u8]) -> usize
     ensures within { result ≤ length source.now }
-    ensures near { result < length source.now → result < 32 }
+    ensures near { result < length source.now → result < 64 }
     ensures before { result < length source.now → HasNoZero (take result source.now) }
     ensures stop { result < length source.now → slice_index source.now result ≡ 0 }
 {
@@ -57,8 +59,15 @@ pub(crate) fn front_len(source: &[u8]) -> usize
         return first_zero(source);
     }
     let zeros = zeros_at::<32>(source, 0);
-    if zeros == 0 {
+    if zeros != 0 {
+        return zeros.trailing_zeros() as usize;
+    }
+    if source.len() < WIDE_WINDOW {
         return source.len();
     }
-    zeros.trailing_zeros() as usize
+    let later = zeros_at::<32>(source, WINDOW);
+    if later != 0 {
+        return WINDOW + later.trailing_zeros() as usize;
+    }
+    source.len()
 }

@@ -124,11 +124,11 @@ fn copy_two<const N: usize>(source: &[u8], dest: &mut [u8], at: usize) -> u64
     zeros
 }
 
-/// Copies up to 32 bytes to `dest`, from `at` on, and returns which are zeros: bit `i` is set if byte `i` is a zero.
+/// Copies up to 64 bytes to `dest`, from `at` on, and returns which are zeros: bit `i` is set if byte `i` is a zero.
 #[inline(always)]
 pub fn copy_window(source: &[u8], dest: &mut [u8], at: usize) -> u64
     requires some { 0 < length source.now }
-    requires few { length source.now ≤ 32 }
+    requires few { length source.now ≤ 64 }
     requires room { at + length source.now ≤ length dest.old }
     ensures copied { dest.new ≡ take at dest.old ++ (source.now ++ drop (at + length source.now) dest.old) }
     ensures zeros { result ≡ zero_mask source.now }

@@ -30,15 +30,24 @@ pub(crate) fn len_without_end(source: &[u8], sentinel: u8) -> usize {
     }
 }
 
-/// The length of the source before a zero among its first 32 bytes, or its whole length if none is there.
+/// The length of the source before a zero among its first 64 bytes, or its whole length if none was found there: in a source of
+/// 32 to 63 bytes only the first 32 are searched.
+// A second search for the others would cost a source that has its zero at the end, as a frame that is pushed alone.
 #[inline(always)]
 pub(crate) fn front_len(source: &[u8]) -> usize {
     if source.len() < WINDOW {
         return first_zero(source);
     }
     let zeros = zeros_at::<32>(source, 0);
-    if zeros == 0 {
+    if zeros != 0 {
+        return zeros.trailing_zeros() as usize;
+    }
+    if source.len() < WIDE_WINDOW {
         return source.len();
     }
-    zeros.trailing_zeros() as usize
+    let later = zeros_at::<32>(source, WINDOW);
+    if later != 0 {
+        return WINDOW + later.trailing_zeros() as usize;
+    }
+    source.len()
 }

@@ -91,7 +91,7 @@ fn copy_two<const N: usize>(source: &[u8], dest: &mut [u8], at: usize) -> u64 {
     zeros
 }
 
-/// Copies up to 32 bytes to `dest`, from `at` on, and returns which are zeros: bit `i` is set if byte `i` is a zero.
+/// Copies up to 64 bytes to `dest`, from `at` on, and returns which are zeros: bit `i` is set if byte `i` is a zero.
 #[inline(always)]
 pub fn copy_window(source: &[u8], dest: &mut [u8], at: usize) -> u64 {
     if source.len() == WINDOW {
