@@ -3,7 +3,7 @@
 #   - the vectors of conformance/ and the tests of jcobs.js, in Node;
 #   - the package: installed, required, bundled by esbuild and rollup, and the examples of its README;
 #   - the types in jcobs.d.ts, by the TypeScript compiler;
-#   - the speed of decode, which is at least that of plain JavaScript;
+#   - the speed of decode, which for messages with zeros is at least that of plain JavaScript;
 #   - the vectors and the page in Chromium, by keys, clicks and pastes; both in a WebKit engine too;
 #   - the pictures of docs/FORMAT.md and the first drawing of the page, drawn anew and compared.
 # A part whose tool is missing is skipped, and the tool named. The last line counts; the status is 0 only if nothing failed.

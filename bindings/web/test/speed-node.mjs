@@ -1,16 +1,22 @@
 // The figures of PAGE.md for Node: node speed-node.mjs [--write]
 //
 // A figure is how many times as fast as plain JavaScript (plain.js) a call is, in processor time. Each way is gone as often as takes
-// LEAST seconds, and the best of some rounds counts, in which the two take turns. With --write the table of PAGE.md is written.
+// LEAST seconds, and the best of some rounds counts, in which the two take turns. All work of V8 is on one thread: the threads of its
+// garbage collector make figures vary by chance. With --write the table of PAGE.md is written.
+import { spawnSync } from "node:child_process";
 import { readFile, writeFile } from "node:fs/promises";
 import { decode, encode, load } from "../jcobs.js";
 import * as plain from "./plain.js";
 
-const LENGTHS = [8, 63, 64, 1500, 65536];
+const LENGTHS = [8, 63, 64, 250, 1500, 65536];
 const LEAST = 0.5;
 const ROUNDS = 3;
 const PAGE = new URL("../PAGE.md", import.meta.url);
 const HEADER = "| Node, no zeros | `encode` | `decode` |";
+
+if (!process.execArgv.includes("--single-threaded")) {
+  process.exit(spawnSync(process.execPath, ["--single-threaded", ...process.argv.slice(1)], { stdio: "inherit" }).status ?? 1);
+}
 
 /** The microseconds of a call, over LEAST seconds at least. */
 function timeOf(act, bytes) {

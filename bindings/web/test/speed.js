@@ -123,7 +123,7 @@ memoryOf(async (pagesNow) => {
   frames["1,000 bytes, 2 % zeros"] = framesOf(1000, 20);
   frames["1,000 bytes, 30 % zeros"] = framesOf(1000, 300);
   frames["60 bytes, 10 % zeros"] = framesOf(60, 100);
-  for (const [name, length] of [["8 bytes", 8], ["64 bytes", 64], ["1,500 bytes", 1500], ["64 KiB", 65536], ["1 MiB", MIB]]) {
+  for (const [name, length] of [["8 bytes", 8], ["64 bytes", 64], ["250 bytes", 250], ["1,500 bytes", 1500], ["64 KiB", 65536], ["1 MiB", MIB]]) {
     for (const [kind, zeros] of [["no zeros", 0], ["2 % zeros", 20], ["30 % zeros", 300]]) messages[`${name}, ${kind}`] = bytes(length, zeros, 3);
   }
   messages["1 MiB, zeros alone"] = new Uint8Array(MIB);
