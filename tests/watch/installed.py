@@ -96,26 +96,30 @@ def completions_have_the_options_of_the_help():
     assert found == help_options([]) | help_options(["send"]), found ^ (help_options([]) | help_options(["send"]))
 
 
-def completed(words, first, typed):
-    """What a shell shows after a tab behind what was typed."""
+def shown(master, is_shown, seconds=60):
+    """What is on a terminal once this holds of it, or at the end of this time."""
+    said, end = b"", time.monotonic() + seconds
+    while not is_shown(said) and time.monotonic() < end:
+        if select.select([master], [], [], 1)[0]:
+            said += os.read(master, 4096)
+    return said
+
+
+def completed(words, first, typed, rest):
+    """Whether a shell completes what was typed with this rest after a tab, and what it shows."""
     master, slave = pty.openpty()
     take = lambda: fcntl.ioctl(0, termios.TIOCSCTTY, 0)
     env = {**os.environ, "TERM": "vt100", "PS1": "$ "}
-    said = b""
+    is_completed = lambda said: rest in said.replace(b"\x08", b"")
     with subprocess.Popen(words, env=env, stdin=slave, stdout=slave, stderr=slave, start_new_session=True, preexec_fn=take) as shell:
         os.close(slave)
         os.write(master, first.encode() + b"; echo rea''dy\n")
-        end = time.monotonic() + 30
-        while b"ready" not in said.replace(b"echo rea''dy", b"") and time.monotonic() < end:
-            if select.select([master], [], [], 1)[0]:
-                said += os.read(master, 4096)
+        shown(master, lambda said: b"ready" in said.replace(b"echo rea''dy", b""))
         os.write(master, typed.encode() + b"\t")
-        said, end = b"", time.monotonic() + 5
-        while time.monotonic() < end and select.select([master], [], [], 1)[0]:
-            said += os.read(master, 4096)
+        said = shown(master, is_completed)
         os.killpg(shell.pid, 9)
     os.close(master)
-    return said
+    return is_completed(said), said
 
 
 @part
@@ -136,8 +140,8 @@ def a_tab_completes_an_option():
             ("cobs_watch send --se", b"ntinel"),
             ("cobs_watch -o too", b"-long"),
         ):
-            said = completed(words, first, typed)
-            assert rest in said.replace(b"\x08", b""), (name, typed, said)
+            is_so, said = completed(words, first, typed, rest)
+            assert is_so, (name, typed, said)
 
 
 if not (PROGRAMS / f"{platform.machine()}-linux").is_dir():

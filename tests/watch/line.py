@@ -7,6 +7,7 @@
 import fcntl
 import os
 import pty
+import re
 import resource
 import select
 import shutil
@@ -31,7 +32,7 @@ def part(check):
     """Runs a check in a folder of its own, and says how it ended."""
     name = check.__name__.replace("_", " ")
     with tempfile.TemporaryDirectory() as room:
-        signal.alarm(120)
+        signal.alarm(600)
         try:
             check(Path(room))
             print(f"ok: {name}", flush=True)
@@ -64,7 +65,7 @@ def start(words, **more):
 
 def ended(program):
     """What a program wrote, and its status."""
-    out, errors = program.communicate(timeout=60)
+    out, errors = program.communicate(timeout=300)
     return out, errors.decode(), program.returncode
 
 
@@ -106,6 +107,25 @@ def a_fifo_whose_writers_come_and_go(room):
         same((watch.stderr.read().decode(), watch.wait(60)), (COUNTED.format(4, 6 * len(FRAME) + 1), 0))
 
 
+def is_idle(watch):
+    """Whether the program waits. It never does so while it has bytes to read or lines to write."""
+    return Path(f"/proc/{watch.pid}/stat").read_text().rpartition(")")[2].split()[0] == "S"
+
+
+def has_open(watch, path):
+    """Whether the program has the file open that has this path now."""
+    name = os.path.realpath(path)
+    return name in {os.path.realpath(link) for link in Path(f"/proc/{watch.pid}/fd").iterdir()}
+
+
+def write_and_hang_up(watch, path, data):
+    """Writes to a FIFO, and returns once the program has read all of it and has closed it."""
+    path.write_bytes(data)
+    # Until it has opened the FIFO, which the write has waited for, the program isn't idle.
+    while not is_idle(watch) or has_open(watch, path):
+        time.sleep(0.01)
+
+
 @part
 def a_frame_that_a_hang_up_cuts(room):
     """At each of its bytes: no message is shown that wasn't sent whole."""
@@ -125,10 +145,8 @@ def a_frame_that_a_hang_up_cuts(room):
             wanted = b""
             for cut in range(len(frame)):
                 # The sentinel is the first one after the last hang-up.
-                path.write_bytes(b"\0" + frame[:cut])
-                time.sleep(0.3)
-                path.write_bytes(frame[cut:])
-                time.sleep(0.3)
+                write_and_hang_up(watch, path, b"\0" + frame[:cut])
+                write_and_hang_up(watch, path, frame[cut:])
                 wanted += (unfinished if cut else b"") + hung_up + hung_up
             watch.kill()
             found = watch.stdout.read()
@@ -158,8 +176,13 @@ def a_line_that_is_not_there_yet(room):
 
 def await_read(watch):
     """Returns once the program waits: having written, it does so only for its next read."""
-    while Path(f"/proc/{watch.pid}/stat").read_text().rpartition(")")[2].split()[0] != "S":
+    while not is_idle(watch):
         time.sleep(0.01)
+
+
+def bytes_read(watch):
+    """How many bytes the program has read so far, of all its files."""
+    return int(re.search(r"^rchar: (\d+)$", Path(f"/proc/{watch.pid}/io").read_text(), re.MULTILINE)[1])
 
 
 def plug(path):
@@ -258,8 +281,10 @@ def on_terminal(path, words):
 
 def cut_off(watch, path, master, front):
     """Sends the front of a frame, and unplugs the device once the program has read it."""
+    before = bytes_read(watch)
     os.write(master, front)
-    time.sleep(0.1)
+    while bytes_read(watch) < before + len(front):
+        time.sleep(0.01)
     await_read(watch)
     unplug(path, master)
 
@@ -282,8 +307,7 @@ def a_frame_that_an_unplugged_device_cuts(room):
 
 def await_line(watch, path):
     """Returns once the program has opened the terminal that has this path now."""
-    name = os.path.realpath(path)
-    while name not in {os.path.realpath(link) for link in Path(f"/proc/{watch.pid}/fd").iterdir()}:
+    while not has_open(watch, path):
         time.sleep(0.01)
 
 

@@ -43,10 +43,10 @@ def recipes_of(text):
     return setting, [line for line in found if "cobs_" in line]
 
 
-def received(master, seconds):
-    """What the device's side receives until nothing has come for some time."""
+def received(master, seconds, size=0):
+    """What the device's side receives until nothing has come for some time, and for a minute if it is shorter than this."""
     found = bytearray()
-    while select.select([master], [], [], seconds)[0]:
+    while select.select([master], [], [], seconds if len(found) >= size else 60)[0]:
         found += os.read(master, 4096)
     return bytes(found)
 
@@ -109,7 +109,7 @@ def run(setting, recipe, words):
             shell.paste(recipe.replace(PORT, port))
             if re.search(r"\bsend\b", recipe):
                 shell.finish()
-                back, wanted = received(master, 0.2), FRAME
+                back, wanted = received(master, 0.2, len(FRAME)), FRAME
             else:
                 assert shell.hears(rb"\bping|70696e67", 60, lambda: is_set(slave) and os.write(master, FRAME)), f"shown: {shell.said!r}"
                 back, wanted = received(master, 0.2), b""

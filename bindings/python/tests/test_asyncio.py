@@ -148,7 +148,7 @@ def test_a_timeout_of_an_asyncio_stream_is_for_the_whole_frame():
                 await asyncio.sleep(0)
 
         task = asyncio.ensure_future(trickle())
-        assert await asyncio.wait_for(reader.read(timeout=0.5), 20) is None
+        assert await asyncio.wait_for(reader.read(timeout=0.5), 250) is None
         task.cancel()
 
     asyncio.run(run())

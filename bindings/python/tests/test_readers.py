@@ -199,9 +199,9 @@ def test_the_timeout_over_tls(tmp_path):
 
     def serve():
         with context.wrap_socket(left, server_side=True) as server:  # it sends tickets, which are no data
-            go_on.wait(60)
+            go_on.wait(250)
             server.sendall(b"\x03hi\x00")
-            done.wait(60)
+            done.wait(250)
 
     thread = threading.Thread(target=serve)
     thread.start()
@@ -210,7 +210,7 @@ def test_the_timeout_over_tls(tmp_path):
         reader = jcobs.FrameReader(sock)
         begun = time.monotonic()
         assert reader.read(timeout=0.2) is None and reader.read(timeout=0) is None
-        assert time.monotonic() - begun < 30
+        assert time.monotonic() - begun < 120
         go_on.set()
         assert reader.read(timeout=math.inf) == jcobs.Message(b"hi")
         sock.setblocking(False)
