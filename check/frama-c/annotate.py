@@ -8,6 +8,7 @@ These files have parts for functions of jcobs.c. A part begins with a heading an
     # FUNCTION                 before this function: its contract
     ## loop N                  before the Nth loop of the function
     ## before TEXT             before the one line of the function that begins with this text
+    ## after TEXT              after that line
     # TITLE, before FUNCTION   before this function and its contract: words that contracts use, or a proof for several functions
 
 Lines that begin with '//' are left out. It fails if a heading names no function, loop or line, if a loop of a function that
@@ -85,16 +86,18 @@ def functions_of(source):
 
 def place(name, kind, lines, first, last):
     """The number of the line before which a note of a function belongs."""
+    if kind and not re.match("(loop|before|after) ", kind):
+        sys.exit(f"{name}: a part '{kind}'")
     inside = range(first, last + 1)
     if kind == "":
         found = [first]
     elif kind.startswith("loop "):
         found = [at for at in inside if LOOP.match(lines[at])][int(kind[5:]) - 1 :][:1]
     else:
-        found = [at for at in inside if lines[at].strip().startswith(kind.removeprefix("before "))]
+        found = [at for at in inside if lines[at].strip().startswith(kind.partition(" ")[2])]
     if len(found) != 1:
         sys.exit(f"{name} has {len(found)} places for '{kind}'")
-    return found[0]
+    return found[0] + kind.startswith("after ")
 
 
 def annotated(source, notes):
