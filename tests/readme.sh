@@ -112,6 +112,8 @@ to_script() { # README BLOCK
         *'# in Cargo.toml'*)
             printf 'mkdir -p src\ncat >Cargo.toml <<"END"\n[package]\nname = "app"\nedition = "2021"\n[dependencies]\n%s\nEND\n' "$line"
             ;;
+        # Debian's setuptools and wheel are in this environment too, since pip asks no network.
+        'python3 -m venv '*) printf '%s --system-site-packages\n' "$line" ;;
         *'// in src/main.rs') printf 'cat >src/main.rs <<"END"\nfn main() {\n%s\n}\nEND\ncargo run --offline\n' "$line" ;;
         *) printf '%s\n' "$line" ;;
         esac
