@@ -1,11 +1,12 @@
 #!/usr/bin/env python3
 """Makes wrong changes to jcobs.c, one at a time, and shows which part of this folder notices each.
 
-usage: check/wrong.py [--markdown] [NUMBER..]
+usage: check/wrong.py [--markdown] [--seconds SECONDS] [NUMBER..]
 
 For each change it compiles steps.c with the changed file, with sanitizers, and runs it; and it gives Frama-C the clause of
-the changed function that the change contradicts. The clause is rejected if a goal of it has no proof within SECONDS; without
-the change, each is proved. Run it on a machine with little other work, as provers need their time.
+the changed function that the change contradicts. The clause is rejected if a goal of it has no proof within SECONDS, which
+are 20 if they aren't given; without the change, each is proved. Run it on a machine with little other work, or give it more
+seconds, as provers need their time.
 
 It prints a line for each change; the status is 0 only if both notice each.
 """
@@ -22,7 +23,6 @@ sys.path.insert(0, str(TOP / "check/frama-c"))
 import annotate  # noqa: E402
 import prove  # noqa: E402
 
-SECONDS = 20
 FLAGS = ["-std=c99", "-O1", "-fsanitize=address,undefined", "-fno-sanitize-recover=all", "-DMARGIN=0", "-DDEPTH=3"]
 # The function, the clause, what the text says, which of these places (0 is the first), and what it says then.
 DECODER = [
@@ -76,7 +76,30 @@ ENCODER = [
     ("jcobs_encode_terminated", "ok", "to[length] = 0;", 0, "to[length] = 1;"),
     ("jcobs_finish_terminated", "ok", "returned.length + 1", 0, "returned.length"),
 ]  # fmt: skip
-CHANGES = DECODER + ENCODER
+# In place, and for a sentinel.
+OTHERS = [
+    ("jcobs_encode_in_place_inside", "read", "buffer[before + taken]", 0, "buffer[taken]"),
+    ("jcobs_encode_in_place_inside", "encoded", "jcobs_close(buffer, buffer_len,", 0, "jcobs_close(buffer, buffer_len - 1,"),
+    ("jcobs_encode_within", "status", "room - message_len < jcobs", 0, "room - message_len <= jcobs"),
+    ("jcobs_encode_within", "ok", "jcobs_done(message_len, length)", 0, "jcobs_done(length, length)"),
+    ("jcobs_encode_in_place", "status", "buffer_len, message_len)", 0, "message_len, message_len)"),
+    ("jcobs_move_bytes", "now", "buffer[end] = buffer[at];", 0, "buffer[end] = 0;"),
+    ("jcobs_move_bytes", "end", "return end;", 0, "return at;"),
+    ("jcobs_decode_blocks", "broken", "end - read < code", 0, "end - read <= code"),
+    ("jcobs_decode_blocks", "broken", "JCOBS_IS_INVALID_FRAME, written", 0, "JCOBS_IS_INVALID_FRAME, read"),
+    ("jcobs_decode_blocks", "whole", "JCOBS_IS_OK, written", 0, "JCOBS_IS_OK, read"),
+    ("jcobs_decode_blocks", "moved_now", "read + 1, written, code - 1", 0, "read, written, code - 1"),
+    ("jcobs_decode_blocks", "count", "code != JCOBS_FULL && ", 0, ""),
+    ("jcobs_decode_blocks", "joint", "buffer[written] = 0;", 0, "buffer[written] = 1;"),
+    ("jcobs_decode_in_place", "bounds", "room < end + 1 ? room : end + 1", 0, "end + 1"),
+    ("jcobs_decode_in_place", "decoded", "jcobs_decode_blocks(to, end)", 0, "jcobs_decode_blocks(to, end / 2)"),
+    ("jcobs_decode_with_sentinel", "@rte", "end < source_len && from", 0, "end <= source_len && from"),
+    ("jcobs_decode_with_sentinel", "empty", "source_len == 0", 0, "source_len == 1"),
+    ("jcobs_decode_with_sentinel", "place", "whole += (size_t)(from[whole] ^ sentinel)", 0, "whole += (size_t)from[whole]"),
+    ("jcobs_decode_with_sentinel", "statuses", "answer.status = JCOBS_OK;", 0, "answer.status = JCOBS_EMPTY;"),
+    ("jcobs_decode_with_sentinel", "through_sentinel", "end < source_len ? end + 1 : end;", 0, "end;"),
+]  # fmt: skip
+CHANGES = DECODER + ENCODER + OTHERS
 
 
 def changed(source, name, before, which, after):
@@ -110,12 +133,12 @@ def steps_notice(folder, text):
         return True
 
 
-def frama_c_rejects(folder, environment, text, name, clause):
+def frama_c_rejects(folder, environment, text, name, clause, seconds):
     """Whether Frama-C has no proof of a clause of this function in this text."""
     copy = folder / "copy.c"
     copy.write_text(annotate.annotated(text, annotate.table()))
     (model,) = [model for model, functions in prove.models(text, [name]).items() if functions]
-    limits = ["-wp-steps", "1500000", "-wp-timeout", str(SECONDS), "-wp-par", "2"]
+    limits = ["-wp-steps", "1500000", "-wp-timeout", str(seconds), "-wp-par", "2"]
     asked = "-wp-prop=" + {"": "-@assigns", "@rte": "rte"}.get(clause, clause)
     command = ["frama-c", *prove.READ, str(copy), "-wp", "-wp-rte", "-wp-split", "-wp-prover", "z3,cvc4", *limits]
     said = subprocess.run(
@@ -127,11 +150,11 @@ def frama_c_rejects(folder, environment, text, name, clause):
     return count[1] != count[2]
 
 
-def row(folder, environment, number):
+def row(folder, environment, number, seconds):
     """The words of the table for a change, and whether both parts notice it."""
     name, clause, before, which, after = CHANGES[number - 1]
     text = changed(prove.SOURCE.read_text(), name, before, which, after)
-    noticed = steps_notice(folder, text), frama_c_rejects(folder, environment, text, name, clause)
+    noticed = steps_notice(folder, text), frama_c_rejects(folder, environment, text, name, clause, seconds)
     by = {"": "the result", "@rte": "each access"}.get(clause, f"`{clause}`")
     said = f"`{before.strip()}` is removed" if after in ("", ";") else f"`{before}` becomes `{after}`"
     words = ["noticed" if seen else "not noticed" for seen in noticed]
@@ -141,6 +164,7 @@ def row(folder, environment, number):
 def main():
     parser = argparse.ArgumentParser()
     parser.add_argument("--markdown", action="store_true")
+    parser.add_argument("--seconds", type=int, default=20)
     parser.add_argument("numbers", type=int, nargs="*")
     options = parser.parse_args()
     missed = 0
@@ -149,7 +173,7 @@ def main():
         environment = prove.configured(folder)
         compiled(folder, TOP / "check/steps.c", "steps.o")
         for number in options.numbers or range(1, len(CHANGES) + 1):
-            words, both = row(folder, environment, number)
+            words, both = row(folder, environment, number, options.seconds)
             missed += not both
             print("| " + " | ".join(words) + " |" if options.markdown else "  ".join(words), flush=True)
     print(f"= {missed} changes aren't noticed by both", file=sys.stderr)

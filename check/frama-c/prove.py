@@ -1,13 +1,14 @@
 #!/usr/bin/env python3
 """Proves the contracts of the files *.acsl for jcobs.c with Frama-C.
 
-usage: check/frama-c/prove.py [--short] [--source FILE] [--cache FOLDER] [FUNCTION..]
+usage: check/frama-c/prove.py [--short] [--source FILE] [--cache FOLDER] [--jobs NUMBER] [FUNCTION..]
 
 It needs Debian's frama-c-base, why3, z3 and cvc4. annotate.py writes a copy of jcobs.c, or of FILE, with the contracts in
 it; then the plug-in WP makes the goals of each function, or only of the named ones, and gives them to the two provers. With
 --short it leaves out the functions that take many bytes. The goals are those of the contract, and for each access, division,
 shift and signed operation that C defines it. A prover stops after a number of its own steps, so that the outcome doesn't
-depend on the machine's speed. With a cache, goals that were proved before aren't proved again.
+depend on the machine's speed. With a cache, goals that were proved before aren't proved again. NUMBER provers run at a
+time, 2 if it isn't given.
 
 It prints each goal without a proof, and then the number of goals; the status is 0 only if all are proved.
 """
@@ -31,18 +32,22 @@ READ = ["-machdep", "x86_64", "-simplify-cfg", f"-cpp-extra-args=-I{TOP}/binding
 PROVE = ["-wp", "-wp-rte", "-wp-split", "-wp-prover", "z3,cvc4", "-wp-steps", "1500000", "-wp-timeout", "600"]
 LOCAL = re.compile(r"&(?:here|encoder|decoder)\b")
 GOAL = re.compile(r"^\[wp\] .*Goal typed_(?:cast_)?(?:ref_)?(\w+)(?! : Valid)\b(?!.* : Valid)", re.M)
-# What is proved as a function that only Frama-C sees.
-LEMMAS = ["frame_grows", "frame_goes_on"]
 # The functions that take many bytes, whose goals need most of the time.
 LONG = [
     "jcobs_decoder_feed_each", "jcobs_decode_each", "jcobs_decoder_push", "jcobs_decode", "frame_grows", "frame_goes_on", "jcobs_fits_each",
     "jcobs_has_room", "jcobs_try_encode_each", "jcobs_write_frame", "jcobs_encode", "jcobs_encode_terminated",
     "jcobs_encoder_append_each", "jcobs_encoder_push_each", "jcobs_encode_each", "jcobs_encoder_push", "jcobs_move_bytes",
-    "jcobs_decode_blocks", "jcobs_decode_in_place", "jcobs_xor", "jcobs_encode_with_sentinel",
-    "jcobs_encode_terminated_with_sentinel", "jcobs_decode_in_place_with_sentinel", "jcobs_decoder_push_with_sentinel",
+    "jcobs_decode_blocks", "jcobs_decode_in_place", "jcobs_encode_in_place_inside", "jcobs_encode_within",
+    "jcobs_encode_in_place", "jcobs_xor", "jcobs_encode_with_sentinel", "jcobs_encode_terminated_with_sentinel",
+    "jcobs_decode_with_sentinel", "jcobs_decode_in_place_with_sentinel", "jcobs_decoder_push_with_sentinel",
     "jcobs_encoder_finish_with_sentinel", "jcobs_encoder_finish_terminated_with_sentinel",
 ]  # fmt: skip
 COUNT = re.compile(r"\[wp\] Proved goals: +(\d+) / (\d+)")
+
+
+def lemmas():
+    """What is proved as a function that only Frama-C sees."""
+    return [title.partition(",")[0] for title, said in annotate.table().items() if said[""].startswith("ghost")]
 
 
 def models(source, names):
@@ -58,7 +63,7 @@ def models(source, names):
             text = "\n".join(lines[first:last])
             model = "Typed" + "+cast" * ("void *" in text) + "+ref" * bool(LOCAL.search(text))
             found.setdefault(model, []).append(name)
-    found.setdefault("Typed", []).extend(name for name in LEMMAS if name in names or not names)
+    found.setdefault("Typed", []).extend(name for name in lemmas() if name in names or not names)
     return found
 
 
@@ -102,12 +107,13 @@ def main():
     parser = argparse.ArgumentParser()
     parser.add_argument("--source", type=Path, default=SOURCE)
     parser.add_argument("--cache", type=Path)
+    parser.add_argument("--jobs", type=int, default=2)
     parser.add_argument("--short", action="store_true")
     parser.add_argument("functions", nargs="*")
     options = parser.parse_args()
     if options.short:
         options.functions = [name for name in annotate.table() if name not in LONG]
-    found = proved(options.source.read_text(), options.functions, options.cache)
+    found = proved(options.source.read_text(), options.functions, options.cache, options.jobs)
     if found is None:
         sys.exit(2)
     goals, failed = found
