@@ -159,9 +159,14 @@ fn bits(mask: &[u8]) -> u64 {
 mod portable {
     pub const HAS_VECTORS: bool = false;
 
+    // In WebAssembly `core::array::from_fn` isn't inlined, and the call costs more than the comparison.
     #[inline(always)]
     pub fn equal(bytes: [u8; 16], other: [u8; 16]) -> [u8; 16] {
-        core::array::from_fn(|i| if bytes[i] == other[i] { 0xFF } else { 0 })
+        let mut mask = [0; 16];
+        for i in 0..16 {
+            mask[i] = if bytes[i] == other[i] { 0xFF } else { 0 };
+        }
+        mask
     }
 
     #[inline(always)]
