@@ -223,10 +223,20 @@ mod sse2 {
 ))]
 #[allow(unsafe_code)]
 mod neon {
-    pub use super::portable::equal;
-    use core::arch::aarch64::{vaddv_u8, vand_u8, vld1_u8};
+    use core::arch::aarch64::{uint8x16_t, vaddv_u8, vand_u8, vceqq_u8, vld1_u8};
+    use core::mem::transmute;
 
     pub const HAS_VECTORS: bool = true;
+
+    /// As one vector, as with SSE2.
+    #[inline(always)]
+    pub fn equal(bytes: [u8; 16], other: [u8; 16]) -> [u8; 16] {
+        // SAFETY: the target has NEON, and each vector has the 16 bytes of an array.
+        unsafe {
+            let [bytes, other] = transmute::<[[u8; 16]; 2], [uint8x16_t; 2]>([bytes, other]);
+            transmute(vceqq_u8(bytes, other))
+        }
+    }
 
     #[inline(always)]
     fn of_eight(mask: &[u8; 8]) -> u64 {
