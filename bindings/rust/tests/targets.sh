@@ -21,6 +21,8 @@ export PATH
 # shellcheck source=SCRIPTDIR/linux.sh
 . "$rust/tests/linux.sh"
 
+# Each part sets RUSTC.
+given=${RUSTC:-/usr/bin/rustc}
 chosen=
 while [ $# -gt 0 ]; do
     [ "$1" != -- ] || { shift && break; }
@@ -45,14 +47,20 @@ tests() { # NAME TARGET LINKER RUNNER
     cargo test --target "$2" $flags && cargo test --target "$2" $flags --features small
 }
 
-# Debian's compiler with the `core` of speeds.py.
+# A compiler with the `core` that speeds.py has built with it.
 with_built_core() {
-    built=$(find "$rust"/target/sysroot-*/wasm32 -name wasm32-unknown-unknown 2>/dev/null | tail -1)
-    [ -n "$built" ] && command -v wasm-ld >/dev/null || return 1
-    mkdir -p "$work/sysroot/lib/rustlib" &&
-        ln -s "$(/usr/bin/rustc --print sysroot)"/lib/rustlib/* "$built" "$work/sysroot/lib/rustlib" &&
-        printf '#!/bin/sh\nexec /usr/bin/rustc --sysroot %s "$@"\n' "$work/sysroot" >"$work/rustc" && chmod +x "$work/rustc" &&
-        echo "$work/rustc"
+    command -v wasm-ld >/dev/null || return 1
+    for maker in "$given" /usr/bin/rustc; do
+        version=$("$maker" --version 2>/dev/null | cut -d ' ' -f 2)
+        built=$rust/target/sysroot-$version/wasm32/lib/rustlib/wasm32-unknown-unknown
+        if [ -z "$version" ] || [ ! -d "$built" ]; then continue; fi
+        mkdir -p "$work/sysroot/lib/rustlib" &&
+            ln -s "$("$maker" --print sysroot)"/lib/rustlib/* "$built" "$work/sysroot/lib/rustlib" &&
+            printf '#!/bin/sh\nexec %s --sysroot %s "$@"\n' "$maker" "$work/sysroot" >"$work/rustc" &&
+            chmod +x "$work/rustc" && echo "$work/rustc"
+        return
+    done
+    return 1
 }
 
 # Built for WebAssembly, and run in Node beside a loop over single bytes in JavaScript.
