@@ -1,12 +1,12 @@
 #!/usr/bin/env python3
 """Makes wrong changes to jcobs.c, one at a time, and shows which part of this folder notices each.
 
-usage: check/wrong.py [--markdown] [--seconds SECONDS] [NUMBER..]
+usage: check/wrong.py [--markdown] [--seconds SECONDS] [--steps STEPS] [NUMBER..]
 
 For each change it compiles steps.c with the changed file, with sanitizers, and runs it; and it gives Frama-C the clause of
-the changed function that the change contradicts. The clause is rejected if a goal of it has no proof within SECONDS, which
-are 20 if they aren't given; without the change, each is proved. Run it on a machine with little other work, or give it more
-seconds, as provers need their time.
+the changed function that the change contradicts. The clause is rejected if a goal of it has no proof within SECONDS and
+STEPS of a prover, by default 20 and 1500000; without the change, each is proved. Run it on a machine with little other work,
+or give it more seconds and fewer steps, so that the outcome doesn't depend on the machine's speed.
 
 It prints a line for each change; the status is 0 only if both notice each.
 """
@@ -133,12 +133,11 @@ def steps_notice(folder, text):
         return True
 
 
-def frama_c_rejects(folder, environment, text, name, clause, seconds):
+def frama_c_rejects(folder, environment, text, name, clause, limits):
     """Whether Frama-C has no proof of a clause of this function in this text."""
     copy = folder / "copy.c"
     copy.write_text(annotate.annotated(text, annotate.table()))
     (model,) = [model for model, functions in prove.models(text, [name]).items() if functions]
-    limits = ["-wp-steps", "1500000", "-wp-timeout", str(seconds), "-wp-par", "2"]
     asked = "-wp-prop=" + {"": "-@assigns", "@rte": "rte"}.get(clause, clause)
     command = ["frama-c", *prove.READ, str(copy), "-wp", "-wp-rte", "-wp-split", "-wp-prover", "z3,cvc4", *limits]
     said = subprocess.run(
@@ -150,11 +149,11 @@ def frama_c_rejects(folder, environment, text, name, clause, seconds):
     return count[1] != count[2]
 
 
-def row(folder, environment, number, seconds):
+def row(folder, environment, number, limits):
     """The words of the table for a change, and whether both parts notice it."""
     name, clause, before, which, after = CHANGES[number - 1]
     text = changed(prove.SOURCE.read_text(), name, before, which, after)
-    noticed = steps_notice(folder, text), frama_c_rejects(folder, environment, text, name, clause, seconds)
+    noticed = steps_notice(folder, text), frama_c_rejects(folder, environment, text, name, clause, limits)
     by = {"": "the result", "@rte": "each access"}.get(clause, f"`{clause}`")
     said = f"`{before.strip()}` is removed" if after in ("", ";") else f"`{before}` becomes `{after}`"
     words = ["noticed" if seen else "not noticed" for seen in noticed]
@@ -165,15 +164,17 @@ def main():
     parser = argparse.ArgumentParser()
     parser.add_argument("--markdown", action="store_true")
     parser.add_argument("--seconds", type=int, default=20)
+    parser.add_argument("--steps", type=int, default=1500000)
     parser.add_argument("numbers", type=int, nargs="*")
     options = parser.parse_args()
+    limits = ["-wp-steps", str(options.steps), "-wp-timeout", str(options.seconds), "-wp-par", "2"]
     missed = 0
     with tempfile.TemporaryDirectory() as made:
         folder = Path(made)
         environment = prove.configured(folder)
         compiled(folder, TOP / "check/steps.c", "steps.o")
         for number in options.numbers or range(1, len(CHANGES) + 1):
-            words, both = row(folder, environment, number, options.seconds)
+            words, both = row(folder, environment, number, limits)
             missed += not both
             print("| " + " | ".join(words) + " |" if options.markdown else "  ".join(words), flush=True)
     print(f"= {missed} changes aren't noticed by both", file=sys.stderr)
