@@ -20,7 +20,7 @@ import sys
 from pathlib import Path
 
 HERE = Path(__file__).resolve().parent
-BELIEVED = re.compile(r"\b(axiom|axiomatic|admit|assume|assumed|extern|terminates|exits)\b|\*/")
+BELIEVED = re.compile(r"\b(axiom|axiomatic|admit|assume|assumed|extern|lemma|terminates|exits)\b|\*/")
 DEFINED = re.compile(r"(?!typedef|enum)[a-z][\w ]*?[ *](jcobs_\w+)\(")
 LOOP = re.compile(r"\s*(while|for|do)\b")
 COMMENT_OR_TOKEN = re.compile(
@@ -117,7 +117,8 @@ def annotated(source, notes):
             at = place(name, kind, lines, first, last)
             indent = re.match(" *", lines[at])[0]
             inserted.setdefault(at, []).extend(comments(said, indent))
-    for title in notes.keys() - functions.keys():
+    # Each goes in front of those before it. Their order is the same in each run, as the provers' steps depend on it.
+    for title in sorted(notes.keys() - functions.keys(), reverse=True):
         name = title.partition(", before ")[2]
         if name not in functions:
             sys.exit(f"there is no function for the part '{title}'")
