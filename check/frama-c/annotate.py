@@ -117,7 +117,7 @@ def annotated(source, notes):
             at = place(name, kind, lines, first, last)
             indent = re.match(" *", lines[at])[0]
             inserted.setdefault(at, []).extend(comments(said, indent))
-    # Each goes in front of those before it. Their order is the same in each run, as the provers' steps depend on it.
+    # Each goes in front of those before it. They are sorted so that the copy is the same in each run.
     for title in sorted(notes.keys() - functions.keys(), reverse=True):
         name = title.partition(", before ")[2]
         if name not in functions:
