@@ -149,3 +149,42 @@ row_fed n inner dest bytes new some few going none due room ones is =
     rw (ones, is ∙ ap (λ (k : ℕ). take inner.written dest ++ (replicate n 0 ++ drop (inner.written + k) dest)) (sym (length-replicate {A = ℕ} n 0)))
     (open_fed inner n dest (replicate n 1) room long going (λ e. absurd (due e)) (ones-nonzero n) some (λ _. few) (replicate n 0) 1 inner.missing inner.joint
     (ap (λ (k : ℕ). (replicate n 0, 1, k)) none ∙ sym (row_ones n) ∙ walked-any 1 code 0 (replicate n 1) (omega (arith, long)) ∙ ap (λ (k : ℕ). walked code k (replicate n 1)) (sym none)) (ne_eqb inner.joint 0 due))
+
+-- what `joint_after` returns for a code
+pub joint-is : (code joint : ℕ) → (code ≡ 255 → joint ≡ 0) → (code ≢ 255 → joint ≡ 1) → eqb joint 0 ≡ eqb code 255
+joint-is code joint full other = elim (cases_eq code 255) [ inl e ↦ rw (full e, e) refl | inr o ↦ rw (other o, ne_eqb code 255 o) refl ]
+
+-- bytes that were copied or moved behind the output
+module _ (inner : UnbufferedDecoder) (len : ℕ) (dest : List ℕ) (nz : HasNoZero (take len (drop inner.written dest))) (before xs : List ℕ) (room : inner.written + len ≤ length before) (long : length xs ≡ len)
+    (is : dest ≡ take inner.written before ++ (xs ++ drop (inner.written + len) before)) (going : inner.too_long ≡ 0) (full : inner.joint ≡ 0 → len ≤ inner.missing) (few : (0 < len) × (len < 254)) where
+  abbrev part : List ℕ
+  part = take (inner.written + len - inner.written) (drop inner.written dest)
+
+  abbrev code : ℕ
+  code = code_by inner.joint
+
+  part-is : part ≡ xs
+  part-is = ap (λ (k : ℕ). take k (drop inner.written dest)) (omega arith) ∙ copied-there inner.written len before dest xs room long is
+
+  nonzero : HasNoZero xs
+  nonzero = subst HasNoZero (copied-there inner.written len before dest xs room long is) nz
+
+  -- a code of one more than it misses is as good as its own, with a code behind
+  own : inner.missing < len → walked (inner.missing + 1) (inner.missing + 1 - 1) part ≡ walked code inner.missing xs
+  own more = ap (λ (k : ℕ). walked (inner.missing + 1) k part) (omega arith) ∙ ap (walked (inner.missing + 1) inner.missing) part-is ∙ walked-any (inner.missing + 1) code inner.missing xs (omega arith)
+
+  dest-is : dest ≡ take inner.written before ++ (xs ++ drop (inner.written + length xs) before)
+  dest-is = is ∙ ap (λ (k : ℕ). take inner.written before ++ (xs ++ drop (inner.written + k) before)) (sym long)
+
+  -- fed, as they were left there
+  pub kept : len ≤ inner.missing → FeedsQuietly before (phase_of inner) xs dest (phase_of (record { written = inner.written + len; missing = inner.missing - len; joint = inner.joint; too_long = inner.too_long }))
+  kept most = rw dest-is (open_fed inner len before xs room long going full nonzero few.0 (λ _. few.1) xs code (inner.missing - len) inner.joint
+      (ap (λ (k : ℕ). (xs, code, inner.missing - k)) (sym long) ∙ sym (walked-past code inner.missing xs (omega arith))) (code_by-full inner.joint))
+
+  -- fed, as they were written over
+  pub marked : inner.missing < len → (ys : List ℕ) (last left joint : ℕ) → ◌≡◌ {A = List ℕ × ℕ × ℕ} (ys, last, left) (walked (inner.missing + 1) (inner.missing + 1 - 1) part) → eqb joint 0 ≡ eqb last 255
+      → FeedsQuietly before (phase_of inner) xs (put_mid inner.written (inner.written + len - inner.written) dest ys) (phase_of (record { written = inner.written + len; missing = left; joint = joint; too_long = inner.too_long }))
+  marked more ys last left joint e due =
+      let w = e ∙ own more in
+      rw (written_over inner len before xs room long going full nonzero few.0 (λ _. few.1) ys last left joint w due dest dest-is)
+      (open_fed inner len before xs room long going full nonzero few.0 (λ _. few.1) ys last left joint w due)

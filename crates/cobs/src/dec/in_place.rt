@@ -68,7 +68,7 @@ impl UnbufferedDecoder {
             return WINDOW;
         }
         move_back(buffer, at, read, len);
-        self.take_copied(buffer, len);
+        self.take_moved(buffer, len);
         len
     }
 

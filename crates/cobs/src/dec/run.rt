@@ -10,11 +10,11 @@ ghost use Rattle.cobs.specs.Step.{next_phase};
 
 use crate::block::FULL_BLOCK_BYTES;
 use crate::dec::step::joint_after;
-use crate::dec::stretch::write_zeros_at_codes;
+use crate::dec::stretch::{write_zeros_at_codes, write_zeros_at_copied};
 use crate::dec::unbuffered::{START, UnbufferedDecoder};
 use crate::find::zero_or_len;
 use cobs_bytes::lanes::{copy_xored, copy_xored_short};
-use cobs_bytes::window::{WIDE_WINDOW, WINDOW, copy_window, is_all, write_row};
+use cobs_bytes::window::{WIDE_WINDOW, WINDOW, copy_window, has_vectors, is_all, write_row};
 
 /// The most bytes of one stretch: so short that no code in it can be followed by a whole full block.
 pub(crate) const STRETCH_MAX: usize = FULL_BLOCK_BYTES - 1;
@@ -87,9 +87,9 @@ impl UnbufferedDecoder {
         1 + len
     }
 
-    /// Takes `len` bytes that are copied after the output, none of them a zero, in which no full block ends.
+    /// Takes `len` bytes that are moved to the end of the output, none of them a zero, in which no full block ends.
     #[inline(always)]
-    pub(crate) fn take_copied(&mut self, dest: &mut [u8], len: usize)
+    pub(crate) fn take_moved(&mut self, dest: &mut [u8], len: usize)
         requires going { self.old.too_long ≡ 0 }
         requires few { (0 < len) × (len < 254) }
         requires full { self.old.joint ≡ 0 → len ≤ self.old.missing }
@@ -115,6 +115,37 @@ impl UnbufferedDecoder {
         self.missing = missing;
     }
 
+    /// Takes these bytes, which are copied after the output, each XORed with the sentinel. None of them is the sentinel, and no
+    /// full block ends in them.
+    #[inline(always)]
+    fn take_copied(&mut self, dest: &mut [u8], copied: &[u8], sentinel: u8)
+        requires going { self.old.too_long ≡ 0 }
+        requires few { (0 < length copied.now) × (length copied.now < 254) }
+        requires full { self.old.joint ≡ 0 → length copied.now ≤ self.old.missing }
+        requires room { self.old.written + length copied.now ≤ length dest.old }
+        requires copied { take (length copied.now) (drop self.old.written dest.old) ≡ xor_each sentinel copied.now }
+        requires nonzero { HasNoZero (xor_each sentinel copied.now) }
+        ensures fed { let at = self.old.written in let len = length copied.now in (before xs : List ℕ) → at + len ≤ length before
+            → length xs ≡ len → dest.old ≡ take at before ++ (xs ++ drop (at + len) before)
+            → FeedsQuietly before (phase_of self.old) xs dest.new (phase_of self.new) }
+        ensures going { self.new.too_long ≡ 0 }
+        ensures written { self.new.written ≡ self.old.written + length copied.now }
+        ensures full { self.old.joint ≡ 0 → self.new.joint ≡ 0 }
+    {
+        let at = self.written;
+        let len = copied.len();
+        let missing = self.missing as usize;
+        self.written = at + len;
+        if len <= missing {
+            self.missing -= len as u8;
+            return;
+        }
+        // As in `take_moved`.
+        let ends = write_zeros_at_copied(&mut dest[at..at + len], copied, missing + 1, sentinel);
+        self.joint = joint_after(ends.0);
+        self.missing = ends.1;
+    }
+
     /// Takes up to 253 bytes, in which no full block ends. Returns how many: 0 if the first has no room.
     #[inline(always)]
     fn take_stretch(&mut self, dest: &mut [u8], bytes: &[u8], sentinel: u8) -> usize
@@ -135,8 +166,9 @@ impl UnbufferedDecoder {
         if len == 0 {
             return 0;
         }
-        copy_xored(&bytes[..len], &mut dest[at..], sentinel);
-        self.take_copied(dest, len);
+        let copied = &bytes[..len];
+        copy_xored(copied, &mut dest[at..], sentinel);
+        self.take_copied(dest, copied, sentinel);
         len
     }
 
@@ -158,20 +190,22 @@ impl UnbufferedDecoder {
         {
             return false;
         }
-        self.take_copied(dest, len);
+        self.take_copied(dest, bytes, 0);
         true
     }
 
-    /// Takes the code at the front of a piece, and `len` bytes after it, none of them a zero, that are copied to the front of
+    /// Takes the code at the front of a piece, and the bytes after it, none of them a zero, which are copied to the front of
     /// `dest`.
     #[inline(always)]
-    fn begin(&mut self, dest: &mut [u8], code: u8, len: usize)
+    fn begin(&mut self, dest: &mut [u8], code: u8, copied: &[u8])
         requires idle { phase_of self.old ≡ Idle }
         requires code { code ≢ 0 }
-        requires few { (0 < len) × (len < 254) }
-        requires room { len ≤ length dest.old }
-        requires nonzero { HasNoZero (take len dest.old) }
-        ensures fed { (before xs : List ℕ) → len ≤ length before → length xs ≡ len → dest.old ≡ xs ++ drop len before
+        requires few { (0 < length copied.now) × (length copied.now < 254) }
+        requires room { length copied.now ≤ length dest.old }
+        requires copied { take (length copied.now) dest.old ≡ copied.now }
+        requires nonzero { HasNoZero copied.now }
+        ensures fed { let len = length copied.now in (before xs : List ℕ) → len ≤ length before → length xs ≡ len
+            → dest.old ≡ xs ++ drop len before
             → FeedsQuietly before (phase_of self.old) (code ∷ xs) dest.new (phase_of self.new) }
         ensures begun { (self.new.too_long ≡ 0) × (0 < self.new.written) }
     {
@@ -179,7 +213,7 @@ impl UnbufferedDecoder {
         let mut begun = START;
         begun.joint = joint_after(code);
         begun.missing = code - 1;
-        begun.take_copied(dest, len);
+        begun.take_copied(dest, copied, 0);
         *self = begun;
     }
 
@@ -208,7 +242,7 @@ impl UnbufferedDecoder {
         if code == 0 || !copy_xored_short(&bytes[1..], dest, 0) {
             return false;
         }
-        self.begin(dest, code, len - 1);
+        self.begin(dest, code, &bytes[1..]);
         true
     }
 
@@ -228,7 +262,7 @@ impl UnbufferedDecoder {
         }
         let code = bytes[0];
         let _zeros = copy_window(&bytes[1..], dest, 0);
-        self.begin(dest, code, len - 1);
+        self.begin(dest, code, &bytes[1..]);
         true
     }
 
@@ -302,5 +336,19 @@ impl UnbufferedDecoder {
         }
         let end = zero_or_len(bytes);
         self.take_blocks(dest, &bytes[..end], 0)
+    }
+
+    /// Takes bytes that return `Ok(None)`, by a search and slices, and returns how many. A target without vectors has neither: the
+    /// result is 0 there, and each byte is a step.
+    #[inline(always)]
+    pub(crate) fn take_at_once(&mut self, dest: &mut [u8], bytes: &[u8]) -> usize
+        ensures within { result ≤ length bytes.now }
+        ensures fed { FeedsQuietly dest.old (phase_of self.old) (take result bytes.now) dest.new (phase_of self.new) }
+    {
+        if has_vectors() {
+            self.take_run(dest, bytes)
+        } else {
+            0
+        }
     }
 }

@@ -11,7 +11,7 @@ use Rattle.cobs.proofs.streaming.ByByteLemmas.{piece-nothing, piece-ended}
 use Rattle.cobs.proofs.streaming.RunLemmas.{piece-run}
 use Rattle.cobs.proofs.dec.unbuffered.UnbufferedDecoder.feed_piece.Goals as goal
 use Rattle.cobs_bytes.proofs.bytes.XoredLemmas.{xor_each-zero}
-use Rattle.cobs.proofs.dec.unbuffered.UnbufferedDecoder.feed_piece.Goals.{then-has_vectors+then-bytes-gt-VERY_FEW+then-is_idle+then-front-bytes+else-take_front, then-has_vectors+then-bytes-gt-VERY_FEW+then-is_idle+else-front-bytes+else-take_begun, then-has_vectors+then-bytes-gt-VERY_FEW+else-is_idle+else-take_short, else-has_vectors}
+use Rattle.cobs.proofs.dec.unbuffered.UnbufferedDecoder.feed_piece.Goals.{then-bytes-gt-VERY_FEW+then-is_idle+else-len-bytes+then-front-bytes+else-take_front, then-bytes-gt-VERY_FEW+then-is_idle+else-len-bytes+else-front-bytes+else-take_begun-2, else-len-bytes-via-then-len-bytes+else-take_begun, else-len-bytes-via-else-len-bytes, then-bytes-gt-VERY_FEW+else-is_idle+else-take_short, else-bytes-gt-VERY_FEW}
 
 -- bytes were fed of which none ends a piece
 quietly : (bytes buffer buffer' : List ℕ) (phase phase' : Phase) → FeedsQuietly buffer phase bytes buffer' phase' → TakesPiece buffer phase bytes None buffer' phase'
@@ -57,69 +57,106 @@ module _ (bytes buffer between buffer' : List ℕ) (phase phase_between phase' :
   ended : (end : PieceEnd) → end_reported result ≡ Some end → TakesPiece buffer phase bytes (Some (end, len + 1)) buffer' phase'
   ended end is = piece-ended bytes _ within before last end zero is
 
-pub returns-then-len-bytes : goal.returns-then-len-bytes
-returns-then-len-bytes c =
-    let bytes : List ℕ = c.args.bytes.now in
-    let all : take c.len_without_end-len.result bytes ≡ bytes = take_all c.len_without_end-len.result bytes (omega (arith, c.if-len-bytes.true)) in
-    record { takes = quietly _ _ _ _ _ (rw all at c.take_begun.ensures.fed c.if-take_begun.true) }
+pub returns-then-not-has_vectors : goal.returns-then-not-has_vectors
+returns-then-not-has_vectors c = record { takes = rw (xor_each-zero c.args.bytes.now) at c.feed_each.ensures.takes }
 
 pub returns-in_err-end : goal.returns-in_err-end
 returns-in_err-end c =
+    let n = c.take_begun.new.self in
+    let begun = c.take_begun.ensures.begun c.if-take_begun.true in
+    absurd (ended_by n.written n.missing n.joint n.too_long _ _ _ _ begun.0 begun.1 c.feed.ensures.feeds (sym c.in_err-end.ensures.end))
+
+pub returns-then-take_begun : goal.returns-then-take_begun
+returns-then-take_begun c =
+    let e = c.len_without_end-len.ensures in
+    let within : c.len_without_end-len.result < length c.args.bytes.now = omega (arith, c.if-len-bytes.true) in
+    let whole : c.len_without_end-len.result + 1 ≡ length c.args.bytes.now = omega (arith, e.last, within) in
+    let taken = ended _ _ _ _ _ _ _ _ _ within (e.stop within) (c.take_begun.ensures.fed c.if-take_begun.true) c.feed.ensures.feeds _ (sym c.in_ok-end.ensures.end) in
+    record { takes = rw whole at taken }
+
+pub returns-in_err-end-2 : goal.returns-in_err-end-2
+returns-in_err-end-2 c =
     let n = c.take_front.new.self in
     let begun = c.take_front.ensures.begun c.if-take_front.true in
-    absurd (ended_by n.written n.missing n.joint n.too_long _ _ _ _ begun.0 begun.1 c.feed.ensures.feeds (sym c.in_err-end.ensures.end))
+    absurd (ended_by n.written n.missing n.joint n.too_long _ _ _ _ begun.0 begun.1 c.feed-then-take_front.ensures.feeds (sym c.in_err-end-2.ensures.end))
 
 pub returns-then-take_front : goal.returns-then-take_front
 returns-then-take_front c =
     let within : c.front_len-front.result < length c.args.bytes.now = omega (arith, c.if-front-bytes.true) in
     let e = c.front_len-front.ensures in
-    record { takes = ended _ _ _ _ _ _ _ _ _ within (e.stop within) (c.take_front.ensures.fed c.if-take_front.true) c.feed.ensures.feeds _ (sym c.in_ok-end.ensures.end) }
+    let taken = ended _ _ _ _ _ _ _ _ _ within (e.stop within) (c.take_front.ensures.fed c.if-take_front.true) c.feed-then-take_front.ensures.feeds _ (sym c.in_ok-end-2.ensures.end) in
+    elim c.else-len-bytes.branch [
+      | else-len-bytes-via-then-len-bytes+else-take_begun w ↦
+          let kept = w.take_begun.ensures.kept w.if-take_begun.false in
+          record { takes = rw (w.dest-is, w.self-is, kept.0, kept.1) at taken }
+      | else-len-bytes-via-else-len-bytes w ↦ record { takes = rw (w.dest-is, w.self-is) at taken }
+    ]
 
-pub returns-in_err-end-2 : goal.returns-in_err-end-2
-returns-in_err-end-2 c =
-    let n = c.take_begun.new.self in
-    let begun = c.take_begun.ensures.begun c.if-take_begun.true in
-    absurd (ended_by n.written n.missing n.joint n.too_long _ _ _ _ begun.0 begun.1 c.feed-then-take_begun.ensures.feeds (sym c.in_err-end-2.ensures.end))
-
-pub returns-then-take_begun : goal.returns-then-take_begun
-returns-then-take_begun c =
-    let e = c.len_without_end-len.ensures in
-    let whole : c.len_without_end-len.result + 1 ≡ length c.args.bytes.now = omega (arith, e.last, e.within, c.if-len-bytes.false) in
-    let within : c.len_without_end-len.result < length c.args.bytes.now = omega (arith, whole) in
-    let taken = ended _ _ _ _ _ _ _ _ _ within (e.stop within) (c.take_begun.ensures.fed c.if-take_begun.true) c.feed-then-take_begun.ensures.feeds _ (sym c.in_ok-end-2.ensures.end) in
-    record { takes = rw whole at taken }
+pub returns-then-take_begun-2 : goal.returns-then-take_begun-2
+returns-then-take_begun-2 c =
+    let taken = quietly _ _ _ _ _ (c.take_begun-else-front-bytes.ensures.fed c.if-take_begun-2.true) in
+    elim c.else-len-bytes.branch [
+      | else-len-bytes-via-then-len-bytes+else-take_begun w ↦
+          let kept = w.take_begun.ensures.kept w.if-take_begun.false in
+          record { takes = rw (w.dest-is, w.self-is, kept.0, kept.1) at taken }
+      | else-len-bytes-via-else-len-bytes w ↦ record { takes = rw (w.dest-is, w.self-is) at taken }
+    ]
 
 pub returns-then-take_short : goal.returns-then-take_short
 returns-then-take_short c = record { takes = quietly _ _ _ _ _ (c.take_short.ensures.fed c.if-take_short.true) }
 
 pub returns-then-bytes-le-FEW : goal.returns-then-bytes-le-FEW
 returns-then-bytes-le-FEW c =
-    let taken = rw (xor_each-zero c.args.bytes.now) at c.feed_each.ensures.takes in
-    elim c.if-has_vectors.branch [
-      | then-has_vectors+then-bytes-gt-VERY_FEW+then-is_idle+then-front-bytes+else-take_front w ↦
+    let taken = rw (xor_each-zero c.args.bytes.now) at c.feed_each-then-bytes-le-FEW.ensures.takes in
+    elim c.if-bytes-gt-VERY_FEW.branch [
+      | then-bytes-gt-VERY_FEW+then-is_idle+else-len-bytes+then-front-bytes+else-take_front w ↦
           let kept = w.take_front.ensures.kept w.if-take_front.false in
-          record { takes = rw (w.dest-is, w.self-is, kept.0, kept.1) at taken }
-      | then-has_vectors+then-bytes-gt-VERY_FEW+then-is_idle+else-front-bytes+else-take_begun w ↦
-          let kept = w.take_begun.ensures.kept w.if-take_begun.false in
-          record { takes = rw (w.dest-is, w.self-is, kept.0, kept.1) at taken }
-      | then-has_vectors+then-bytes-gt-VERY_FEW+else-is_idle+else-take_short w ↦
+          let rest = rw (w.dest-is, w.self-is, kept.0, kept.1) at taken in
+          elim w.else-len-bytes.branch [
+            | else-len-bytes-via-then-len-bytes+else-take_begun v ↦
+                let before = v.take_begun.ensures.kept v.if-take_begun.false in
+                record { takes = rw (v.dest-is, v.self-is, before.0, before.1) at rest }
+            | else-len-bytes-via-else-len-bytes v ↦ record { takes = rw (v.dest-is, v.self-is) at rest }
+          ]
+      | then-bytes-gt-VERY_FEW+then-is_idle+else-len-bytes+else-front-bytes+else-take_begun-2 w ↦
+          let kept = w.take_begun-else-front-bytes.ensures.kept w.if-take_begun-2.false in
+          let rest = rw (w.dest-is, w.self-is, kept.0, kept.1) at taken in
+          elim w.else-len-bytes.branch [
+            | else-len-bytes-via-then-len-bytes+else-take_begun v ↦
+                let before = v.take_begun.ensures.kept v.if-take_begun.false in
+                record { takes = rw (v.dest-is, v.self-is, before.0, before.1) at rest }
+            | else-len-bytes-via-else-len-bytes v ↦ record { takes = rw (v.dest-is, v.self-is) at rest }
+          ]
+      | then-bytes-gt-VERY_FEW+else-is_idle+else-take_short w ↦
           let kept = w.take_short.ensures.kept w.if-take_short.false in
           record { takes = rw (w.dest-is, w.self-is, kept.0, kept.1) at taken }
-      | else-has_vectors w ↦ record { takes = rw (w.dest-is, w.self-is) at taken }
+      | else-bytes-gt-VERY_FEW w ↦ record { takes = rw (w.dest-is, w.self-is) at taken }
     ]
 
 pub returns : goal.returns
 returns c =
     let taken = c.feed_piece_long.ensures.takes in
-    elim c.if-has_vectors.branch [
-      | then-has_vectors+then-bytes-gt-VERY_FEW+then-is_idle+then-front-bytes+else-take_front w ↦
+    elim c.if-bytes-gt-VERY_FEW.branch [
+      | then-bytes-gt-VERY_FEW+then-is_idle+else-len-bytes+then-front-bytes+else-take_front w ↦
           let kept = w.take_front.ensures.kept w.if-take_front.false in
-          record { takes = rw (w.dest-is, w.self-is, kept.0, kept.1) at taken }
-      | then-has_vectors+then-bytes-gt-VERY_FEW+then-is_idle+else-front-bytes+else-take_begun w ↦
-          let kept = w.take_begun.ensures.kept w.if-take_begun.false in
-          record { takes = rw (w.dest-is, w.self-is, kept.0, kept.1) at taken }
-      | then-has_vectors+then-bytes-gt-VERY_FEW+else-is_idle+else-take_short w ↦
+          let rest = rw (w.dest-is, w.self-is, kept.0, kept.1) at taken in
+          elim w.else-len-bytes.branch [
+            | else-len-bytes-via-then-len-bytes+else-take_begun v ↦
+                let before = v.take_begun.ensures.kept v.if-take_begun.false in
+                record { takes = rw (v.dest-is, v.self-is, before.0, before.1) at rest }
+            | else-len-bytes-via-else-len-bytes v ↦ record { takes = rw (v.dest-is, v.self-is) at rest }
+          ]
+      | then-bytes-gt-VERY_FEW+then-is_idle+else-len-bytes+else-front-bytes+else-take_begun-2 w ↦
+          let kept = w.take_begun-else-front-bytes.ensures.kept w.if-take_begun-2.false in
+          let rest = rw (w.dest-is, w.self-is, kept.0, kept.1) at taken in
+          elim w.else-len-bytes.branch [
+            | else-len-bytes-via-then-len-bytes+else-take_begun v ↦
+                let before = v.take_begun.ensures.kept v.if-take_begun.false in
+                record { takes = rw (v.dest-is, v.self-is, before.0, before.1) at rest }
+            | else-len-bytes-via-else-len-bytes v ↦ record { takes = rw (v.dest-is, v.self-is) at rest }
+          ]
+      | then-bytes-gt-VERY_FEW+else-is_idle+else-take_short w ↦
           let kept = w.take_short.ensures.kept w.if-take_short.false in
           record { takes = rw (w.dest-is, w.self-is, kept.0, kept.1) at taken }
-      | else-has_vectors w ↦ record { takes = rw (w.dest-is, w.self-is) at taken }
+      | else-bytes-gt-VERY_FEW w ↦ record { takes = rw (w.dest-is, w.self-is) at taken }
     ]

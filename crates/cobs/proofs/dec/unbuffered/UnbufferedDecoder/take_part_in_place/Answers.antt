@@ -8,8 +8,8 @@ use Rattle.cobs.proofs.dec.unbuffered.UnbufferedDecoder.take_part_in_place.Goals
 use Rattle.cobs.proofs.dec.unbuffered.UnbufferedDecoder.take_part_in_place.Goals.{then-self-eq0, else-self-eq0}
 use Rattle.cobs_bytes.proofs.bytes.ListLemmas.{part-nonzero}
 
-pub take_copied-requires-clause-nonzero : goal.take_copied-requires-clause-nonzero
-take_copied-requires-clause-nonzero c =
+pub take_moved-requires-clause-nonzero : goal.take_moved-requires-clause-nonzero
+take_moved-requires-clause-nonzero c =
     let n : ℕ = c.stretch_len-len.result in
     let bytes : List ℕ = drop c.args.read c.args.buffer.now in
     let long = length-take-le n bytes (omega (arith, length-drop c.args.read c.args.buffer.now)) in
@@ -33,4 +33,4 @@ pub returns-then-is_all-clause-fed : goal.returns-then-is_all-clause-fed
 returns-then-is_all-clause-fed c = row_fed 32 c.args.self.now c.args.buffer.now _ _ (omega arith) (omega arith) c.requires.going c.if-missing-eq0-2.true (λ e. absurd (omega (arith, c.stretch_len-len.ensures.full e))) (omega arith) (c.is_all.ensures c.if-is_all.true) c.write_row.ensures
 
 pub returns-clause-fed : goal.returns-clause-fed
-returns-clause-fed c = c.take_copied.ensures.fed c.args.buffer.now _ (omega arith) (length-take-le _ _ (omega (arith, length-drop c.args.read c.args.buffer.now))) c.move_back-2.ensures
+returns-clause-fed c = c.take_moved.ensures.fed c.args.buffer.now _ (omega arith) (length-take-le _ _ (omega (arith, length-drop c.args.read c.args.buffer.now))) c.move_back-2.ensures

@@ -1,4 +1,4 @@
-use Rattle.std.proofs.Common.{◌≡◌, ◌≢◌, ◌≤◌, ◌+◌, ◌-◌, ◌++◌, List, ℕ, bit_xor, length, take, drop, sym, subst, arith, length-take-le}
+use Rattle.std.proofs.Common.{◌≡◌, ◌≢◌, ◌≤◌, ◌+◌, ◌-◌, ◌++◌, List, ℕ, bit_xor, length, take, drop, ap, sym, subst, arith, length-take-le, ◌∙◌}
 use Rattle.std.proofs.lemmas.List.{length-map}
 use Rattle.std.proofs.lemmas.List.Elements.{All-take}
 use borrow.Rule.Slice.PartMut.{put_mid}
@@ -20,8 +20,15 @@ module _ (bytes dest ys : List ℕ) (s n at : ℕ) (within : n ≤ length bytes)
   put : put_mid at (length dest - at) dest ys ≡ take at dest ++ (xs ++ drop (at + n) dest)
   put = copied_put at n s dest ys (take n bytes) xs copied (front_xored bytes s n) (length-take-le n bytes within)
 
-  nonzero : HasNoZero (xor_each s bytes) → HasNoZero (take n (drop at (put_mid at (length dest - at) dest ys)))
-  nonzero nz = subst HasNoZero (sym (copied-there at n dest _ xs room long put)) (All-take (λ b. b ≢ 0) n (xor_each s bytes) nz)
+  there : take (length (take n bytes)) (drop at (put_mid at (length dest - at) dest ys)) ≡ xor_each s (take n bytes)
+  there = ap (λ (k : ℕ). take k (drop at (put_mid at (length dest - at) dest ys))) (length-take-le n bytes within) ∙ copied-there at n dest _ xs room long put ∙ sym (front_xored bytes s n)
+
+  nonzero : HasNoZero (xor_each s bytes) → HasNoZero (xor_each s (take n bytes))
+  nonzero nz = subst HasNoZero (sym (front_xored bytes s n)) (All-take (λ b. b ≢ 0) n (xor_each s bytes) nz)
+
+pub take_copied-requires-clause-copied : goal.take_copied-requires-clause-copied
+take_copied-requires-clause-copied c =
+    there c.args.bytes.now c.args.dest.now _ c.args.sentinel c.stretch_len-len.result c.args.self.now.written (omega arith) (omega arith) c.copy_xored.ensures
 
 pub take_copied-requires-clause-nonzero : goal.take_copied-requires-clause-nonzero
 take_copied-requires-clause-nonzero c =
@@ -33,4 +40,5 @@ returns-clause-fed c =
     let n : ℕ = c.stretch_len-len.result in
     let within : n ≤ length bytes = omega arith in
     let room : c.args.self.now.written + n ≤ length c.args.dest.now = omega arith in
-    c.take_copied.ensures.fed c.args.dest.now _ room (long bytes c.args.dest.now _ c.args.sentinel n _ within room c.copy_xored.ensures) (put bytes c.args.dest.now _ c.args.sentinel n _ within room c.copy_xored.ensures)
+    let fed = rw (length-take-le n bytes within) at c.take_copied.ensures.fed in
+    fed c.args.dest.now _ room (long bytes c.args.dest.now _ c.args.sentinel n _ within room c.copy_xored.ensures) (put bytes c.args.dest.now _ c.args.sentinel n _ within room c.copy_xored.ensures)

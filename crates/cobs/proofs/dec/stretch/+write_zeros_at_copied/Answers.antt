@@ -1,0 +1,47 @@
+use Rattle.std.proofs.Common.{◌≡◌, ◌≢◌, ◌-◌, ◌<◌, ◌∙◌, ℕ, List, ap, sym, ◌∷◌, bit_xor, get_or, arith, take, drop, length, length-drop}
+use Rattle.std.proofs.lemmas.List.{length-map, get_or-map}
+use Rattle.std.proofs.lemmas.Nat.{xor_lt}
+use Rattle.std.proofs.lemmas.List.Elements.{All-cons, All-head, All-drop, All-get_or, All-tail}
+use Rattle.cobs.specs.Grammar.{HasNoZero}
+use Rattle.cobs.specs.Sentinel.{xor_each}
+use Rattle.cobs.proofs.format.SentinelLemmas.{rest_xored}
+use Rattle.cobs.proofs.streaming.WalkLemmas.{behind-code, walked-next, walked-past}
+use Rattle.cobs.proofs.dec.stretch.+write_zeros_at_copied.Goals as goal
+
+-- the copies are as many bytes, and each is its byte, XORed
+module _ (copied dest : List ℕ) (s : ℕ) (is : dest ≡ xor_each s copied) where
+  long : length dest ≡ length copied
+  long = ap length is ∙ length-map copied (λ (b : ℕ). bit_xor b s)
+
+  code-is : (i : ℕ) → i < length copied → get_or dest i 0 ≡ bit_xor (get_or copied i 0) s
+  code-is i within = ap (λ (l : List ℕ). get_or l i 0) is ∙ get_or-map (λ b. bit_xor b s) copied i 0 0 within
+
+pub returns-then-copied-first : goal.returns-then-copied-first
+returns-then-copied-first t c =
+    let same = long c.args.copied.now c.args.dest.now c.args.sentinel c.requires.copied in
+    ap (λ (k : ℕ). (c.args.dest.now, c.args.first, c.args.first - 1 - k)) (sym same) ∙ sym (walked-past c.args.first (c.args.first - 1) c.args.dest.now (omega (arith, same)))
+
+pub write_zeros_at_copied-requires : goal.write_zeros_at_copied-requires
+write_zeros_at_copied-requires t c =
+    let nz = c.requires.nonzero in
+    let dest : List ℕ = c.args.dest.now in
+    let same = long c.args.copied.now dest c.args.sentinel c.requires.copied in
+    let some : 0 < c.args.first = omega (arith, All-head (λ b. b ≢ 0) c.args.first dest nz) in
+    let is = behind-code c.args.first dest some (omega (arith, same)) in
+    let code = code-is c.args.copied.now dest c.args.sentinel c.requires.copied (c.args.first - 1) (omega (arith, some)) in
+    let less : length (drop c.args.first dest) < t = omega (arith, c.decreases, length-drop c.args.first dest) in
+    let below = xor_lt 8 (get_or c.args.copied.now (c.args.first - 1) 0) c.args.sentinel (c.type_inv.copied (c.args.first - 1)).fits c.ranges.sentinel.fits in
+    let copied : drop c.args.first dest ≡ xor_each c.args.sentinel (take (length c.args.copied.now - c.args.first) (drop c.args.first c.args.copied.now))
+    = ap (drop c.args.first) c.requires.copied ∙ sym (rest_xored c.args.copied.now c.args.sentinel c.args.first) in
+    let rest : HasNoZero (get_or dest (c.args.first - 1) 0 ∷ drop c.args.first dest)
+    = All-cons (λ b. b ≢ 0) _ _ (All-get_or (λ b. b ≢ 0) dest (c.args.first - 1) 0 (omega (arith, same)) (All-tail (λ b. b ≢ 0) c.args.first dest nz)) (All-drop (λ b. b ≢ 0) c.args.first dest (All-tail (λ b. b ≢ 0) c.args.first dest nz)) in
+    (rw (← is) at less, (below, (rw (← is) at copied, rw (← is) at rw code at rest)))
+
+pub returns : goal.returns
+returns t c =
+    let dest : List ℕ = c.args.dest.now in
+    let same = long c.args.copied.now dest c.args.sentinel c.requires.copied in
+    let some : 0 < c.args.first = omega (arith, All-head (λ b. b ≢ 0) c.args.first dest c.requires.nonzero) in
+    let code = code-is c.args.copied.now dest c.args.sentinel c.requires.copied (c.args.first - 1) (omega (arith, some)) in
+    let is = behind-code c.args.first dest some (omega (arith, same)) in
+    walked-next c.args.first dest some (omega (arith, same)) _ _ _ (rw (is, ← code) at c.write_zeros_at_copied.ensures)

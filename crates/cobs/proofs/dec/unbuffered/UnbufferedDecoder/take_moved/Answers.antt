@@ -1,0 +1,12 @@
+use Rattle.std.proofs.Common.{arith}
+use Rattle.cobs.proofs.streaming.StretchLemmas.{joint-is, kept, marked}
+use Rattle.cobs.proofs.dec.unbuffered.UnbufferedDecoder.take_moved.Goals as goal
+
+pub returns-then-len-missing-clause-fed : goal.returns-then-len-missing-clause-fed
+returns-then-len-missing-clause-fed c before xs room long is =
+    kept c.args.self.now c.args.len c.args.dest.now c.requires.nonzero before xs room long is c.requires.going c.requires.full c.requires.few c.if-len-missing.true
+
+pub returns-clause-fed : goal.returns-clause-fed
+returns-clause-fed c before xs room long is =
+    let j = c.joint_after-self.ensures in
+    marked c.args.self.now c.args.len c.args.dest.now c.requires.nonzero before xs room long is c.requires.going c.requires.full c.requires.few (omega arith) _ _ _ _ c.write_zeros_at_codes-code.ensures (joint-is _ _ j.full j.other)
