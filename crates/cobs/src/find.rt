@@ -45,13 +45,13 @@ pub(crate) fn len_without_end(source: &[u8], sentinel: u8) -> usize
     }
 }
 
-/// The length of the source before a zero among its first 64 bytes, or its whole length if none was found there: in a source of
-/// 32 to 63 bytes only the first 32 are searched.
+/// The length of the source before a zero among its first 66 bytes, or its whole length if none was found there: in a source of
+/// 32 to 63 bytes only the first 32 are searched, and in one of 64 or 65 bytes the first 64.
 // A second search for the others would cost a source that has its zero at the end, as a frame that is pushed alone.
 #[inline(always)]
 pub(crate) fn front_len(source: &[u8]) -> usize
     ensures within { result ≤ length source.now }
-    ensures near { result < length source.now → result < 64 }
+    ensures near { result < length source.now → result < 66 }
     ensures before { result < length source.now → HasNoZero (take result source.now) }
     ensures stop { result < length source.now → slice_index source.now result ≡ 0 }
 {
@@ -68,6 +68,15 @@ pub(crate) fn front_len(source: &[u8]) -> usize
     let later = zeros_at::<32>(source, WINDOW);
     if later != 0 {
         return WINDOW + later.trailing_zeros() as usize;
+    }
+    // The frames of messages of 63 and 64 bytes end here.
+    if WIDE_WINDOW + 1 < source.len() {
+        if source[WIDE_WINDOW] == 0 {
+            return WIDE_WINDOW;
+        }
+        if source[WIDE_WINDOW + 1] == 0 {
+            return WIDE_WINDOW + 1;
+        }
     }
     source.len()
 }

@@ -250,7 +250,7 @@ impl UnbufferedDecoder {
     #[inline(always)]
     pub(crate) fn take_front(&mut self, dest: &mut [u8], bytes: &[u8]) -> bool
         requires idle { phase_of self.old ≡ Idle }
-        requires few { length bytes.now < 64 }
+        requires few { length bytes.now ≤ 65 }
         requires nonzero { HasNoZero bytes.now }
         ensures fed { IsTrue result → FeedsQuietly dest.old (phase_of self.old) bytes.now dest.new (phase_of self.new) }
         ensures begun { IsTrue result → (self.new.too_long ≡ 0) × (0 < self.new.written) }

@@ -1,7 +1,7 @@
-use Rattle.std.proofs.Common.{◌≡◌, ◌≢◌, ◌<◌, ◌≤◌, ◌+◌, ℕ, List, length, take, drop, get_or, ap, sym, subst, ◌∙◌, arith, length-take-le, length-drop}
-use Rattle.std.proofs.Math.Seq.{take-add}
+use Rattle.std.proofs.Common.{◌≡◌, ◌≢◌, ◌<◌, ◌≤◌, ◌+◌, ℕ, List, [], ◌∷◌, length, take, drop, get_or, ap, sym, subst, ◌∙◌, arith, length-take-le, length-drop}
+use Rattle.std.proofs.Math.Seq.{take-add, take-suc}
 use Rattle.std.proofs.lemmas.List.{get_or-take, get_or-drop, take-take}
-use Rattle.std.proofs.lemmas.List.Elements.{All-append}
+use Rattle.std.proofs.lemmas.List.Elements.{All-append, All-cons, All-nil}
 use lib.Count.{count_trailing_zeros}
 use Rattle.cobs_bytes.specs.Bytes.{HasNoZero}
 use Rattle.cobs_bytes.specs.Mask.{zero_mask}
@@ -80,3 +80,19 @@ pub returns-then-later-ne0-clause-stop : goal.returns-then-later-ne0-clause-stop
 returns-then-later-ne0-clause-stop c _ =
     let long : 64 ≤ length c.args.source.now = omega (arith, c.if-source-lt-WIDE_WINDOW.false) in
     sym (get_or-drop 32 c.args.source.now _ 0) ∙ stop (drop 32 c.args.source.now) c.zeros_at-later.result (rest_long c.args.source.now long) c.zeros_at-later.ensures c.if-later-ne0.true
+
+-- no zero in the first 64 bytes
+module _ (source : List ℕ) (long : 64 ≤ length source) (first : 0 ≡ zero_mask (take 32 source)) (second : 0 ≡ zero_mask (take 32 (drop 32 source))) where
+  wide : HasNoZero (take 64 source)
+  wide = both source 32 first (zero_mask-none (take 32 (drop 32 source)) (sym second))
+
+  wide_more : 64 < length source → get_or source 64 0 ≢ 0 → HasNoZero (take 65 source)
+  wide_more more other = subst HasNoZero (sym (take-suc source 64 0 more)) (All-append (λ b. b ≢ 0) (take 64 source) (get_or source 64 0 ∷ []) wide (All-cons (λ b. b ≢ 0) _ [] other (All-nil (λ b. b ≢ 0))))
+
+pub returns-then-source-eq0-clause-before : goal.returns-then-source-eq0-clause-before
+returns-then-source-eq0-clause-before c _ =
+    wide c.args.source.now (omega arith) (sym (omega (arith, c.if-zeros-ne0.false)) ∙ c.zeros_at-zeros.ensures) (sym (omega (arith, c.if-later-ne0.false)) ∙ c.zeros_at-later.ensures)
+
+pub returns-then-source-eq0-2-clause-before : goal.returns-then-source-eq0-2-clause-before
+returns-then-source-eq0-2-clause-before c _ =
+    wide_more c.args.source.now (omega arith) (sym (omega (arith, c.if-zeros-ne0.false)) ∙ c.zeros_at-zeros.ensures) (sym (omega (arith, c.if-later-ne0.false)) ∙ c.zeros_at-later.ensures) (omega arith) c.if-source-eq0.false
