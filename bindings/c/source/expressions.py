@@ -118,6 +118,8 @@ class Expressions(Kinds):
 
     def on_not(self, tree, expected):
         of = self.value(tree[1])
+        if re.fullmatch(r"\w+ == \w+", of.text):
+            return Value(of.text.replace("==", "!="), BOOL, 6)
         return Value(of.text[1:] if of.text.startswith("!") and of.level == 15 else f"!{of.at(15)}", BOOL, 15)
 
     def on_as(self, tree, expected):

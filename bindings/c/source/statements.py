@@ -86,6 +86,8 @@ class Statements(Expressions):
     def do_assign(self, statement):
         _, sign, left, right = statement
         to = self.value(left)
+        if isinstance(to, Slice):
+            return self.shortened(to, right)
         # A state that is made of the start of another: a phase has more numbers than an outcome, so the start stands for it.
         if right[0] == "call" and right[1].endswith("::at") and right[2][0][0] == "method":
             if right[2][0][2][0] == "call" and right[2][0][2][1].endswith("::new"):
@@ -102,6 +104,17 @@ class Statements(Expressions):
             self.put(f"{to.text} {sign} {value.text};")
         else:
             self.put(f"{to.text} = (unsigned char)({to.text} {sign[0]} {value.at(10)});")
+
+    def shortened(self, to, right):
+        """A slice in variables that loses its first bytes."""
+        if right[0] != "borrow" or right[2][0] != "index" or self.value(right[2][1]) is not to:
+            raise Unknown(f"{self.name}: {to.pointer} becomes another slice")
+        _, begin, end = right[2][2]
+        if not begin or end:
+            raise Unknown(f"{self.name}: {to.pointer} loses its last bytes")
+        count = self.value(begin, USIZE)
+        for name, sign in ((to.pointer, "+"), (to.length, "-")):
+            self.put(f"{name}{sign * 2};" if count.text == "1" else f"{name} {sign}= {count.text};")
 
     def do_break(self, _):
         self.put("break;")
@@ -166,7 +179,13 @@ class Statements(Expressions):
             self.put(f"{self.declare(name, self.kind_of_branches(tree))};")
             return self.tail(tree, False, [self.env[name]])
         value = self.value(tree, kind)
-        if value.text == name and self.depth > 1:
+        if isinstance(value, Slice) and f"('assign', '=', ('path', '{name}'" in str(self.body):
+            const = "" if value.mutable else "const "
+            self.put(f"{const}unsigned char *{name} = {value.pointer};")
+            self.put(f"size_t {name}_len = {value.length};")
+            self.env[name] = Slice(name, f"{name}_len", value.mutable)
+            return None
+        if not isinstance(value, Slice) and value.text == name and self.depth > 1:
             raise Unknown(f"{self.name}: {name} is copied in a block")
         if isinstance(value, Slice) or value.text == name:
             self.env[name] = value  # a part of a slice, or a copy of a parameter, which isn't used again
