@@ -11,3 +11,6 @@ pub mod VectorSteps
 pub mod HeadlineLemmas
 pub mod VectorHeadline
 pub mod ReadsLemmas
+pub mod BlockLemmas
+pub mod InPlaceLemmas
+pub mod MoveLemmas

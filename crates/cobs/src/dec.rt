@@ -1,6 +1,7 @@
 //! Decoding: from frames to messages.
 
 mod buffered;
+mod each;
 mod forms;
 mod frame_decoder;
 mod heapless;
@@ -14,6 +15,7 @@ mod unbuffered;
 mod whole;
 
 pub use buffered::{CobsDecoder, CobsDecoderOwned};
+pub use each::{decode_blocks_each, len_to_zero};
 pub use forms::{decode_vec, decode_vec_with_sentinel, decode_with_sentinel};
 pub use frame_decoder::{FrameDecoder, PieceEnd, WriteBuffer};
 pub use heapless::CobsDecoderHeapless;

@@ -73,6 +73,19 @@ fn decoding_result_example(rt: HostRuntime) -> Result<(), Fail> {
 }
 
 #[test]
+fn len_to_zero_example(rt: HostRuntime) {
+    assert_eq!(rt; len_to_zero(&[3, 7, 8, 0, 2]), 3);
+    assert_eq!(rt; len_to_zero(&[3, 7]), 2);
+}
+
+#[test]
+fn decode_blocks_each_example(rt: HostRuntime) {
+    let mut buffer = [3, 10, 11, 2, 12, 0];
+    assert_eq!(rt; decode_blocks_each(&mut buffer, 5), Ok(4));
+    assert_eq!(rt; buffer, [10, 11, 0, 12, 12, 0]);
+}
+
+#[test]
 fn decode_with_sentinel_example(rt: HostRuntime) {
     let mut dest = [170; 5];
     let len = decode_with_sentinel(&[252, 245, 244, 253, 243, 255], &mut dest, 255);

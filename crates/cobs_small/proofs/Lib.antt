@@ -1,5 +1,2 @@
-mod BlockLemmas
-mod InPlaceLemmas
 mod LeadLemmas
-mod MoveLemmas
 mod PieceLemmas

@@ -1,6 +1,5 @@
 //! Whole frames to messages.
-ghost use Rattle.std.specs.Prelude.{◌≡◌, ◌<◌, ◌≤◌, length, take, slice_index};
-ghost use Rattle.cobs.specs.Grammar.{HasNoZero};
+ghost use Rattle.std.specs.Prelude.{◌≡◌};
 ghost use Rattle.cobs_abi.specs.Decode.{Decodes};
 ghost use Rattle.cobs_small.specs.End.{result_for_end};
 
@@ -8,29 +7,6 @@ use crate::decoder::jcobs_decoder_push;
 use cobs::laws::{law_1, law_9, law_10, law_12, law_14};
 use cobs::{PieceEnd, UnbufferedDecoder};
 use cobs_abi::{Answer, BROKEN, EMPTY, MORE, TOO_SMALL, done};
-
-/// Returns how many bytes come before the first zero.
-// A function of its own, so that its loop has all registers of a small processor.
-#[inline(never)]
-pub(crate) fn len_to_zero(bytes: &[u8]) -> usize
-    ensures within { result ≤ length bytes.now }
-    ensures before { HasNoZero (take result bytes.now) }
-    ensures stop { result < length bytes.now → slice_index bytes.now result ≡ 0 }
-{
-    if bytes.is_empty() {
-        return 0;
-    }
-    let mut len = 0;
-    'by_byte: loop {
-        if bytes[len] == 0 {
-            return len;
-        }
-        len += 1;
-        if len == bytes.len() {
-            return len;
-        }
-    }
-}
 
 /// Returns the result of a call that took these bytes, into a buffer of `room` bytes, by how the piece has ended.
 fn result_for_end(consumed: usize, room: usize, end: Option<PieceEnd>) -> Answer

@@ -1,9 +1,8 @@
 //! Which frame bytes are.
 ghost use Rattle.cobs_abi.specs.Decode.{IsKindOf};
 
-use crate::decode::len_to_zero;
 use cobs::laws::law_1;
-use cobs::{FrameKind, kind_by_blocks};
+use cobs::{FrameKind, kind_by_blocks, len_to_zero};
 use cobs_abi::{CANONICAL, LONGER, NOT_A_FRAME};
 
 /// Returns whether the bytes are a frame, and which one of its message.

@@ -3,7 +3,7 @@
 //! There is no test here: each function has a contract, and the prover derives it from the clauses of the calls that it
 //! makes. So a clause that said too little for its users would be noticed here.
 ghost use Rattle.std.specs.Prelude.{◌≡◌, ◌≢◌, ◌≤◌, ◌<◌, ◌+◌, ◌^◌, ◌↔◌, ◌∷◌, ◌++◌, [], All, length, take, drop, slice_index, slice_set, List, ℕ, Ok, Some, option_to_list, IfOk, IfSome, IsSomeAnd, IsTrue};
-ghost use Rattle.cobs.specs.Decode.{first_output, in_place, in_place_report, result_of_decode};
+ghost use Rattle.cobs.specs.Decode.{first_output, head_result, in_place, in_place_report, result_of_decode};
 ghost use Rattle.cobs.specs.Overwritten.{message_in, overwritten, written_at};
 ghost use Rattle.cobs.specs.Fields.Decoders.{borrowed_buffer, borrowed_phase, borrowed_slice, heapless_buffer, heapless_phase, owned_buffer, owned_phase};
 ghost use Rattle.cobs.specs.Fields.Report.{frame_size_of, parsed_size_of};
@@ -14,17 +14,18 @@ ghost use Rattle.cobs.specs.Length.{encoded_len, max_encoded_len};
 ghost use Rattle.cobs.specs.Sentinel.{IsFreeOf, xor_each};
 ghost use Rattle.cobs.specs.Messages.{AreFrames, messages_in};
 ghost use Rattle.cobs.specs.Piece.{last_part, missing};
-ghost use Rattle.cobs.specs.Stream.{first_piece};
+ghost use Rattle.cobs.specs.Stream.{first_piece, head};
 ghost use Rattle.cobs.specs.Table.{data_of};
 
 use cobs::laws::{law_2, law_4, law_12};
 use cobs::{
     CobsDecoder, CobsDecoderHeapless, CobsDecoderOwned, DecodeError, DecodeReport, DecodeResult,
     DecoderState, DestBufTooSmallError, FrameKind, PushError, WriteBuffer, decode,
-    decode_in_place_report, decode_short, decode_short_in_place, decode_with_sentinel, encode,
-    encode_frames, encode_frames_room, encode_in_place, encode_including_sentinels, encode_vec,
-    encode_vec_including_sentinels, encode_vec_with_sentinel, encode_with_sentinel, kind_by_blocks,
-    leading_zeros, try_encode_including_sentinels,
+    decode_blocks_each, decode_in_place_report, decode_short, decode_short_in_place,
+    decode_with_sentinel, encode, encode_frames, encode_frames_room, encode_in_place,
+    encode_including_sentinels, encode_vec, encode_vec_including_sentinels,
+    encode_vec_with_sentinel, encode_with_sentinel, kind_by_blocks, leading_zeros, len_to_zero,
+    try_encode_including_sentinels,
 };
 use std::alloc::{AllocError, Global};
 
@@ -93,6 +94,16 @@ pub fn decode_known_short_in_place(frame: &mut [u8]) -> bool
 {
     law_12();
     decode_short_in_place(frame).is_some()
+}
+
+/// Decodes what comes before the first zero of the buffer in its own place, without vectors.
+pub fn decode_before_zero(buffer: &mut [u8]) -> Result<usize, DecodeError>
+    ensures returned { result ≡ head_result (head buffer.old) }
+    ensures buffer { buffer.new ≡ in_place buffer.old }
+{
+    law_12();
+    let end = len_to_zero(buffer);
+    decode_blocks_each(buffer, end)
 }
 
 /// Returns the source from its first nonzero byte on: its first piece is the same.

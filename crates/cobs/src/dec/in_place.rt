@@ -12,6 +12,7 @@ ghost use Rattle.cobs.specs.Sentinel.{xor_each};
 ghost use Rattle.cobs.specs.declared.error.DecodeError.TheVariants.{TargetBufTooSmall};
 
 use crate::block::FULL_BLOCK_BYTES;
+use crate::dec::each::decode_in_place_each;
 use crate::dec::run::STRETCH_MAX;
 use crate::dec::stretch::{kept_len, message_len, write_zeros_at_codes};
 use crate::dec::unbuffered::{START, UnbufferedDecoder};
@@ -111,51 +112,8 @@ fn decode_blocks_in_place(buffer: &mut [u8], end: usize) -> Result<usize, Decode
     message_len(progress.written, whole)
 }
 
-/// Decodes the first `len` bytes of the buffer, 254 at most, one byte per iteration: each byte after the first moves one place
-/// forward, and a code becomes a zero.
-fn write_output_in_place(buffer: &mut [u8], len: usize)
-    requires few { (0 < len) × (len ≤ 254) }
-    requires within { len ≤ length buffer.old }
-    requires nonzero { HasNoZero (take len buffer.old) }
-    ensures { buffer.new ≡ output (take len buffer.old) ++ drop (len - 1) buffer.old }
-{
-    let mut missing = buffer[0] - 1;
-    'by_byte: for i in 0..len - 1 {
-        let byte = buffer[i + 1];
-        if missing == 0 {
-            buffer[i] = 0;
-            missing = byte - 1;
-        } else {
-            buffer[i] = byte;
-            missing -= 1;
-        }
-    }
-}
-
-/// Does what [`decode_stretch_in_place`] does, without vectors: nothing is written before the frame is known to be whole.
-fn decode_by_byte_in_place(buffer: &mut [u8], len: usize) -> bool
-    requires within { len ≤ length buffer.old }
-    ensures taken { (2 ≤ len) × (len ≤ 65) → HasNoZero (take len buffer.old)
-        → missing (last_part (take len buffer.old)) ≡ 0 → IsTrue result }
-    ensures nonzero { IsTrue result → HasNoZero (take len buffer.old) }
-    ensures some { IsTrue result → 0 < len }
-    ensures returned { IsTrue result → Ok (len - 1) ≡ head_result (take len buffer.old) }
-    ensures buffer { IsTrue result → buffer.new ≡ overwritten buffer.old (kept_output (take len buffer.old)) }
-    ensures kept { result ≡ false → buffer.new ≡ buffer.old }
-{
-    if len < 2 || WIDE_WINDOW + 1 < len || zero_or_len(&buffer[..len]) < len {
-        return false;
-    }
-    let (_, whole) = kept_len(&buffer[..len], 0, 0);
-    if !whole {
-        return false;
-    }
-    write_output_in_place(buffer, len);
-    true
-}
-
 /// Decodes the first `len` bytes of the buffer, if these are 2 to 65 and a frame, and returns whether it did. If not, every byte
-/// stays: with vectors they are copied first, and put back if the frame is broken.
+/// stays: they are copied first, and put back if the frame is broken.
 #[inline(always)]
 fn decode_stretch_in_place(buffer: &mut [u8], len: usize) -> bool
     requires within { len ≤ length buffer.old }
@@ -167,9 +125,6 @@ fn decode_stretch_in_place(buffer: &mut [u8], len: usize) -> bool
     ensures buffer { IsTrue result → buffer.new ≡ overwritten buffer.old (kept_output (take len buffer.old)) }
     ensures kept { result ≡ false → buffer.new ≡ buffer.old }
 {
-    if !has_vectors() {
-        return decode_by_byte_in_place(buffer, len);
-    }
     let mut coded = [0; WIDE_WINDOW + 1];
     if len < 2 || WIDE_WINDOW + 1 < len || buffer[0] == 0 {
         return false;
@@ -220,6 +175,9 @@ pub fn decode_in_place_report(buf: &mut [u8]) -> Result<DecodeReport, DecodeErro
     ensures only { IsPiece buf.old → (m : List ℕ) → ReportsMessage result buf.new m → Reads buf.old m }
     ensures room { IfErr result (λ error. error ≢ TargetBufTooSmall) }
 {
+    if !has_vectors() {
+        return decode_in_place_each(buf);
+    }
     if buf.is_empty() {
         return Err(DecodeError::EmptyFrame);
     }
@@ -238,7 +196,7 @@ pub fn decode_in_place_report(buf: &mut [u8]) -> Result<DecodeReport, DecodeErro
 ///
 /// It decodes a buffer that has 2 to 65 bytes before its first zero, which are a whole frame, and at most this zero after
 /// them.
-/// [`decode_in_place_report`] calls it first. If the target has vectors, it calls nothing itself, as
+/// If the target has vectors, [`decode_in_place_report`] calls it first. It calls nothing itself, as
 /// [`decode_short`](crate::decode_short). (A choice of this library.)
 ///
 /// ```

@@ -33,8 +33,8 @@ returns c =
     let long : end ≡ length (head source) = sym (length-take-le end source e.within) ∙ ap length h in
     record {
       decodes = record {
-        returned = c.result_by-2.ensures ∙ ap (λ (k : ℕ). result_by k n c.decode_blocks-size.result) (c.min.ensures ∙ ap (λ (k : ℕ). min n (k + 1)) long)
-            ∙ ap (result_by (head_end source) n) (c.decode_blocks-size.ensures.returned ∙ ap head_result h ∙ sym (result-equals source (omega (arith, some))));
-        buffer = c.decode_blocks-size.ensures.buffer ∙ ap (λ (x : List ℕ). overwritten source (kept_output x)) h;
+        returned = c.result_by-2.ensures ∙ ap (λ (k : ℕ). result_by k n c.decode_blocks_each-size.result) (c.min.ensures ∙ ap (λ (k : ℕ). min n (k + 1)) long)
+            ∙ ap (result_by (head_end source) n) (c.decode_blocks_each-size.ensures.returned ∙ ap head_result h ∙ sym (result-equals source (omega (arith, some))));
+        buffer = c.decode_blocks_each-size.ensures.buffer ∙ ap (λ (x : List ℕ). overwritten source (kept_output x)) h;
       };
     }

@@ -36,3 +36,9 @@ returns-in-Some-clause-reads c = in_place_reads _ _ _ c.in-Some.ensures.returned
 
 pub returns-in-Some-clause-only : goal.returns-in-Some-clause-only
 returns-in-Some-clause-only c = in_place_only _ _ _ c.in-Some.ensures.returned c.in-Some.ensures.buffer (bytes_below _ (search rules))
+
+pub returns-then-not-has_vectors-clause-reads : goal.returns-then-not-has_vectors-clause-reads
+returns-then-not-has_vectors-clause-reads c = in_place_reads _ _ _ c.decode_in_place_each.ensures.returned c.decode_in_place_each.ensures.buffer (bytes_below _ (search rules))
+
+pub returns-then-not-has_vectors-clause-only : goal.returns-then-not-has_vectors-clause-only
+returns-then-not-has_vectors-clause-only c = in_place_only _ _ _ c.decode_in_place_each.ensures.returned c.decode_in_place_each.ensures.buffer (bytes_below _ (search rules))

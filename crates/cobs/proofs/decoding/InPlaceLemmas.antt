@@ -4,50 +4,38 @@ use Rattle.std.proofs.lemmas.Bool.{eq-eqb, ne_eqb, true≢false}
 use Rattle.std.proofs.lemmas.List.{drop-drop, drop-take, drop_all, drop_more, get_or-drop, get_or-take, set_at, take-take}
 use Rattle.std.specs.Result.{result_map_both}
 use Rattle.cobs.specs.Decode.{head_result}
-use Rattle.cobs.specs.Grammar.{HasNoZero, IsBlock, bytes_of, joint}
+use Rattle.cobs.specs.Grammar.{HasNoZero, IsBlock, joint}
 use Rattle.cobs.specs.Overwritten.{overwritten}
-use Rattle.cobs.specs.Piece.{IsWhole, is_whole, kept_output, last_part, output, parts, parts_after}
-use Rattle.cobs.specs.declared.DecodeError.{DecodeError}
-use Rattle.cobs.specs.declared.DecodeError.TheVariants.{InvalidFrame}
-use Rattle.cobs_small.proofs.BlockLemmas.{IsCodeAt, block-is, block_at, bytes-long, code-some, left-is, short, split}
-
--- what `law_20` says
-pub record OutputLaw : Type 0 where
-  pub one : (block : List ℕ) → IsBlock block → output block ≡ bytes_of block
-  pub one_whole : (block : List ℕ) → IsBlock block → IsWhole block
-  pub whole : (block p : List ℕ) → IsBlock block → p ≢ [] → is_whole (block ++ p) ≡ is_whole p
-  pub kept : (block p : List ℕ) → IsBlock block → p ≢ [] → kept_output (block ++ p) ≡ bytes_of block ++ joint block ++ kept_output p
-  pub short : (code : ℕ) (bytes : List ℕ) → length bytes + 1 < code → is_whole (code ∷ bytes) ≡ false
-  pub short_kept : (code : ℕ) (bytes : List ℕ) → length bytes + 1 < code → kept_output (code ∷ bytes) ≡ []
-  pub all_kept : (p : List ℕ) → IsWhole p → kept_output p ≡ output p
+use Rattle.cobs.specs.Piece.{is_whole, kept_output, output}
+use Rattle.cobs.specs.declared.error.DecodeError.{DecodeError}
+use Rattle.cobs.specs.declared.error.DecodeError.TheVariants.{InvalidFrame}
+use Rattle.cobs.proofs.decoding.KeptLemmas.{all-kept, block-whole, broken-part, front-kept, front-whole, kept-broken, kept_output-empty}
+use Rattle.cobs.proofs.decoding.PieceCuts.{output-last}
+use Rattle.cobs.proofs.decoding.BlockLemmas.{IsCodeAt, block-is, block_at, bytes-long, code-some, left-is, short, split}
 
 -- whether what is left is whole, or nothing is left
 abbrev pub whole_left : List ℕ → Bool
 whole_left [] = true
 whole_left (byte ∷ bytes) = is_whole (byte ∷ bytes)
 
-kept-nothing : kept_output [] ≡ []
-unfolding kept_output is_whole output parts parts_after last_part
-kept-nothing = refl
-
-result-equals : (law : OutputLaw) (h : List ℕ) (whole : Bool) → whole_left h ≡ whole → head_result h ≡ cond whole (Ok (length (kept_output h))) (Err (InvalidFrame (length (kept_output h))))
-result-equals law [] true w = ap (λ (x : List ℕ). Ok (length x)) (sym kept-nothing)
-result-equals law [] false w = absurd (true≢false w)
-result-equals law (b ∷ h) true w =
-    ap (λ (v : Bool). result_map_both length (λ (e : DecodeError). e) (cond v (Ok (output (b ∷ h))) (Err (InvalidFrame (length (kept_output (b ∷ h))))))) w ∙ ap (λ (x : List ℕ). Ok (length x)) (sym (law.all_kept (b ∷ h) w))
-result-equals law (b ∷ h) false w = ap (λ (v : Bool). result_map_both length (λ (e : DecodeError). e) (cond v (Ok (output (b ∷ h))) (Err (InvalidFrame (length (kept_output (b ∷ h))))))) w
+result-equals : (h : List ℕ) (whole : Bool) → whole_left h ≡ whole → head_result h ≡ cond whole (Ok (length (kept_output h))) (Err (InvalidFrame (length (kept_output h))))
+result-equals [] true w = ap (λ (x : List ℕ). Ok (length x)) (sym kept_output-empty)
+result-equals [] false w = absurd (true≢false w)
+result-equals (b ∷ h) true w =
+    ap (λ (v : Bool). result_map_both length (λ (e : DecodeError). e) (cond v (Ok (output (b ∷ h))) (Err (InvalidFrame (length (kept_output (b ∷ h))))))) w ∙ ap (λ (x : List ℕ). Ok (length x)) (sym (all-kept (b ∷ h) w))
+result-equals (b ∷ h) false w = ap (λ (v : Bool). result_map_both length (λ (e : DecodeError). e) (cond v (Ok (output (b ∷ h))) (Err (InvalidFrame (length (kept_output (b ∷ h))))))) w
 
 -- a block and what is behind it: what is kept, with the zero that is due between them, and whether it is whole
-module _ (law : OutputLaw) (code : ℕ) (bytes : List ℕ) (block : IsBlock (code ∷ bytes)) where
+module _ (code : ℕ) (bytes : List ℕ) (block : IsBlock (code ∷ bytes)) where
   kept-step : (p due : List ℕ) → (p ≢ [] → joint (code ∷ bytes) ≡ due) → (p ≡ [] → due ≡ []) → kept_output ((code ∷ bytes) ++ p) ≡ (bytes ++ due) ++ kept_output p
   kept-step [] due more last =
-      ap kept_output (append-nil (code ∷ bytes)) ∙ law.all_kept (code ∷ bytes) (law.one_whole (code ∷ bytes) block) ∙ law.one (code ∷ bytes) block
-      ∙ sym (ap (λ (x : List ℕ). (bytes ++ due) ++ x) kept-nothing ∙ append-nil (bytes ++ due) ∙ ap (λ (x : List ℕ). bytes ++ x) (last refl) ∙ append-nil bytes)
-  kept-step (b ∷ p) due more last = law.kept (code ∷ bytes) (b ∷ p) block (λ e. cc) ∙ ap (λ (x : List ℕ). (bytes ++ x) ++ kept_output (b ∷ p)) (more (λ e. cc))
+      ap kept_output (append-nil (code ∷ bytes)) ∙ all-kept (code ∷ bytes) (block-whole (code ∷ bytes) block) ∙ output-last code bytes (omega (arith, block.0))
+      ∙ sym (ap (λ (x : List ℕ). (bytes ++ due) ++ x) kept_output-empty ∙ append-nil (bytes ++ due) ∙ ap (λ (x : List ℕ). bytes ++ x) (last refl) ∙ append-nil bytes)
+  kept-step (b ∷ p) due more last = front-kept (code ∷ bytes) (b ∷ p) block (λ e. cc) ∙ ap (λ (x : List ℕ). (bytes ++ x) ++ kept_output (b ∷ p)) (more (λ e. cc))
 
   whole-step : (p : List ℕ) → whole_left ((code ∷ bytes) ++ p) ≡ whole_left p
-  whole-step [] = ap whole_left (append-nil (code ∷ bytes)) ∙ law.one_whole (code ∷ bytes) block
-  whole-step (b ∷ p) = law.whole (code ∷ bytes) (b ∷ p) block (λ e. cc)
+  whole-step [] = ap whole_left (append-nil (code ∷ bytes)) ∙ block-whole (code ∷ bytes) block
+  whole-step (b ∷ p) = front-whole (code ∷ bytes) (b ∷ p) block (λ e. cc)
 
 -- the blocks in the first `read` of `end` bytes are decoded to these bytes at the buffer's front, and the rest is as it was
 pub record DecodedInPlace (old : List ℕ) (end : ℕ) (buffer : List ℕ) (read written : ℕ) : Type 0 where
@@ -62,7 +50,7 @@ pub record DecodedInPlace (old : List ℕ) (end : ℕ) (buffer : List ℕ) (read
   pub kept : kept_output (take end old) ≡ done ++ kept_output (drop read (take end old))
   pub whole : whole_left (take end old) ≡ whole_left (drop read (take end old))
 
-module _ (law : OutputLaw) (old : List ℕ) (end : ℕ) (buffer : List ℕ) (read written : ℕ) (s : DecodedInPlace old end buffer read written) where
+module _ (old : List ℕ) (end : ℕ) (buffer : List ℕ) (read written : ℕ) (s : DecodedInPlace old end buffer read written) where
   abbrev h : List ℕ
   h = take end old
 
@@ -75,12 +63,12 @@ module _ (law : OutputLaw) (old : List ℕ) (end : ℕ) (buffer : List ℕ) (rea
   ended left whole is nothing w =
       let kept : kept_output h ≡ s.done = s.kept ∙ ap (λ (x : List ℕ). s.done ++ kept_output x) is ∙ ap (λ (x : List ℕ). s.done ++ x) nothing ∙ append-nil s.done in
       let all : take (length old) s.done ≡ s.done = take_all (length old) s.done (let c = s.count in let o = s.order in let w = s.within in let f = s.fits in omega arith) in (
-        ap (λ (n : ℕ). cond whole (Ok n) (Err (InvalidFrame n))) (sym (ap length kept ∙ s.count)) ∙ sym (result-equals law h whole (s.whole ∙ ap whole_left is ∙ w)),
+        ap (λ (n : ℕ). cond whole (Ok n) (Err (InvalidFrame n))) (sym (ap length kept ∙ s.count)) ∙ sym (result-equals h whole (s.whole ∙ ap whole_left is ∙ w)),
         s.holds ∙ sym (ap (overwritten old) kept ∙ ap (λ (x : List ℕ). x ++ drop (length s.done) old) all ∙ ap (λ (n : ℕ). s.done ++ drop n old) s.count),
       )
 
   pub all-read : end ≤ read → (Ok written ≡ head_result h) × (buffer ≡ overwritten old (kept_output h))
-  all-read past = ended [] true (drop_all read h (let l = long in omega arith)) kept-nothing refl
+  all-read past = ended [] true (drop_all read h (let l = long in omega arith)) kept_output-empty refl
 
   -- behind the front it is as it was
   behind : (k : ℕ) → written ≤ k → drop k buffer ≡ drop k old
@@ -102,7 +90,7 @@ module _ (law : OutputLaw) (old : List ℕ) (end : ℕ) (buffer : List ℕ) (rea
     pub broken : end - read < get_or buffer read 0 → (Err (InvalidFrame written) ≡ head_result h) × (buffer ≡ overwritten old (kept_output h))
     broken more =
         let few = short _ _ _ at (let l = long in omega arith) in
-        ended (code ∷ drop (read + 1) h) false (left-is _ _ _ at) (law.short_kept code (drop (read + 1) h) few) (law.short code (drop (read + 1) h) few)
+        ended (code ∷ drop (read + 1) h) false (left-is _ _ _ at) (kept-broken code (drop (read + 1) h) few) (broken-part code (drop (read + 1) h) few)
 
     -- the bytes of the block are moved, and end at w
     module _ (whole : code ≤ end - read) (after : List ℕ) (w : ℕ) (w-is : w ≡ written + (code - 1))
@@ -147,9 +135,9 @@ module _ (law : OutputLaw) (old : List ℕ) (end : ℕ) (buffer : List ℕ) (rea
             done = front ++ due;
             count = count;
             holds = holds;
-            kept = s.kept ∙ ap (λ (x : List ℕ). s.done ++ x) (ap kept_output cut ∙ kept-step law code bytes is (drop (read + code) h) due more last)
+            kept = s.kept ∙ ap (λ (x : List ℕ). s.done ++ x) (ap kept_output cut ∙ kept-step code bytes is (drop (read + code) h) due more last)
                 ∙ sym (ap (λ (x : List ℕ). x ++ kept_output (drop (read + code) h)) (append_assoc s.done bytes due) ∙ append_assoc s.done (bytes ++ due) (kept_output (drop (read + code) h)));
-            whole = s.whole ∙ ap whole_left cut ∙ whole-step law code bytes is (drop (read + code) h);
+            whole = s.whole ∙ ap whole_left cut ∙ whole-step code bytes is (drop (read + code) h);
           }
 
       pub stepped-plain : (end ≤ read + code) ⊎ (code ≡ 255) → DecodedInPlace old end after (read + code) w

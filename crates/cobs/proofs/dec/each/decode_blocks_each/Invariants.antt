@@ -1,6 +1,6 @@
 use Rattle.std.proofs.Common.{◌-◌}
-use Rattle.cobs_small.proofs.InPlaceLemmas.{DecodedInPlace}
-use Rattle.cobs_small.proofs.in_place.decode_blocks.Given as goal
+use Rattle.cobs.proofs.decoding.InPlaceLemmas.{DecodedInPlace}
+use Rattle.cobs.proofs.dec.each.decode_blocks_each.Given as goal
 
 abbrev pub invariant-by_block : goal.invariant-by_block
 invariant-by_block l = DecodedInPlace l.fn.buffer l.end l.buffer l.read l.written

@@ -1,6 +1,6 @@
 use Rattle.std.proofs.Common.{◌≡◌, ◌+◌, ℕ, List, get_or, set, subst, arith}
-use Rattle.cobs_small.proofs.MoveLemmas.{Moved, moved-more, moved-none}
-use Rattle.cobs_small.proofs.in_place.move_bytes.Goals as goal
+use Rattle.cobs.proofs.decoding.MoveLemmas.{Moved, moved-more, moved-none}
+use Rattle.cobs.proofs.dec.each.move_bytes.Goals as goal
 
 -- one more, at the places that the loop has
 more : (old now : List ℕ) (from to n at end : ℕ) → at ≡ from + n → end ≡ to + n → Moved old from to (n + 1) (set now (to + n) (get_or now (from + n) 0)) → Moved old from to (n + 1) (set now end (get_or now at 0))

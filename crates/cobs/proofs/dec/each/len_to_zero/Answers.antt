@@ -1,0 +1,43 @@
+use Rattle.std.proofs.Common.{◌≡◌, ◌≢◌, ◌∙◌, ◌+◌, ◌-◌, ◌<◌, ◌≤◌, ◌++◌, ℕ, List, length, take, drop, get_or, ap, sym, subst, arith, length-drop, refl, take_all}
+use Rattle.std.proofs.lemmas.Bool.{eqb-false}
+use Rattle.std.proofs.lemmas.List.{drop-drop, take_more}
+use Rattle.std.proofs.lemmas.List.Elements.{All-append, All-nil, All-push}
+use Rattle.std.proofs.Math.Seq.{take-add}
+use Rattle.cobs.specs.Grammar.{HasNoZero}
+use Rattle.cobs.proofs.dec.each.len_to_zero.Invariants.{Searched}
+use Rattle.cobs.proofs.dec.each.len_to_zero.Goals as goal
+
+-- one more byte that isn't a zero
+next : (xs : List ℕ) (n : ℕ) → n < length xs → get_or xs n 0 ≢ 0 → HasNoZero (take n xs) → HasNoZero (take (n + 1) xs)
+next xs n here other front = subst HasNoZero (sym (take_more xs n 0 here)) (All-push (λ b. b ≢ 0) (take n xs) (get_or xs n 0) front other)
+
+-- the rest without its first bytes, which have no zero
+shorter : (bytes rest after : List ℕ) (k : ℕ) → Searched bytes rest → k ≤ length rest → HasNoZero (take k rest) → after ≡ take (length rest - k) (drop k rest) → Searched bytes after
+shorter bytes rest after k s within nonzero is =
+    let n : ℕ = length bytes - length rest in
+    let after-is : after ≡ drop k rest = is ∙ take_all (length rest - k) (drop k rest) (omega (arith, length-drop k rest)) in
+    let sum : n + k ≡ length bytes - length after = omega (arith, s.within, ap length after-is, length-drop k rest) in
+    let part : take k (drop n bytes) ≡ take k rest = ap (take k) (sym s.rest) in
+    record {
+      within = omega (arith, s.within, ap length after-is, length-drop k rest);
+      rest = after-is ∙ ap (drop k) s.rest ∙ drop-drop k n bytes ∙ ap (λ (i : ℕ). drop i bytes) sum;
+      before = subst HasNoZero (ap (λ (xs : List ℕ). take n bytes ++ xs) (sym part) ∙ sym (take-add n k bytes) ∙ ap (λ (i : ℕ). take i bytes) sum)
+          (All-append (λ b. b ≢ 0) (take n bytes) (take k rest) s.before nonzero);
+    }
+
+pub by_four-preserved : goal.by_four-preserved
+by_four-preserved c =
+    let rest : List ℕ = c.by_four.rest.now in
+    let none : HasNoZero (take 0 rest) = All-nil (λ b. b ≢ 0) in
+    let one = next rest 0 (omega arith) c.if-rest-eq0.false none in
+    let two = next rest 1 (omega arith) c.if-rest-eq0-2.false one in
+    let three = next rest 2 (omega arith) c.if-rest-eq0-3.false two in
+    let four = next rest 3 (omega arith) c.if-rest-eq0-4.false three in
+    shorter c.args.bytes.now rest _ 4 c.by_four.invariant c.by_four-test.true four refl
+
+pub by_byte-preserved : goal.by_byte-preserved
+by_byte-preserved c =
+    let rest : List ℕ = c.by_byte.rest.now in
+    let none : HasNoZero (take 0 rest) = All-nil (λ b. b ≢ 0) in
+    let some : length rest ≢ 0 = eqb-false _ 0 (sym c.is_empty.ensures ∙ c.by_byte-test.true) in
+    shorter c.args.bytes.now rest _ 1 c.by_byte.invariant (omega (arith, some)) (next rest 0 (omega (arith, some)) c.if-rest-ne0.true none) refl
