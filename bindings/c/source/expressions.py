@@ -103,7 +103,10 @@ class Expressions(Kinds):
         end = self.value(tree[2], USIZE) if tree[2] else None
         if not begin:
             return Slice(of.pointer, end.text if end else of.length, of.mutable)
-        length = f"{end.at(9) if end else of.length} - {begin.at(10)}"
+        if end and end.text.startswith(f"{begin.text} + "):
+            length = end.text.removeprefix(f"{begin.text} + ")
+        else:
+            length = f"{end.at(9) if end else of.length} - {begin.at(10)}"
         return Slice(f"{of.pointer} + {begin.at(10)}", length, of.mutable)
 
     def on_borrow(self, tree, expected):

@@ -179,12 +179,9 @@ class Statements(Expressions):
             self.put(f"{self.declare(name, self.kind_of_branches(tree))};")
             return self.tail(tree, False, [self.env[name]])
         value = self.value(tree, kind)
-        if isinstance(value, Slice) and f"('assign', '=', ('path', '{name}'" in str(self.body):
-            const = "" if value.mutable else "const "
-            self.put(f"{const}unsigned char *{name} = {value.pointer};")
-            self.put(f"size_t {name}_len = {value.length};")
-            self.env[name] = Slice(name, f"{name}_len", value.mutable)
-            return None
+        is_moved_on = f"('assign', '=', ('path', '{name}'" in str(self.body)
+        if isinstance(value, Slice) and (is_moved_on or self.depth > 1):
+            return self.let_part(name, value)
         if not isinstance(value, Slice) and value.text == name and self.depth > 1:
             raise Unknown(f"{self.name}: {name} is copied in a block")
         if isinstance(value, Slice) or value.text == name:
@@ -192,6 +189,13 @@ class Statements(Expressions):
             return None
         self.put(f"{self.declare(name, value.kind)} = {value.text};")
         return None
+
+    def let_part(self, name, part):
+        """A part of a slice that loses its first bytes later, or is in a block, where the numbers of its ends may change."""
+        const = "" if part.mutable else "const "
+        self.put(f"{const}unsigned char *{name} = {part.pointer};")
+        self.put(f"size_t {name}_len = {part.length};")
+        self.env[name] = Slice(name, f"{name}_len", part.mutable)
 
     def kind_of_branches(self, tree):
         """The type of a match or an if, by the first of its values that isn't a constant."""

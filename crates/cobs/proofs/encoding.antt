@@ -10,3 +10,4 @@ pub mod TakingLemmas
 pub mod MarkLemmas
 pub mod ByteLemmas
 pub mod StepLemmas
+pub mod WholeLemmas

@@ -20,8 +20,9 @@ use crate::block::FULL_CODE;
 use crate::error::DestBufTooSmallError;
 use blocks::{append, append_short, close};
 use cobs_bytes::lanes::xor_bytes;
-use cobs_bytes::window::WINDOW;
+use cobs_bytes::window::{WINDOW, has_vectors};
 pub use each::try_encode_each;
+use each::write_each;
 pub use encoder::CobsEncoder;
 pub use in_place::encode_in_place;
 pub use progress::EncoderProgress;
@@ -61,6 +62,9 @@ pub fn encode(source: &[u8], dest: &mut [u8]) -> usize
     ensures len { result ≡ encoded_len source.now }
     ensures rest { drop result dest.new ≡ drop result dest.old }
 {
+    if !has_vectors() {
+        return write_each(source, dest);
+    }
     if 0 < source.len() && source.len() <= WINDOW {
         let progress = append_short(source, dest, START, false);
         return close(dest, progress);
@@ -107,6 +111,9 @@ pub fn try_encode(source: &[u8], dest: &mut [u8]) -> Result<usize, DestBufTooSma
     ensures rest { IfOk result (λ n. drop n dest.new ≡ drop n dest.old) }
     ensures refused { OnErr result (dest.new ≡ dest.old) }
 {
+    if !has_vectors() {
+        return try_encode_each(source, dest);
+    }
     if let Some(len) = encode_few(source, dest, 0) {
         return Ok(len);
     }

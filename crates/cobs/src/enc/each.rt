@@ -2,12 +2,48 @@
 ghost use Rattle.std.specs.Prelude.{◌≡◌, ◌≤◌, ◌↔◌, length, take, drop, IsOk, IfOk, OnErr};
 ghost use Rattle.cobs.specs.Grammar.{HasNoZero, IsEncodedFrame};
 ghost use Rattle.cobs.specs.Length.{encoded_len};
-ghost use Rattle.cobs.specs.Fields.Progress.{reached_by};
 
-use crate::enc::UnbufferedEncoder;
-use crate::enc::blocks::close;
+use crate::block::FULL_CODE;
 use crate::enc::room::has_room;
 use crate::error::DestBufTooSmallError;
+
+/// Does what [`encode`](crate::encode) does, one byte at a time.
+///
+/// Each turn takes the bytes that can't overfill the open block, so that no test of a single byte asks for that. A full block is
+/// closed when another byte follows, and the last block after the loop, whether it is full or not.
+pub(crate) fn write_each(source: &[u8], dest: &mut [u8]) -> usize
+    requires { encoded_len source.now ≤ length dest.old }
+    ensures frame { IsEncodedFrame (take result dest.new) source.now }
+    ensures len { result ≡ encoded_len source.now }
+    ensures rest { drop result dest.new ≡ drop result dest.old }
+{
+    let mut index = 0;
+    let mut next = 1;
+    let mut read = 0;
+    'by_part: while read < source.len() {
+        if next - index == FULL_CODE {
+            dest[index] = FULL_CODE as u8;
+            index = next;
+            next += 1;
+        }
+        let room = FULL_CODE - (next - index);
+        let len = room.min(source.len() - read);
+        let part = &source[read..read + len];
+        'by_byte: for i in 0..part.len() {
+            let byte = part[i];
+            if byte == 0 {
+                dest[index] = (next - index) as u8;
+                index = next;
+            } else {
+                dest[next] = byte;
+            }
+            next += 1;
+        }
+        read += len;
+    }
+    dest[index] = (next - index) as u8;
+    next
+}
 
 /// Does what [`try_encode`](crate::try_encode) does, one byte at a time: in less code and more time, for small devices. It
 /// reads the message twice only if `dest` is shorter than the longest frame of a message of that length.
@@ -23,7 +59,6 @@ use crate::error::DestBufTooSmallError;
 /// assert_eq!(rt; try_encode_each(b"hell", &mut dest), Ok(5));
 /// assert_eq!(rt; &dest, b"\x05hell");
 /// ```
-#[inline(always)]
 pub fn try_encode_each(source: &[u8], dest: &mut [u8]) -> Result<usize, DestBufTooSmallError>
     ensures fits { IsOk result ↔ (encoded_len source.now ≤ length dest.old) }
     ensures frame { IfOk result (λ n. IsEncodedFrame (take n dest.new) source.now) }
@@ -35,9 +70,5 @@ pub fn try_encode_each(source: &[u8], dest: &mut [u8]) -> Result<usize, DestBufT
     if !has_room(1, source, dest.len()) {
         return Err(DestBufTooSmallError);
     }
-    let mut encoder = UnbufferedEncoder::new();
-    'by_byte: for i in 0..source.len() {
-        encoder.append_byte(dest, source[i]);
-    }
-    Ok(close(dest, encoder.progress()))
+    Ok(write_each(source, dest))
 }

@@ -4,9 +4,10 @@ ghost use Rattle.cobs.specs.Length.{encoded_len};
 ghost use Rattle.cobs.specs.Grammar.{HasNoZero};
 ghost use Rattle.cobs.specs.Sentinel.{xor_each, IsEncodedFrameFor, IsDelimitedFrame, IsFreeOf, between_ends};
 
-use crate::enc::{encode, encode_few, try_encode, try_encode_any};
+use crate::enc::{encode, encode_few, try_encode, try_encode_any, try_encode_each};
 use crate::error::DestBufTooSmallError;
 use cobs_bytes::lanes::xor_bytes;
+use cobs_bytes::window::has_vectors;
 
 /// Writes the encoded frame of `source` for this sentinel to the front of `dest`, and returns its length in bytes.
 ///
@@ -60,10 +61,13 @@ pub fn try_encode_with_sentinel(
     ensures rest { IfOk result (λ n. drop n dest.new ≡ drop n dest.old) }
     ensures refused { OnErr result (dest.new ≡ dest.old) }
 {
-    if let Some(len) = encode_few(source, dest, sentinel) {
+    let written = if !has_vectors() {
+        try_encode_each(source, dest)?
+    } else if let Some(len) = encode_few(source, dest, sentinel) {
         return Ok(len);
-    }
-    let written = try_encode_any(source, dest)?;
+    } else {
+        try_encode_any(source, dest)?
+    };
     xor_bytes(&mut dest[..written], sentinel);
     Ok(written)
 }

@@ -10,6 +10,7 @@ use crate::enc::blocks::{append_short, close, fits_window_and_block};
 use crate::enc::progress::EncoderProgress;
 use crate::enc::room::try_append;
 use crate::error::DestBufTooSmallError;
+use cobs_bytes::window::has_vectors;
 
 /// Encodes a message that comes in pieces, straight into a buffer that the caller passes to each call.
 ///
@@ -162,6 +163,9 @@ impl UnbufferedEncoder {
         ensures refused { OnErr result ((dest.new ≡ dest.old) × (self.new ≡ self.old)) }
         ensures empty { bytes.now ≡ [] → (dest.new ≡ dest.old) × (self.new ≡ self.old) }
     {
+        if !has_vectors() {
+            return self.push_each(dest, bytes);
+        }
         if bytes.len() == 1 {
             return self.feed(dest, bytes[0]);
         }

@@ -5,7 +5,7 @@ use Rattle.std.proofs.lemmas.List.{length-set}
 use Rattle.cobs.specs.Fields.Progress.{reached_at}
 use Rattle.cobs.proofs.encoding.ReachLemmas.{Reaches-at, Reaches-code, Reaches-weaker, Reaches-zero}
 use Rattle.cobs.proofs.encoding.TakingLemmas.{front-taken, joined, reaches-start, written}
-use Rattle.cobs.proofs.enc.blocks.append_few.Goals.{then-byte-eq0, else-byte-eq0+else-has_vectors, then-byte-eq0-2, else-byte-eq0-2}
+use Rattle.cobs.proofs.enc.blocks.append_few.Goals.{then-byte-eq0, else-byte-eq0}
 use Rattle.cobs.proofs.enc.blocks.append_few.Goals as goal
 
 pub by_byte-init : goal.by_byte-init
@@ -22,20 +22,14 @@ by_byte-preserved c =
     let o = r.ordered in
     let after : List ℕ = set c.by_byte.dest next byte in
     let k = length-set c.by_byte.dest next byte in
-    elim c.if-byte-eq0-2.branch [
-      | then-byte-eq0-2 b ↦ (let is = b.index-is in
+    elim c.if-byte-eq0.branch [
+      | then-byte-eq0 b ↦ (let is = b.index-is in
           let same = written _ c.by_byte.dest read index next byte _ (omega arith) r in
-          let closed = Reaches-zero _ after read index next _ (λ full. 0 < read + 1 → full ≡ false) (omega arith) b.if-byte-eq0-2.true (omega arith) (omega arith) (λ lt. refl) same in
-          elim c.if-byte-eq0.branch [
-            | then-byte-eq0 w ↦ record { open' = omega arith; reaches = Reaches-at (sym w.dest-is) refl (sym is) refl (λ full p. p) closed }
-            | else-byte-eq0+else-has_vectors w ↦ absurd (w.if-byte-eq0.false b.if-byte-eq0-2.true)
-          ])
-      | else-byte-eq0-2 b ↦ (let is = b.index-is in
-          let more = joined _ c.by_byte.dest read index next byte _ (omega arith) r refl b.if-byte-eq0-2.false (omega arith) (omega arith) in
-          elim c.if-byte-eq0.branch [
-            | then-byte-eq0 w ↦ record { open' = omega arith; reaches = Reaches-at (sym w.dest-is) refl (sym is) refl (λ full p. p) (Reaches-code _ after (read + 1) index (next + 1) _ (λ full. 0 < read + 1 → full ≡ false) (next - index) more) }
-            | else-byte-eq0+else-has_vectors w ↦ record { open' = omega arith; reaches = Reaches-at (sym w.dest-is) refl (sym is) refl (λ full p. p) more }
-          ])
+          let closed = Reaches-zero _ after read index next _ (λ full. 0 < read + 1 → full ≡ false) (omega arith) b.if-byte-eq0.true (omega arith) (omega arith) (λ lt. refl) same in
+          record { open' = omega arith; reaches = Reaches-at refl refl (sym is) refl (λ full p. p) closed })
+      | else-byte-eq0 b ↦ (let is = b.index-is in
+          let more = joined _ c.by_byte.dest read index next byte _ (omega arith) r refl b.if-byte-eq0.false (omega arith) (omega arith) in
+          record { open' = omega arith; reaches = Reaches-at refl refl (sym is) refl (λ full p. p) (Reaches-code _ after (read + 1) index (next + 1) _ (λ full. 0 < read + 1 → full ≡ false) (next - index) more) })
     ]
 
 pub returns : goal.returns

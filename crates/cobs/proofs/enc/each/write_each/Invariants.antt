@@ -1,0 +1,17 @@
+use Rattle.std.proofs.Common.{◌≡◌, ◌<◌, ◌≤◌, ◌+◌, ◌-◌, false, length}
+use Rattle.cobs.specs.Internal.Reaches.{Reaches, start_with}
+use Rattle.cobs.specs.OpenBlock.{place_at}
+use Rattle.cobs.proofs.encoding.ReachLemmas.{IsNotFull}
+use Rattle.cobs.proofs.enc.each.write_each.Given as goal
+
+abbrev pub invariant-by_part : goal.invariant-by_part
+invariant-by_part l = Reaches (start_with l.fn.dest (place_at 0 1 false) l.source) l.dest l.read l.index l.next IsNotFull
+
+abbrev pub decreases-by_part : goal.decreases-by_part
+decreases-by_part l = length l.source - l.read
+
+abbrev pub invariant-by_byte : goal.invariant-by_byte
+invariant-by_byte l = record {
+  open' : l.next + (length l.part - l.i) ≤ l.index + 255;
+  reaches : Reaches (start_with l.fn.dest (place_at 0 1 false) l.source) l.dest (l.read + l.i) l.index l.next (λ full. 0 < l.i → full ≡ false);
+}
