@@ -6,7 +6,7 @@ use serde::{Deserialize, Serialize};
 use std::alloc::AllocError;
 use thiserror::Error;
 
-/// The frame is longer than the slice that was to hold it.
+/// The frame is longer than the slice that it should be written to.
 ///
 /// ```
 /// let text = DestBufTooSmallError.to_string(alloc)?;
@@ -16,7 +16,7 @@ use thiserror::Error;
 #[error("out of bounds error during encoding")]
 pub struct DestBufTooSmallError;
 
-/// Why a frame is rejected. The names are those of the crate `cobs`.
+/// The reason why a frame is rejected. The names are those of the crate `cobs`.
 ///
 /// ```
 /// assert_eq!(rt; decode(&[], &mut [0; 4]), Err(DecodeError::EmptyFrame));
@@ -29,7 +29,7 @@ pub enum DecodeError {
     #[error("empty input frame")]
     EmptyFrame,
 
-    /// The frame breaks off inside a block, or no frame is there.
+    /// The frame breaks off inside a block, or the source has no frame.
     #[error("frame with invalid format, written {decoded_bytes} to decoded buffer")]
     InvalidFrame {
         /// How many bytes were decoded. They are at the front of the buffer, if the caller passed one.
@@ -41,9 +41,10 @@ pub enum DecodeError {
     TargetBufTooSmall,
 }
 
-/// Why a `push` of a streaming decoder found no message, and after how many bytes. (A choice of this library.)
+/// The error of a `push` to a streaming decoder, with the number of bytes that were consumed. (A choice of this
+/// library.)
 ///
-/// The decoder has taken these bytes and none after them, so the caller continues by pushing the bytes after them.
+/// The decoder has consumed these bytes and no others. To continue, the caller pushes the bytes after them.
 ///
 /// ```
 /// let mut buffer = [0; 4];
@@ -60,11 +61,11 @@ pub struct PushError {
     /// The result for the last byte that was consumed.
     pub error: DecodeError,
 
-    /// How many bytes were consumed, the one that raised the error included.
+    /// How many bytes were consumed, including the one that raised the error.
     pub parsed_size: usize,
 }
 
-/// Why a call returned no vector. (A choice of this library: memory may run out, and nothing aborts.)
+/// The reason why a call returned no vector. (A choice of this library: memory can run out, and nothing aborts.)
 ///
 /// ```
 /// let rejected = Err(DecodeVecError::Decode(DecodeError::EmptyFrame));
@@ -81,8 +82,8 @@ pub enum DecodeVecError {
     Memory(AllocError),
 }
 
-/// The sizes of a decoded message: how many bytes were consumed for it, and how many it has. The names are those of the
-/// crate `cobs`.
+/// The sizes of a decoded message: how many bytes of the source were consumed, and how many bytes the message has. The
+/// names are those of the crate `cobs`.
 ///
 /// ```
 /// let report = decode(&[0, 3, 1, 2, 0, 1], &mut [0; 4])?;
@@ -96,8 +97,8 @@ pub struct DecodeReport {
 }
 
 impl DecodeReport {
-    /// Returns how many bytes of the source were consumed. The call that made the report says whether leading sentinels
-    /// and the one after the frame are among them.
+    /// Returns how many bytes of the source were consumed. The documentation of the call that made the report says
+    /// whether leading sentinels, and the sentinel after the frame, are counted.
     ///
     /// ```
     /// assert_eq!(rt; decode(&[0, 1, 0], &mut [])?.parsed_size(), 3);
@@ -108,7 +109,7 @@ impl DecodeReport {
         self.parsed_size
     }
 
-    /// Returns how many bytes the message has; they are at the front of the buffer.
+    /// Returns the length of the message in bytes. The message is at the front of the buffer.
     ///
     /// ```
     /// assert_eq!(rt; decode(&[0, 2, 7], &mut [0; 4])?.frame_size(), 1);
@@ -120,7 +121,7 @@ impl DecodeReport {
     }
 }
 
-/// The name that [`DecodeReport`] had. It is deprecated since version 0.5.0: use `DecodeReport`.
+/// The former name of [`DecodeReport`]. It is deprecated since version 0.5.0: use `DecodeReport`.
 ///
 /// ```
 /// let report: DecodingResult = decode(&[2, 7, 0], &mut [0; 4])?;

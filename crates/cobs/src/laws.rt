@@ -1,7 +1,7 @@
-//! What holds of messages, frames, pieces and streams. These functions do nothing when they run: their contracts are
-//! the laws, and a caller who calls one may use it in its own proof. Each has such a caller as its example; `reads_as`
-//! in some of them is the one of CALLING.md. An example is proved as it is, or with the lines below it: they are the
-//! caller's `Answers.antt`, except `use Rattle.CRATE.proofs.CALLER.Goals as goal`.
+//! The laws of messages, frames, pieces and streams. These functions do nothing when they run: their contracts are the
+//! laws, and a caller that calls one may use it in its own proof. Each law has such a caller as its example. Some of
+//! these call `reads_as`, the caller of CALLING.md. Each example is proved as it is, or with the lines below it. These
+//! are the caller's `Answers.antt` without the line `use Rattle.CRATE.proofs.CALLER.Goals as goal`.
 //!
 //! ```
 //! fn encode_by_longest(source: &[u8], dest: &mut [u8]) -> usize
@@ -28,12 +28,14 @@ mod coders;
 
 pub use coders::{law_15, law_16, law_17, law_18, law_19, law_20, law_21};
 
-/// A frame reads as its output: bytes read as a message exactly if there are some, none is a zero, their last
-/// block has all the bytes that its code counts, and the message is their output. No output is longer than its
-/// piece, and with one more byte of the piece it gets no shorter.
+/// A frame reads as its output.
 ///
-/// Cutting bytes at their codes shows whether they are a frame, and of what. Each decoder does so, and its
-/// users know by this law that it accepts exactly the frames.
+/// Bytes read as a message exactly if there are some, none is a zero, their last block has all the bytes that its code
+/// counts, and the message is their output. An output is never longer than its piece, and it never gets shorter if a
+/// byte is added to the piece.
+///
+/// Each decoder cuts bytes at their codes, which shows whether they are a frame, and of which message. By this law its
+/// users know that it accepts exactly the frames.
 ///
 /// ```
 /// fn is_output(piece: &[u8], message: &[u8], buffer: &mut [u8]) -> bool
@@ -53,11 +55,11 @@ pub fn law_1()
     ensures grows { (p : List ℕ) (byte : ℕ) → length (output p) ≤ length (output (p ++ byte ∷ [])) }
 {}
 
-/// Each message has exactly one encoded frame.
+/// Each message has one encoded frame.
 ///
-/// So encoded frames can be compared byte by byte, to find a message in a store or to check a signature, and two encoders
-/// that keep to the definition agree. The length of this frame decides whether `try_encode` and `CobsEncoder` accept the
-/// message. If the message is one of bytes, so is its frame.
+/// There is exactly one, and if the message consists of bytes, so does its frame. So encoded frames can be compared byte
+/// by byte, for example to find a message in a store or to check a signature, and two encoders that follow the
+/// definition agree. The length of this frame decides whether `try_encode` and `CobsEncoder` accept the message.
 ///
 /// ```
 /// fn encode_again(message: &[u8], frame: &[u8], dest: &mut [u8]) -> usize
@@ -82,10 +84,11 @@ pub fn law_2()
         → All (λ byte. byte < 256) f }
 {}
 
-/// All frames of a message: the encoded one and, only if the message ends in a full run, that one followed by 01.
+/// All frames of a message.
 ///
-/// The second is one byte longer. A receiver that accepts only one frame for each message, such as a protocol that compares
-/// frames, rejects just the second one; [`frame_kind`](crate::frame_kind) distinguishes them.
+/// They are the encoded frame and, only if the message ends in a full run, that frame followed by 01, which is one byte
+/// longer. A receiver that may accept only one frame for each message, for example because its protocol compares
+/// frames, rejects the longer one: [`frame_kind`](crate::frame_kind) distinguishes them.
 ///
 /// ```
 /// fn is_frame_for(piece: &[u8], message: &[u8], buffer: &mut [u8]) -> bool
@@ -102,9 +105,11 @@ pub fn law_3()
         → length (f ++ lone_block) ≡ encoded_len m + 1 }
 {}
 
-/// Bounds an encoded frame's length: it is longer than its message, and at most as long as
-/// [`max_encoding_length`](crate::max_encoding_length) says. A message without zeros reaches that bound, so each
-/// length of a message does. With more bytes a message's frame gets no shorter.
+/// The length of a frame, and its bound.
+///
+/// An encoded frame is longer than its message, and at most as long as
+/// [`max_encoding_length`](crate::max_encoding_length) says. A message without zeros reaches that bound, so it is
+/// reached at every length. If bytes are added to a message, its frame never gets shorter.
 ///
 /// ```
 /// fn encode_nonzero(source: &[u8], dest: &mut [u8]) -> usize
@@ -125,10 +130,10 @@ pub fn law_4()
     ensures grows { (m d : List ℕ) → encoded_len m ≤ encoded_len (m ++ d) }
 {}
 
-/// Messages with equal encoded frames are equal, and a frame has only one message.
+/// Equal frames, equal messages.
 ///
-/// So nothing of a message is lost in its frame, and a receiver can't read another message out of it than the sender
-/// put in.
+/// Messages with equal encoded frames are equal, and a frame has only one message. So no information of a message is
+/// lost in its frame, and a receiver reads no other message from it than the one that was sent.
 ///
 /// ```
 /// fn are_equal(alloc: Global, first: &[u8], second: &[u8]) -> Result<bool, AllocError>
@@ -145,11 +150,13 @@ pub fn law_5()
     ensures encoded { (f g m k : List ℕ) → IsEncodedFrame f m → IsEncodedFrame g k → f ≡ g → m ≡ k }
 {}
 
-/// No byte of a frame for a sentinel is that sentinel, and a second XOR restores the frame for 0.
+/// No frame contains its sentinel; a second XOR restores the frame.
 ///
-/// This is the purpose of COBS: if the sentinel is put between frames, their ends are found by looking for it. The clause
-/// `free` is about a frame that is sent, `received` about one that was received. Bytes without the sentinel have no zero
-/// after the XOR, and an XOR with 0 changes nothing.
+/// No byte of a frame for a sentinel is that sentinel, and a second XOR with the sentinel restores the frame for 0.
+///
+/// This is the purpose of COBS: if sentinels are put between frames, a receiver finds the ends of frames by searching
+/// for the sentinel. The clause `free` is about a frame that is sent, `received` about bytes that were received. Bytes
+/// without the sentinel contain no zero after the XOR, and an XOR with 0 changes nothing.
 ///
 /// ```
 /// fn as_received<'a>(frame: &'a [u8], sentinel: u8) -> &'a [u8]
@@ -172,11 +179,13 @@ pub fn law_6()
     ensures zero { (f : List ℕ) → xor_each 0 f ≡ f }
 {}
 
-/// A front of a frame, unless it is empty, is a frame exactly if it ends at a block's end, and its message is then a
-/// front of the frame's message.
+/// The fronts of a frame.
 ///
-/// So a frame that was cut short, as by a lost link, is noticed unless the cut fell between two blocks, and then what
-/// is read is still the beginning of what was sent.
+/// A front of a frame, unless it is empty, is a frame exactly if it ends at the end of a block, and its message is then
+/// a front of the frame's message.
+///
+/// So a frame that was cut short, for example because a connection was lost, is noticed unless it was cut between two
+/// blocks. In that case the message that is read is the beginning of the message that was sent.
 ///
 /// ```
 /// fn is_begun(received: &[u8], message: &[u8], buffer: &mut [u8]) -> bool
@@ -199,11 +208,13 @@ pub fn law_7()
     ensures message { (p q k m : List ℕ) → Reads (p ++ q) m → Reads p k → IsFront k m }
 {}
 
-/// Two frames without a sentinel between them read as their two messages joined, with a zero between them unless the first
-/// frame ends in a full block.
+/// Frames joined without a sentinel.
 ///
-/// So if the sentinel between two frames is lost, a receiver reads one message, and can't know that it was sent as two. To
-/// notice that, put a checksum of your own into the message.
+/// Two frames without a sentinel between them read as their two messages joined, with a zero between them unless the
+/// first frame ends in a full block.
+///
+/// So if the sentinel between two frames is lost, a receiver reads one message, and can't know that two were sent. To
+/// notice that, put a checksum of your own into each message.
 ///
 /// ```
 /// fn join(alloc: Global, first: &[u8], second: &[u8]) -> Result<Vec<u8>, AllocError>
@@ -230,13 +241,15 @@ pub fn law_8()
         → Reads (f ++ g) (m ++ joint (last_of r.blocks) ++ k) }
 {}
 
-/// A stream may be cut anywhere. Its outcomes are those of the first part, and then those of the second part with the
-/// unended bytes of the first before it. Its unended bytes are those of that second stream. A stream that ends in a zero
-/// has no unended bytes; in one without a zero all bytes are unended, and there is no outcome. The pieces themselves join
-/// as the outcomes do, and nonzero bytes with a zero after them are one piece.
+/// A stream may be cut anywhere.
 ///
-/// So a receiver may be given a stream in parts of any length, as reads happen to bring it, and gets what one call over
-/// the whole stream would give: `decode_stream`, `push` and `FrameReader` rest on this.
+/// The outcomes of a stream that is cut in two are those of the first part, and then those of the second part with the
+/// unended bytes of the first before it. The unended bytes of the stream are those of that second stream. A stream that
+/// ends in a zero has no unended bytes; in one without a zero all bytes are unended, and there is no outcome. The
+/// pieces themselves are joined as the outcomes are, and nonzero bytes with a zero after them are one piece.
+///
+/// So a receiver may get a stream in parts of any length, as reads return them. Its results are those of one call over
+/// the whole stream: `decode_stream`, `push` and `FrameReader` rely on this.
 ///
 /// ```
 /// fn decode_in_two<D: FrameDecoder>(
@@ -269,11 +282,13 @@ pub fn law_9()
     ensures { StreamLaw }
 {}
 
-/// Damage between two sentinels stays between them: if bytes there, also sentinels, are changed, lost or added, the
-/// outcomes before the first and after the second are unchanged. If no sentinel is between the two, they enclose one piece,
-/// with one outcome, or nothing if they are adjacent.
+/// Damage stays between its sentinels.
 ///
-/// So a receiver of a noisy link, or a reader of a damaged file of records, loses only the messages that the damage
+/// If bytes between two sentinels are changed, lost or added, sentinels among them too, the outcomes before the first
+/// and after the second of the two are unchanged. If no sentinel is between the two, they enclose one piece, with one
+/// outcome, or nothing if they are adjacent.
+///
+/// So a receiver on a noisy line, or a reader of a damaged file of records, loses only the messages that the damage
 /// touches.
 ///
 /// ```
@@ -301,10 +316,11 @@ pub fn law_10()
     ensures empty { (n : ℕ) → stream_outcomes (0 ∷ []) n ≡ [] }
 {}
 
-/// A frame in a stream is decoded as its message in each buffer that holds the message.
+/// A frame in a stream is decoded as its message.
 ///
-/// So messages that were sent as frames with a sentinel after each are decoded as exactly these messages. No frame is
-/// reported as broken or too long, also not the longer frame of a message that has two.
+/// This holds for each buffer that has room for the message. So messages that were sent as frames, with a sentinel
+/// after each, are decoded as exactly these messages. No frame is reported as broken or too long, not even the longer
+/// frame of a message that has two.
 ///
 /// ```
 /// fn encode_for_stream(message: &[u8], dest: &mut [u8]) -> usize
@@ -326,15 +342,17 @@ pub fn law_11()
         → outcome_of f n ≡ Message m }
 {}
 
-/// A stream's first piece. In a stream that begins with a nonzero byte the first piece is the bytes before the first
-/// zero, and, in a buffer of the stream's length, it is decoded as a message exactly if it reads as that message. Zeros
-/// before the first piece are skipped: after them the first piece ends at the next zero, and if nothing is after them,
-/// there is none. If the first n bytes have no zero, and the byte after them is a zero or there is none, they are the bytes
-/// before the first zero; likewise for any sentinel. While no piece has ended, the unended rest is the last piece; a zero
-/// then ends it.
+/// A stream's first piece, and its last.
 ///
-/// So `decode`, into a buffer as long as its source, and `decode_in_place` both return an error, or both the same
-/// message.
+/// If a stream begins with a nonzero byte, its first piece is the bytes before the first zero. In a buffer of the
+/// stream's length, this piece is decoded as a message exactly if it reads as that message. Zeros before the first
+/// piece are skipped: the first piece after them ends at the next zero, and if nothing follows them, there is none. If
+/// the first n bytes contain no zero, and the byte after them is a zero or there is none, they are the bytes before the
+/// first zero; the same holds for any sentinel. As long as no piece has ended, the unended bytes are the last piece; a
+/// zero then ends it.
+///
+/// So `decode`, into a buffer as long as its source, and `decode_in_place` return the same message, or both return an
+/// error.
 ///
 /// ```
 /// fn begins_with_piece(stream: &[u8]) -> bool
@@ -368,11 +386,13 @@ pub fn law_12()
         → last_piece (t ++ 0 ∷ []) ≡ unended t }
 {}
 
-/// The open frame of a streaming encoder: where the frame so far ends, and how the open frame of an
-/// [`EncoderState`](crate::EncoderState) differs from the encoded one.
+/// The open frame of a streaming encoder.
+///
+/// It says at which index the frame so far ends, and how the open frame of an [`EncoderState`](crate::EncoderState)
+/// differs from the encoded one.
 ///
 /// So if a caller carries out each push result, the placeholder is always within the output. The caller's frame is the
-/// encoded one, unless the message ends in a full run: then it has one 01 more.
+/// encoded one, unless the message ends in a full run: then a 01 follows it.
 ///
 /// ```
 /// fn as_encoded<'a>(frame: &'a [u8], message: &[u8], index: usize, code: u8) -> &'a [u8]
@@ -400,10 +420,10 @@ pub fn law_13()
         → end_of reached ≡ encoded_len m }
 {}
 
-/// A decoder has taken nothing of a piece exactly if it is idle.
+/// A decoder has been fed nothing of a piece exactly if it is idle.
 ///
-/// So [`FrameReader::new`](crate::FrameReader::new) accepts a decoder that was fed a zero last, and `push` of a new decoder
-/// reads a frame and its zero.
+/// So [`FrameReader::new`](crate::FrameReader::new) accepts a decoder whose last byte was a zero, and `push` of a new
+/// decoder reads a frame and its zero.
 ///
 /// ```
 /// fn reader_after_zero(mut decoder: CobsDecoderOwned) -> FrameReader<CobsDecoderOwned>

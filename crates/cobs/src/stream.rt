@@ -1,9 +1,9 @@
-//! Whole streams: the outcomes of all pieces that end in some bytes, and frames one after another.
+//! Whole streams: decodes all pieces that end in a part of a stream, and encodes several messages.
 //!
 //! A stream is cut at its zeros. The bytes between two zeros are a piece, unless there are none. Each piece is decoded
-//! by itself: it is a message, or it breaks off inside a block, or it decodes to more than the buffer holds. So damage to
-//! one piece has no effect after the next zero. (That a zero ends each frame is Cheshire and Baker's; how broken and too
-//! long pieces are reported is a choice of this library.)
+//! separately: it is a message, it breaks off inside a block, or it decodes to more bytes than the buffer holds. So
+//! damage to one piece has no effect after the next zero. (Ending each frame with a zero is from Cheshire and Baker's
+//! paper; how broken and too long pieces are reported is a choice of this library.)
 ghost use Rattle.std.specs.Prelude.{◌≡◌, ℕ, ◌+◌, ◌<◌, ◌≤◌, ◌^◌, List, [], ◌++◌, All, length, map, take, option_to_list, IfOk, IfSome, IsOk, IsSome, ◌↔◌, OnOk, OnErr, Contains};
 ghost use Rattle.cobs.specs.Feed.{DecoderAfter, PhaseAfter};
 ghost use Rattle.cobs.specs.Length.{max_encoded_len};
@@ -16,7 +16,7 @@ use crate::enc::encode;
 use crate::max_encoding_length;
 use std::alloc::{AllocError, Global};
 
-/// The outcome of a piece of a stream: one or more nonzero bytes that a zero ended.
+/// The outcome of a piece of a stream. A piece is one or more nonzero bytes, and a zero ends it.
 ///
 /// ```
 /// let mut decoder = CobsDecoderHeapless::<4>::new();
@@ -36,7 +36,7 @@ pub enum FrameOutcome {
     TooLong,
 }
 
-/// The outcome of the piece with this end, whose output is in `buffer`.
+/// Converts the end of a piece, whose output is in `buffer`, to its outcome.
 fn frame_outcome(alloc: Global, end: PieceEnd, buffer: &[u8]) -> Result<FrameOutcome, AllocError>
     requires { IsWithin (length buffer.now) end }
     ensures { IfOk result (λ outcome. outcome_in outcome ≡ outcome_at end buffer.now) }
@@ -48,19 +48,18 @@ fn frame_outcome(alloc: Global, end: PieceEnd, buffer: &[u8]) -> Result<FrameOut
     }
 }
 
-/// Decodes a part of a stream: one outcome for each piece that ends in the bytes, in order.
+/// Decodes a part of a stream, and returns one outcome for each piece that ends in it, in order.
 ///
-/// The first of these pieces may have begun before this call, and the next call continues a piece that hasn't ended:
-/// the decoder keeps its state. So a stream can be passed in parts, cut anywhere, and the joined results are those of the
-/// whole stream. Leading and doubled zeros make no piece.
+/// The first of these pieces may have begun in an earlier call. A piece that hasn't ended is continued by the next
+/// call, because the decoder keeps its state. So a stream can be passed in parts, cut anywhere, and the joined results
+/// are those of the whole stream. Leading and doubled zeros make no piece.
 ///
-/// If the caller wrote to the decoder's buffer inside a piece, the bytes of that piece's message, the first outcome,
-/// aren't determined. Its length is, and so is everything after it.
+/// If the caller wrote to the decoder's buffer while a piece was open, the bytes of that piece's message are
+/// unspecified. This message is the first outcome. Its length and all later outcomes are as usual.
 ///
 /// # Errors
-/// `AllocError` if memory for an outcome runs out. The outcomes are lost then, and the decoder is idle, so the
-/// next byte begins a new piece. Only messages and the list of outcomes allocate: if no piece
-/// ends, the result is `Ok`.
+/// `AllocError` if memory for an outcome runs out. Then the outcomes are lost, and the decoder is idle, so the next
+/// byte begins a new piece. Only messages and the list of outcomes need memory: if no piece ends, the result is `Ok`.
 ///
 /// ```
 /// let mut buffer = [0; 4];
@@ -76,7 +75,7 @@ pub fn decode_stream<D: FrameDecoder>(
     decoder: &mut D,
     bytes: &[u8],
 ) -> Result<Vec<FrameOutcome>, AllocError>
-    // After each front p of a piece, the outcomes are those of the stream that p and the bytes make.
+    // If the decoder has taken the front p of a piece, the outcomes are those of the stream of p and the bytes.
     ensures outcomes { (p : List ℕ) → DecoderAfter (D.bytes decoder.old) (D.phase decoder.old) p
         → IfOk result (λ found. outcomes_in found.items
         ≡ stream_outcomes (p ++ bytes.now) (length (D.bytes decoder.old))) }
@@ -87,7 +86,7 @@ pub fn decode_stream<D: FrameDecoder>(
         → PhaseAfter (length (D.bytes decoder.old)) (D.phase decoder.old) p
         → stream_outcomes (p ++ bytes.now) (length (D.bytes decoder.old)) ≡ [] → IsOk result }
 
-    // If the buffer was written to inside p, the same except for the bytes of the first message.
+    // The same if the buffer was written to inside p, except for the bytes of the first message.
     ensures alike { (p : List ℕ)
         → PhaseAfter (length (D.bytes decoder.old)) (D.phase decoder.old) p
         → IfOk result (λ found. AreAlikeAtFirst (outcomes_in found.items)
@@ -115,10 +114,10 @@ pub fn decode_stream<D: FrameDecoder>(
     Ok(outcomes)
 }
 
-/// Makes the stream of some messages: the encoded frame of each one and a zero after it, in order.
+/// Makes a stream of these messages: the encoded frame of each one and a zero after it, in order.
 ///
-/// Whoever feeds these bytes to an idle decoder whose buffer holds each message gets exactly the messages back. For
-/// no messages the stream is empty.
+/// An idle decoder whose buffer has room for each message decodes these bytes to exactly these messages. For no
+/// messages the stream is empty.
 ///
 /// Precondition: the sum of [`max_encoding_length`](crate::max_encoding_length) plus 1 over the messages fits a
 /// `usize`, as [`encode_frames_room`] says. Memory is allocated once, for that many bytes.
@@ -148,12 +147,12 @@ pub fn encode_frames(alloc: Global, messages: &[Vec<u8>]) -> Result<Vec<u8>, All
     Ok(frames)
 }
 
-/// Returns how many bytes have room for the frames of the messages and a zero after each: the sum of
-/// [`max_encoding_length`](crate::max_encoding_length) plus 1 over the messages. `None` if the sum doesn't fit a `usize`.
+/// Returns the number of bytes that are enough for the frames of the messages, each with a zero after it: the sum of
+/// [`max_encoding_length`](crate::max_encoding_length) plus 1 over the messages. Returns `None` if the sum doesn't fit
+/// a `usize`.
 ///
-/// A caller of [`encode_frames`] tests its precondition with this function. The result is the number of bytes that it
-/// allocates.
-/// This function allocates nothing.
+/// [`encode_frames`] requires that there is such a number, and allocates that many bytes. This function allocates
+/// nothing.
 ///
 /// ```
 /// let messages = [b"hi".to_vec(alloc)?, Vec::new(alloc)];

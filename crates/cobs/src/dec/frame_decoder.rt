@@ -1,4 +1,5 @@
-//! The traits of the streaming decoders: the one that `stream` and `framed` use, and one for writing to the buffer.
+//! The traits of the streaming decoders: one for decoding, which `stream` and `framed` use, and one for writing to the
+//! buffer.
 ghost use Rattle.std.specs.Prelude.{◌≡◌, ◌≤◌, ℕ, List, length, ◌+◌};
 ghost use Rattle.cobs.specs.Feed.{Feeds, Phase};
 ghost use Rattle.cobs.specs.FeedPiece.{end_reported, TakesPiece};
@@ -28,7 +29,7 @@ pub enum PieceEnd {
 }
 
 impl PieceEnd {
-    /// Returns how a piece has ended, by the result of `feed` for the zero: `None` if no piece was open.
+    /// Returns how a piece has ended, given the result of `feed` for its zero, or `None` if no piece had begun.
     ///
     /// ```
     /// let mut decoder = UnbufferedDecoder::new();
@@ -52,9 +53,9 @@ impl PieceEnd {
     }
 }
 
-/// A decoder that is fed one byte of a stream after another, and owns or borrows the buffer of its output.
+/// A decoder that takes a stream byte by byte or piece by piece, and owns or borrows the buffer for its output.
 ///
-/// Contracts see it as the bytes of its buffer and its phase. (The trait is this library's own.)
+/// Contracts describe it by the bytes of its buffer and by its phase. (The trait is this library's own.)
 ///
 /// ```
 /// let mut decoder = CobsDecoderHeapless::<4>::new();
@@ -82,14 +83,14 @@ pub trait FrameDecoder {
         ensures feeds { Feeds (bytes self.old) (phase self.old) byte result (bytes self.new) (phase self.new) }
         ensures same_loan { loan self.new ≡ loan self.old };
 
-    /// Takes bytes of the stream through the first zero that ends a piece.
+    /// Takes bytes of the stream, through the first zero that ends a piece.
     ///
-    /// `None` says that no piece ended in these bytes, and that all were taken. `Some((end, count))` says that a piece
-    /// ended with the byte at index `count - 1`, and how. The bytes after that one had no effect, and the bytes of the
-    /// buffer after the output are as they were. A piece that is too long for the buffer ends at its zero, as every
-    /// other, so the caller never has to feed single bytes.
+    /// Returns `None` if no piece ended in these bytes, and then all of them were taken. Returns `Some((end, count))`
+    /// if a piece ended with the byte at index `count - 1`; `end` says how. The bytes after that one had no effect, and
+    /// the bytes of the buffer after the output are as they were. A piece that is too long for the buffer ends at its
+    /// zero, like every other, so the caller never has to feed single bytes.
     ///
-    /// An implementation needn't have this method: the provided one feeds one byte after another. The decoders of this
+    /// An implementation doesn't need this method: the provided one feeds one byte after another. The decoders of this
     /// library copy whole blocks instead.
     ///
     /// ```
@@ -123,14 +124,14 @@ pub trait FrameDecoder {
         ensures value { result.now ≡ bytes self.now };
 }
 
-/// A decoder whose buffer can be borrowed to be written to.
+/// A decoder that lends its buffer for writing.
 ///
-/// Writing changes the buffer's bytes to those that were written, and neither the decoder's state nor its slice. So a
-/// decoder that has taken the front of a piece (`PhaseAfter`) still has: each result of this piece is the same, and
-/// only the bytes of its message are then unknown.
+/// Writing replaces the bytes of the buffer. It changes neither the decoder's state nor which slice the buffer is. So
+/// if a decoder has taken the front of a piece (`PhaseAfter`), the results of this piece stay the same; only the bytes
+/// of its message are then unspecified.
 ///
-/// Each streaming decoder has a method `dest_mut` of its own too. With the one of a `CobsDecoder`, whose slice is itself
-/// borrowed, a caller's proof knows only the bytes of the slice while it is borrowed. Such a caller writes with
+/// Each streaming decoder also has a method `dest_mut` of its own. The slice of a `CobsDecoder` is itself borrowed, so
+/// a caller of that method knows only the bytes of the slice as long as it is borrowed. Such a caller writes with
 /// [`write_dest`](WriteBuffer::write_dest), or in code that is generic over this trait. (The trait is this library's
 /// own.)
 ///
@@ -147,7 +148,7 @@ pub trait WriteBuffer: FrameDecoder {
     /// The decoder with other bytes in its buffer.
     ghost with_bytes: { Self → List ℕ → Self };
 
-    /// Returns the whole buffer, to be written to: its bytes are then those that the caller has written.
+    /// Returns the whole buffer, for writing. Its bytes are then those that the caller has written.
     ///
     /// ```
     /// let mut decoder = CobsDecoderHeapless::<2>::new();
@@ -158,9 +159,9 @@ pub trait WriteBuffer: FrameDecoder {
         ensures* writes_back { sem 𝓛 (LendsBytes Self.row self.entry result with_bytes) }
         ensures value { result.now ≡ Self.bytes self.old };
 
-    /// Writes these bytes over those of the buffer, from index `at` on.
+    /// Writes the bytes of `source` over those of the buffer, from index `at` on.
     ///
-    /// Precondition: they fit, so `at` plus their number is at most the buffer's length.
+    /// Precondition: they fit, so `at` plus their number is at most the length of the buffer.
     ///
     /// ```
     /// let mut decoder = CobsDecoderHeapless::<3>::new();
@@ -177,7 +178,7 @@ pub trait WriteBuffer: FrameDecoder {
         dest[at..at + source.len()].copy_from_slice(source);
     }
 
-    /// The bytes are then those that were written.
+    /// The buffer then has the bytes that were written.
     ghost bytes_are_written: { (decoder : Self) (written : List ℕ)
         → length written ≡ length (Self.bytes decoder)
         → Self.bytes (with_bytes decoder written) ≡ written };

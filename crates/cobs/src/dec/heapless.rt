@@ -1,4 +1,4 @@
-//! The streaming decoder over a buffer that lies in the value itself.
+//! The streaming decoder whose buffer is part of the value itself.
 ghost use Rattle.std.specs.Prelude.{◌≡◌, ◌-◌, ◌++◌, [], replicate, ◌≤◌, ◌∷◌, List, length, ℕ};
 ghost use Rattle.std.specs.Borrow.{sem};
 ghost use Rattle.arrayvec.specs.ArrayVec.{array_vec_len};
@@ -12,10 +12,10 @@ use crate::dec::unbuffered::UnbufferedDecoder;
 use crate::error::{DecodeError, DecodeReport, PushError};
 use arrayvec::ArrayVec;
 
-/// Decodes a stream of frames, each ended by a zero, into a buffer of `N` bytes that lies in the value itself.
+/// Decodes a stream of frames, each ended by a zero, into a buffer of `N` bytes that is part of the value itself.
 ///
-/// It returns what [`CobsDecoder`](crate::CobsDecoder) does, and doesn't allocate. That a zero ends each frame is
-/// Cheshire and Baker's; the calls are those of the crate `cobs`.
+/// Its results are those of [`CobsDecoder`](crate::CobsDecoder), and it doesn't allocate. Ending each frame with a zero
+/// is from Cheshire and Baker's paper; the calls are those of the crate `cobs`.
 ///
 /// ```
 /// let mut decoder = CobsDecoderHeapless::<2>::new();
@@ -34,7 +34,7 @@ pub struct CobsDecoderHeapless<const N: usize> {
 impl<const N: usize> CobsDecoderHeapless<N> {
     ghost use Rattle.cobs.specs.Fields.Decoders.{heapless_buffer, heapless_phase, LendsHeapless};
 
-    /// Makes an idle decoder over `N` zeros.
+    /// Makes an idle decoder whose buffer has `N` zeros.
     ///
     /// ```
     /// assert_eq!(rt; CobsDecoderHeapless::<2>::new().dest(), [0, 0].as_slice());
@@ -47,7 +47,8 @@ impl<const N: usize> CobsDecoderHeapless<N> {
         CobsDecoderHeapless::new_with_vec(ArrayVec::new())
     }
 
-    /// Makes an idle decoder over the vector. It keeps the vector's bytes, and adds zeros up to the capacity, `N` bytes.
+    /// Makes an idle decoder whose buffer is the vector. It keeps the vector's bytes, and appends zeros up to the
+    /// capacity, `N` bytes.
     ///
     /// ```
     /// let mut vec = ArrayVec::<u8, 3>::new();
@@ -86,7 +87,7 @@ impl<const N: usize> CobsDecoderHeapless<N> {
         self.inner.feed(self.dest.as_mut_slice(), byte)
     }
 
-    /// Takes bytes of the stream through the first one whose result by `feed` isn't `Ok(None)`, as
+    /// Takes bytes of the stream, through the first one for which `feed` doesn't return `Ok(None)`, as
     /// [`CobsDecoder::push`](crate::CobsDecoder::push) does, with its errors.
     ///
     /// ```
@@ -138,7 +139,7 @@ impl<const N: usize> CobsDecoderHeapless<N> {
         self.dest.as_slice()
     }
 
-    /// Returns the whole buffer, to be written to, as [`CobsDecoder::dest_mut`](crate::CobsDecoder::dest_mut) does.
+    /// Returns the whole buffer, for writing, as [`CobsDecoder::dest_mut`](crate::CobsDecoder::dest_mut) does.
     ///
     /// ```
     /// let mut decoder = CobsDecoderHeapless::<2>::new();
@@ -156,7 +157,7 @@ impl<const N: usize> CobsDecoderHeapless<N> {
 impl<const N: usize> Default for CobsDecoderHeapless<N> {
     ghost use Rattle.cobs.specs.Fields.Decoders.{heapless_buffer, heapless_phase};
 
-    /// Makes an idle decoder over `N` zeros, as `new` does.
+    /// Makes an idle decoder whose buffer has `N` zeros, as `new` does.
     ///
     /// ```
     /// let decoder = CobsDecoderHeapless::<2>::default();

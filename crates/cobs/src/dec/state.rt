@@ -8,7 +8,7 @@ use crate::error::DecodeError;
 
 /// A decoder's state within a frame.
 ///
-/// The state holds no output, so a caller can stream the decoded bytes into a container of its own.
+/// The state doesn't hold the output, so a caller can write the decoded bytes to a container of its own.
 ///
 /// ```
 /// let mut state = DecoderState::default();
@@ -22,14 +22,14 @@ pub enum DecoderState {
     /// No nonzero byte has come since the last sentinel.
     Idle,
 
-    /// In a block with a code from 1 to 254, with this many bytes missing.
+    /// Inside a block with a code from 1 to 254, of which this many bytes are missing.
     Grab(u8),
 
-    /// In a full block, one with the code 255, with this many bytes missing.
+    /// Inside a full block, whose code is 255, of which this many bytes are missing.
     GrabChain(u8),
 }
 
-/// The result of one byte, if it isn't an error.
+/// The result for a byte that raised no error.
 ///
 /// ```
 /// let mut state = DecoderState::default();
@@ -39,13 +39,13 @@ pub enum DecoderState {
 /// ```
 #[derive(Debug, Drop)]
 pub enum DecodeResult {
-    /// No byte of the message.
+    /// This byte adds no byte to the message.
     NoData,
 
-    /// The first code of a frame.
+    /// This byte is the first code of a frame.
     DataStart,
 
-    /// The end of a whole frame: the output so far is its message.
+    /// This byte ends a whole frame: the output so far is its message.
     DataComplete,
 
     /// This byte is the next one of the message.
@@ -57,7 +57,7 @@ impl Default for DecoderState {
 
     ghost is_default = { λ state. state ≡ Idle };
 
-    /// Makes the start: no byte has come.
+    /// Makes the state at the start: no byte has been taken.
     ///
     /// ```
     /// assert!(rt; matches!(DecoderState::default(), DecoderState::Idle));
@@ -71,7 +71,7 @@ impl Default for DecoderState {
 }
 
 impl DecoderState {
-    /// The state after a code: all the bytes that it counts are missing.
+    /// Returns the state after a code: all the bytes that it counts are missing.
     fn opened(code: u8) -> DecoderState
         requires { code ≢ 0 }
         ensures opened { result ≡ opened_by code }
@@ -126,19 +126,19 @@ impl DecoderState {
 
     /// Takes the next byte of a frame and returns its result.
     ///
-    /// A sentinel, the byte 0, is `DataComplete` if the last block has all bytes that its code counts,
-    /// and `NoData` if no frame has begun. After each sentinel the state is `Idle`.
+    /// A sentinel, the byte 0, returns `DataComplete` if the last block has all the bytes that its code counts, and
+    /// `NoData` if no frame has begun. After each sentinel the state is `Idle`.
     ///
-    /// Any other byte is a code if no block is open: `DataStart` for the first one, `NoData` after a full
-    /// block, and after any other block `DataContinue(0)`, the zero that joins the two blocks. Inside a block it
-    /// is `DataContinue` of the byte itself.
+    /// Any other byte is a code if no block is open. It returns `DataStart` if it is the first one, `NoData` after a
+    /// full block, and after any other block `DataContinue(0)`, the zero that joins the two blocks. Inside a block, a
+    /// byte returns `DataContinue` with itself.
     ///
-    /// Every state has a result for every byte, also one that no frame leads to, such as `Grab(255)`. These are
-    /// the block rules of the paper by Cheshire and Baker; the names of the results are those of the crate `cobs`.
+    /// Every state has a result for every byte. This includes states that no frame leads to, such as `Grab(255)`. These
+    /// are the block rules of the paper by Cheshire and Baker; the names of the results are those of the crate `cobs`.
     ///
     /// # Errors
-    /// `InvalidFrame` for a sentinel inside a block. Its `decoded_bytes` is always 0 here, since the state counts no
-    /// output.
+    /// `InvalidFrame` for a sentinel inside a block. Its `decoded_bytes` is always 0 here, because the state doesn't
+    /// count the output.
     ///
     /// ```
     /// let mut state = DecoderState::GrabChain(1);
@@ -149,7 +149,7 @@ impl DecoderState {
         ensures answer { result ≡ table_result self.old byte }
         ensures state { self.new ≡ table_state self.old byte }
 
-        // After the front p of a piece, with the bytes that the results gave so far.
+        // If the state has taken the front p of a piece, and `so_far` is the bytes that the results had.
         ensures after { (p so_far : List ℕ) → StateAfter self.old p so_far → byte ≢ 0
             → StateAfter self.new (p ++ byte ∷ []) (so_far ++ data_of result) }
         ensures message { (p so_far m : List ℕ) → StateAfter self.old p so_far → byte ≡ 0

@@ -1,4 +1,4 @@
-//! An encoder into a slice, of a message that comes in pieces.
+//! An encoder into a slice, for a message that comes in pieces.
 ghost use Rattle.std.specs.Prelude.{length};
 ghost use Rattle.cobs.specs.OpenBlock.{IsPlaceIn};
 ghost use Rattle.cobs.specs.Fields.Progress.{reached_by};
@@ -7,11 +7,11 @@ use crate::enc::UnbufferedEncoder;
 use crate::enc::blocks::close;
 use crate::error::DestBufTooSmallError;
 
-/// Encodes a message that comes in pieces, straight into a slice of the caller's.
+/// Encodes a message that comes in pieces, into a slice that it borrows.
 ///
-/// However the message is cut into pieces, the frame is the one that [`encode`](crate::encode) writes. After each push the
-/// slice begins with that frame of the bytes that were taken so far, except the code of the block that is still open;
-/// [`finalize`](CobsEncoder::finalize) writes this last code. The encoder needs no room beyond the frame's.
+/// However the message is cut into pieces, the frame is the one that [`encode`](crate::encode) writes. After each push
+/// the slice begins with the frame of the bytes taken so far, except the code of the open block;
+/// [`finalize`](CobsEncoder::finalize) writes this last code. The encoder needs no more room than the frame.
 ///
 /// The blocks are those of the paper by Cheshire and Baker; the calls are those of the crate `cobs`.
 ///
@@ -37,9 +37,9 @@ impl<'a> CobsEncoder<'a> {
     ghost use Rattle.cobs.specs.Fields.Encoders.{slice_of, HasTaken, WritesTo, IsOverSameSlice, IsUnchanged};
 
     /// Makes an encoder that has taken nothing yet, and that will write to the front of `out_buf`. This call changes no
-    /// byte of it.
+    /// byte of `out_buf`.
     ///
-    /// Precondition: the slice has one byte at least, since the frame of the empty message has one.
+    /// Precondition: the slice has at least one byte, because the frame of the empty message has one.
     ///
     /// ```
     /// let mut dest = [170; 1];
@@ -63,9 +63,9 @@ impl<'a> CobsEncoder<'a> {
     /// An empty push always succeeds, and changes nothing. The bytes of the slice after the frame are never written.
     ///
     /// # Errors
-    /// `DestBufTooSmallError` exactly if the encoded frame of all the bytes that were taken so far, followed by
-    /// these, is longer than the slice. Then neither the encoder nor the slice has changed, so the caller may end the
-    /// frame, or push fewer bytes. That an error changes nothing is a choice of this library.
+    /// `DestBufTooSmallError` exactly if the encoded frame of the message so far, these bytes included, is longer than
+    /// the slice. Then neither the encoder nor the slice has changed, so the caller may end the frame, or push fewer
+    /// bytes. That an error changes nothing is a choice of this library.
     ///
     /// ```
     /// let mut dest = [170; 4];
@@ -103,7 +103,7 @@ impl<'a> CobsEncoder<'a> {
     /// assert_eq!(rt; dest, [1, 1, 170]);
     /// ```
     pub fn finalize(self) -> usize
-        // `self.exit.0.now` is what the slice, the first field, holds at the return.
+        // `self.exit.0.now` is the slice, the first field, as it is at the return.
         ensures len { (m : List ℕ) → HasTaken self.entry m → result ≡ encoded_len m }
         ensures frame { (m : List ℕ) → HasTaken self.entry m → IsEncodedFrame (take result self.exit.0.now) m }
         ensures no_sentinel { (m : List ℕ) → HasTaken self.entry m → HasNoZero (take result self.exit.0.now) }

@@ -6,8 +6,8 @@ ghost use Rattle.cobs.specs.OpenBlock.{EncoderAfter, IsOpenOutput, push_result, 
 use std::alloc::AllocError;
 use std::marker::Model;
 
-/// What a byte of the message changes in the encoded output. Indices count bytes from its start. The names are those of
-/// the crate `cobs`.
+/// The change that a byte of the message makes to the encoded output. Indices count bytes from the start of the output.
+/// The names are those of the crate `cobs`.
 ///
 /// ```
 /// let mut state = EncoderState::default();
@@ -19,21 +19,22 @@ pub enum PushResult {
     /// The byte is appended.
     AddSingle(u8),
 
-    /// The byte at the index becomes the code, and a placeholder is appended.
+    /// The byte at the index is replaced by the code, and a placeholder is appended.
     ModifyFromStartAndSkip((usize, u8)),
 
-    /// The byte at the index becomes the code, and the last byte and then a placeholder are appended.
+    /// The byte at the index is replaced by the code. The last of the three numbers, and then a placeholder, are
+    /// appended.
     ModifyFromStartAndPushAndSkip((usize, u8, u8)),
 }
 
-/// The place where the open block of an output begins, and the code that it has so far, from 1 to 254.
+/// The index at which the open block of an output begins, and the code that the block has so far, from 1 to 254.
 ///
-/// The state holds no output, so a caller can stream the encoded bytes into a container of its own. That output begins
-/// as one placeholder, a byte of any value. Each result of [`push`](EncoderState::push) says what a byte of the message
-/// changes in it, and [`finalize`](EncoderState::finalize) returns the last change. A caller who carries out all of them
-/// has the frame of the message whose last block isn't full. That is the frame that [`encode`](crate::encode) writes,
-/// but where the message's last run of nonzero bytes has a positive length divisible by 254: then it is the longer
-/// frame, the encoded one with a `1` after it.
+/// The state doesn't hold the output, so a caller can write the encoded bytes to a container of its own. The output
+/// begins as one placeholder, a byte of any value. Each result of [`push`](EncoderState::push) says what a byte of the
+/// message changes in the output, and [`finalize`](EncoderState::finalize) returns the last change. A caller that
+/// carries out all changes has the frame of the message whose last block isn't full. That is the frame that
+/// [`encode`](crate::encode) writes, unless the message's last run of nonzero bytes has a positive length divisible by
+/// 254. Then it is the longer frame, the encoded one followed by `1`.
 ///
 /// ```
 /// let mut output = [0; 3];
@@ -68,7 +69,7 @@ impl Model for EncoderState {
 impl Default for EncoderState {
     ghost is_default = { λ state. state ≡ record { index = 0; code = 1 } };
 
-    /// Makes the start: the open block is the placeholder at index 0, and has no bytes yet.
+    /// Makes the state at the start: the open block is the placeholder at index 0, and has no bytes yet.
     ///
     /// ```
     /// let state = EncoderState::default();
@@ -114,7 +115,7 @@ impl Clone for EncoderState {
 
 impl EncoderState {
     /// Returns whether another byte can be pushed: whether the index of the next block fits a `usize`, whatever the
-    /// byte. (This call is this library's own.)
+    /// byte is. (This call is this library's own.)
     ///
     /// ```
     /// assert!(rt; EncoderState::default().can_push());
@@ -158,7 +159,7 @@ impl EncoderState {
         PushResult::AddSingle(byte)
     }
 
-    /// Ends the message: the index at which the last code belongs in the output, and that code.
+    /// Ends the message. Returns the index in the output at which the last code belongs, and that code.
     ///
     /// ```
     /// assert_eq!(rt; EncoderState::default().finalize(), (0, 1));

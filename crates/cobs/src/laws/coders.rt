@@ -1,5 +1,5 @@
-//! Laws for your own coder: the length of a frame block by block, the state of an encoder and of a decoder after each
-//! byte, and which frame a piece is. Also the results of the streaming decoders for a frame.
+//! Laws for your own coder: the length of a frame block by block, the states of an encoder and of a decoder after each
+//! byte, and the kind of a frame. They also say what the streaming decoders return for a frame.
 ghost use Rattle.std.specs.Prelude.{◌≡◌, ◌≢◌, ◌↔◌, ◌<◌, ◌+◌, ℕ, List, [], ◌∷◌, ◌++◌, length, drop, false, Some, None};
 ghost use Rattle.cobs.specs.Feed.{DecoderAfter, Idle, Phase};
 ghost use Rattle.cobs.specs.FeedPiece.{TakesPiece, outcome_at};
@@ -10,11 +10,12 @@ ghost use Rattle.cobs.specs.Piece.{IsWhole, is_whole, kept_output, output};
 ghost use Rattle.cobs.specs.Stream.{stream_outcomes, unended};
 ghost use Rattle.cobs.specs.declared.dec.frame_decoder.PieceEnd.{PieceEnd};
 
-/// The length of an encoded frame, counted block by block. Up to 254 nonzero bytes have a block of their own at the end of
-/// the message; up to 253 have one before a zero; 254 have one if the message continues. The values of the nonzero bytes
-/// don't matter.
+/// The length of a frame, counted block by block.
 ///
-/// So one pass over the message decides whether a frame fits, before a byte is written.
+/// Up to 254 nonzero bytes at the end of a message are one block. So are up to 253 nonzero bytes before a zero, and 254
+/// nonzero bytes if the message continues after them. The values of the nonzero bytes don't matter.
+///
+/// So one pass over the message decides whether its frame fits, before a byte is written.
 ///
 /// ```
 /// fn encode_short(message: &[u8], dest: &mut [u8]) -> usize
@@ -37,12 +38,14 @@ pub fn law_15()
         → encoded_len (a ++ m) ≡ encoded_len (b ++ m) }
 {}
 
-/// An encoder over a slice, byte by byte. At first it has taken nothing. A nonzero byte joins the open block, after
-/// the bytes that are there; the 254th fills the block, whose code is then written; a zero closes the block by its
-/// code. At the end the code of the open block is written, unless the last block is full. The frame of a longer message
-/// is counted from the open block: `a` has as many bytes as that block.
+/// An encoder of your own, byte by byte.
 ///
-/// So your own encoder that keeps to these steps writes the frames of [`encode`](crate::encode).
+/// It writes to a slice, and at first it has taken nothing. A nonzero byte is appended to the open block. The 254th
+/// byte fills the block, whose code is then written. A zero ends the block, and its code is written. At the end of the
+/// message the code of the open block is written, unless the last block is full. The length of a longer message's frame
+/// is counted from the open block: in `goes_on`, `a` has as many bytes as that block.
+///
+/// So your own encoder with these steps writes the frames of [`encode`](crate::encode).
 ///
 /// ```
 /// fn take_nonzero(slice: &mut [u8], index: usize, code: u8, byte: u8)
@@ -67,11 +70,13 @@ pub fn law_16()
     ensures { EncoderLaw }
 {}
 
-/// A decoder, byte by byte. The step of the table takes a byte in any phase as the streaming decoders do. Taking bytes one
-/// by one, through the first zero that ends a piece or all of them if there is none, is the same as one `feed_piece`.
+/// A decoder of your own, byte by byte.
 ///
-/// So your own decoder that keeps to the step decodes what the streaming decoders decode, and a loop over
-/// `feed_byte` is a `feed_piece`.
+/// The table's step for a byte is that of the streaming decoders, in any phase. If bytes are taken one by one, through
+/// the first zero that ends a piece or, if there is none, to the end, the result is that of one `feed_piece`.
+///
+/// So your own decoder with this step decodes as the streaming decoders do, and a loop over `feed_byte` is a
+/// `feed_piece`.
 ///
 /// ```
 /// fn feed_one(decoder: &mut UnbufferedDecoder, buffer: &mut [u8], byte: u8)
@@ -95,12 +100,13 @@ pub fn law_17()
     ensures { DecoderLaw }
 {}
 
-/// What the streaming decoders return for a frame. A zero that is fed after all bytes of a frame returns the length of its
-/// message, if the buffer holds that; `feed_piece` of an idle decoder ends with the first zero after a piece, and
-/// returns the message too; and so does a push of the frame and its zero. The buffer then begins with the message. No
-/// other piece is decoded as a message.
+/// A frame is decoded as its message however it is streamed, and nothing else is.
 ///
-/// So a frame that [`encode`](crate::encode) wrote is read, whichever of these calls its bytes are passed to.
+/// If all bytes of a frame have been fed, the zero after them returns the length of its message, if the buffer has room
+/// for it. `feed_piece` of an idle decoder ends with the first zero after a piece, and returns the message too. So does
+/// a push of the frame and its zero. The buffer then begins with the message. No other piece is decoded as a message.
+///
+/// So a frame that [`encode`](crate::encode) wrote is read by each of these calls.
 ///
 /// ```
 /// fn end_frame(decoder: &mut CobsDecoderOwned) -> Result<Option<usize>, DecodeError>
@@ -121,10 +127,11 @@ pub fn law_18()
     ensures { FrameLaw }
 {}
 
-/// Says which frame a block and the bytes after it form. A block without other bytes is a canonical frame. With other bytes
-/// after it, it is a frame exactly if they are one, and canonical exactly if they are, unless it is full and they are the
-/// lone block.
-/// Bytes that are fewer than their first code says are no frame.
+/// The kind of a frame, block by block.
+///
+/// A block without bytes after it is a canonical frame. With bytes after it, it is a frame exactly if these bytes are
+/// one. It is then canonical exactly if they are, unless the block is full and they are the lone block. Bytes that are
+/// fewer than their first code says are no frame.
 ///
 /// So your own reader that goes from code to code learns whether it has a frame, and which one.
 ///
@@ -149,11 +156,15 @@ pub fn law_19()
         → IsFrame (code ∷ bytes) → ⊥ }
 {}
 
-/// Gives the output of a block and of other bytes after it. The block's output is its bytes, and a zero unless it is full.
-/// A block is whole; with other bytes after it, it is whole exactly if these are. If bytes are fewer than their first code
-/// says, the kept output is empty; if they are whole, it is the whole output.
+/// The output of a piece, block by block.
 ///
-/// So your own decoder that goes from code to code writes what [`decode_in_place`](crate::decode_in_place) does.
+/// The output of a block is its bytes, and a block is whole. If other bytes follow it, all of them are whole exactly if
+/// the other bytes are. The kept output is then the block's bytes, a zero unless the block is full, and the kept output
+/// of the other bytes. If bytes are fewer than their first code says, they are broken, and their kept output is empty.
+/// The kept output of a whole piece is its output.
+///
+/// So your own decoder that goes from code to code writes the bytes that [`decode_in_place`](crate::decode_in_place)
+/// writes.
 ///
 /// ```
 /// fn decode_block<'a>(block: &'a [u8]) -> &'a [u8]
@@ -178,12 +189,14 @@ pub fn law_20()
     ensures all_kept { (p : List ℕ) → IsWhole p → kept_output p ≡ output p }
 {}
 
-/// Gives the outcomes of a stream whose first piece an idle decoder reads by `feed_piece`. They are the outcome of that
-/// piece, and then those of the bytes after it; the stream's unended bytes are those of the bytes after it. If no piece
-/// ends, there is no outcome, and the decoder has taken the unended bytes.
+/// A loop over the pieces of a stream.
 ///
-/// So a loop over `feed_piece` is proved by one equation: the outcomes found so far, followed by those of the bytes that
-/// are left, are the outcomes of the stream.
+/// If an idle decoder reads a piece by `feed_piece`, the outcomes of the stream are the outcome of that piece, and then
+/// those of the bytes after it. The unended bytes of the stream are those of the bytes after it. If no piece ends,
+/// there is no outcome, and the decoder has taken the unended bytes.
+///
+/// So a loop over `feed_piece` is proved by one equation: the outcomes found so far, followed by those of the remaining
+/// bytes, are the outcomes of the stream.
 ///
 /// ```
 /// fn first_outcome<D: FrameDecoder>(decoder: &mut D, stream: &[u8]) -> bool
