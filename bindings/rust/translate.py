@@ -54,10 +54,11 @@ REWORDED = {
     ", as [`CobsDecoder::push`](crate::CobsDecoder::push) does, with its errors.": ".\nThe error says how many bytes were taken.",
     "CobsDecoder::new(&mut buffer); let rejected = PushError": "UnbufferedDecoder::new();\nlet rejected = PushError",
     "decoder.push(&[3, 7, 0, 2, 9, 0]), Err(rejected)": "decoder.push(&mut buffer, &[3, 7, 0, 2, 9, 0]), Err(rejected)",
-    "Contracts describe a source by a relation that it defines: which read (a failure, or the bytes that it gave) leads from one"
-    " state of it to which other.": "[`FrameReader::next_frame`] panics if a read says that it gave more than 64 bytes.",
-    " Contracts see it as its decoder and the bytes that it has read and not yet fed to the decoder.": "",
-    "Contracts see it as the bytes of its buffer and its phase. ": "",
+    "Contracts describe a source by a relation, `step`. It says which reads lead from which state of the source to which other"
+    " state. A read is a failure, or the bytes that it returned.": "[`FrameReader::next_frame`] panics if a read returns a"
+    " number above 64.",
+    " Contracts describe a reader by its decoder, and by the bytes that it has read and not yet fed to the decoder.": "",
+    "Contracts describe it by the bytes of its buffer and by its phase. ": "",
     "[`decode_short`](crate::decode_short)": "`decode_short`",
     " (A choice of this library.)": "",
     " (The names are this library's own.)": "",
