@@ -1,4 +1,4 @@
-//! What the programs share: a stream in memory as a source of bytes, and the lines that they print of its pieces.
+//! Shared by both programs: a stream in memory as a source of bytes, and the lines that they print for its pieces.
 #![tactic(auto)]
 
 mod lines;

@@ -7,20 +7,20 @@ ghost use Rattle.cobs_lines.specs.Lines.{outcome_line};
 
 use std::io::{self, Write};
 
-/// How many bytes of a message are turned into digits at once.
+/// How many bytes of a message are converted to digits at once.
 const AT_ONCE: usize = 256;
 
-/// From how many bytes on it is faster to compute digits than to look them up.
+/// From this many bytes on, it is faster to compute digits than to look them up.
 const MANY: usize = 8;
 
-/// The digits.
+/// The hexadecimal digits.
 const DIGITS: [u8; 16] = *b"0123456789abcdef";
 
 /// Writes the line of a message of N bytes, `message N HEX` with the bytes as lower-case hexadecimal digits, or
 /// `message 0` for the empty message, and a newline. Nothing is allocated, however long the message is.
 ///
 /// # Errors
-/// The error of the write that failed. How much of the line went out is not known then.
+/// The error of the write that failed. Part of the line may have been written.
 pub fn write_message<W: Write>(output: &mut W, message: &[u8]) -> io::Result<()>
     ensures written { OnOk result (Appends (W.contents output.old) (W.contents output.new)
         (outcome_line (Message message.now))) }
@@ -34,10 +34,10 @@ pub fn write_message<W: Write>(output: &mut W, message: &[u8]) -> io::Result<()>
     output.write_all(b"\n")
 }
 
-/// Writes the bytes as lower-case hexadecimal digits. Allocates nothing.
+/// Writes the bytes as lower-case hexadecimal digits. It allocates nothing.
 ///
 /// # Errors
-/// The error of the write that failed. How many of the digits went out is not known then.
+/// The error of the write that failed. Some of the digits may have been written.
 pub fn write_digits<W: Write>(output: &mut W, bytes: &[u8]) -> io::Result<()>
     ensures written { OnOk result
         (Appends (W.contents output.old) (W.contents output.new) (encode_lower bytes.now)) }
@@ -54,7 +54,7 @@ pub fn write_digits<W: Write>(output: &mut W, bytes: &[u8]) -> io::Result<()>
     Ok(())
 }
 
-/// Fills `room` with the lower-case hexadecimal digits of the bytes, two for each.
+/// Fills `room` with the lower-case hexadecimal digits of the bytes, two for each byte.
 #[inline(always)]
 pub fn fill_digits(room: &mut [u8], bytes: &[u8])
     requires room { length room.old ≡ 2 * length bytes.now }
@@ -91,8 +91,8 @@ fn compute_digits(room: &mut [u8], bytes: &[u8])
     }
 }
 
-/// Returns the lower-case hexadecimal digit of a number below 16. It is computed, and not looked up, so that the compiler can
-/// compute the digits of many bytes at once.
+/// Returns the lower-case hexadecimal digit of a number below 16. It computes the digit instead of looking it up, so
+/// that compilers can compute the digits of many bytes at once.
 #[inline(always)]
 fn digit(number: u8) -> u8
     requires below { number < 16 }
@@ -105,10 +105,10 @@ fn digit(number: u8) -> u8
     }
 }
 
-/// Writes the line `broken N` of a piece that breaks off inside a block and decodes to N bytes.
+/// Writes the line `broken N` for a piece that breaks off inside a block and decodes to N bytes.
 ///
 /// # Errors
-/// The error of the write that failed. How much of the line went out is not known then.
+/// The error of the write that failed. Part of the line may have been written.
 pub fn write_broken<W: Write>(output: &mut W, count: usize) -> io::Result<()>
     ensures written { OnOk result (Appends (W.contents output.old) (W.contents output.new)
         (outcome_line (Broken count))) }
@@ -116,10 +116,10 @@ pub fn write_broken<W: Write>(output: &mut W, count: usize) -> io::Result<()>
     writeln!(output, "broken {count}")
 }
 
-/// Writes the line `too long` of a piece that decodes to more bytes than the buffer holds.
+/// Writes the line `too long` for a piece that decodes to more bytes than the buffer holds.
 ///
 /// # Errors
-/// The error of the write that failed. How much of the line went out is not known then.
+/// The error of the write that failed. Part of the line may have been written.
 pub fn write_too_long<W: Write>(output: &mut W) -> io::Result<()>
     ensures written { OnOk result (Appends (W.contents output.old) (W.contents output.new)
         (outcome_line TooLong)) }

@@ -2,7 +2,7 @@
 use cobs::FrameSource;
 use std::io::Read;
 
-/// Bytes that a stream is read from. No read of them fails, and each gives 64 bytes or all that are left.
+/// The bytes of a stream in memory. No read of them fails, and each one returns 64 bytes or all that are left.
 #[derive(Drop)]
 pub struct InMemory<'a> {
     left: &'a [u8],
@@ -12,7 +12,7 @@ impl<'a> InMemory<'a> {
     ghost use Rattle.std.specs.Prelude.{◌≡◌};
     ghost use Rattle.cobs_lines.specs.Memory.{bytes_left};
 
-    /// A source of all these bytes.
+    /// Makes a source of these bytes.
     pub fn new(bytes: &'a [u8]) -> Self
         ensures bytes { bytes_left result ≡ bytes.now }
     {

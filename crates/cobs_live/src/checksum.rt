@@ -9,10 +9,11 @@ use crate::crc::{Params, table_of};
 pub struct Checksum {
     pub params: Params,
 
-    /// Whether the lowest byte comes first. Otherwise the highest does.
+    /// Whether the lowest byte comes first. Otherwise the highest comes first.
     pub little: bool,
 
-    /// How each byte changes a register. With this table a byte costs fewer than half as many instructions as bit by bit.
+    /// How each byte changes a register. With this table a byte costs less than half of the instructions of a check bit
+    /// by bit.
     words: [u32; 256],
 
     ghost sized: { (0 < params.size) × (params.size ≤ 4) },
@@ -22,7 +23,7 @@ pub struct Checksum {
 impl Checksum {
     ghost use Rattle.cobs_live.specs.Checksum.{body_of, is_checked, sum_of};
 
-    /// The check with these parameters.
+    /// Makes the check with these parameters.
     pub fn new(params: Params, little: bool) -> Self
         requires sized { (0 < params.size) × (params.size ≤ 4) }
         ensures params { result.params ≡ params }
@@ -35,7 +36,7 @@ impl Checksum {
         }
     }
 
-    /// The check of some bytes.
+    /// Returns the check of these bytes.
     fn crc(&self, bytes: &[u8]) -> u32
         ensures crc { result ≡ crc self.now.params bytes.now }
     {
@@ -52,7 +53,7 @@ impl Checksum {
         low ^ params.xorout
     }
 
-    /// The register one byte later.
+    /// Returns the register one byte later.
     fn after_byte(&self, register: u32, byte: u8) -> u32
         ensures after { result ≡ after_byte self.now.params register byte }
     {
@@ -65,7 +66,7 @@ impl Checksum {
         self.words[(top ^ first) as usize] ^ (register << 8)
     }
 
-    /// The bytes of the checksum of a message, at the front of `room`.
+    /// Writes the checksum of a message to the front of `room`, and returns its bytes.
     pub fn sum<'a>(&self, message: &[u8], room: &'a mut [u8; 4]) -> &'a [u8]
         ensures sum { result.now ≡ sum_of self.now message.now }
     {
@@ -77,7 +78,7 @@ impl Checksum {
         bytes
     }
 
-    /// The bytes before the checksum that they end with, if it is right.
+    /// Returns the bytes before the checksum at their end, if that is right.
     pub fn checked<'a>(&self, bytes: &'a [u8]) -> Option<&'a [u8]>
         ensures body { IfSome result (λ body. body.now ≡ body_of self.now bytes.now) }
         ensures right { IsSome result ↔ IsTrue (is_checked self.now bytes.now) }

@@ -15,32 +15,32 @@ use std::time::{Duration, Instant};
 /// Which time of each piece is shown.
 #[derive(Debug, PartialEq, Eq, Clone, Copy)]
 pub enum Stamp {
-    /// None.
+    /// No time.
     Untimed,
 
     /// The time since the start.
     Start,
 
-    /// The time since the piece before it was read; for the first piece, since the start.
+    /// The time since the piece before it was read; for the first piece, the time since the start.
     Last,
 
-    /// Date and time of day in a time zone, and how far that is ahead of UTC.
+    /// The date and time of day in a time zone, and how far the zone is ahead of UTC.
     Date,
 }
 
-/// A time, in milliseconds since the start, or for `Stamp::Date` since 1970.
+/// A time in milliseconds: since the start, or since 1970 for `Stamp::Date`.
 #[derive(Clone, Copy)]
 pub struct Moment {
     pub millis: u64,
 
-    /// Date and time of day then, on a clock that is ahead of UTC by this offset.
+    /// The date and time of day, on a clock that is ahead of UTC by `offset`.
     pub civil: DateTime,
     pub offset: Offset,
 
     ghost shows: { civil_nanos civil ≡ pos (millis * 1_000_000) +ℤ nanos_of_seconds offset.seconds },
 }
 
-/// The last millisecond that every time zone has, in the year 9999.
+/// The last millisecond, in the year 9999, that exists in every time zone.
 const LAST: u64 = 253_402_207_200_999;
 
 impl Moment {
@@ -48,7 +48,7 @@ impl Moment {
     ghost use Rattle.std.specs.Io.KnownBytes.{Appends};
     ghost use Rattle.cobs_live.specs.Timed.{date_time};
 
-    /// Returns this many milliseconds after the start, or after 1970, in this zone; at most `LAST`.
+    /// Returns the time this many milliseconds after the start, or after 1970, in this zone; at most `LAST`.
     fn new(millis: u64, zone: TimeZone<'_>) -> Self
         ensures millis { result.millis ≡ min millis 253_402_207_200_999 }
         ensures zone { result.offset.seconds ≡ offset_at zone.entry (pos (result.millis * 1_000_000)) }
@@ -66,7 +66,7 @@ impl Moment {
         }
     }
 
-    /// Writes date and time of day as RFC 3339 has them, with three decimals.
+    /// Writes the date and time of day as in RFC 3339, with three decimals.
     fn write<W: Write>(&self, output: &mut W) -> io::Result<()>
         ensures written { OnOk result
             (Appends (W.contents output.old) (W.contents output.new) (date_time self.now)) }
@@ -80,22 +80,22 @@ impl Moment {
     }
 }
 
-/// A clock that runs from a start on.
+/// A clock that runs from a start.
 #[derive(Drop)]
 pub struct Timer<'a, C> {
     clock: C,
     zone: TimeZone<'a>,
     start: Instant,
 
-    /// Its time at the start, in milliseconds.
+    /// The clock's time at the start, in milliseconds.
     pub base: u64,
 }
 
 impl<'a, C: Clock + Drop> Timer<'a, C> {
-    /// Starts at 0, or for `Stamp::Date` at the time since 1970.
+    /// Makes a clock that starts at 0, or for `Stamp::Date` at the time since 1970.
     ///
     /// # Errors
-    /// The error of a clock that can't be read.
+    /// The error of the clock, if it can't be read.
     pub fn new(clock: C, stamp: Stamp, zone: TimeZone<'a>) -> io::Result<Self> {
         let base = match stamp {
             Stamp::Untimed | Stamp::Start | Stamp::Last => 0,
@@ -110,7 +110,8 @@ impl<'a, C: Clock + Drop> Timer<'a, C> {
         })
     }
 
-    /// The time now. It never goes back: if the clock did, or can't be read, it is the last time again.
+    /// Returns the time now. It never decreases: if the clock went back, or can't be read, the result is the last time
+    /// again.
     fn read(&self, last: Moment) -> Moment
         ensures later { last.millis ≤ result.millis }
     {
@@ -122,12 +123,12 @@ impl<'a, C: Clock + Drop> Timer<'a, C> {
     }
 }
 
-/// A duration in whole milliseconds.
+/// Returns a duration in whole milliseconds.
 fn millis_of(duration: Duration) -> u64 {
     u64::try_from(duration.as_millis()).unwrap_or(u64::MAX)
 }
 
-/// When the last piece was read, and when the next one is.
+/// The times at which the last piece was read, and the next one is.
 #[derive(Clone, Copy)]
 pub struct Times {
     pub last: Moment,
@@ -139,7 +140,7 @@ impl Times {
     ghost use Rattle.std.specs.Io.KnownBytes.{Appends};
     ghost use Rattle.cobs_live.specs.Timed.{json_time, seconds, stamped, time_text};
 
-    /// No piece has been read.
+    /// Makes the times before any piece has been read.
     pub fn new() -> Self
         ensures start { result.last.millis ≡ 0 }
     {
@@ -166,7 +167,7 @@ impl Times {
         self.last = self.next;
     }
 
-    /// Writes the time of the piece in front of its line.
+    /// Writes the time of the piece before its line.
     pub fn write_stamp<W: Write>(&self, output: &mut W, stamp: Stamp) -> io::Result<()>
         ensures written { OnOk result
             (Appends (W.contents output.old) (W.contents output.new) (stamped stamp self.now)) }

@@ -26,19 +26,19 @@ use std::str;
 /// The longest message whose text is composed, in bytes.
 const SHORT_LEN: usize = 256;
 
-/// How many bytes a line has at most, not counting the digits of its message: a word, a number of up to 40 digits, a space
-/// and a newline.
+/// The most bytes of a line without the digits of its message: a word, a number of up to 40 digits, a space and a
+/// newline.
 const LINE: usize = 50;
 
-/// How many bytes a text may have.
+/// The most bytes of a text.
 const ROOM: usize = 2_048;
 
-/// There is no room for a text.
+/// The error if there is no room for a text.
 #[derive(Debug, PartialEq, Eq, Clone, Copy)]
 struct Full;
 
-/// A text that is composed before it is written. A call of a writer, which may fail, costs more than the bytes of a short
-/// message, so each message has at most one.
+/// A text that is composed before it is written. A call of a writer, which may fail, costs more than the bytes of a
+/// short message, so each message makes at most one.
 #[derive(Drop)]
 pub struct Composed {
     bytes: [u8; ROOM],
@@ -46,7 +46,7 @@ pub struct Composed {
 }
 
 impl Composed {
-    /// Holds no text.
+    /// Makes a text without bytes.
     pub fn new() -> Self
         ensures empty { result.len ≡ 0 }
     {
@@ -56,10 +56,10 @@ impl Composed {
         }
     }
 
-    /// Writes what has been composed, if anything has been, and then holds no text.
+    /// Writes the composed text, if there is any, and then holds none.
     ///
     /// # Errors
-    /// The error of the write that failed. How much of the text went out is not known then.
+    /// The error of the write that failed. Part of the text may have been written.
     #[inline(always)]
     pub fn write_to<W: Write>(&mut self, output: &mut W) -> io::Result<()>
         ensures written { OnOk result (Appends (W.contents output.old) (W.contents output.new)
@@ -74,21 +74,22 @@ impl Composed {
         output.write_all(&self.bytes[..len])
     }
 
-    /// Drops what has been composed.
+    /// Drops the composed text.
     pub fn clear(&mut self)
         ensures empty { self.new.len ≡ 0 }
     {
         self.len = 0;
     }
 
-    /// Whether there may be no room for another line.
+    /// Returns whether there may be no room for another line.
     #[inline(always)]
     pub fn is_nearly_full(&self) -> bool {
         ROOM - LINE - 2 * SHORT_LEN < self.len
     }
 
-    /// Adds what a view shows of a piece to the text, and returns whether it did: the piece is a short message, is shown as
-    /// digits or raw, without colour, number and time, and there is room. So one write can have the text of many messages.
+    /// Adds the text of a piece in a view, if the piece is a short message that is shown as digits or raw, without
+    /// colour, number and time, and if there is room. Returns whether it did. So one write can have the text of many
+    /// messages.
     #[inline(always)]
     pub fn keep(&mut self, view: &View, piece: &Sight<'_>) -> bool
         ensures kept { IsTrue result → (number : ℕ) (times : Times) → take self.new.len self.new.bytes
@@ -102,7 +103,7 @@ impl Composed {
         }
     }
 
-    /// Adds what a view shows of a piece as digits.
+    /// Adds the text of a piece in a view that shows digits.
     #[inline(always)]
     fn keep_hex(&mut self, view: &View, piece: &Sight<'_>) -> bool
         requires style { view.now.style ≡ Hex }
@@ -122,7 +123,7 @@ impl Composed {
         true
     }
 
-    /// Adds what a view shows of a piece raw.
+    /// Adds the text of a piece in a view that shows raw messages.
     #[inline(always)]
     fn keep_raw(&mut self, view: &View, piece: &Sight<'_>) -> bool
         requires style { view.now.style ≡ Raw }
@@ -143,8 +144,8 @@ impl Composed {
         true
     }
 
-    /// Composes what a view shows of a piece that has this number and these times, and returns whether it did: the piece is a
-    /// short message, is shown as JSON, without colour, number and time, and its text has room.
+    /// Composes the text of a piece with this number and these times in a view, if the piece is a short message that is
+    /// shown as JSON, without colour, number and time, and if there is room. Returns whether it did.
     #[inline(always)]
     pub fn compose(&mut self, view: &View, number: u64, times: &Times, piece: &Sight<'_>) -> bool
         ensures shown { IsTrue result → take self.new.len self.new.bytes
@@ -163,7 +164,7 @@ impl Composed {
         self.put_message(view.style, number, piece).is_ok()
     }
 
-    /// Adds a message that has this number, in a style.
+    /// Adds a message with this number, in a style.
     #[inline(always)]
     fn put_message(&mut self, style: Style, number: u64, piece: &Sight<'_>) -> Result<(), Full>
         requires message { piece.now.kind ≡ Message }
@@ -195,7 +196,7 @@ impl Composed {
         self.append(b"\n");
     }
 
-    /// Adds a message as an object of JSON on a line.
+    /// Adds a message as a JSON object on a line.
     fn put_json(&mut self, number: u64, piece: &Sight<'_>) -> Result<(), Full>
         requires message { piece.now.kind ≡ Message }
         ensures put { (times : Times) → OnOk result (Appends (contents_of self.old) (contents_of self.new)
@@ -234,7 +235,7 @@ impl Composed {
         self.put(b"\"")
     }
 
-    /// Adds a text as a string of JSON has it.
+    /// Adds a text as it is written in a string of JSON.
     fn put_escaped(&mut self, text: &str) -> Result<(), Full>
         ensures put { OnOk result (Appends (contents_of self.old) (contents_of self.new) (text_escaped text.now)) }
     {
@@ -245,7 +246,7 @@ impl Composed {
         Ok(())
     }
 
-    /// Adds all characters up to the first that needs an escape, at once, and that one; returns the rest.
+    /// Adds all characters before the first that needs an escape, at once, and then that one. Returns the rest.
     fn put_run<'a>(&mut self, text: &'a str) -> Result<&'a str, Full>
         ensures put { IfOk result (λ rest. WritesFront (contents_of self.old) (contents_of self.new) text.now rest.now) }
         ensures shorter { IfOk result (λ rest. 0 < length text.now → length rest.now < length text.now) }
@@ -262,7 +263,7 @@ impl Composed {
         }
     }
 
-    /// Adds a character as a string of JSON has it.
+    /// Adds a character as it is written in a string of JSON.
     fn put_char(&mut self, c: char) -> Result<(), Full>
         ensures put { OnOk result (Appends (contents_of self.old) (contents_of self.new) (escaped c)) }
     {
@@ -286,7 +287,7 @@ impl Composed {
         self.put_unit((0xDC00 + code % 1024) as u16)
     }
 
-    /// Adds the escape of a code of sixteen bits.
+    /// Adds the escape of a code of 16 bits.
     fn put_unit(&mut self, unit: u16) -> Result<(), Full>
         ensures put { OnOk result (Appends (contents_of self.old) (contents_of self.new) (unit_escape unit)) }
     {
@@ -320,7 +321,7 @@ impl Composed {
         Ok(())
     }
 
-    /// Adds a number, for which 40 bytes are enough. The lengths of the shortest messages have one digit.
+    /// Adds a number, for which 40 bytes are enough. A length below 10, of one digit, has a fast path.
     #[inline(always)]
     fn append_decimal(&mut self, number: u64)
         requires room { self.old.len + 40 ≤ 2048 }
@@ -334,7 +335,7 @@ impl Composed {
         }
     }
 
-    /// Adds bytes that have room as lower-case hexadecimal digits.
+    /// Adds bytes as lower-case hexadecimal digits, for which there is room.
     #[inline(always)]
     fn append_digits(&mut self, bytes: &[u8])
         requires room { self.old.len + 2 * length bytes.now ≤ 2048 }
@@ -361,7 +362,7 @@ impl Composed {
         Ok(())
     }
 
-    /// Adds bytes that have room. A few are copied in vectors, without a call.
+    /// Adds bytes, for which there is room. If there are few, they are copied in vectors, without a call.
     #[inline(always)]
     fn append(&mut self, bytes: &[u8])
         requires room { self.old.len + length bytes.now ≤ 2048 }
@@ -379,7 +380,7 @@ impl Composed {
     }
 }
 
-/// Whether lines have no colour, number and time.
+/// Returns whether lines have no colour, number and time.
 fn is_bare(view: &View) -> bool
     ensures bare { IsTrue result
         → (view.now.color ≡ false) × (view.now.number ≡ false) × (view.now.stamp ≡ Untimed) }

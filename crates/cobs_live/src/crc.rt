@@ -26,11 +26,12 @@ pub enum Crc {
     /// CRC-32/ISCSI, known as CRC-32C.
     Crc32c,
 
-    /// CRC-32/ISO-HDLC, as of zip files and Ethernet.
+    /// CRC-32/ISO-HDLC, the one of zip files and Ethernet.
     Crc32,
 }
 
-/// The parameters of a check, as in the catalogue of parametrised CRC algorithms. Polynomial and start are in the high bits.
+/// The parameters of a check, as in the catalogue of parametrised CRC algorithms. The polynomial and the start are in
+/// the high bits.
 #[derive(Debug, PartialEq, Eq, Clone, Copy)]
 pub struct Params {
     /// How many bytes the checksum has, from 1 to 4.
@@ -42,7 +43,7 @@ pub struct Params {
     /// The register at the start.
     pub init: u32,
 
-    /// Whether the lowest bit of each byte comes first, and of the register too.
+    /// Whether the lowest bit of each byte comes first, and the lowest bit of the register too.
     pub reflected: bool,
 
     /// The number with which the register is XORed at the end.
@@ -50,7 +51,7 @@ pub struct Params {
 }
 
 impl Crc {
-    /// The parameters of this check.
+    /// Returns the parameters of this check.
     pub fn params(self) -> Params
         ensures params { result ≡ params_of self }
         ensures sized { (0 < result.size) × (result.size ≤ 4) }
@@ -78,7 +79,8 @@ impl Crc {
 /// The lowest value that has the highest bit of a register.
 const HIGH: u32 = 0x8000_0000;
 
-/// For each byte, the register eight bits later, if at first it has that byte in its high bits and zeros below.
+/// Returns, for each byte, the register eight bits later, if at first it has that byte in its high bits and zeros
+/// below.
 pub(crate) fn table_of(poly: u32) -> [u32; 256]
     ensures table { IsTable poly result }
 {
@@ -89,7 +91,7 @@ pub(crate) fn table_of(poly: u32) -> [u32; 256]
     words
 }
 
-/// The register eight bits later, if at first it has this byte in its high bits and zeros below.
+/// Returns the register eight bits later, if at first it has this byte in its high bits and zeros below.
 fn word_of(poly: u32, byte: u32) -> u32
     requires byte { byte < 256 }
     ensures word { result ≡ word_of poly byte }
@@ -101,7 +103,7 @@ fn word_of(poly: u32, byte: u32) -> u32
     register
 }
 
-/// The register one bit later.
+/// Returns the register one bit later.
 fn shifted(poly: u32, register: u32) -> u32
     ensures shifted { result ≡ shifted poly register }
 {

@@ -89,7 +89,7 @@ fn to_characters(bytes: &mut [u8])
     }
 }
 
-/// A byte as an ASCII character, if it is visible or a blank, and otherwise a dot.
+/// Returns a byte as an ASCII character if it is visible or a blank, and otherwise a dot.
 fn character(byte: u8) -> u8
     ensures shown { result ≡ character byte }
 {

@@ -1,4 +1,4 @@
-//! Text as a string of JSON has it, without characters that a terminal acts on.
+//! Text as it is written in a string of JSON, without characters that a terminal acts on.
 ghost use Rattle.std.specs.Prelude.{◌≡◌, ◌<◌, ◌++◌, All, IfOk, IsTrue, OnOk, drop, false, length, take};
 ghost use Rattle.std.specs.Char.{encode_utf8};
 ghost use Rattle.std.specs.Io.KnownBytes.{Appends};
@@ -9,7 +9,7 @@ use cobs_lines::write_digits;
 use std::io::{self, Write};
 use unicode::properties::GeneralCategory;
 
-/// Whether a character is a control character, or formats text or separates lines unseen.
+/// Returns whether a character is hidden: a control character, or one that formats text or separates lines invisibly.
 pub fn is_hidden(c: char) -> bool
     ensures hidden { result ≡ is_hidden c }
 {
@@ -24,7 +24,7 @@ pub fn is_hidden(c: char) -> bool
         || category == GeneralCategory::ParagraphSeparator
 }
 
-/// Writes a text as a string of JSON has it.
+/// Writes a text as it is written in a string of JSON.
 pub fn write_escaped<W: Write>(output: &mut W, text: &str) -> io::Result<()>
     ensures written { OnOk result (Appends (W.contents output.old) (W.contents output.new)
         (text_escaped text.now)) }
@@ -36,7 +36,7 @@ pub fn write_escaped<W: Write>(output: &mut W, text: &str) -> io::Result<()>
     Ok(())
 }
 
-/// Writes all characters up to the first that needs an escape, at once, and that one; returns the rest.
+/// Writes all characters before the first that needs an escape, at once, and then that one. Returns the rest.
 fn write_run<'a, W: Write>(output: &mut W, text: &'a str) -> io::Result<&'a str>
     ensures written { IfOk result (λ rest. WritesFront (W.contents output.old) (W.contents output.new) text.now rest.now) }
     ensures shorter { IfOk result (λ rest. 0 < length text.now → length rest.now < length text.now) }
@@ -53,8 +53,8 @@ fn write_run<'a, W: Write>(output: &mut W, text: &'a str) -> io::Result<&'a str>
     }
 }
 
-/// How many bytes at the front are characters that need no escape. Bytes of ASCII are tested without decoding characters,
-/// which is faster.
+/// Returns how many bytes at the front are characters that need no escape. ASCII bytes are tested without decoding
+/// characters, which is faster.
 pub(crate) fn visible_run(text: &str) -> usize
     ensures boundary { IsCharBoundary text.now result }
     ensures same { text_escaped text.now ≡ take result text.now ++ text_escaped (drop result text.now) }
@@ -74,14 +74,14 @@ pub(crate) fn visible_run(text: &str) -> usize
     run
 }
 
-/// Whether a string of JSON doesn't have a character as it is.
+/// Returns whether a character needs an escape in a string of JSON.
 fn needs_escape(c: char) -> bool
     ensures same { (result ≡ false) → (escaped c ≡ encode_utf8 c) }
 {
     is_hidden(c) || c == '"' || c == '\\'
 }
 
-/// How many bytes at the front are characters of ASCII that need no escape.
+/// Returns how many bytes at the front are ASCII characters that need no escape.
 fn plain_run(text: &str) -> usize
     ensures boundary { IsCharBoundary text.now result }
     ensures plain { All (λ byte. IsTrue (is_plain_byte byte)) (take result text.now) }
@@ -95,14 +95,14 @@ fn plain_run(text: &str) -> usize
     bytes.len()
 }
 
-/// Whether a byte is a character of ASCII that needs no escape.
+/// Returns whether a byte is an ASCII character that needs no escape.
 fn is_plain_byte(byte: u8) -> bool
     ensures plain { result ≡ is_plain_byte byte }
 {
     32 <= byte && byte < 127 && byte != b'"' && byte != b'\\'
 }
 
-/// Writes a character as a string of JSON has it.
+/// Writes a character as it is written in a string of JSON.
 fn write_char<W: Write>(output: &mut W, c: char) -> io::Result<()>
     ensures written { OnOk result
         (Appends (W.contents output.old) (W.contents output.new) (escaped c)) }
@@ -128,7 +128,7 @@ fn write_escape<W: Write>(output: &mut W, code: u32) -> io::Result<()>
     write_unit(output, (0xDC00 + code % 1024) as u16)
 }
 
-/// Writes the escape of a code of sixteen bits.
+/// Writes the escape of a code of 16 bits.
 fn write_unit<W: Write>(output: &mut W, unit: u16) -> io::Result<()>
     ensures written { OnOk result
         (Appends (W.contents output.old) (W.contents output.new) (unit_escape unit)) }

@@ -1,4 +1,4 @@
-//! What can go wrong once the arguments are read.
+//! The faults of a program once its arguments have been read.
 ghost use Rattle.std.specs.Prelude.{◌≡◌};
 ghost use Rattle.cobs_live.specs.declared.fault.WatchFault.TheVariants.{OutOfMemory};
 
@@ -6,14 +6,14 @@ use std::alloc::AllocError;
 use std::io::{self, ErrorKind};
 use thiserror::Error;
 
-/// Why showing or sending ended early.
+/// The reason why showing or sending ended early.
 #[derive(Debug, PartialEq, Eq, Drop, Error)]
 pub enum WatchFault {
-    /// A read failed, and wasn't only interrupted. All pieces that had ended before it are shown.
+    /// A read failed, and wasn't only interrupted. All pieces that had ended before it have been shown.
     #[error("read failed")]
     ReadFailed,
 
-    /// A write failed, and wasn't only interrupted. How much of it went out is not known.
+    /// A write failed, and wasn't only interrupted. Part of it may have been written.
     #[error("write failed")]
     WriteFailed,
 
@@ -21,7 +21,7 @@ pub enum WatchFault {
     #[error("output closed")]
     OutputClosed,
 
-    /// Memory ran out: at the start of `show`, which has then read and written nothing; or for a line of `send`.
+    /// Memory ran out: at the start of `show`, which then has read and written nothing, or for a line of `send`.
     #[error("out of memory")]
     OutOfMemory,
 }
@@ -39,7 +39,7 @@ impl From<io::Error> for WatchFault {
 
     ghost from_gives = { IsWriteFault };
 
-    /// The fault of a write that failed.
+    /// Returns the fault for a write that failed.
     fn from(error: io::Error) -> WatchFault {
         match error.kind() {
             ErrorKind::BrokenPipe => WatchFault::OutputClosed,

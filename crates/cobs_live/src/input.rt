@@ -1,4 +1,4 @@
-//! Inputs that are read while an output waits.
+//! Inputs that are read while an output may hold text that isn't written yet.
 ghost use Rattle.std.specs.Prelude.{◌≡◌, ◌+◌, ◌++◌, List, Option, ℕ, IfOk, OnOk, IfSome, vec_len};
 ghost use Rattle.std.specs.Prelude.{length};
 ghost use Rattle.std.specs.Io.{StopsAt, appended_bytes};
@@ -12,25 +12,26 @@ use std::io::{self, BufRead, BufWriter, Read, Write};
 /// The result of a read.
 #[derive(Debug, PartialEq, Eq, Clone, Copy)]
 pub enum Came {
-    /// This many bytes came. 0 is the end of the input.
+    /// This many bytes came. The number is 0 at the end of the input.
     Bytes(usize),
 
-    /// The line hung up. Later reads give the bytes of its next connection.
+    /// The line hung up. Later reads return the bytes of its next connection.
     HungUp,
 }
 
-/// An input that is read while an output waits.
+/// An input whose reads have the output as an argument.
 ///
-/// Contracts describe an input by a relation that it defines: which read leads from one state of it to which other, and what
-/// the output held when the read began. So a theorem about any such input can say what had been written at each read.
+/// Contracts describe an input by a relation, `step`. It says which reads lead from which state of the input to which
+/// other state, and what the output held when the read began. So a theorem about any such input can say what had been
+/// written at each read.
 pub trait LiveInput<W: Write + Drop> {
-    /// The bytes that reads will give from here on, if they are known.
+    /// The bytes that reads will return from here on, if they are known.
     ghost remaining: { Self → Option (List ℕ) };
 
     /// Whether this read may lead from the first state of the input to the second.
     ghost step: { Self → ReadEvent (Option ℕ) → Self → Type 0 };
 
-    /// Reads once, as `Read::read` does, or says that the line hung up.
+    /// Reads once, as `Read::read` does, or returns that the line hung up.
     fn read_beside(&mut self, output: &BufWriter<W>, chunk: &mut [u8]) -> io::Result<Came>
         ensures len { length chunk.new ≡ length chunk.old }
         ensures bytes { ReadTakes (remaining self.old) (remaining self.new) result chunk.new }
@@ -41,15 +42,16 @@ pub trait LiveInput<W: Write + Drop> {
         }) self.new };
 }
 
-/// An input that is read line by line while an output waits, seen as `LiveInput` is: a read is that of one line.
+/// An input that is read line by line, with the output as an argument of each read. It is described as `LiveInput` is.
 pub trait LiveLines<W: Write + Drop> {
-    /// The bytes that reads will give from here on, if they are known.
+    /// The bytes that reads will return from here on, if they are known.
     ghost remaining: { Self → Option (List ℕ) };
 
     /// Whether this read may lead from the first state of the input to the second.
     ghost step: { Self → ReadEvent ℕ → Self → Type 0 };
 
-    /// Reads through the next newline, or to the end, and appends the bytes to `line`, as `BufRead::read_until` does.
+    /// Reads through the next newline, or to the end of the input, and appends the bytes to `line`, as
+    /// `BufRead::read_until` does.
     fn read_line_beside(&mut self, output: &BufWriter<W>, line: &mut Vec<u8>) -> io::Result<usize>
         ensures ok { IfOk result (λ n. vec_len line.new ≡ vec_len line.old + n) }
         ensures stops { StopsAt (appended_bytes line.old.items line.new.items) 10 }

@@ -1,4 +1,4 @@
-//! A piece as an object of JSON.
+//! A piece as a JSON object.
 ghost use Rattle.std.specs.Prelude.{OnOk};
 ghost use Rattle.std.specs.Io.KnownBytes.{Appends};
 ghost use Rattle.cobs_live.specs.Json.{json, json_kind, json_message, json_partial, json_text};
@@ -11,7 +11,7 @@ use cobs_lines::write_digits;
 use std::io::{self, Write};
 use std::str;
 
-/// Writes a piece as an object of JSON on a line.
+/// Writes a piece as a JSON object on a line.
 pub fn write_json<W: Write>(
     output: &mut W,
     number: u64,
@@ -29,7 +29,7 @@ pub fn write_json<W: Write>(
     output.write_all(b"}\n")
 }
 
-/// Writes the kind of a piece, the length of what it decodes to, and the bytes of a message.
+/// Writes the kind of a piece, the length of its output, and the bytes of a message.
 fn write_kind<W: Write>(output: &mut W, piece: &Sight<'_>) -> io::Result<()>
     ensures written { OnOk result (Appends (W.contents output.old) (W.contents output.new)
         (json_kind (seen_in piece.now).kind (seen_in piece.now).len (seen_in piece.now).bytes)) }

@@ -16,7 +16,7 @@ use cobs_lines::write_digits;
 use std::io::{self, Write};
 use std::str;
 
-/// Writes a piece that has this number and these times, in a view's style.
+/// Writes a piece with this number and these times, in a view's style.
 pub fn write_line<W: Write>(
     output: &mut W,
     view: &View,
@@ -39,7 +39,7 @@ pub fn write_line<W: Write>(
     }
 }
 
-/// Writes the kind of a piece, and how many bytes it decodes to, in the colour of the kind if that is wanted.
+/// Writes the kind of a piece and the number of bytes that it decodes to, in the colour of the kind if colours are on.
 fn write_titled<W: Write>(output: &mut W, color: bool, kind: Kind, len: usize) -> io::Result<()>
     ensures written { OnOk result
         (Appends (W.contents output.old) (W.contents output.new) (titled color kind len)) }
@@ -52,7 +52,7 @@ fn write_titled<W: Write>(output: &mut W, color: bool, kind: Kind, len: usize) -
     output.write_all(b"\x1b[0m")
 }
 
-/// The escape sequence that begins the colour of a kind.
+/// Returns the escape sequence that begins the colour of a kind.
 fn color_of(kind: Kind) -> &'static [u8]
     ensures color { result.now ≡ color_of kind }
 {
@@ -64,7 +64,7 @@ fn color_of(kind: Kind) -> &'static [u8]
     }
 }
 
-/// Writes the kind of a piece, and how many bytes it decodes to.
+/// Writes the kind of a piece and the number of bytes that it decodes to.
 fn write_title<W: Write>(output: &mut W, kind: Kind, len: usize) -> io::Result<()>
     ensures written { OnOk result
         (Appends (W.contents output.old) (W.contents output.new) (title kind len)) }
@@ -86,7 +86,7 @@ fn write_heading<W: Write>(output: &mut W, color: bool, piece: &Sight<'_>) -> io
     write_mark(output, piece.kind, piece.bytes)
 }
 
-/// Writes the mark in front of bytes that are no message, if there are any.
+/// Writes the mark before bytes that are no message, if there are any.
 fn write_mark<W: Write>(output: &mut W, kind: Kind, bytes: &[u8]) -> io::Result<()>
     ensures written { OnOk result
         (Appends (W.contents output.old) (W.contents output.new) (mark kind bytes.now)) }
@@ -119,7 +119,8 @@ fn write_hex<W: Write>(output: &mut W, color: bool, piece: &Sight<'_>) -> io::Re
     output.write_all(b"\n")
 }
 
-/// Writes the line of a piece, with its bytes as text if they are UTF-8 without hidden characters, else as digits.
+/// Writes the line of a piece, with its bytes as text if they are UTF-8 without hidden characters, and otherwise as
+/// digits.
 fn write_text<W: Write>(output: &mut W, color: bool, piece: &Sight<'_>) -> io::Result<()>
     ensures written { OnOk result (Appends (W.contents output.old) (W.contents output.new)
         (text_line color (seen_in piece.now))) }
@@ -137,7 +138,7 @@ fn write_text<W: Write>(output: &mut W, color: bool, piece: &Sight<'_>) -> io::R
     output.write_all(b"\n")
 }
 
-/// The text of a message that is UTF-8 without hidden characters.
+/// Returns the text of a message if it is UTF-8 without hidden characters.
 fn plain_text(message: &[u8]) -> Option<&str>
     ensures text { IfSome result (λ text. text.now ≡ message.now) }
     ensures plain { IsSome result ↔ IsTrue (is_plain message.now) }
@@ -171,7 +172,7 @@ fn write_alone<W: Write>(output: &mut W, style: Style, time: u64, bytes: &[u8]) 
     }
 }
 
-/// Writes the title of a piece, and its bytes sixteen a line.
+/// Writes the title of a piece, and its bytes, sixteen per line.
 fn write_dumped<W: Write>(output: &mut W, color: bool, piece: &Sight<'_>) -> io::Result<()>
     ensures written { OnOk result (Appends (W.contents output.old) (W.contents output.new)
         (dump_lines color (seen_in piece.now))) }

@@ -1,4 +1,4 @@
-//! Readers and writers that wait, that are opened again, that note why they fail, and that write to a log too.
+//! Readers and writers that wait, that open a line again, that note why they failed, and that also write to a log.
 
 use crate::input::{Came, LiveInput};
 use std::cell::Cell;
@@ -7,16 +7,16 @@ use std::rt::Clock;
 use std::thread;
 use std::time::Duration;
 
-/// How many milliseconds pass before a reader that had nothing to give, or a writer that had no room, is tried again.
+/// How many milliseconds pass before a reader without bytes, or a writer without room, is tried again.
 const PAUSE: u64 = 5;
 
-/// A reader or a writer that may be non-blocking: if it would block, it is tried again after a pause.
+/// A reader or a writer that may be non-blocking. If a call would block, it is tried again after a pause.
 #[derive(Drop)]
 pub struct Port<'a, C, F> {
     clock: C,
     inner: F,
 
-    /// The system's number for why it failed last, if there is one.
+    /// The system's number for the last failure, if there is one.
     reason: &'a Cell<Option<i32>>,
 }
 
@@ -24,7 +24,7 @@ impl<'a, C: Clock + Drop, F: Drop> Port<'a, C, F> {
     ghost use Rattle.std.specs.Prelude.{◌≡◌, false, IsOk};
     ghost use Rattle.cobs_live.specs.Ports.{inner_of};
 
-    /// This reader or writer, which waits by this clock.
+    /// Makes this reader or writer one that waits, by this clock.
     pub fn new(clock: C, inner: F, reason: &'a Cell<Option<i32>>) -> Self
         ensures inner { inner_of result ≡ inner }
     {
@@ -35,8 +35,8 @@ impl<'a, C: Clock + Drop, F: Drop> Port<'a, C, F> {
         }
     }
 
-    /// Returns true if the call would have blocked, after a pause: then it is tried again. For any other error it notes the
-    /// reason, except for an interruption, after which callers try again.
+    /// Waits for a pause and returns true if the call would have blocked, so that it is tried again. For any other
+    /// error it notes the system's number, except for an interruption, after which callers try again.
     fn tries_again(&self, done: &io::Result<usize>) -> bool
         ensures failed { IsOk done.now → result ≡ false }
     {
@@ -90,7 +90,7 @@ impl<C: Clock + Drop, W: Write + Drop> Write for Port<'_, C, W> {
     }
 }
 
-/// How many milliseconds after a hang-up a line is opened again.
+/// How many milliseconds pass after a hang-up before the line is opened again.
 const REST: u64 = 200;
 
 /// A type that opens a line.
@@ -99,7 +99,7 @@ pub trait Opener<R> {
     fn open(&self) -> io::Result<R>;
 }
 
-/// A line that is opened again each time that it hung up: that it ended, or a read of it failed.
+/// A line that is opened again each time it hangs up: if it has ended, or if a read of it failed.
 #[derive(Drop)]
 pub struct Reopened<C, O, R> {
     clock: C,
@@ -112,7 +112,7 @@ pub struct Reopened<C, O, R> {
 impl<C: Clock + Drop, O: Opener<R> + Drop, R: Read + Drop> Reopened<C, O, R> {
     ghost use Rattle.std.specs.Prelude.{◌≡◌, IsSome};
 
-    /// Makes an input of this line, if it is open already.
+    /// Makes an input of this line, which may be open already.
     pub fn new(clock: C, opener: O, line: Option<R>) -> Self
         ensures line { result.line ≡ line }
     {
@@ -146,7 +146,7 @@ impl<C: Clock + Drop, O: Opener<R> + Drop, R: Read + Drop, W: Write + Drop> Live
 
     ghost step = { λ from read to. GivesNext R.remaining from.line to.line read.came };
 
-    /// Waits until the line is open, and reads from it, or says that it hung up.
+    /// Waits until the line is open, and reads from it, or returns that it hung up.
     fn read_beside(&mut self, _output: &BufWriter<W>, chunk: &mut [u8]) -> io::Result<Came> {
         self.wait();
         let Some(line) = &mut self.line else {
@@ -164,7 +164,8 @@ impl<C: Clock + Drop, O: Opener<R> + Drop, R: Read + Drop, W: Write + Drop> Live
     }
 }
 
-/// Whether this read says that the line hung up: it ended or failed, and wasn't only interrupted or would have blocked.
+/// Returns whether this read says that the line hung up: it ended or failed, and wasn't only interrupted and wouldn't
+/// have blocked.
 fn is_hang_up(given: &io::Result<usize>) -> bool {
     match given {
         Ok(count) => *count == 0,
@@ -174,13 +175,13 @@ fn is_hang_up(given: &io::Result<usize>) -> bool {
     }
 }
 
-/// A writer, and a log that gets the bytes that the writer has accepted.
+/// A writer with a log, to which the bytes are written that the writer has accepted.
 #[derive(Drop)]
 pub struct Logged<W, L> {
     inner: W,
     log: Option<L>,
 
-    /// Why the log failed; the next flush fails so.
+    /// The error of the log. The next flush fails with it.
     failed: Option<io::Error>,
 }
 
@@ -189,7 +190,7 @@ impl<W: Write + Drop, L: Write + Drop> Logged<W, L> {
     ghost use Rattle.std.specs.Io.KnownBytes.{Appends};
     ghost use Rattle.cobs_live.specs.Ports.{log_contents, logged_inner};
 
-    /// This writer, with a log if there is one.
+    /// Makes a writer with a log, if there is one.
     pub fn new(inner: W, log: Option<L>) -> Self
         ensures inner { logged_inner result ≡ inner }
         ensures log { (result.log ≡ log) × (result.failed ≡ None) }
@@ -224,7 +225,7 @@ impl<W: Write + Drop, L: Write + Drop> Write for Logged<W, L> {
 
     ghost contents = { λ logged. W.contents (logged_inner logged) };
 
-    /// Writes, and writes the bytes that were accepted to the log too.
+    /// Writes, and also writes the bytes that were accepted to the log.
     fn write(&mut self, buf: &[u8]) -> io::Result<usize>
         ensures bound { WritesAtMost result buf.now }
         ensures bytes { WriteAppends (W.contents self.old.inner) (W.contents self.new.inner) result buf.now }

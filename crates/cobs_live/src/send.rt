@@ -19,7 +19,7 @@ use std::io::{BufWriter, Write};
 /// How lines are sent.
 #[derive(Debug, PartialEq, Eq, Drop)]
 pub struct Settings {
-    /// Whether a line is the hexadecimal digits of a message, and not the message itself.
+    /// Whether a line has the hexadecimal digits of a message instead of the message itself.
     pub hex: bool,
 
     /// The checksum that follows each message in its frame, if any.
@@ -29,16 +29,16 @@ pub struct Settings {
     pub sentinel: u8,
 }
 
-/// Sends each line of the input, without its newline, as a frame and its sentinel, and flushes the output after it. If a
+/// Sends each line of the input, without its newline, as a frame and its sentinel, and then flushes the output. If a
 /// checksum is set, it follows the line's bytes in the frame.
 ///
-/// Returns whether every line was sent. If the lines are to be hexadecimal digits, a line that isn't is skipped, and
-/// reported on `errors` with its number, counted from 1. An interrupted read is tried again. Memory is allocated for one
+/// Returns whether every line was sent. If lines should be hexadecimal digits, a line that isn't is skipped, and its
+/// number, counted from 1, is reported on `errors`. An interrupted read is tried again. Memory is allocated for one
 /// line and its frame.
 ///
 /// - `ReadFailed`: a read failed, or memory ran out while a line was read. All lines before it were sent.
-/// - `WriteFailed`: a write or a flush failed. How much of it went out is not known.
-/// - `OutputClosed`: the same, since nobody reads the output any more.
+/// - `WriteFailed`: a write or a flush failed. Part of it may have been written.
+/// - `OutputClosed`: a write or a flush failed because nobody reads the output any more.
 /// - `OutOfMemory`: memory ran out for a frame. All lines before it were sent.
 pub fn run_send<S: LiveLines<W>, W: Write + Drop, E: Write>(
     alloc: Global,
@@ -72,7 +72,7 @@ pub fn run_send<S: LiveLines<W>, W: Write + Drop, E: Write>(
     Err(WatchFault::ReadFailed)
 }
 
-/// The line without the newline at its end.
+/// Returns the line without the newline at its end.
 fn without_newline(line: &[u8]) -> &[u8]
     ensures text { result.now ≡ text_of line.now }
 {
@@ -117,7 +117,7 @@ fn send_text<W: Write + Drop>(
     }
 }
 
-/// The digits of a line, without blanks, tabs and carriage returns.
+/// Returns the digits of a line, without blanks, tabs and carriage returns.
 fn digits_of(alloc: Global, text: &[u8]) -> Result<Vec<u8>, AllocError>
     ensures digits { IfOk result (λ digits. digits.items ≡ digits_of text.now) }
 {
@@ -130,7 +130,7 @@ fn digits_of(alloc: Global, text: &[u8]) -> Result<Vec<u8>, AllocError>
     Ok(digits)
 }
 
-/// Whether a byte of a line is for a digit: no blank, tab or carriage return.
+/// Returns whether a byte of a line may be a digit: it is no blank, tab or carriage return.
 fn is_digit(byte: u8) -> bool
     ensures digit { result ≡ is_digit byte }
 {
@@ -158,7 +158,7 @@ fn send_message<W: Write + Drop>(
     Ok(())
 }
 
-/// The frame and the sentinel of a message, with its checksum after it if one is set.
+/// Returns the frame of a message and its sentinel. If a checksum is set, it follows the message in the frame.
 fn summed_frame(
     alloc: Global,
     sentinel: u8,
@@ -174,7 +174,7 @@ fn summed_frame(
     ended_frame(alloc, sentinel, &whole)
 }
 
-/// A message with its checksum after it.
+/// Returns a message with its checksum after it.
 pub fn with_sum(alloc: Global, checksum: &Checksum, message: &[u8]) -> Result<Vec<u8>, AllocError>
     ensures sum { IfOk result (λ whole. whole.items ≡ with_sum (Some checksum.now) message.now) }
 {
@@ -184,7 +184,7 @@ pub fn with_sum(alloc: Global, checksum: &Checksum, message: &[u8]) -> Result<Ve
     Ok(whole)
 }
 
-/// The frame of a message and its sentinel.
+/// Returns the frame of a message and its sentinel.
 fn ended_frame(alloc: Global, sentinel: u8, message: &[u8]) -> Result<Vec<u8>, AllocError>
     ensures frame { IfOk result (λ bytes. IsSent sentinel message.now bytes.items) }
 {

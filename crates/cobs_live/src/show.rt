@@ -1,4 +1,4 @@
-//! Showing a stream as it comes.
+//! Shows a stream while its bytes arrive.
 ghost use Rattle.std.specs.Prelude.{◌≡◌, ◌≢◌, ◌<◌, ◌≤◌, ◌↔◌, ℕ, List, [], length, take, OnOk, IfOk, IfErr, IfSome, IsTrue, Option, Ok, Err, false};
 ghost use Rattle.std.specs.Io.KnownBytes.{Appends, Keeps};
 ghost use Rattle.std.specs.Io.Buffered.{writer_buffer, writer_inner};
@@ -32,30 +32,30 @@ use std::alloc::{AllocError, Global};
 use std::io::{BufWriter, ErrorKind, Write};
 use std::rt::Clock;
 
-/// The end of a short frame is looked for among this many bytes first, which are one vector, and then among [`NEAR`].
+/// The end of a short frame is first searched for among this many bytes, which are one vector, and then among [`NEAR`].
 const NEAREST: usize = 16;
 
 const NEAR: usize = 64;
 
-/// How many bytes a read asks for, 64 KiB. If it gives fewer, they are shown without waiting for more.
+/// The most bytes of a read, 64 KiB. If a read returns fewer, they are shown without waiting for more.
 pub const CHUNK_LEN: usize = 65_536;
 
-/// Shows each piece of the input as its sentinel comes, and at the end of the input whether a piece has begun. A hang-up of
-/// the line ends no piece. Whether one has begun is shown, and then the hang-up; the bytes that follow are skipped up to the
-/// first sentinel.
+/// Shows each piece of the input when its sentinel arrives, and at the end of the input whether a piece has begun. A
+/// hang-up of the line ends no piece: it is shown whether one has begun, and then that the line hung up. The bytes that
+/// follow are skipped up to the first sentinel.
 ///
-/// It calls [`Watch::show_next`] again and again: each call reads once, and flushes the output before it reads. So all
-/// pieces that have ended in the bytes so far have been written before the program waits for more. Memory is allocated
-/// only before the first read: for a message of the greatest length, and for a chunk of the input.
+/// It calls [`Watch::show_next`] repeatedly. Each call reads once, and flushes the output before it reads. So all
+/// pieces that have ended so far have been written before the program waits for more bytes. Memory is allocated only
+/// before the first read: for a message of the greatest length, and for a chunk of the input.
 ///
-/// If `counting` says so, the counts are written to `errors` at the end, also after a fault. With `counting.every` the counts
-/// so far are written too, each time that bytes come and this many milliseconds have passed since the start, or since they
-/// were written last. A failure to write them is no fault.
+/// If `counting.at_end` is set, the counts are written to `errors` at the end, also after a fault. With
+/// `counting.every`, the counts so far are also written when bytes arrive, if this many milliseconds have passed since
+/// the start, or since the counts were last written. A failure to write them is no fault.
 ///
-/// - `ReadFailed`: a read failed, as it may if the line hangs up. All pieces that had ended before are shown, and whether
-///   another has begun.
-/// - `WriteFailed`: a write or a flush failed. How much of it went out is not known.
-/// - `OutputClosed`: the same, since nobody reads the output any more.
+/// - `ReadFailed`: a read failed, for example because the line hung up. All pieces that had ended before have been
+///   shown, and whether another has begun.
+/// - `WriteFailed`: a write or a flush failed. Part of it may have been written.
+/// - `OutputClosed`: a write or a flush failed because nobody reads the output any more.
 /// - `OutOfMemory`: memory ran out. Nothing was read, and nothing written.
 pub fn run_show<C: Clock + Drop, S: LiveInput<W>, W: Write + Drop, E: Write>(
     alloc: Global,
@@ -101,15 +101,15 @@ pub struct Watch<'a> {
     settings: &'a Settings,
     decoder: UnbufferedDecoder,
 
-    /// The message that the decoder writes.
+    /// The buffer to which the decoder writes the message.
     message: Vec<u8>,
 
     tally: Tally,
 
-    /// When the last piece was read, and when the last bytes.
+    /// The times at which the last piece and the last bytes were read.
     clock: Times,
 
-    /// Whether all bytes are still skipped, up to the first sentinel.
+    /// Whether bytes are still skipped, up to the first sentinel.
     skipping: bool,
 }
 
@@ -117,7 +117,7 @@ impl<'a> Watch<'a> {
     ghost use Rattle.cobs_live.specs.Live.{BeginsAnew, HasShownSoFar, HoldsText, IsLiveSoFar, ShowsEnd, ShowsHangUp, ShowsNext};
     ghost use Rattle.cobs_live.specs.Reads.{IsLive};
 
-    /// A watch that has shown nothing yet.
+    /// Makes a watch that has shown nothing yet.
     ///
     /// # Errors
     /// `AllocError` if memory for a message of the greatest length runs out.
@@ -137,12 +137,12 @@ impl<'a> Watch<'a> {
         })
     }
 
-    /// Reads once into `chunk`, shows each piece that ended in the bytes that came, flushes the output, and returns whether
-    /// the input continues. At its end, and if the read failed, it shows whether a piece has begun that no sentinel ended; if
-    /// the line hung up, it shows that too.
+    /// Reads once into `chunk`, shows each piece that ended in the bytes that were read, flushes the output, and
+    /// returns whether the input continues. At the end of the input, and if the read failed, it shows whether a piece
+    /// has begun that no sentinel ended. If the line hung up, it shows that too.
     ///
-    /// Nothing is written before the read. When it begins, the output holds nothing back (`flushed`), so all pieces that had
-    /// ended have been shown. An interrupted read is tried again.
+    /// Nothing is written before the read. When the read begins, all output has been passed on (`flushed`), so all
+    /// pieces that had ended have been shown. An interrupted read is tried again.
     ///
     /// # Errors
     /// `ReadFailed` if the read failed; then no piece has ended. `WriteFailed` if a write or a flush failed, and
@@ -208,7 +208,8 @@ impl<'a> Watch<'a> {
         Ok(true)
     }
 
-    /// Shows whether a piece has begun that no sentinel ended: nothing follows, because the input has ended or can't be read.
+    /// Shows whether a piece has begun that no sentinel ended. No bytes follow, because the input has ended or can't be
+    /// read.
     fn end<W: Write + Drop>(&self, output: &mut BufWriter<W>) -> Result<(), WatchFault>
         requires flushed { writer_buffer output.old ≡ [] }
         ensures shown { OnOk result (ShowsEnd (phase_of self.now.decoder) self.now.settings.now.view
@@ -223,8 +224,8 @@ impl<'a> Watch<'a> {
         Ok(())
     }
 
-    /// Shows that the line hung up, and before it whether a piece has begun, which has no end. The bytes of the next
-    /// connection are skipped up to its first sentinel: it may begin in the middle of a frame.
+    /// Shows whether a piece has begun that no sentinel ended, and then that the line hung up. The bytes of the next
+    /// connection are skipped up to its first sentinel, because it may begin in the middle of a frame.
     fn hang_up<W: Write + Drop>(&mut self, output: &mut BufWriter<W>) -> Result<(), WatchFault>
         requires flushed { writer_buffer output.old ≡ [] }
         ensures shown { OnOk result (ShowsHangUp (phase_of self.old.decoder) self.old.settings.now.view
@@ -243,8 +244,8 @@ impl<'a> Watch<'a> {
     }
 }
 
-/// Reads once into the chunk, and again if the read was interrupted, and returns what came. Every read of [`run_show`] is
-/// made here, when the output holds nothing back.
+/// Reads once into the chunk, and again if the read was interrupted, and returns the result. Every read of [`run_show`]
+/// is made here, after all output has been passed on.
 fn read_chunk<S: LiveInput<W>, W: Write + Drop>(
     input: &mut S,
     output: &BufWriter<W>,
@@ -271,7 +272,7 @@ fn read_chunk<S: LiveInput<W>, W: Write + Drop>(
     Err(WatchFault::ReadFailed)
 }
 
-/// Whether a piece has begun.
+/// Returns whether a piece has begun.
 fn has_begun(phase: DecoderPhase) -> bool
     ensures idle { (result ≡ false) ↔ (phase_at phase ≡ Idle) }
 {
@@ -286,8 +287,8 @@ fn has_begun(phase: DecoderPhase) -> bool
     }
 }
 
-/// XORs each byte with the sentinel, so that frames for that sentinel are frames for 0. For 0 nothing changes, and the bytes
-/// aren't read.
+/// XORs each byte with the sentinel, so that frames for that sentinel become frames for 0. For 0 nothing changes, and
+/// the bytes aren't accessed.
 fn change_sentinel(bytes: &mut [u8], sentinel: u8)
     ensures { bytes.new ≡ xor_each sentinel bytes.old }
 {
@@ -297,7 +298,7 @@ fn change_sentinel(bytes: &mut [u8], sentinel: u8)
     }
 }
 
-/// Returns the bytes after the first zero, if that zero is still awaited, and otherwise all of them.
+/// Returns the bytes after the first zero if bytes are skipped up to that zero, and otherwise all bytes.
 fn behind_first<'a>(skipping: &mut bool, bytes: &'a [u8]) -> &'a [u8]
     ensures begun { result.now ≡ begun skipping.old bytes.now }
     ensures skips { skipping.new ≡ skips_on skipping.old bytes.now }
@@ -354,8 +355,8 @@ fn show_bytes<W: Write>(
     Ok(())
 }
 
-/// The bytes to give to the decoder at once: those through the first zero, if that is near, and otherwise all. A decoder
-/// takes a short frame in one step if it gets nothing else.
+/// Returns the bytes to pass to the decoder at once: those through the first zero if it is near, and otherwise all. A
+/// decoder takes a short frame in one step if it gets no other bytes.
 #[inline(always)]
 fn front(bytes: &[u8]) -> &[u8]
     requires some { 0 < length bytes.now }
@@ -375,7 +376,7 @@ fn front(bytes: &[u8]) -> &[u8]
     bytes
 }
 
-/// Returns where the first of at most `most` bytes that is a zero ends.
+/// Returns the index after the first zero among the first `most` bytes, if there is one.
 #[inline(always)]
 fn end_within(bytes: &[u8], most: usize) -> Option<usize>
     requires few { most ≤ 64 }
@@ -386,8 +387,8 @@ fn end_within(bytes: &[u8], most: usize) -> Option<usize>
     if zero < near { Some(zero + 1) } else { None }
 }
 
-/// Shows a piece that has this number and these times. If its text can be composed, it is written in one call, or kept and
-/// written later with other pieces.
+/// Shows a piece with this number and these times. If its text can be composed, it is written in one call, or kept and
+/// later written with the text of other pieces.
 #[inline(always)]
 fn show_at_once<W: Write>(
     output: &mut W,

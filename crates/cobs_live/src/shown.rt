@@ -1,4 +1,4 @@
-//! What is shown of a stream, and in which style.
+//! The text that is shown of a stream: which pieces, and in which style.
 ghost use Rattle.std.specs.Prelude.{◌≡◌, OnOk, length, List, [], ℕ, Some, if◌then◌else◌};
 ghost use Rattle.std.specs.Io.KnownBytes.{Appends};
 ghost use Rattle.cobs.specs.FeedPiece.{IsWithin, outcome_at};
@@ -21,22 +21,22 @@ pub enum Style {
     /// A line, with a message as hexadecimal digits.
     Hex,
 
-    /// A line, with a message as text if it is UTF-8 without hidden characters, else as hexadecimal digits.
+    /// A line, with a message as text if it is UTF-8 without hidden characters, and otherwise as hexadecimal digits.
     Text,
 
-    /// The bytes of a message and a newline; nothing of other pieces.
+    /// The bytes of a message and a newline. Other pieces aren't shown.
     Raw,
 
-    /// A line, and below it a message's bytes, sixteen a line, each line with its offset and the characters.
+    /// A line, and below it a message's bytes, sixteen per line, each line with its offset and the characters.
     Hexdump,
 
-    /// A line with an object of JSON.
+    /// A line with a JSON object.
     Json,
 
-    /// The bytes of a message and nothing else; nothing of other pieces.
+    /// The bytes of a message and nothing else. Other pieces aren't shown.
     Bytes,
 
-    /// A record of a capture, as of libpcap, for a message; nothing of other pieces.
+    /// A record of a libpcap capture for a message. Other pieces aren't shown.
     Pcap,
 }
 
@@ -58,12 +58,12 @@ pub struct Filter {
     /// Whether it is shown that a piece has begun that no sentinel ended, and that the line hung up.
     pub unfinished: bool,
 
-    /// The least and the greatest number of bytes that a piece decodes to, if it is shown. A piece that is too long counts
-    /// as `usize::MAX` bytes.
+    /// The least number of bytes to which a piece must decode to be shown, and the greatest. A piece that is too long
+    /// counts as `usize::MAX` bytes.
     pub min: usize,
     pub max: usize,
 
-    /// The first bytes of each piece that is shown. If there are any, pieces whose bytes aren't shown are held back.
+    /// The bytes with which each shown piece begins. If there are any, pieces whose bytes aren't shown are held back.
     pub prefix: Vec<u8>,
 }
 
@@ -73,22 +73,23 @@ pub struct View {
     /// How a piece is written.
     pub style: Style,
 
-    /// Whether the kind of a piece and how many bytes it decodes to have a colour. `Hex`, `Text` and `Hexdump` may have one.
+    /// Whether the kind of a piece, and the number of bytes that it decodes to, have a colour. `Hex`, `Text` and
+    /// `Hexdump` may have one.
     pub color: bool,
 
-    /// Whether each piece's number is in front of it. Pieces that a filter holds back are counted too.
+    /// Whether the number of each piece is before it. Pieces that a filter holds back are counted too.
     pub number: bool,
 
-    /// Which time is in front of each piece's line, or in its object.
+    /// Which time is before the line of each piece, or in its object.
     pub stamp: Stamp,
 
     /// Which pieces are shown.
     pub filter: Filter,
 
-    /// The checksum that each message is to end with, if any. One that is right isn't shown.
+    /// The checksum with which each message should end, if any. A right checksum isn't shown.
     pub checksum: Option<Checksum>,
 
-    /// Whether the bytes that were decoded of a piece that is broken or too long are shown, as far as they are held.
+    /// Whether the decoded bytes of a broken or too long piece are shown, as far as the buffer holds them.
     pub partial: bool,
 }
 
@@ -104,12 +105,13 @@ pub struct Settings {
     /// The byte that ends each frame.
     pub sentinel: u8,
 
-    /// Whether all bytes up to the first sentinel are skipped: the reader may have come in the middle of a frame. After a
-    /// hang-up they always are.
+    /// Whether all bytes up to the first sentinel are skipped, because reading may begin in the middle of a frame.
+    /// After a hang-up they are always skipped.
     pub skip_first: bool,
 }
 
-/// The piece with this end, whose output is in `buffer`. If there is a checksum, each message should end with one.
+/// Returns the piece with this end, whose output is in `buffer`. If there is a checksum, each message should end with
+/// it.
 pub fn sight_of<'a>(checksum: &Option<Checksum>, end: PieceEnd, buffer: &'a [u8]) -> Sight<'a>
     requires within { IsWithin (length buffer.now) end }
     ensures seen { seen_in result ≡ seen_of checksum.now (outcome_at end buffer.now) }
@@ -129,7 +131,7 @@ pub fn sight_of<'a>(checksum: &Option<Checksum>, end: PieceEnd, buffer: &'a [u8]
     }
 }
 
-/// A message, which should end with the checksum if there is one.
+/// Returns a message, which should end with the checksum if there is one.
 fn message_sight<'a>(checksum: &Option<Checksum>, message: &'a [u8]) -> Sight<'a>
     ensures seen { seen_in result ≡ seen_message checksum.now message.now }
 {
@@ -150,7 +152,7 @@ pub fn sum_law()
         ≡ whole Message message }
 {}
 
-/// A piece of this kind, all of whose bytes are shown.
+/// Returns a piece of this kind, all of whose bytes are shown.
 fn whole(kind: Kind, bytes: &[u8]) -> Sight<'_>
     ensures seen { seen_in result ≡ whole kind bytes.now }
 {
@@ -161,8 +163,7 @@ fn whole(kind: Kind, bytes: &[u8]) -> Sight<'_>
     }
 }
 
-/// With `partial`, a piece that is broken or too long also has its bytes that the buffer holds. Otherwise the piece is
-/// unchanged.
+/// Returns the piece. With `partial`, a broken or too long piece also has its decoded bytes that the buffer holds.
 pub fn with_part<'a>(partial: bool, piece: &Sight<'a>, buffer: &'a [u8]) -> Sight<'a>
     ensures seen { seen_in result
         ≡ with_part partial (seen_in piece.now) (held piece.now.kind piece.now.len buffer.now) }
@@ -208,7 +209,7 @@ impl Filter {
     }
 }
 
-/// Shows a piece that has this number and these times.
+/// Shows a piece with this number and these times.
 pub fn show_piece<W: Write>(
     output: &mut W,
     view: &View,
@@ -229,7 +230,7 @@ pub fn show_piece<W: Write>(
     write_line(output, view, number, times, piece)
 }
 
-/// Writes the time of a piece in front of its line, if the style has it there.
+/// Writes the time of a piece before its line, if the style has it there.
 fn write_time<W: Write>(output: &mut W, view: &View, times: &Times) -> io::Result<()>
     ensures written { OnOk result (Appends (W.contents output.old) (W.contents output.new)
         (in_front view.now.style view.now.stamp times.now)) }

@@ -1,4 +1,4 @@
-//! Counts of the pieces and bytes that came.
+//! Counts of the pieces and bytes that were read.
 ghost use Rattle.cobs.specs.Stream.{Outcome};
 ghost use Rattle.cobs_live.specs.Counted.{IsTallyOf};
 ghost use Rattle.cobs_live.specs.Seen.{seen_of};
@@ -7,7 +7,8 @@ ghost use Rattle.cobs_live.specs.declared.checksum.Checksum.{Checksum};
 use crate::seen::Kind;
 use std::fmt;
 
-/// How many messages, broken pieces, pieces that were too long, wrong checksums and bytes came. Each number stops at `u64::MAX`.
+/// How many messages, broken pieces, too long pieces, wrong checksums and bytes were read. Each number stops at
+/// `u64::MAX`.
 #[derive(Debug, PartialEq, Eq, Clone, Copy)]
 pub struct Tally {
     pub messages: u64,
@@ -19,24 +20,24 @@ pub struct Tally {
     /// All of these pieces.
     pub pieces: u64,
 
-    /// Whether messages are to end with checksums.
+    /// Whether messages should end with checksums.
     pub checked: bool,
 }
 
 /// When the tally is written to standard error.
 #[derive(Debug, PartialEq, Eq, Clone, Copy)]
 pub struct Counting {
-    /// Whether at the end of the input, or when a fault ends the program.
+    /// Whether it is written at the end of the input, or when a fault ends the program.
     pub at_end: bool,
 
-    /// Each time that bytes come and this many milliseconds have passed, if a number is given.
+    /// If there is a number, the tally is written when bytes arrive and this many milliseconds have passed.
     pub every: Option<u64>,
 }
 
 impl Counting {
     ghost use Rattle.std.specs.Prelude.{◌≡◌, ◌≤◌, ◌↔◌, IfSome, IsTrue, None, false};
 
-    /// Returns whether the tally is to be written, given the milliseconds since it was.
+    /// Returns whether the tally should be written, given the milliseconds since it was last written.
     pub fn is_due(&self, passed: u64) -> bool
         ensures unasked { self.now.every ≡ None → result ≡ false }
         ensures due { IfSome self.now.every (λ every. IsTrue result ↔ every ≤ passed) }
@@ -51,7 +52,7 @@ impl Counting {
 impl Tally {
     ghost use Rattle.std.specs.Prelude.{List, ℕ, [], ◌∷◌, ◌++◌, ◌+◌, ◌≡◌, Option, is_some};
 
-    /// Nothing has come.
+    /// Makes a tally of nothing.
     pub fn new(checked: bool) -> Self
         ensures none { (checksum : Option Checksum) → checked ≡ is_some checksum → IsTallyOf checksum result [] 0 }
     {

@@ -1,16 +1,16 @@
-//! What can go wrong once the arguments are read.
+//! The faults of the program once its arguments have been read.
 ghost use Rattle.std.specs.Prelude.{◌≡◌};
 ghost use Rattle.cobs_tool.specs.declared.fault.ToolFault.TheVariants.{OutOfMemory};
 
 use std::alloc::AllocError;
 
-/// Why a mode ended early.
+/// The reason why a mode ended early.
 #[derive(Debug, PartialEq, Eq, Drop)]
 pub enum ToolFault {
     /// A read of the input failed, or was interrupted. Nothing has been written.
     ReadFailed,
 
-    /// A write of the output failed. How much of it went out is not known.
+    /// A write of the output failed. Part of it may have been written.
     WriteFailed,
 
     /// Memory ran out. Nothing has been written.

@@ -1,4 +1,4 @@
-//! Reading the whole input.
+//! Reads the whole input.
 ghost use Rattle.std.specs.Prelude.{◌≡◌, ◌≢◌, ◌≤◌, IfOk, IfErr, IfSome, vec_len};
 ghost use Rattle.cobs_tool.specs.Input.{HasRead};
 
@@ -6,19 +6,19 @@ use crate::fault::ToolFault;
 use std::alloc::Global;
 use std::io::Read;
 
-/// The most bytes of input that the program takes, 1 MiB.
+/// The most bytes of input that the program reads, 1 MiB.
 pub const MAX_INPUT: usize = 1_048_576;
 
-/// The most bytes that one read asks for, 8 KiB, and so the most that are read past [`MAX_INPUT`].
+/// The most bytes of one read, 8 KiB, and so the most that are read after [`MAX_INPUT`].
 pub const READ_LEN: usize = 8_192;
 
-/// Reads to the end of the input, that is, to the first read that gives 0 bytes.
+/// Reads to the end of the input, that is, to the first read that returns 0 bytes.
 ///
-/// - `ReadFailed`: a read failed. An interrupted read is a failed read, and is not tried again.
-/// - `InputTooLong`: a read brought the byte after the first [`MAX_INPUT`]. No memory was allocated for that read.
+/// - `ReadFailed`: a read failed. An interrupted read is a failed read, and isn't tried again.
+/// - `InputTooLong`: a read returned more than the first [`MAX_INPUT`] bytes. No memory was allocated for that read.
 /// - `OutOfMemory`: memory for a read's bytes ran out.
 ///
-/// Nothing is read once a read has failed, has given 0 bytes or has brought too many.
+/// Nothing is read after a read that failed, returned 0 bytes or returned too many.
 pub fn read_input<R: Read>(alloc: Global, input: &mut R) -> Result<Vec<u8>, ToolFault>
     ensures read { HasRead (R.remaining input.old) (R.remaining input.new) result }
     ensures whole { IfOk result (λ bytes. IfSome (R.remaining input.old) (λ m. bytes.items ≡ m)) }

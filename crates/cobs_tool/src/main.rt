@@ -9,8 +9,8 @@
 //! | `encode` | a message | the same bytes raw |
 //! | `decode` | a stream of frames | a line for each piece of the stream that a zero ends |
 //!
-//! The exit status is 0, or 1 for a fault while it reads or writes, with a line on standard error, or 2 for other
-//! arguments, with the usage.
+//! The exit status is 0. It is 1, with a line on standard error, if a read, a write or an allocation failed, and 2,
+//! with the usage, for other arguments.
 #![tactic(auto)]
 
 mod fault;
@@ -48,7 +48,7 @@ fn main(rt: HostRuntime) -> ExitCode {
     }
 }
 
-/// The mode that the program's arguments ask for, or `None` if they ask for none or can't be read.
+/// Returns the mode that the program's arguments ask for, or `None` if they ask for none or can't be read.
 fn mode_of_arguments(rt: &HostRuntime) -> Option<Mode> {
     let words: Vec<String> = env::args(rt).ok()?.skip(1).collect(rt.alloc()).ok()?;
     mode_of(&words)

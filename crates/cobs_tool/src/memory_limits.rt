@@ -1,8 +1,8 @@
-//! Out of memory in each mode.
+//! Tests each mode with too little memory.
 //!
-//! Each test here but the last passes whichever growth fails: a mode writes its whole output, or returns out of
-//! memory and writes nothing. The last one passes only if no growth fails. `tests/fail-alloc.sh` fails the
-//! growths one after another until that test passes.
+//! Each test here except the last passes whichever growth fails: a mode writes its whole output, or returns
+//! `OutOfMemory` and writes nothing. The last test passes only if no growth fails. `tests/fail-alloc.sh` fails the
+//! growths one after another, until the last test passes.
 use crate::fault::ToolFault;
 use crate::mode::Mode;
 use crate::modes::run_mode;
@@ -11,7 +11,7 @@ use std::io;
 use std::io::Write;
 use std::process::Abort;
 
-/// What was written, in memory of its own.
+/// The output of a mode, in memory.
 #[derive(Drop)]
 struct Page {
     bytes: [u8; 128],
@@ -55,14 +55,14 @@ fn writes(rt: &impl Abort, alloc: Global, mode: &Mode, input: &[u8], output: &[u
     }
 }
 
-/// A message of two blocks, and what the modes for messages write of it.
+/// A message of two blocks, and the output of the two modes for messages.
 const MESSAGE: &[u8] = b"hello\0";
 
 const SHOWN: &[u8] = b"06 68 65 6c 6c 6f 01 00\n";
 
 const ENCODED: &[u8] = b"\x06hello\x01\0";
 
-/// A stream of a message, the empty message, a broken piece and an unfinished one, and what is written of it.
+/// A stream of a message, the empty message, a broken piece and an unfinished one, and the output for it.
 const STREAM: &[u8] = b"\x06hello\0\x01\0\x03\x07\0\x02";
 
 const REPORT: &[u8] = b"message 5 68656c6c6f\nmessage 0\nbroken 1\nunfinished\n";

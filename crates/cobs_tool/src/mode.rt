@@ -1,11 +1,11 @@
-//! What the arguments ask for.
+//! Reads the arguments: the mode that they ask for.
 ghost use Rattle.std.specs.Prelude.{◌≡◌, ◌↔◌, ◌⊎◌, [], ◌∷◌, codes, Some, None};
 ghost use Rattle.cobs_tool.specs.Words.{texts};
 
-/// What the program does with its input.
+/// The mode of the program.
 #[derive(Debug, PartialEq, Eq, Drop)]
 pub enum Mode {
-    /// Print a message's frame and the zero after it in hexadecimal digits.
+    /// Print a message's frame, and the zero after it, as hexadecimal digits.
     Show,
 
     /// Write a message's frame and the zero after it.
@@ -15,8 +15,8 @@ pub enum Mode {
     Decode,
 }
 
-/// The mode that the words after the program's name ask for: `Show` for no word and for the one word `show`, `Encode`
-/// for the one word `encode`, `Decode` for the one word `decode`, and `None` for all others, for which the program
+/// Returns the mode that the words after the program's name ask for: `Show` for no word or the word `show`, `Encode`
+/// for the word `encode`, and `Decode` for the word `decode`. For all other words it returns `None`, and the program
 /// prints its usage.
 pub fn mode_of(words: &[String]) -> Option<Mode>
     ensures show { (result ≡ Some Mode.Show)

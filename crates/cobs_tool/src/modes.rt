@@ -34,14 +34,14 @@ pub fn run_mode<R: Read, W: Write>(
     }
 }
 
-/// Prints the encoded frame of the input and the zero after it, as two hexadecimal digits a byte.
+/// Prints the encoded frame of the input, and the zero after it, with two hexadecimal digits per byte.
 ///
 /// The whole input is one message. It is read to its end first, and the whole line is made before any of it is written.
-/// So after every fault except `WriteFailed` nothing has been written. How much was written before a `WriteFailed`, and
-/// whether an interrupted write is tried again, isn't specified.
+/// So after every fault except `WriteFailed` nothing has been written. After a `WriteFailed`, part of the line may have
+/// been written. Whether an interrupted write is tried again isn't specified.
 ///
 /// - `ReadFailed`: a read failed. An interrupted read is a failed read.
-/// - `InputTooLong`: the reader gave more than [`MAX_INPUT`] bytes.
+/// - `InputTooLong`: the reader returned more than [`MAX_INPUT`] bytes.
 /// - `OutOfMemory`: memory ran out for the input, its frame or the line.
 /// - `WriteFailed`: a write or the flush failed.
 pub fn run_show<R: Read, W: Write>(
@@ -62,9 +62,9 @@ pub fn run_show<R: Read, W: Write>(
     write_output(output, line.as_bytes())
 }
 
-/// Writes the encoded frame of the input and a zero after it.
+/// Writes the encoded frame of the input, and a zero after it.
 ///
-/// The whole input is one message. It is read, and its faults are reported, as [`run_show`] does it.
+/// The whole input is one message. It is read as by [`run_show`], with the same faults.
 pub fn run_encode<R: Read, W: Write>(
     alloc: Global,
     input: &mut R,
@@ -82,9 +82,10 @@ pub fn run_encode<R: Read, W: Write>(
     write_output(output, &frame)
 }
 
-/// Prints the outcome of each piece of the input, a stream of frames that a zero ends each, as [`report_of`] says.
+/// Prints the outcome of each piece of the input, as [`report_of`] says. The input is a stream of frames, each ended by
+/// a zero.
 ///
-/// The input is read, and its faults are reported, as [`run_show`] does it.
+/// It is read as by [`run_show`], with the same faults.
 pub fn run_decode<R: Read, W: Write>(
     alloc: Global,
     input: &mut R,
@@ -101,7 +102,7 @@ pub fn run_decode<R: Read, W: Write>(
     write_output(output, report.as_bytes())
 }
 
-/// The encoded frame of a message and a zero after it, the sentinel that ends the frame in a stream.
+/// Returns the encoded frame of a message and a zero after it, the sentinel that ends the frame in a stream.
 fn terminated_frame(alloc: Global, message: &[u8]) -> Result<Vec<u8>, AllocError>
     requires { length message.now ≤ MAX_INPUT }
     ensures { IfOk result (λ bytes. IsTerminatedFrame bytes.items message.now) }

@@ -1,5 +1,5 @@
-//! What the contracts don't say: that calls succeed, the result if a reader or writer fails, and the printed text compared
-//! with values from elsewhere.
+//! Tests of facts that no contract says: that calls succeed, the result if a reader or a writer fails, and that the
+//! printed text is that of known values.
 
 use crate::fault::ToolFault;
 use crate::mode::{Mode, mode_of};
@@ -10,10 +10,10 @@ use std::io::{self, ErrorKind, Read, Write};
 use std::process::Abort;
 use std::test::Fail;
 
-/// A mode, an input, and what is written of it.
+/// A mode, an input, and the output for it.
 type Row = (Mode, &'static [u8], &'static [u8]);
 
-/// The rows that everything else is compared with.
+/// The rows with which everything else is compared.
 const ROWS: [Row; 11] = [
     (Mode::Show, b"hello", b"06 68 65 6c 6c 6f 00\n"),
     (Mode::Show, b"", b"01 00\n"),
@@ -40,7 +40,7 @@ const ROWS: [Row; 11] = [
     (Mode::Decode, b"\xff", b"unfinished\n"),
 ];
 
-/// Gives one byte per read. The read numbered `failing`, from 0 on, fails.
+/// Returns one byte per read. The read numbered `failing`, from 0 on, fails.
 #[derive(Drop)]
 struct ByteReader<'a> {
     bytes: &'a [u8],
@@ -101,7 +101,7 @@ fn words(alloc: Global, texts: &[&str]) -> Result<Vec<String>, AllocError> {
     Ok(words)
 }
 
-/// The words choose the mode, or none.
+/// Checks that the words choose this mode, or none.
 fn check_words(
     rt: &impl Abort,
     alloc: Global,
@@ -144,7 +144,7 @@ fn faults_have_lines(rt: HostRuntime) {
     }
 }
 
-/// Each row is written.
+/// Checks that the output for each row is written.
 fn check_rows(rt: &impl Abort, alloc: Global, rows: &[Row]) {
     for (at, (mode, input, written)) in rows.iter().enumerate() {
         let mut output = Vec::new(alloc);
@@ -160,8 +160,8 @@ fn rows_are_written(rt: HostRuntime) {
     check_rows(&rt, rt.alloc(), &ROWS);
 }
 
-/// Makes the read with this number fail with this fault, if there is one: there are as many reads as bytes, and one more
-/// for the end.
+/// Makes the read with this number, if there is one, fail with this fault. There are as many reads as bytes, and one
+/// more for the end.
 fn check_read(rt: &impl Abort, alloc: Global, row: &Row, fault: ErrorKind, failing: usize) {
     let (mode, bytes, written) = row;
     let mut input = ByteReader {
@@ -244,7 +244,8 @@ fn each_write_and_each_flush_may_fail(rt: HostRuntime) {
     check_writes(&rt, rt.alloc(), &ROWS);
 }
 
-/// The mode writes this many bytes of the longest input, and rejects one that is a byte longer, and one without end.
+/// Checks that the mode writes this many bytes for the longest input, and rejects an input that is a byte longer, and
+/// one without end.
 fn check_limit(rt: &impl Abort, alloc: Global, mode: &Mode, zeros: &[u8], count: usize) {
     let mut output = Vec::new(alloc);
     let mut longest = zeros.split_last().map_or(zeros, |(_, front)| front);
@@ -303,7 +304,7 @@ fn messages_have_a_limit(rt: HostRuntime) -> Result<(), Fail> {
     Ok(())
 }
 
-/// What `decode` prints of what `encode` writes.
+/// Returns the text that `decode` prints for the bytes that `encode` writes.
 fn there_and_back(alloc: Global, mut message: &[u8]) -> Result<Vec<u8>, ToolFault> {
     let mut frame = Vec::new(alloc);
     run_mode(alloc, &Mode::Encode, &mut message, &mut frame)?;

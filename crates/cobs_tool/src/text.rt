@@ -1,11 +1,11 @@
-//! What the program prints.
+//! The texts that the program prints.
 ghost use Rattle.std.specs.Prelude.{◌≡◌, ◌++◌, IfOk, OnOk, string_bytes};
 ghost use Rattle.cobs_tool.specs.Text.{fault_text, hex_line, hex_of};
 
 use crate::fault::ToolFault;
 use std::alloc::{AllocError, Global};
 
-/// The line that the program prints on standard error for a fault, without the newline.
+/// Returns the line that the program prints on standard error for a fault, without the newline.
 pub fn fault_line(fault: &ToolFault) -> &'static str
     ensures text { result.now ≡ fault_text fault.now }
 {
@@ -17,8 +17,8 @@ pub fn fault_line(fault: &ToolFault) -> &'static str
     }
 }
 
-/// The bytes on one line: two lower-case hexadecimal digits a byte, one space between two bytes, then a newline. The
-/// line is only the newline if there is no byte.
+/// Returns the bytes on one line: two lower-case hexadecimal digits per byte, one space between two bytes, then a
+/// newline. For no bytes the line is only the newline.
 pub fn hex_line(alloc: Global, bytes: &[u8]) -> Result<String, AllocError>
     ensures digits { IfOk result (λ line. string_bytes line ≡ hex_line bytes.now) }
 {

@@ -1,6 +1,6 @@
-//! What help says.
+//! The texts of the help.
 
-/// What it says of the option of this name.
+/// Returns the help for the option of this name.
 pub(crate) fn of(name: &str) -> &'static str {
     match name {
         "text" => "Show messages as text if they are UTF-8 without hidden\ncharacters",
@@ -25,7 +25,7 @@ pub(crate) fn of(name: &str) -> &'static str {
     }
 }
 
-/// What it says of an option that says which pieces are shown, and of which stream.
+/// Returns the help for an option that chooses the pieces and the stream that are shown.
 fn of_pieces(name: &str) -> &'static str {
     match name {
         "only" => {

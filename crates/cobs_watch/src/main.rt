@@ -1,13 +1,14 @@
-//! Frames on a live line.
+//! Shows the frames of a live line.
 //!
-//! `cobs_watch` shows each piece of a stream of frames the moment that its sentinel has come: `message N` with the N bytes
-//! as hexadecimal digits, `broken N` for one that breaks off inside a block, `too long` for one that decodes to more bytes
-//! than are held. It reads the line that has a path, or standard input, for as long as bytes come. Options change what is
-//! shown; `cobs_watch --help` lists them. `cobs_watch send` reads lines and sends each one as a frame and its sentinel.
+//! `cobs_watch` shows each piece of a stream of frames as soon as its sentinel arrives: `message N` with the N bytes as
+//! hexadecimal digits, `broken N` for a piece that breaks off inside a block, or `too long` for one that decodes to
+//! more bytes than the buffer holds. It reads the device, FIFO or file at a path, or standard input, as long as bytes
+//! arrive. Options change the output; `cobs_watch --help` lists them. `cobs_watch send` reads lines, and sends each one
+//! as a frame and its sentinel.
 //!
-//! At the end of the input `unfinished` says that a piece has begun that no sentinel ended. The status is then 0. It is
-//! 1 if a read or a write failed or memory ran out, with a line on standard error, and 2 for wrong arguments, with
-//! the usage. If nobody reads the output any more, the program ends with status 0.
+//! At the end of the input, `unfinished` says that a piece has begun that no sentinel ended. The status is then 0. It
+//! is 1, with a line on standard error, if a read or a write failed or memory ran out, and 2, with the usage, for wrong
+//! arguments. If nobody reads the output any more, the program ends with status 0.
 #![tactic(auto)]
 
 ghost use Rattle.std.specs.Prelude.{◌≡◌, [], OnOk};
@@ -36,19 +37,19 @@ use std::io::{self, BufReader, BufWriter, ErrorKind, IsTerminal, Read, Write};
 use std::process::ExitCode;
 use values::wrong;
 
-/// How many bytes of output are held before they are written, 128 KiB: the digits of a chunk of input.
+/// How many bytes of output are held before they are written, 128 KiB: as many as the digits of a chunk of input.
 const OUTPUT_LEN: usize = 131_072;
 
-/// The system's number for why a read or a write failed last, if there is one.
+/// The system's number for the last failure of a read or a write, if there is one.
 type Reason = Cell<Option<i32>>;
 
-/// Why `show` failed.
+/// The reasons why `show` failed.
 #[derive(Drop)]
 struct Reasons {
     /// The last error of its input and of standard output.
     stream: Reason,
 
-    /// That of its log. After it, nothing is written to the log.
+    /// The error of its log. After it, nothing is written to the log.
     log: Reason,
 }
 
@@ -65,7 +66,7 @@ fn main(rt: HostRuntime) -> ExitCode {
 /// Does what the arguments ask for, and returns the status.
 ///
 /// # Errors
-/// Out of memory before the first read, and a clock that can't be read.
+/// Memory ran out before the first read, or the clock can't be read.
 fn run(rt: &HostRuntime) -> anyhow::Result<ExitCode> {
     let words = match words_of(rt) {
         Ok(words) => words,
@@ -79,10 +80,10 @@ fn run(rt: &HostRuntime) -> anyhow::Result<ExitCode> {
     }
 }
 
-/// The arguments; the first one is the program's own name.
+/// Returns the arguments; the first one is the program's own name.
 ///
 /// # Errors
-/// A wrong argument if one isn't UTF-8, and out of memory.
+/// A wrong argument if one isn't UTF-8, and an error if memory runs out.
 fn words_of(rt: &HostRuntime) -> Result<Vec<String>, clap::Error> {
     match env::args(rt) {
         Ok(words) => Ok(words.collect(rt.alloc())?),
@@ -93,7 +94,7 @@ fn words_of(rt: &HostRuntime) -> Result<Vec<String>, clap::Error> {
     }
 }
 
-/// The status if the arguments give no task. Help, the version, or what is wrong is printed.
+/// Prints the help, the version or the error that the arguments lead to, and returns the status.
 fn no_task(rt: &HostRuntime, error: &clap::Error) -> ExitCode {
     if error.kind() == CommandErrorKind::OutOfMemory {
         return faulted(rt, WatchFault::OutOfMemory, None);
@@ -106,8 +107,8 @@ fn no_task(rt: &HostRuntime, error: &clap::Error) -> ExitCode {
     faulted(rt, error.into(), reason)
 }
 
-/// Whether lines have colours if the arguments don't say: standard output is a terminal that has colours, and the variable
-/// `NO_COLOR` isn't set, or is empty.
+/// Returns whether lines have colours if the arguments don't say: if standard output is a terminal with colours, and
+/// the variable `NO_COLOR` is unset or empty.
 fn auto_color(rt: &HostRuntime) -> bool {
     let no_color = match env::var(rt, "NO_COLOR") {
         Ok(value) => !value.is_empty(),
@@ -120,13 +121,14 @@ fn auto_color(rt: &HostRuntime) -> bool {
     !no_color && !dumb && rt.stdout().is_terminal()
 }
 
-/// Shows a stream with dates in the system's time zone, or in UTC if that can't be read. Dates show which it is.
+/// Shows a stream with dates in the system's time zone, or in UTC if that zone can't be read. Dates show which one it
+/// is.
 fn show_local(rt: &HostRuntime, task: &ShowTask<'_>) -> anyhow::Result<ExitCode> {
     let Ok(system) = SystemTimeZone::read(rt) else {
         report_utc(rt);
         return show(rt, task, TimeZone::UTC);
     };
-    // All zones of the system are read only for one that is given by its name.
+    // All zones of the system are read only if the zone is given by its name.
     let mut zones = TimeZoneDatabase::new(rt.alloc());
     if system.time_zone(&zones).is_err() {
         zones = TimeZoneDatabase::from_env(rt)?;
@@ -140,7 +142,7 @@ fn show_local(rt: &HostRuntime, task: &ShowTask<'_>) -> anyhow::Result<ExitCode>
     }
 }
 
-/// Says on standard error that dates are in UTC, if `TZ` asks for another zone. A system without a zone has UTC.
+/// Reports on standard error that dates are in UTC, if `TZ` asks for another zone. A system without a zone has UTC.
 fn report_utc(rt: &HostRuntime) {
     if let Err(VarError::NotPresent) = env::var(rt, "TZ") {
         return;
@@ -148,7 +150,7 @@ fn report_utc(rt: &HostRuntime) {
     let _ = eprintln!(rt; "cobs_watch: the time zone in TZ can't be read: dates are in UTC");
 }
 
-/// Shows standard input, or the line that has a path, and returns the status. Dates are in this zone.
+/// Shows standard input, or the file at the task's path, with dates in this zone, and returns the status.
 fn show(rt: &HostRuntime, task: &ShowTask<'_>, zone: TimeZone<'_>) -> anyhow::Result<ExitCode> {
     let reasons = Reasons {
         stream: Cell::new(None),
@@ -188,14 +190,15 @@ fn show(rt: &HostRuntime, task: &ShowTask<'_>, zone: TimeZone<'_>) -> anyhow::Re
     }
 }
 
-/// Opens a log. Its descriptor is a second one, which is never 0, 1 or 2: if standard output or error is closed, the first
-/// descriptor has that number, and the log would have all that the program writes there.
+/// Opens a log. Its descriptor is a second one, which is never 0, 1 or 2. If standard output or standard error is
+/// closed, the first descriptor could have its number, and the log would contain everything that the program writes
+/// there.
 fn open_log(rt: &HostRuntime, path: &str) -> io::Result<File> {
     let first = File::options().append(true).create(true).open(rt, path)?;
     first.try_clone()
 }
 
-/// A line that has a path.
+/// The path of a line, and the runtime that opens it.
 #[derive(Drop)]
 struct Device<'a> {
     rt: &'a HostRuntime,
@@ -213,7 +216,8 @@ impl<'a> Opener<Line<'a>> for Device<'a> {
     }
 }
 
-/// Opens a line that is to be opened again after a hang-up. If it can't be opened yet, that is said, and it is waited for.
+/// Opens a line that is opened again after each hang-up. If it can't be opened yet, that is reported, and the program
+/// waits for it.
 fn first_line<'a>(rt: &HostRuntime, device: &Device<'a>) -> Option<Line<'a>> {
     match device.open() {
         Ok(line) => Some(line),
@@ -224,7 +228,7 @@ fn first_line<'a>(rt: &HostRuntime, device: &Device<'a>) -> Option<Line<'a>> {
     }
 }
 
-/// Writes the head of a capture, if that is the style.
+/// Writes the head of a capture, if the style is one.
 fn begin<W: Write + Drop>(output: &mut BufWriter<W>, style: Style) -> io::Result<()>
     requires flushed { writer_buffer output.old ≡ [] }
     ensures flushed { OnOk result (writer_buffer output.new ≡ []) }
@@ -293,7 +297,7 @@ fn send(rt: &HostRuntime, settings: &send::Settings) -> anyhow::Result<ExitCode>
     ) {
         Ok(true) => Ok(ExitCode::SUCCESS),
         Ok(false) => Ok(ExitCode::FAILURE),
-        // If the system failed the read, there is a reason. There is none if memory ran out for a line.
+        // If the system failed the read, there is a reason. If memory ran out for a line, there is none.
         Err(WatchFault::ReadFailed) if reason.get().is_none() => {
             Ok(faulted(rt, WatchFault::OutOfMemory, None))
         }
@@ -301,14 +305,14 @@ fn send(rt: &HostRuntime, settings: &send::Settings) -> anyhow::Result<ExitCode>
     }
 }
 
-/// The status if a file can't be opened.
+/// Reports that a file can't be opened, and returns the status.
 fn not_opened(rt: &HostRuntime, path: &str, error: &io::Error) -> ExitCode {
     let _ = eprintln!(rt; "cobs_watch: {path}: {error}");
     ExitCode::FAILURE
 }
 
-/// The status of `show` after this fault. If its log couldn't be written, or a line that has a path couldn't be read, the
-/// message names that file.
+/// Returns the status of `show` after this fault. If its log couldn't be written, or the file at its path couldn't be
+/// read, the message names that file.
 fn show_faulted(
     rt: &HostRuntime,
     task: &ShowTask<'_>,
@@ -328,7 +332,7 @@ fn show_faulted(
     ExitCode::FAILURE
 }
 
-/// The status of the program after this fault: success if nobody reads the output any more.
+/// Returns the status of the program after this fault: success if nobody reads the output any more.
 fn faulted(rt: &HostRuntime, fault: WatchFault, reason: Option<i32>) -> ExitCode {
     if fault == WatchFault::OutputClosed {
         return ExitCode::SUCCESS;

@@ -1,4 +1,4 @@
-//! What the command line asks for.
+//! Reads the command line: the program's task, and its options.
 ghost use Rattle.std.specs.Prelude.{◌≡◌, ◌≤◌, IfOk, codes};
 ghost use Rattle.clap.specs.Matches.{first_value, found_of};
 ghost use Rattle.cobs_watch.specs.Options.{HasPaths, IsOffered};
@@ -15,10 +15,10 @@ use std::alloc::{AllocError, Global};
 /// The length in bytes of the longest message that may be asked for, 16 MiB.
 const MAX_LENGTH: u64 = 16_777_216;
 
-/// The path that stands for standard input.
+/// The path that means standard input.
 pub(crate) const STDIN: &str = "-";
 
-/// The version of the release, that of the file VERSION.
+/// The version of the release, as in the file VERSION.
 const VERSION: &str = "1.0.0";
 
 /// The program's task.
@@ -31,7 +31,7 @@ pub(crate) enum Task<'a> {
     Send(send::Settings),
 }
 
-/// How a stream is shown, and which one.
+/// Which stream is shown, and how.
 #[derive(Debug, PartialEq, Eq, Drop)]
 pub(crate) struct ShowTask<'a> {
     pub(crate) settings: Settings,
@@ -40,20 +40,20 @@ pub(crate) struct ShowTask<'a> {
     /// Whether dates are in the system's time zone.
     pub(crate) local: bool,
 
-    /// The path of what is shown, if that isn't standard input.
+    /// The path of the file that is shown; `None` for standard input.
     pub(crate) path: Option<&'a str>,
 
-    /// Whether it is opened again after a hang-up.
+    /// Whether the file is opened again after a hang-up.
     pub(crate) reconnect: bool,
 
-    /// The path of a file to which everything that is shown is also written.
+    /// The path of a file to which the output is also appended.
     pub(crate) log: Option<&'a str>,
 }
 
-/// The task that the words ask for, the program's own name among them. `auto_color` says whether lines have colours if the
-/// words leave that open.
+/// Returns the task that the words ask for. The first word is the program's own name. `auto_color` says whether lines
+/// have colours if the words don't say.
 ///
-/// An error is also how help and the version are asked for: it has the text to print and the status to end with.
+/// An error is also the result of a request for help or the version: it has the text to print and the status.
 pub(crate) fn task_of<'a>(
     alloc: Global,
     words: &'a [String],
@@ -89,7 +89,7 @@ pub(crate) fn task_of<'a>(
     show_task(alloc, shown, auto_color)
 }
 
-/// An option without a value.
+/// Makes an option without a value.
 fn flag<'a>(alloc: Global, name: &'a str) -> Arg<'a> {
     Arg::new(alloc, name)
         .long(name)
@@ -97,7 +97,7 @@ fn flag<'a>(alloc: Global, name: &'a str) -> Arg<'a> {
         .help(help::of(name))
 }
 
-/// An option with a value.
+/// Makes an option with a value.
 fn option<'a>(alloc: Global, name: &'a str, value: &'a str) -> Arg<'a> {
     Arg::new(alloc, name)
         .long(name)
@@ -105,17 +105,17 @@ fn option<'a>(alloc: Global, name: &'a str, value: &'a str) -> Arg<'a> {
         .help(help::of(name))
 }
 
-/// A style, of which there can be one.
+/// Makes an option for a style, of which only one may be chosen.
 fn style<'a>(alloc: Global, name: &'a str) -> Result<Arg<'a>, AllocError> {
     flag(alloc, name).group("style")
 }
 
-/// A style that writes only messages.
+/// Makes an option for a style that writes only messages.
 fn bare_style<'a>(alloc: Global, name: &'a str) -> Result<Arg<'a>, AllocError> {
     style(alloc, name)?.conflicts_with_all(["number", "time", "partial"].as_slice())
 }
 
-/// The command with the options of `show`, by topics, and its examples.
+/// Adds the options of `show`, by topics, and its examples to the command.
 fn with_show_options<'a>(alloc: Global, command: Command<'a>) -> Result<Command<'a>, Error> {
     let command = with_styles(alloc, command.next_help_heading("Styles"))?;
     let command = with_columns(alloc, command)?;
@@ -125,7 +125,7 @@ fn with_show_options<'a>(alloc: Global, command: Command<'a>) -> Result<Command<
     Ok(with_line(alloc, command)?.after_help(help::SHOW_EXAMPLES))
 }
 
-/// The command with the styles.
+/// Adds the styles to the command.
 fn with_styles<'a>(alloc: Global, command: Command<'a>) -> Result<Command<'a>, Error> {
     let hexdump = style(alloc, "hexdump")?.short('x');
     let json = style(alloc, "json")?.short('j').conflicts_with("number")?;
@@ -138,7 +138,7 @@ fn with_styles<'a>(alloc: Global, command: Command<'a>) -> Result<Command<'a>, E
     Ok(command.arg(bytes)?.arg(bare_style(alloc, "pcap")?)?)
 }
 
-/// The command with the options that say what else lines have.
+/// Adds the options for other columns of a line to the command.
 fn with_columns<'a>(alloc: Global, command: Command<'a>) -> Result<Command<'a>, Error> {
     let time = option(alloc, "time", "CLOCK")
         .short('t')
@@ -154,7 +154,7 @@ fn with_columns<'a>(alloc: Global, command: Command<'a>) -> Result<Command<'a>, 
     Ok(command.arg(time)?.arg(color)?)
 }
 
-/// The command with the options that say which pieces are shown.
+/// Adds the options that choose the pieces to the command.
 fn with_filters<'a>(alloc: Global, command: Command<'a>) -> Result<Command<'a>, Error> {
     let only = option(alloc, "only", "KIND")
         .short('o')
@@ -169,7 +169,7 @@ fn with_filters<'a>(alloc: Global, command: Command<'a>) -> Result<Command<'a>, 
     Ok(command.arg(option(alloc, "prefix", "HEX"))?)
 }
 
-/// The command with the options of the checksum of messages.
+/// Adds the options for the checksum of messages to the command.
 fn with_checksum<'a>(alloc: Global, command: Command<'a>) -> Result<Command<'a>, Error> {
     let order = option(alloc, "crc-order", "ORDER")
         .value_parser(["big", "little"].as_slice())
@@ -179,7 +179,7 @@ fn with_checksum<'a>(alloc: Global, command: Command<'a>) -> Result<Command<'a>,
     Ok(command.arg(option(alloc, "crc", "CHECK"))?.arg(order)?)
 }
 
-/// The command with the options of the stream.
+/// Adds the options for the stream to the command.
 fn with_stream<'a>(alloc: Global, command: Command<'a>) -> Result<Command<'a>, Error> {
     let length = option(alloc, "length", "N").default_value("65536");
     let command = command
@@ -190,7 +190,7 @@ fn with_stream<'a>(alloc: Global, command: Command<'a>) -> Result<Command<'a>, E
     Ok(command.arg(option(alloc, "count-every", "SECONDS"))?)
 }
 
-/// The command with the options of the line that is opened, and of the log.
+/// Adds the options for the file that is opened, and for the log, to the command.
 fn with_line<'a>(alloc: Global, command: Command<'a>) -> Result<Command<'a>, Error> {
     let path = Arg::new(alloc, "path")
         .value_name("PATH")
@@ -200,7 +200,7 @@ fn with_line<'a>(alloc: Global, command: Command<'a>) -> Result<Command<'a>, Err
     Ok(command.arg(path)?.arg(reconnect)?.arg(log)?)
 }
 
-/// The time that was asked for; a capture has dates.
+/// Returns the time that was asked for. A capture has dates.
 fn stamp_of(matches: &ArgMatches<'_>) -> Stamp {
     match matches.get_str("time") {
         Some("start") => Stamp::Start,
@@ -211,10 +211,10 @@ fn stamp_of(matches: &ArgMatches<'_>) -> Stamp {
     }
 }
 
-/// Whether lines have colours. With a log they have none, since it gets the same bytes.
+/// Returns whether lines have colours. With a log they have none, because the log has the same bytes.
 ///
 /// # Errors
-/// An error if colours were asked for, and a log.
+/// An error if both colours and a log were asked for.
 fn color_of(alloc: Global, matches: &ArgMatches<'_>, auto_color: bool) -> Result<bool, Error> {
     let color = matches.get_str("color");
     if matches.get_str("log").is_none() {
@@ -229,10 +229,10 @@ fn color_of(alloc: Global, matches: &ArgMatches<'_>, auto_color: bool) -> Result
     Ok(false)
 }
 
-/// Whether the line is opened again after a hang-up.
+/// Returns whether the file is opened again after a hang-up.
 ///
 /// # Errors
-/// An error if it is standard input, which can't be.
+/// An error for standard input, which can't be opened again.
 fn reconnect_of(alloc: Global, matches: &ArgMatches<'_>) -> Result<bool, Error> {
     if matches.get_flag("reconnect") && matches.get_str("path") == Some(STDIN) {
         return wrong(
@@ -243,7 +243,7 @@ fn reconnect_of(alloc: Global, matches: &ArgMatches<'_>) -> Result<bool, Error> 
     Ok(matches.get_flag("reconnect"))
 }
 
-/// The task of showing a stream, by its options.
+/// Returns the task of showing a stream, with its options.
 fn show_task<'a>(
     alloc: Global,
     matches: &ArgMatches<'a>,
@@ -281,7 +281,7 @@ fn show_task<'a>(
     }))
 }
 
-/// The style that was asked for.
+/// Returns the style that was asked for.
 fn style_of(matches: &ArgMatches<'_>) -> Style {
     match matches.get_str("style") {
         Some("text") => Style::Text,

@@ -8,14 +8,14 @@ use cobs_live::crc::{Crc, Params};
 use cobs_live::shown::Filter;
 use std::alloc::Global;
 
-/// An error of the command line.
+/// Returns an error of the command line.
 pub(crate) fn wrong<T>(alloc: Global, message: &str) -> Result<T, Error>
     ensures error { IsErr result }
 {
     Err(Command::new(alloc, "cobs_watch").error(ErrorKind::ValueValidation, message)?)
 }
 
-/// The number that an option was given: decimal, or hexadecimal after `0x`.
+/// Returns the number that an option has: decimal, or hexadecimal after `0x`.
 ///
 /// # Errors
 /// An error that names the option if its value isn't a number, or is above `max`.
@@ -39,7 +39,7 @@ pub(crate) fn number_of(
     }
 }
 
-/// The number that a text is: decimal, or hexadecimal after `0x`.
+/// Returns the number that a text is: decimal, or hexadecimal after `0x`.
 fn parsed(text: &str) -> Option<u64> {
     match text.strip_prefix("0x") {
         Some(digits) => u64::from_str_radix(digits, 16).ok(),
@@ -47,16 +47,16 @@ fn parsed(text: &str) -> Option<u64> {
     }
 }
 
-/// The sentinel that was asked for.
+/// Returns the sentinel that was asked for.
 pub(crate) fn sentinel_of(alloc: Global, matches: &ArgMatches<'_>) -> Result<u8, Error> {
     let number = number_of(alloc, matches, "sentinel", 255)?.unwrap_or(0);
     Ok(u8::try_from(number).unwrap_or(0))
 }
 
-/// The checksum that was asked for, if any.
+/// Returns the checksum that was asked for, if any.
 ///
 /// # Errors
-/// If no checksum has that name: an error that names a part that isn't a parameter.
+/// An error if no checksum has that name. If the text has parameters, the error names a part that isn't one.
 pub(crate) fn checksum_of(
     alloc: Global,
     matches: &ArgMatches<'_>,
@@ -76,7 +76,7 @@ pub(crate) fn checksum_of(
 const NAMES: &str =
     "crc-8, crc-16-ccitt-false, crc-16-modbus, crc-16-xmodem, crc-16-kermit, crc-16-arc, crc-32, crc-32c";
 
-/// The check that has this name.
+/// Returns the check with this name.
 fn crc_of(name: &str) -> Option<Crc> {
     match name {
         "crc-8" => Some(Crc::Crc8),
@@ -91,7 +91,7 @@ fn crc_of(name: &str) -> Option<Crc> {
     }
 }
 
-/// The parameters of a check as they are written, which are those of the catalogue.
+/// The parameters of a check as the user writes them, and as the catalogue lists them.
 #[derive(Drop)]
 struct Written {
     width: Option<u64>,
@@ -102,7 +102,7 @@ struct Written {
 }
 
 impl Written {
-    /// Takes a parameter, as `poly=0x1021`, and returns whether it is one that wasn't given before.
+    /// Reads a parameter such as `poly=0x1021`. Returns whether it is a parameter that wasn't given before.
     fn take(&mut self, part: &str) -> bool {
         if part == "reflected" {
             let first = !self.reflected;
@@ -125,7 +125,7 @@ impl Written {
     }
 }
 
-/// The check that has this name, or these parameters, as `poly=0x1021,init=0xffff`.
+/// Returns the parameters of the check with this name, or those that are written, such as `poly=0x1021,init=0xffff`.
 fn params_of(alloc: Global, text: &str) -> Result<Params, Error>
     ensures sized { IfOk result (λ params. (0 < params.size) × (params.size ≤ 4)) }
 {
@@ -158,7 +158,7 @@ fn params_of(alloc: Global, text: &str) -> Result<Params, Error>
     }
 }
 
-/// The parameters as they are looked up, if they fit in their width.
+/// Returns the parameters for a table, if they fit their width.
 fn sized(written: &Written) -> Option<Params>
     ensures sized { IfSome result (λ params. (0 < params.size) × (params.size ≤ 4)) }
 {
@@ -186,11 +186,11 @@ fn sized(written: &Written) -> Option<Params>
     })
 }
 
-/// The filter that was asked for.
+/// Returns the filter that was asked for.
 ///
 /// # Errors
-/// An error that names the prefix if it isn't hexadecimal digits, one if nothing can be as long as `--min` and `--max` ask, and
-/// one if memory runs out.
+/// An error that names the prefix if it isn't hexadecimal digits; one if `--min` is above `--max`; and one if memory
+/// runs out.
 pub(crate) fn filter_of(alloc: Global, matches: &ArgMatches<'_>) -> Result<Filter, Error> {
     let kinds = matches.get_strs("only").unwrap_or(&[]);
     let prefix = matches.get_str("prefix").unwrap_or("");
