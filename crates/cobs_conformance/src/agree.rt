@@ -1,9 +1,9 @@
-//! Whether the result that came is the one that is wanted.
+//! Compares the actual result of a case with the expected one.
 ghost use Rattle.std.specs.Prelude.{◌↔◌, IsTrue, string_bytes};
 ghost use Rattle.std.specs.List.{AllZip};
 ghost use Rattle.cobs_conformance.specs.Agree.{Agrees, IsErrorWord};
 
-/// Whether the words agree in turn, and there are as many.
+/// Returns whether the words agree one by one, and there are as many.
 pub fn agree(wanted: &[&str], came: &[String]) -> bool
     ensures same { IsTrue result
         ↔ AllZip (λ one other. Agrees one.now (string_bytes other)) wanted.now came.now }
@@ -17,7 +17,7 @@ pub fn agree(wanted: &[&str], came: &[String]) -> bool
     }
 }
 
-/// Whether a word is what is wanted: the same one, any if `?` is wanted, any error if `refused` is.
+/// Returns whether a word is an expected one: the same word, any word if `?` is expected, or any error if `refused` is.
 fn agrees(wanted: &str, came: &str) -> bool
     ensures agrees { IsTrue result ↔ Agrees wanted.now came.now }
 {

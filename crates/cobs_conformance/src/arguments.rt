@@ -1,4 +1,4 @@
-//! The words of a case as values.
+//! Converts the words of a case to values.
 ghost use Rattle.std.specs.Prelude.{◌≡◌, ◌≢◌, ◌≤◌, [], codes, length, IfOk, vec_len};
 ghost use Rattle.hex.specs.Hex.{decode_of};
 ghost use Rattle.cobs_conformance.specs.Short.{number_text};
@@ -10,16 +10,16 @@ use std::alloc::Global;
 /// The most bytes that a word may have, so that each call has room for the frame.
 pub const MAX_BYTES: usize = 131_072;
 
-/// Their digits.
+/// The most hexadecimal digits that a word may have.
 pub const MAX_DIGITS: usize = 2 * MAX_BYTES;
 
-/// The word for no bytes, and for no number.
+/// The word that means no bytes, or no number.
 pub const NONE: &str = "-";
 
-/// The bytes that a word's hexadecimal digits stand for; none for `-`.
+/// Returns the bytes that a word means by its hexadecimal digits, or no bytes for `-`.
 ///
 /// # Errors
-/// `Malformed` for anything else, and for more than [`MAX_BYTES`] bytes. `OutOfMemory` if memory ran out.
+/// `Malformed` for any other word, and for more than [`MAX_BYTES`] bytes. `OutOfMemory` if memory ran out.
 pub fn bytes_of(alloc: Global, word: &str) -> Result<Vec<u8>, CaseFault>
     ensures none { word.now ≡ codes "-" → IfOk result (λ bytes. bytes.items ≡ []) }
     ensures digits { word.now ≢ codes "-"
@@ -41,10 +41,10 @@ pub fn bytes_of(alloc: Global, word: &str) -> Result<Vec<u8>, CaseFault>
     }
 }
 
-/// The one byte that a word stands for.
+/// Returns the one byte that a word means.
 ///
 /// # Errors
-/// As [`bytes_of`], and `Malformed` for none and for more bytes.
+/// Those of [`bytes_of`], and `Malformed` for no byte and for several.
 pub fn byte_of(alloc: Global, word: &str) -> Result<u8, CaseFault> {
     let bytes = bytes_of(alloc, word)?;
     match bytes.as_slice() {
@@ -53,10 +53,10 @@ pub fn byte_of(alloc: Global, word: &str) -> Result<u8, CaseFault> {
     }
 }
 
-/// The decimal number that a word stands for.
+/// Returns the decimal number that a word means.
 ///
 /// # Errors
-/// `Malformed` for anything else.
+/// `Malformed` for any other word.
 pub fn number_of(word: &str) -> Result<usize, CaseFault>
     ensures value { IfOk result (λ number. number ≡ number_text word.now) }
 {

@@ -1,4 +1,4 @@
-//! Which call a case makes.
+//! Chooses the call that a case makes.
 use crate::call_result::CallResult;
 use crate::fault::CaseFault;
 use crate::{decoding, encoding, machines, streams};
@@ -7,8 +7,8 @@ use std::alloc::Global;
 /// Makes the call of this name.
 ///
 /// # Errors
-/// `Malformed` if no call has the name or the arguments aren't its own, `NotCallable` if they break the call's precondition,
-/// `OutOfMemory`.
+/// `Malformed` if no call has the name, or the arguments aren't those of the call; `NotCallable` if they break its
+/// precondition; `OutOfMemory`.
 pub fn result_of_call(
     alloc: Global,
     call: &str,

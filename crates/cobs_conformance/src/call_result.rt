@@ -1,9 +1,9 @@
-//! What a call returns, in words.
+//! Writes the result of a call in words.
 use crate::arguments::NONE;
 use cobs::{DecodeError, DecodeReport, DestBufTooSmallError, FrameOutcome};
 use std::alloc::{AllocError, Global};
 
-/// The words after the `->` of a case, as a call gave them.
+/// The words after the `->` of a case that describe the result of a call.
 #[derive(Debug, Drop)]
 pub struct CallResult {
     alloc: Global,
@@ -15,7 +15,7 @@ impl CallResult {
     ghost use Rattle.std.specs.Fmt.{decimal};
     ghost use Rattle.cobs_conformance.specs.CallResult.{bytes_word, words_of};
 
-    /// No word yet.
+    /// Makes a result without words.
     pub fn new(alloc: Global) -> CallResult
         ensures none { words_of result ≡ [] }
     {
@@ -25,14 +25,14 @@ impl CallResult {
         }
     }
 
-    /// The words so far.
+    /// Returns the words so far.
     pub fn words(&self) -> &[String]
         ensures words { map string_bytes result.now ≡ words_of self.now }
     {
         self.words.as_slice()
     }
 
-    /// The words with single spaces between them.
+    /// Returns the words with single spaces between them.
     pub fn text(&self) -> Result<String, AllocError> {
         let mut text = String::new(self.alloc);
         for (at, word) in self.words.iter().enumerate() {
@@ -51,7 +51,7 @@ impl CallResult {
         self.words.append(&mut other.words)
     }
 
-    /// Adds the words of another result if they aren't the same.
+    /// Adds the words of another result if they differ from those of this one.
     pub fn append_other(&mut self, other: CallResult) -> Result<(), AllocError>
         ensures words { OnOk result ((words_of self.new ≡ words_of self.old)
             ⊎ (words_of self.new ≡ words_of self.old ++ words_of other)) }
@@ -62,7 +62,7 @@ impl CallResult {
         self.append(other)
     }
 
-    /// Adds the words of another result if they aren't those that are wanted of it.
+    /// Adds the words of another result if they differ from those that are expected of it.
     pub fn append_unlike(
         &mut self,
         wanted: &CallResult,
@@ -124,7 +124,7 @@ impl CallResult {
         }
     }
 
-    /// Adds `ok` and the message's length, or the error and what it counts.
+    /// Adds `ok` and the message's length, or the error and its count.
     pub fn say_decoded(&mut self, decoded: &Result<usize, DecodeError>) -> Result<(), AllocError> {
         match decoded {
             Ok(len) => {
@@ -138,7 +138,7 @@ impl CallResult {
         }
     }
 
-    /// Adds `ok`, the bytes consumed and the message's length, or the error and what it counts.
+    /// Adds `ok`, the bytes consumed and the message's length, or the error and its count.
     pub fn say_report(
         &mut self,
         report: &Result<DecodeReport, DecodeError>,
@@ -164,7 +164,7 @@ impl CallResult {
         }
     }
 
-    /// Adds what became of a piece: its kind, and its message or count.
+    /// Adds the outcome of a piece: its kind, and its message or count.
     pub fn say_outcome(&mut self, outcome: &FrameOutcome) -> Result<(), AllocError> {
         match outcome {
             FrameOutcome::Message(message) => {

@@ -1,4 +1,4 @@
-//! One case: its line, its call, and whether the result is the one that is wanted.
+//! Runs one case: reads its line, makes its call, and compares the result with the expected one.
 ghost use Rattle.std.specs.Prelude.{◌≡◌, ◌↔◌, ◌+◌, length, slice_index_or, IfSome};
 ghost use Rattle.cobs_conformance.specs.Case.{IsNoCase};
 
@@ -17,11 +17,11 @@ pub enum Verdict {
     /// The result is the expected one.
     Agrees,
 
-    /// The result is another one, or there is none. The text has the expected result and the actual one.
+    /// The result is another one, or there is none. The text has both, the expected result first.
     Differs(String),
 }
 
-/// A line's words, each under its name.
+/// The words of a line, by their meaning.
 #[derive(Debug, Drop)]
 struct Case<'a> {
     name: &'a str,
@@ -30,7 +30,7 @@ struct Case<'a> {
     wanted: &'a [&'a str],
 }
 
-/// Makes the call of a line, and compares its result with the line's.
+/// Makes the call of a line, and compares its result with the one in the line.
 pub fn verdict_of(alloc: Global, line: &str) -> Result<Verdict, AllocError>
     ensures no_case { (result ≡ Ok Verdict.NoCase) ↔ IsNoCase line.now }
 {
@@ -66,7 +66,7 @@ pub fn verdict_of(alloc: Global, line: &str) -> Result<Verdict, AllocError>
     }
 }
 
-/// The words of a case, or `None` if they aren't one.
+/// Returns the words of a case, or `None` if they aren't one.
 fn case_of<'a>(words: &'a [&'a str]) -> Option<Case<'a>>
     ensures call { IfSome result (λ case. case.call ≡ slice_index_or words.now 2 case.call) }
     ensures each_word { IfSome result (λ case.
@@ -87,7 +87,7 @@ fn case_of<'a>(words: &'a [&'a str]) -> Option<Case<'a>>
     })
 }
 
-/// Words with single spaces between them.
+/// Returns the words with single spaces between them.
 fn joined(alloc: Global, words: &[&str]) -> Result<String, AllocError> {
     let mut text = String::new(alloc);
     for (at, word) in words.iter().enumerate() {

@@ -5,7 +5,7 @@ use crate::fault::CaseFault;
 use cobs::{DecodeVecError, FrameKind};
 use std::alloc::Global;
 
-/// The message handed out.
+/// Runs `decode_vec`, which returns the message.
 pub fn decode_vec(alloc: Global, arguments: &[&str]) -> Result<CallResult, CaseFault> {
     let [source] = arguments else {
         return Err(CaseFault::Malformed);
@@ -14,7 +14,7 @@ pub fn decode_vec(alloc: Global, arguments: &[&str]) -> Result<CallResult, CaseF
     said_message(alloc, decoded)
 }
 
-/// The message of a frame for a sentinel, handed out.
+/// Runs `decode_vec_with_sentinel`, which returns the message of a frame for a sentinel.
 pub fn decode_vec_with_sentinel(
     alloc: Global,
     arguments: &[&str],
@@ -27,7 +27,7 @@ pub fn decode_vec_with_sentinel(
     said_message(alloc, decoded)
 }
 
-/// The message of the first piece, in a buffer.
+/// Runs `decode`, which writes the message of the first piece to a buffer.
 pub fn decode(alloc: Global, arguments: &[&str]) -> Result<CallResult, CaseFault> {
     let [source, buffer] = arguments else {
         return Err(CaseFault::Malformed);
@@ -41,7 +41,7 @@ pub fn decode(alloc: Global, arguments: &[&str]) -> Result<CallResult, CaseFault
     Ok(returned)
 }
 
-/// The message of a frame for a sentinel, in a buffer.
+/// Runs `decode_with_sentinel`, which writes the message of a frame for a sentinel to a buffer.
 pub fn decode_with_sentinel(alloc: Global, arguments: &[&str]) -> Result<CallResult, CaseFault> {
     let [sentinel, source, buffer] = arguments else {
         return Err(CaseFault::Malformed);
@@ -56,7 +56,7 @@ pub fn decode_with_sentinel(alloc: Global, arguments: &[&str]) -> Result<CallRes
     Ok(returned)
 }
 
-/// The message over its own frame.
+/// Runs `decode_in_place`, which writes the message over its own frame.
 pub fn decode_in_place(alloc: Global, arguments: &[&str]) -> Result<CallResult, CaseFault> {
     let [buffer] = arguments else {
         return Err(CaseFault::Malformed);
@@ -69,7 +69,7 @@ pub fn decode_in_place(alloc: Global, arguments: &[&str]) -> Result<CallResult, 
     Ok(returned)
 }
 
-/// The message over its own frame, with both sizes.
+/// Runs `decode_in_place_report`, which writes the message over its own frame, and returns both sizes.
 pub fn decode_in_place_report(alloc: Global, arguments: &[&str]) -> Result<CallResult, CaseFault> {
     let [buffer] = arguments else {
         return Err(CaseFault::Malformed);
@@ -82,7 +82,7 @@ pub fn decode_in_place_report(alloc: Global, arguments: &[&str]) -> Result<CallR
     Ok(returned)
 }
 
-/// The message over its own frame for a sentinel.
+/// Runs `decode_in_place_with_sentinel`, which writes the message over its own frame for a sentinel.
 pub fn decode_in_place_with_sentinel(
     alloc: Global,
     arguments: &[&str],
@@ -99,7 +99,7 @@ pub fn decode_in_place_with_sentinel(
     Ok(returned)
 }
 
-/// Whether bytes are a frame, and which one of its message.
+/// Runs `frame_kind`, which returns whether bytes are a frame, and which one of their message.
 pub fn frame_kind(alloc: Global, arguments: &[&str]) -> Result<CallResult, CaseFault> {
     let [bytes] = arguments else {
         return Err(CaseFault::Malformed);
@@ -114,7 +114,7 @@ pub fn frame_kind(alloc: Global, arguments: &[&str]) -> Result<CallResult, CaseF
     Ok(returned)
 }
 
-/// The status, the length and the message.
+/// Returns the status, the length and the message, in words.
 fn said_message(
     alloc: Global,
     decoded: Result<Vec<u8>, DecodeVecError>,

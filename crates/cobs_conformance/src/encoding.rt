@@ -7,7 +7,7 @@ use crate::fault::CaseFault;
 use cobs::CobsEncoder;
 use std::alloc::Global;
 
-/// The greatest number of bytes by which a frame is longer than its message.
+/// Runs `max_encoding_overhead`, which returns by how many bytes a frame is longer than its message at most.
 pub fn max_encoding_overhead(alloc: Global, arguments: &[&str]) -> Result<CallResult, CaseFault> {
     let [length] = arguments else {
         return Err(CaseFault::Malformed);
@@ -17,7 +17,7 @@ pub fn max_encoding_overhead(alloc: Global, arguments: &[&str]) -> Result<CallRe
     Ok(returned)
 }
 
-/// The greatest length of a message's frame.
+/// Runs `max_encoding_length`, which returns the greatest length of a message's frame.
 pub fn max_encoding_length(alloc: Global, arguments: &[&str]) -> Result<CallResult, CaseFault> {
     let [length] = arguments else {
         return Err(CaseFault::Malformed);
@@ -65,7 +65,7 @@ pub fn encode_vec_with_sentinel(
     said(alloc, &frame)
 }
 
-/// The frame in a buffer that has room for it.
+/// Runs `encode`, which writes the frame to a buffer that has room for it.
 pub fn encode(alloc: Global, arguments: &[&str]) -> Result<CallResult, CaseFault> {
     let [message, buffer] = arguments else {
         return Err(CaseFault::Malformed);
@@ -80,7 +80,7 @@ pub fn encode(alloc: Global, arguments: &[&str]) -> Result<CallResult, CaseFault
     said_in(alloc, len, &buffer)
 }
 
-/// The frame between two zeros, in a buffer that has room for it.
+/// Runs `encode_including_sentinels`, which writes the frame between two zeros to a buffer that has room for it.
 pub fn encode_including_sentinels(
     alloc: Global,
     arguments: &[&str],
@@ -98,7 +98,7 @@ pub fn encode_including_sentinels(
     said_in(alloc, len, &buffer)
 }
 
-/// The frame for a sentinel, in a buffer that has room for it.
+/// Runs `encode_with_sentinel`, which writes the frame for a sentinel to a buffer that has room for it.
 pub fn encode_with_sentinel(alloc: Global, arguments: &[&str]) -> Result<CallResult, CaseFault> {
     let [sentinel, message, buffer] = arguments else {
         return Err(CaseFault::Malformed);
@@ -163,7 +163,7 @@ pub fn try_encode_with_sentinel(
     Ok(returned)
 }
 
-/// A streaming encoder over a buffer, given pieces.
+/// Runs a streaming encoder over a buffer, and pushes pieces to it.
 pub fn encoder(alloc: Global, arguments: &[&str]) -> Result<CallResult, CaseFault> {
     let [buffer, pieces @ ..] = arguments else {
         return Err(CaseFault::Malformed);
@@ -196,7 +196,7 @@ fn push_pieces(
     Ok(encoder.finalize())
 }
 
-/// A stream of frames, each with a zero after it.
+/// Runs `encode_frames`, which returns a stream of frames, each with a zero after it.
 pub fn encode_frames(alloc: Global, arguments: &[&str]) -> Result<CallResult, CaseFault> {
     let mut messages = Vec::new(alloc);
     for message in arguments {
@@ -209,14 +209,14 @@ pub fn encode_frames(alloc: Global, arguments: &[&str]) -> Result<CallResult, Ca
     said(alloc, &stream)
 }
 
-/// The result with just these bytes.
+/// Returns the result that has only these bytes.
 fn said(alloc: Global, bytes: &[u8]) -> Result<CallResult, CaseFault> {
     let mut returned = CallResult::new(alloc);
     returned.say_bytes(bytes)?;
     Ok(returned)
 }
 
-/// A length and the buffer after the call.
+/// Returns the result that has a length, and the buffer after the call.
 fn said_in(alloc: Global, len: usize, buffer: &[u8]) -> Result<CallResult, CaseFault> {
     let mut returned = CallResult::new(alloc);
     returned.say_number(len)?;

@@ -1,13 +1,14 @@
-//! Why a case gives no result.
+//! The reasons why a case has no result.
 ghost use Rattle.std.specs.Prelude.{◌≡◌};
 ghost use Rattle.cobs_conformance.specs.declared.fault.CaseFault.TheVariants.{OutOfMemory};
 
 use std::alloc::{AllocError, AllocFailed};
 
-/// Why a case gives no result to be compared.
+/// The reason why a case has no result that can be compared.
 #[derive(Debug, PartialEq, Eq, Drop)]
 pub enum CaseFault {
-    /// The line isn't in the format: no such call, an argument too few or too many, a word that can't be read.
+    /// The line isn't in the format: there is no such call, an argument is missing or too many, or a word can't be
+    /// read.
     Malformed,
 
     /// The arguments break the call's precondition, such as room for the frame.

@@ -1,12 +1,12 @@
-//! The two state machines.
+//! Runs the two state machines.
 use crate::arguments::{NONE, byte_of, bytes_of, number_of};
 use crate::call_result::CallResult;
 use crate::fault::CaseFault;
 use cobs::{DecodeResult, DecoderState, EncoderState, PushResult};
 use std::alloc::Global;
 
-/// The encoding state machine after a message: its result for one more byte, its state after that, and the frame of a
-/// caller that carries out each result.
+/// Runs an `EncoderState` that has taken a message. Returns its result for one more byte, its state after that, and the
+/// frame that a caller has who carries out each result.
 pub fn encoder_state(alloc: Global, arguments: &[&str]) -> Result<CallResult, CaseFault> {
     let [message, byte] = arguments else {
         return Err(CaseFault::Malformed);
@@ -35,7 +35,7 @@ pub fn encoder_state(alloc: Global, arguments: &[&str]) -> Result<CallResult, Ca
     Ok(returned)
 }
 
-/// Carries a push result out on the frame so far, with a placeholder of 0.
+/// Carries out a push result on the frame so far, with a placeholder of 0.
 fn carry_out(pushed: &PushResult, frame: &mut Vec<u8>) -> Result<(), CaseFault> {
     match pushed {
         PushResult::AddSingle(byte) => frame.push(*byte)?,
@@ -83,7 +83,7 @@ fn say_pushed(returned: &mut CallResult, pushed: &PushResult) -> Result<(), Case
     Ok(())
 }
 
-/// The decoding state machine in a state: its result for a byte, and the state that follows.
+/// Runs a `DecoderState` from a given state. Returns its result for a byte, and the next state.
 pub fn decoder_state(alloc: Global, arguments: &[&str]) -> Result<CallResult, CaseFault> {
     let [state, left, byte] = arguments else {
         return Err(CaseFault::Malformed);

@@ -42,7 +42,7 @@ fn main(rt: HostRuntime) -> ExitCode {
     }
 }
 
-/// Holds the library against each case of the input, prints what differs, and last how many.
+/// Compares the library with each case of the input, prints each case that differs, and returns the counts.
 fn run(rt: &(impl Input + Print + AllocGlobal)) -> io::Result<Tally> {
     let alloc: Global = rt.alloc();
     let mut tally = Tally::new();

@@ -1,17 +1,17 @@
-//! A source of bytes that gives the reads of a case.
+//! A source of bytes whose reads are those of a case.
 use crate::arguments::bytes_of;
 use crate::fault::CaseFault;
 use cobs::FrameSource;
 use std::alloc::Global;
 
-/// One read: it fails, or gives these bytes.
+/// One read: a failure, or the bytes that it returns.
 #[derive(Debug, Drop)]
 enum Reading {
     Fails,
     Gives(Vec<u8>),
 }
 
-/// The reads in turn; after the last one each read gives 0 bytes.
+/// The reads, one after another. After the last one each read returns 0 bytes.
 #[derive(Debug, Drop)]
 pub struct Reads {
     reads: Vec<Reading>,
@@ -19,7 +19,7 @@ pub struct Reads {
 }
 
 impl Reads {
-    /// The reads that the words mean: `fail`, or the bytes.
+    /// Returns the reads that the words mean: each word is `fail`, or the bytes of a read.
     pub fn of_words(alloc: Global, words: &[&str]) -> Result<Reads, CaseFault> {
         let mut reads = Vec::new(alloc);
         for word in words {
@@ -33,12 +33,12 @@ impl Reads {
         Ok(Reads { reads, made: 0 })
     }
 
-    /// How many reads were made.
+    /// Returns how many reads were made.
     pub fn made(&self) -> usize {
         self.made
     }
 
-    /// Whether each of the reads was made.
+    /// Returns whether all of the reads were made.
     pub fn is_at_end(&self) -> bool {
         self.made >= self.reads.len()
     }

@@ -1,4 +1,4 @@
-//! Long words: parts joined by `+`. Each part is digits, or digits, `*` and a count.
+//! Writes out long words. Their parts are joined by `+`, and each part is digits, or digits, `*` and a count.
 ghost use Rattle.std.specs.Prelude.{◌≡◌, ◌==◌, ◌<◌, ◌≤◌, IfOk, length, map, string_bytes};
 ghost use Rattle.std.specs.List.{slice_split};
 ghost use Rattle.cobs_conformance.specs.Short.{repeated, word_text};
@@ -7,10 +7,10 @@ use crate::arguments::{MAX_DIGITS, number_of};
 use crate::fault::CaseFault;
 use std::alloc::{AllocError, Global};
 
-/// The words of a line, each written out.
+/// Returns the words of a line, each written out.
 ///
 /// # Errors
-/// As [`written_out`].
+/// Those of [`written_out`].
 pub fn words_of(alloc: Global, line: &str) -> Result<Vec<String>, CaseFault>
     ensures words { IfOk result (λ words. map string_bytes words.items
         ≡ map word_text (slice_split (λ byte. byte == 32) line.now)) }
@@ -22,7 +22,7 @@ pub fn words_of(alloc: Global, line: &str) -> Result<Vec<String>, CaseFault>
     Ok(words)
 }
 
-/// A word written out: what its parts stand for, one after another.
+/// Writes out a word: the digits of its parts, one after another.
 ///
 /// # Errors
 /// `Malformed` for a part that can't be read, and for more than [`MAX_DIGITS`] digits. `OutOfMemory` if memory ran out.
@@ -41,7 +41,7 @@ fn written_out(alloc: Global, word: &str) -> Result<String, CaseFault>
     Ok(text)
 }
 
-/// The texts between the separators.
+/// Returns the texts between the separators.
 fn split(alloc: Global, text: &str, separator: char) -> Result<Vec<&str>, AllocError>
     requires ascii { separator < 128 }
     ensures texts { IfOk result (λ texts. map (λ text. text.now) texts.items
@@ -50,7 +50,8 @@ fn split(alloc: Global, text: &str, separator: char) -> Result<Vec<&str>, AllocE
     text.split(separator).collect(alloc)
 }
 
-/// The text of a part's fields: digits, repeated as often as the number after them says.
+/// Returns the digits of a part, repeated as often as the number after them says. `fields` are the digits and, if there
+/// is one, the number.
 fn repeated(alloc: Global, fields: &[&str]) -> Result<String, CaseFault>
     ensures text { IfOk result (λ text. string_bytes text
         ≡ repeated (map (λ field. field.now) fields.now)) }

@@ -1,4 +1,4 @@
-//! The calls over streams.
+//! Runs the calls over streams.
 ghost use Rattle.std.specs.Prelude.{◌≤◌};
 
 use crate::arguments::{MAX_BYTES, NONE, bytes_of, number_of};
@@ -11,26 +11,26 @@ use cobs::{
 };
 use std::alloc::Global;
 
-/// The most calls of one case of `next_frame`.
+/// The most calls of `next_frame` in one case.
 const MOST_CALLS: usize = 1000;
 
-/// How a streaming decoder is given its bytes.
+/// The calls by which a streaming decoder gets its bytes.
 #[derive(Debug, Drop)]
 enum Feeding {
     Pushes,
     Bytes,
-    /// Byte by byte too, but only the results to zeros are said.
+    /// Byte by byte too, but only the results for zeros are added.
     Zeros,
     /// By `feed_piece`, which returns how each piece ended.
     Pieces,
 }
 
-/// What the cases ask of a streaming decoder beyond `FrameDecoder`.
+/// Methods of streaming decoders that the cases need and `FrameDecoder` doesn't have.
 trait Streaming: FrameDecoder {
     /// Pushes bytes until the first result that isn't "nothing yet".
     fn push_bytes(&mut self, bytes: &[u8]) -> Result<Option<DecodeReport>, PushError>;
 
-    /// Goes back to the start of a frame, and leaves the buffer as it is.
+    /// Puts the decoder back to the start of a frame, and leaves the buffer as it is.
     fn restart(&mut self);
 }
 
@@ -59,13 +59,13 @@ impl Streaming for CobsDecoder<'_> {
         self.push(bytes)
     }
 
-    /// This decoder has no `reset`. A zero leaves it idle too, and changes no byte.
+    /// Feeds a zero, because this decoder has no `reset`. A zero makes it idle too, and changes no byte.
     fn restart(&mut self) {
         let _ = self.feed(0);
     }
 }
 
-/// A decoder that feeds each byte by itself.
+/// A decoder whose `feed_piece` is that of the trait: it feeds one byte after another.
 #[derive(Drop)]
 struct ByBytes {
     decoder: CobsDecoderOwned,
@@ -99,12 +99,12 @@ impl Streaming for ByBytes {
     }
 }
 
-/// A streaming decoder over a buffer, given pieces: each of the three decoders by pushes, byte by byte, and by
-/// `feed_piece`, whose results are compared with those at the zeros. If a result differs from the first one, it is added to
-/// the text, so the case differs.
+/// Runs the streaming decoders over a buffer: each of the three by pushes and byte by byte, and then by `feed_piece`,
+/// whose results are compared with those for the zeros. If a result differs from the first one, it is added to the
+/// text, so that the case differs.
 ///
 /// # Errors
-/// `Malformed` also if [`heapless`] knows no buffer of this length.
+/// `Malformed` also if [`heapless`] has no buffer of this length.
 pub fn decoder(alloc: Global, arguments: &[&str]) -> Result<CallResult, CaseFault> {
     let [buffer, pieces @ ..] = arguments else {
         return Err(CaseFault::Malformed);
@@ -146,7 +146,7 @@ fn borrowed(
     given(alloc, &mut decoder, pieces, feeding)
 }
 
-/// Matches the buffer's length with each of these.
+/// Calls a function with a decoder whose buffer has one of these lengths.
 macro_rules! of_length {
     ($($len:literal)*; $alloc:expr, $buffer:expr, $pieces:expr, $feeding:expr) => {
         match $buffer.len() {
@@ -156,7 +156,7 @@ macro_rules! of_length {
     };
 }
 
-/// A decoder with its buffer in itself, of each length that the cases have: a new one has to be listed.
+/// Runs a decoder whose buffer is part of it. Each length in the cases has to be in the list here.
 fn heapless(
     alloc: Global,
     buffer: &[u8],
@@ -183,21 +183,21 @@ fn in_itself<const N: usize>(
     given(alloc, &mut decoder, pieces, feeding)
 }
 
-/// A decoder whose `feed_piece` is the trait's own.
+/// Runs a decoder whose `feed_piece` is that of the trait.
 fn by_bytes(alloc: Global, buffer: &[u8], pieces: &[&str]) -> Result<CallResult, CaseFault> {
     let mut decoder = CobsDecoderOwned::new(alloc, buffer.len())?;
     write_over(decoder.dest_mut(), buffer);
     given(alloc, &mut ByBytes { decoder }, pieces, &Feeding::Pieces)
 }
 
-/// Writes bytes over as many others.
+/// Writes bytes over a slice of the same length.
 fn write_over(dest: &mut [u8], bytes: &[u8]) {
     if dest.len() == bytes.len() {
         dest.copy_from_slice(bytes);
     }
 }
 
-/// Gives a decoder the pieces: its buffer after them, and each result but "nothing yet".
+/// Passes the pieces to a decoder. Returns its buffer after them, and each result except "nothing yet".
 fn given<D: Streaming>(
     alloc: Global,
     decoder: &mut D,
@@ -226,7 +226,7 @@ fn given<D: Streaming>(
     Ok(returned)
 }
 
-/// Pushes a piece, and what each result leaves of it again.
+/// Pushes a piece, and then repeatedly the bytes that the push hasn't consumed.
 fn push_piece<D: Streaming>(
     decoder: &mut D,
     piece: &[u8],
@@ -248,7 +248,7 @@ fn push_piece<D: Streaming>(
     Ok(())
 }
 
-/// Feeds a piece byte by byte, and says the result for each, or only to the zeros.
+/// Feeds a piece byte by byte, and adds the result for each byte, or only for the zeros.
 fn feed_bytes<D: Streaming>(
     decoder: &mut D,
     piece: &[u8],
@@ -267,7 +267,7 @@ fn feed_bytes<D: Streaming>(
     Ok(())
 }
 
-/// Feeds a piece by `feed_piece`, and what each call leaves of it again.
+/// Feeds a piece by `feed_piece`, and then repeatedly the bytes that the call hasn't consumed.
 fn feed_pieces<D: Streaming>(
     decoder: &mut D,
     piece: &[u8],
@@ -292,7 +292,8 @@ fn feed_pieces<D: Streaming>(
     Ok(())
 }
 
-/// Says a result for a byte, if it isn't "nothing yet": the bytes taken, the kind, and what begins the buffer.
+/// Adds a result for a byte, unless it is "nothing yet": the number of bytes taken, the kind, and the front of the
+/// buffer.
 fn say_event(
     events: &mut CallResult,
     taken: usize,
@@ -311,7 +312,7 @@ fn say_event(
     Ok(())
 }
 
-/// The outcomes of a stream that comes in pieces.
+/// Runs `decode_stream`, which returns the outcomes of a stream that comes in pieces.
 pub fn decode_stream(alloc: Global, arguments: &[&str]) -> Result<CallResult, CaseFault> {
     let [room, pieces @ ..] = arguments else {
         return Err(CaseFault::Malformed);
@@ -329,7 +330,7 @@ pub fn decode_stream(alloc: Global, arguments: &[&str]) -> Result<CallResult, Ca
     Ok(returned)
 }
 
-/// A buffer of this many zeros.
+/// Makes a buffer of this many zeros.
 fn buffer_of(alloc: Global, room: &str) -> Result<Vec<u8>, CaseFault> {
     let room = number_of(room)?;
     if room > MAX_BYTES {
@@ -339,8 +340,8 @@ fn buffer_of(alloc: Global, room: &str) -> Result<Vec<u8>, CaseFault> {
     Ok(buffer)
 }
 
-/// A reader of frames over a source that gives these reads: the result of each call, until the source has ended and
-/// all reads were made.
+/// Runs a reader of frames over a source with these reads. Returns the result of each call, until the source has ended
+/// and all reads were made.
 pub fn next_frame(alloc: Global, arguments: &[&str]) -> Result<CallResult, CaseFault> {
     let [room, reads @ ..] = arguments else {
         return Err(CaseFault::Malformed);
@@ -361,7 +362,7 @@ pub fn next_frame(alloc: Global, arguments: &[&str]) -> Result<CallResult, CaseF
     Ok(returned)
 }
 
-/// Says what a call of `next_frame` found, nothing if a read failed.
+/// Adds the result of a call of `next_frame`.
 fn say_next(
     returned: &mut CallResult,
     next: &Option<Next>,

@@ -1,4 +1,4 @@
-//! How many cases there were, and how many of them differ.
+//! Counts the cases, and those that differ.
 ghost use Rattle.std.specs.Prelude.{◌≡◌, ◌+◌, ◌<◌, ◌++◌, ◌↔◌, IsTrue, IfOk, codes, if◌then◌else◌, string_bytes};
 ghost use Rattle.std.specs.Fmt.{decimal};
 
@@ -12,7 +12,7 @@ pub struct Tally {
 }
 
 impl Tally {
-    /// A tally of no case.
+    /// Makes a tally of no case.
     pub fn new() -> Tally
         ensures cases { result.cases ≡ 0 }
         ensures differing { result.differing ≡ 0 }
@@ -35,14 +35,14 @@ impl Tally {
         }
     }
 
-    /// Whether no case differs.
+    /// Returns whether no case differs.
     pub fn agrees(&self) -> bool
         ensures none_differ { IsTrue result ↔ (self.now.differing ≡ 0) }
     {
         self.differing == 0
     }
 
-    /// The last line of what is printed, without the newline.
+    /// Returns the last line of the output, without the newline.
     pub fn last_line(&self, alloc: Global) -> Result<String, AllocError>
         ensures line { IfOk result (λ line. string_bytes line
             ≡ decimal self.now.cases ++ codes " cases, " ++ decimal self.now.differing

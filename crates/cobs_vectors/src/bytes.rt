@@ -1,7 +1,7 @@
 //! Bytes: how the tests write and make them.
 use std::alloc::{AllocError, Global};
 
-/// Bytes as the parts of which they consist, one after the other.
+/// Bytes as a list of parts, one after the other.
 pub type Parts = &'static [&'static [u8]];
 
 /// The bytes of a full block of ones.
@@ -30,7 +30,7 @@ pub const LONG_FRAME: Parts = &[
     &[1; 238],
 ];
 
-/// The lists one after the other.
+/// Returns the bytes of the lists, one list after the other.
 pub fn joined(alloc: Global, lists: &[&[u8]]) -> Result<Vec<u8>, AllocError> {
     let mut whole = Vec::new(alloc);
     for list in lists {
@@ -39,13 +39,13 @@ pub fn joined(alloc: Global, lists: &[&[u8]]) -> Result<Vec<u8>, AllocError> {
     Ok(whole)
 }
 
-/// That many times the same byte.
+/// Returns `count` times the same byte.
 pub fn repeated(alloc: Global, byte: u8, count: usize) -> Result<Vec<u8>, AllocError> {
     vec![in alloc; byte; count]
 }
 
-/// A list of `count` of the parts, chosen by the digits of `number` in the base `parts.len()`. So each number below
-/// `parts.len()` to the power of `count` has a list of its own.
+/// Returns `count` of the parts, chosen by the digits of `number` in the base `parts.len()`. So each number below
+/// `parts.len()` to the power of `count` has its own bytes.
 pub fn chosen(
     alloc: Global,
     parts: &[&[u8]],

@@ -1,7 +1,7 @@
-//! Callers that prove something of what they do, from the public contracts of `cobs` only.
+//! Callers with contracts that are proved from the public contracts of `cobs` only.
 //!
-//! There is no test here: each function has a contract, and the prover derives it from the clauses of the calls that it
-//! makes. So a clause that said too little for its users would be noticed here.
+//! There is no test here. The prover derives each contract from the clauses of the calls in the function, so a clause
+//! that says too little for its users is noticed here.
 ghost use Rattle.std.specs.Prelude.{◌≡◌, ◌≢◌, ◌≤◌, ◌<◌, ◌+◌, ◌^◌, ◌↔◌, ◌∷◌, ◌++◌, [], All, length, take, drop, slice_index, slice_set, List, ℕ, Ok, Some, option_to_list, IfOk, IfSome, IsSomeAnd, IsTrue};
 ghost use Rattle.cobs.specs.Decode.{first_output, head_result, in_place, in_place_report, result_of_decode};
 ghost use Rattle.cobs.specs.Overwritten.{message_in, overwritten, written_at};
@@ -29,7 +29,7 @@ use cobs::{
 };
 use std::alloc::{AllocError, Global};
 
-/// Whether the piece reads as the message, and the message fits the buffer.
+/// Returns whether the piece reads as the message, and the message fits the buffer.
 pub fn reads_as(piece: &[u8], message: &[u8], buffer: &mut [u8]) -> bool
     requires { IsPiece piece.now }
     ensures { IsTrue result ↔ (Reads piece.now message.now × (length message.now ≤ length buffer.old)) }
@@ -40,7 +40,7 @@ pub fn reads_as(piece: &[u8], message: &[u8], buffer: &mut [u8]) -> bool
     }
 }
 
-/// Whether the piece, for another sentinel than 0, reads as the message, and the message fits the buffer.
+/// Returns whether the piece, for another sentinel than 0, reads as the message, and the message fits the buffer.
 pub fn reads_for(sentinel: u8, piece: &[u8], message: &[u8], buffer: &mut [u8]) -> bool
     requires { IsPiece (xor_each sentinel piece.now) }
     ensures { IsTrue result ↔ (Reads (xor_each sentinel piece.now) message.now
@@ -63,7 +63,7 @@ pub fn decode_either(source: &[u8], dest: &mut [u8]) -> Result<DecodeReport, Dec
     }
 }
 
-/// The same in its own place.
+/// Decodes a short frame in place at once, and any other one by a call, with the results of [`decode_in_place_report`].
 pub fn decode_either_in_place(buffer: &mut [u8]) -> Result<DecodeReport, DecodeError>
     ensures returned { result ≡ in_place_report buffer.old }
     ensures buffer { buffer.new ≡ in_place buffer.old }
@@ -74,7 +74,7 @@ pub fn decode_either_in_place(buffer: &mut [u8]) -> Result<DecodeReport, DecodeE
     }
 }
 
-/// Decodes a frame that is known to be short, for which no other call is needed. It says whether that is so.
+/// Decodes a frame that is known to be short, for which no other call is needed. Returns whether it was decoded.
 pub fn decode_known_short(frame: &[u8], dest: &mut [u8]) -> bool
     requires nonzero { HasNoZero frame.now }
     requires few { (2 ≤ length frame.now) × (length frame.now ≤ 65) }
@@ -85,7 +85,7 @@ pub fn decode_known_short(frame: &[u8], dest: &mut [u8]) -> bool
     decode_short(frame, dest).is_some()
 }
 
-/// The same in its own place, of a frame whose blocks are all whole.
+/// Decodes a frame in place that is known to be short, and whose blocks are all whole. Returns whether it was decoded.
 pub fn decode_known_short_in_place(frame: &mut [u8]) -> bool
     requires nonzero { HasNoZero frame.old }
     requires few { (2 ≤ length frame.old) × (length frame.old ≤ 65) }
@@ -106,7 +106,7 @@ pub fn decode_before_zero(buffer: &mut [u8]) -> Result<usize, DecodeError>
     decode_blocks_each(buffer, end)
 }
 
-/// Returns the source from its first nonzero byte on: its first piece is the same.
+/// Returns the source from its first nonzero byte on, which has the same first piece.
 pub fn skip_zeros<'a>(source: &'a [u8]) -> &'a [u8]
     ensures { first_piece result.now ≡ first_piece source.now }
 {
@@ -114,7 +114,7 @@ pub fn skip_zeros<'a>(source: &'a [u8]) -> &'a [u8]
     &source[leading_zeros(source)..]
 }
 
-/// Encodes the message, and asks which frame it is: the canonical one.
+/// Encodes the message, and returns whether the result is a canonical frame, as it always is.
 pub fn encode_canonically(message: &[u8], dest: &mut [u8]) -> bool
     requires { encoded_len message.now ≤ length dest.old }
     ensures { IsTrue result }
@@ -123,8 +123,8 @@ pub fn encode_canonically(message: &[u8], dest: &mut [u8]) -> bool
     kind_by_blocks(&dest[..len]) == FrameKind::Canonical
 }
 
-/// Writes the frame of the message for the sentinel, and the sentinel after it, and returns its place: it is
-/// the first one in the buffer.
+/// Writes the frame of the message for the sentinel, and the sentinel after it. Returns the index of that sentinel,
+/// which is the first one in the buffer.
 pub fn write_ended(message: &[u8], dest: &mut [u8], sentinel: u8) -> usize
     requires { encoded_len message.now < length dest.old }
     ensures none_before { All (λ byte. byte ≢ sentinel) (take result dest.new) }
@@ -135,8 +135,7 @@ pub fn write_ended(message: &[u8], dest: &mut [u8], sentinel: u8) -> usize
     len
 }
 
-/// Encodes a message that lies in the buffer in its own place, and writes a zero after the frame. Nothing after that zero is
-/// changed.
+/// Encodes a message in its own buffer, and writes a zero after the frame. No byte after that zero is changed.
 pub fn end_in_place(buffer: &mut [u8], message_len: usize) -> usize
     requires { max_encoded_len message_len < length buffer.old }
     ensures frame { IsEncodedFrame (take result buffer.new) (message_in message_len buffer.old) }
@@ -161,7 +160,8 @@ pub fn write_between<'a>(message: &[u8], dest: &'a mut [u8]) -> &'a [u8]
     &written[1..len - 1]
 }
 
-/// The same, if it fits.
+/// Writes the frame of the message between two zeros, if they fit, and returns the bytes between them, which have no
+/// zero.
 pub fn try_write_between<'a>(
     message: &[u8],
     dest: &'a mut [u8],
@@ -173,7 +173,7 @@ pub fn try_write_between<'a>(
     Ok(&written[1..len - 1])
 }
 
-/// What is between the two zeros of a vector: there is no other.
+/// Returns the bytes between the two zeros of a vector, which has no other zero.
 pub fn frame_between(alloc: Global, message: &[u8]) -> Result<Vec<u8>, AllocError>
     requires { max_encoded_len (length message.now) + 2 < 2 ^ 64 }
     ensures { IfOk result (λ frame. HasNoZero frame.items) }
@@ -182,7 +182,7 @@ pub fn frame_between(alloc: Global, message: &[u8]) -> Result<Vec<u8>, AllocErro
     Vec::from_slice(alloc, &delimited[1..delimited.len() - 1])
 }
 
-/// The frame of the message and a zero after it, which is the only one.
+/// Returns the frame of the message and a zero after it, which is the only zero.
 pub fn ended_frame(alloc: Global, message: &[u8]) -> Result<Vec<u8>, AllocError>
     requires { max_encoded_len (length message.now) < 2 ^ 64 }
     ensures { IfOk result (λ ended. (f : List ℕ) × HasNoZero f × (ended.items ≡ f ++ 0 ∷ [])) }
@@ -192,7 +192,7 @@ pub fn ended_frame(alloc: Global, message: &[u8]) -> Result<Vec<u8>, AllocError>
     Ok(frame)
 }
 
-/// The frame of the message for the sentinel, and the sentinel after it, which is nowhere else.
+/// Returns the frame of the message for the sentinel and the sentinel after it, which is the only one.
 pub fn ended_frame_for(alloc: Global, sentinel: u8, message: &[u8]) -> Result<Vec<u8>, AllocError>
     requires { max_encoded_len (length message.now) < 2 ^ 64 }
     ensures { IfOk result (λ ended. (f : List ℕ) × IsFreeOf sentinel f
@@ -203,7 +203,7 @@ pub fn ended_frame_for(alloc: Global, sentinel: u8, message: &[u8]) -> Result<Ve
     Ok(frame)
 }
 
-/// The frames of the messages, or `None` if they are too many for a vector.
+/// Returns the frames of the messages, or `None` if they are too many for a vector.
 pub fn frames_of(alloc: Global, messages: &[Vec<u8>]) -> Result<Option<Vec<u8>>, AllocError>
     ensures { IfOk result (λ found. IfSome found (λ bytes. AreFrames (messages_in messages.now) bytes.items)) }
 {
@@ -213,14 +213,14 @@ pub fn frames_of(alloc: Global, messages: &[Vec<u8>]) -> Result<Option<Vec<u8>>,
     Ok(Some(encode_frames(alloc, messages)?))
 }
 
-/// Pushes a zero, which changes no byte of the buffer in any phase, also if the caller wrote to it inside a piece.
+/// Pushes a zero, which changes no byte of the buffer, in any phase and also if the caller wrote to it inside a piece.
 pub fn push_zero(decoder: &mut CobsDecoderOwned)
     ensures same_bytes { owned_buffer decoder.new ≡ owned_buffer decoder.old }
 {
     let _returned = decoder.push(&[0]);
 }
 
-/// Pushes no bytes, which changes nothing in any phase.
+/// Pushes no bytes, which changes nothing, in any phase.
 pub fn push_nothing(decoder: &mut CobsDecoder<'_>)
     ensures same_bytes { borrowed_buffer decoder.new ≡ borrowed_buffer decoder.old }
     ensures same_phase { borrowed_phase decoder.new ≡ borrowed_phase decoder.old }
@@ -229,7 +229,7 @@ pub fn push_nothing(decoder: &mut CobsDecoder<'_>)
     let _returned = decoder.push(&[]);
 }
 
-/// Whether a push decoded this message, which is then at the buffer's front.
+/// Returns whether a push decoded this message, which is then at the front of the buffer.
 fn came_to(returned: Result<Option<DecodeReport>, PushError>, buffer: &[u8], message: &[u8]) -> bool
     ensures { IsTrue result ↔ PushesMessage returned buffer.now message.now }
 {
@@ -239,7 +239,7 @@ fn came_to(returned: Result<Option<DecodeReport>, PushError>, buffer: &[u8], mes
     }
 }
 
-/// Whether a push of the piece and its zero reads the message: it does if the message fits the slice.
+/// Returns whether a push of the piece and its zero reads the message. It does if the message fits the slice.
 pub fn push_reads(decoder: &mut CobsDecoder<'_>, ended: &[u8], piece: &[u8], message: &[u8]) -> bool
     requires idle { borrowed_phase decoder.old ≡ Idle }
     requires piece { IsPiece piece.now }
@@ -251,7 +251,7 @@ pub fn push_reads(decoder: &mut CobsDecoder<'_>, ended: &[u8], piece: &[u8], mes
     came_to(returned, decoder.dest(), message)
 }
 
-/// The same with a buffer of the decoder's own.
+/// Does what [`push_reads`] does, with a buffer that the decoder owns.
 pub fn push_reads_owned(
     decoder: &mut CobsDecoderOwned,
     ended: &[u8],
@@ -268,7 +268,7 @@ pub fn push_reads_owned(
     came_to(returned, decoder.dest(), message)
 }
 
-/// The same with a buffer that lies in the decoder.
+/// Does what [`push_reads`] does, with a buffer that is part of the decoder.
 pub fn push_reads_heapless<const N: usize>(
     decoder: &mut CobsDecoderHeapless<N>,
     ended: &[u8],
@@ -285,7 +285,7 @@ pub fn push_reads_heapless<const N: usize>(
     came_to(returned, decoder.dest(), message)
 }
 
-/// The byte of the message that a result has.
+/// Returns the byte of the message that a result has, if any.
 fn byte_given(returned: Result<DecodeResult, DecodeError>) -> Option<u8>
     ensures { option_to_list result ≡ data_of returned }
 {
@@ -295,15 +295,15 @@ fn byte_given(returned: Result<DecodeResult, DecodeError>) -> Option<u8>
     }
 }
 
-/// Whether a result says that a whole frame has ended.
+/// Returns whether a result says that a whole frame has ended.
 fn is_complete(returned: Result<DecodeResult, DecodeError>) -> bool
     ensures { IsTrue result ↔ (returned ≡ Ok DecodeResult.DataComplete) }
 {
     matches!(returned, Ok(DecodeResult::DataComplete))
 }
 
-/// Decodes a frame byte by byte into a vector, using only the state machine: the message, or `None` if it isn't a
-/// frame.
+/// Decodes a frame byte by byte into a vector, using only the state machine. Returns the message, or `None` if the
+/// bytes aren't a frame.
 pub fn decode_by_state(alloc: Global, frame: &[u8]) -> Result<Option<Vec<u8>>, AllocError>
     requires { HasNoZero frame.now }
     ensures { (m : List ℕ) → IfOk result (λ found.
@@ -323,7 +323,7 @@ pub fn decode_by_state(alloc: Global, frame: &[u8]) -> Result<Option<Vec<u8>>, A
     }
 }
 
-/// Feeds a byte to a decoder and to a state machine with an equal state. Then their states are equal again, unless the
+/// Feeds a byte to a decoder, and to a state machine with an equal state. Their states are equal again, unless the
 /// decoder's buffer is now too short.
 pub fn feed_both(decoder: &mut CobsDecoderOwned, state: &mut DecoderState, byte: u8)
     requires { state_in (owned_phase decoder.old) ≡ Some state.old }
@@ -343,7 +343,7 @@ pub fn write_first<D: WriteBuffer>(decoder: &mut D, byte: u8)
     decoder.dest_mut()[0] = byte;
 }
 
-/// Writes to the slice that a decoder borrows, inside a piece: the piece that it has taken is the same.
+/// Writes to the slice that a decoder borrows, inside a piece: the front of the piece that it has taken stays the same.
 pub fn write_borrowed(decoder: &mut CobsDecoder<'_>, at: usize, source: &[u8])
     requires { at + length source.now ≤ length (borrowed_buffer decoder.old) }
     ensures bytes { borrowed_buffer decoder.new ≡ written_at (borrowed_buffer decoder.old) at source.now }
@@ -353,14 +353,14 @@ pub fn write_borrowed(decoder: &mut CobsDecoder<'_>, at: usize, source: &[u8])
     decoder.write_dest(at, source);
 }
 
-/// How long the buffer of a decoder is that lies in the value itself, whatever was done with the decoder before.
+/// Returns the length of a buffer that is part of its decoder, whatever calls the decoder has had before.
 pub fn buffer_len<const N: usize>(decoder: &CobsDecoderHeapless<N>) -> usize
     ensures { result ≡ N }
 {
     decoder.dest().len()
 }
 
-/// Does nothing: to each length there is a message of bytes whose frame, of bytes too, is as long as a frame can be.
+/// Does nothing. For each length there is a message of bytes with the longest frame that is possible.
 pub fn longest_frame(len: usize)
     ensures { (m : List ℕ) × (f : List ℕ) × (length m ≡ len) × All (λ byte. byte < 256) m × IsEncodedFrame f m
         × All (λ byte. byte < 256) f × (length f ≡ max_encoded_len len) }
@@ -369,7 +369,7 @@ pub fn longest_frame(len: usize)
     law_4();
 }
 
-/// Copies a report: that never fails, and the copy has the same sizes.
+/// Copies a report, which never fails. The copy has the same sizes.
 pub fn copy_of(report: &DecodeReport) -> DecodeReport
     ensures parsed { parsed_size_of result ≡ parsed_size_of report.now }
     ensures frame { frame_size_of result ≡ frame_size_of report.now }
@@ -380,7 +380,7 @@ pub fn copy_of(report: &DecodeReport) -> DecodeReport
     }
 }
 
-/// Whether two reports are equal: they are if both sizes are.
+/// Returns whether two reports are equal: whether both sizes are.
 pub fn are_same_reports(first: &DecodeReport, second: &DecodeReport) -> bool
     ensures { IsTrue result ↔ ((parsed_size_of first.now ≡ parsed_size_of second.now)
         × (frame_size_of first.now ≡ frame_size_of second.now)) }
@@ -388,14 +388,14 @@ pub fn are_same_reports(first: &DecodeReport, second: &DecodeReport) -> bool
     first == second
 }
 
-/// Whether two errors are equal: they are if their variants are, and the bytes that they count.
+/// Returns whether two errors are equal: whether their variants are, and the bytes that they count.
 pub fn are_same_errors(first: &DecodeError, second: &DecodeError) -> bool
     ensures { IsTrue result ↔ (first.now ≡ second.now) }
 {
     first == second
 }
 
-/// Whether two errors of an encoder are equal: it has only one.
+/// Returns whether two errors of an encoder are equal. They are, because there is only one.
 pub fn are_same_room_errors(first: &DestBufTooSmallError, second: &DestBufTooSmallError) -> bool
     ensures { IsTrue result }
 {

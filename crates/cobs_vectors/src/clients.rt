@@ -1,5 +1,5 @@
-//! Callers as a user's own crate has them: a handler of one byte, a loop over a stream, a reader of frames, a round
-//! trip, a log. What each promises is proved only from the public clauses of `cobs`.
+//! Callers as in a user's own crate: a handler of one byte, a loop over a stream, a reader of frames, a round trip, a
+//! log. Their contracts are proved only from the public clauses of `cobs`.
 ghost use Rattle.std.specs.Prelude.{◌≡◌, ◌≢◌, ◌≤◌, ◌<◌, ◌^◌, ◌↔◌, ◌∷◌, ◌++◌, [], length, take, drop, List, ℕ, IfOk, IfSome, IsOk, OnOk, IsSomeAnd, IsTrue, Some};
 ghost use Rattle.cobs.specs.Feed.{DecoderAfter, Idle, Overlong, state_in};
 ghost use Rattle.cobs.specs.FeedPiece.{IsWithin, outcome_at};
@@ -25,7 +25,8 @@ use cobs::{
 use std::alloc::{AllocError, Global};
 use std::mem;
 
-/// Handles a byte in an interrupt: the length of the message that it ended, which is sliced out of the buffer.
+/// Handles a byte in an interrupt. Returns the length of the message that it ended; the message is sliced out of the
+/// buffer.
 pub fn on_byte<const N: usize>(decoder: &mut CobsDecoderHeapless<N>, byte: u8) -> usize
     ensures { result ≤ N }
 {
@@ -55,7 +56,7 @@ pub fn count_messages(decoder: &mut CobsDecoderOwned, bytes: &[u8]) -> usize {
     count
 }
 
-/// The greatest length of a message in some bytes, by any decoder.
+/// Returns the greatest length of the messages in some bytes, for any decoder.
 pub fn longest<D: FrameDecoder>(decoder: &mut D, bytes: &[u8]) -> usize {
     let mut at = 0;
     let mut longest = 0;
@@ -69,7 +70,7 @@ pub fn longest<D: FrameDecoder>(decoder: &mut D, bytes: &[u8]) -> usize {
     longest
 }
 
-/// How much of a broken piece was decoded, which is sliced out of the buffer.
+/// Returns how many bytes of a broken piece were decoded; they are sliced out of the buffer.
 pub fn broken_part<D: FrameDecoder>(decoder: &mut D, bytes: &[u8]) -> usize
     requires { DecoderAfter (D.bytes decoder.old) (D.phase decoder.old) [] }
 {
@@ -90,7 +91,7 @@ pub fn resync<D: FrameDecoder>(decoder: &mut D)
     let _ended = decoder.feed_byte(0);
 }
 
-/// The same by `feed_piece`.
+/// Does what [`resync`] does, by `feed_piece`.
 pub fn resync_by_piece<D: FrameDecoder>(decoder: &mut D)
     ensures idle { D.phase decoder.new ≡ Idle }
     ensures unchanged { D.bytes decoder.new ≡ D.bytes decoder.old }
@@ -127,7 +128,7 @@ pub fn end_alike<D: FrameDecoder>(decoder: &mut D, state: &mut DecoderState, byt
     }
 }
 
-/// All frames of a reader: how many bytes their messages have, each sliced out of the decoder's buffer.
+/// Reads all frames of a reader, and slices each message out of the decoder's buffer. Returns the sum of their lengths.
 pub fn total<D: FrameDecoder, S: FrameSource>(
     reader: &mut FrameReader<D>,
     source: &mut S,
@@ -147,7 +148,7 @@ pub fn total<D: FrameDecoder, S: FrameSource>(
     total
 }
 
-/// Reads through the end of the next piece, and returns a copy of what was decoded of it if it is broken.
+/// Reads through the end of the next piece. Returns a copy of its decoded bytes if it is broken.
 pub fn next_broken<D: FrameDecoder, S: FrameSource>(
     alloc: Global,
     reader: &mut FrameReader<D>,
@@ -172,7 +173,7 @@ pub struct Port {
 }
 
 impl Port {
-    /// Handles a byte: the length of the message that it ended.
+    /// Handles a byte. Returns the length of the message that it ended.
     pub fn on_byte(&mut self, byte: u8) -> usize
         ensures { result ≤ 64 }
     {
@@ -186,7 +187,7 @@ impl Port {
     }
 }
 
-/// Decodes a frame and its zero: the message is in the caller's slice once the decoder is gone.
+/// Decodes a frame and its zero. The message is in the caller's slice after the decoder is dropped.
 pub fn decode_ended(ended: &[u8], piece: &[u8], dest: &mut [u8]) -> Option<usize>
     requires piece { IsPiece piece.now }
     requires ended { ended.now ≡ piece.now ++ 0 ∷ [] }
@@ -214,7 +215,7 @@ pub fn there_and_back(message: &[u8], frame: &mut [u8], buffer: &mut [u8]) -> bo
     }
 }
 
-/// Encodes a message and decodes its frame: no other message comes back.
+/// Encodes a message and decodes its frame. The result is no other message.
 pub fn no_other(message: &[u8], frame: &mut [u8], buffer: &mut [u8]) -> Option<usize>
     requires { encoded_len message.now ≤ length frame.old }
     ensures { (m : List ℕ) → IsSomeAnd result (λ n. BeginsWith buffer.new n m) → m ≡ message.now }
@@ -265,7 +266,8 @@ pub fn frame_next(
     encoder.finalize(buffer)
 }
 
-/// Frames two messages by one encoder over one buffer: the frame of the second is in the buffer at the end.
+/// Writes the frames of two messages to the front of one buffer by one encoder. At the end the buffer has the second
+/// frame.
 pub fn frame_two(
     first: &[u8],
     second: &[u8],
@@ -281,8 +283,8 @@ pub fn frame_two(
     Ok((len, frame_next(&mut encoder, second, buffer)?))
 }
 
-/// Appends the frame of a message and a zero to a log that is empty or ends in a zero. Whatever is in the log, what it
-/// says stays, and the message follows.
+/// Appends the frame of a message and a zero to a log that is empty or ends in a zero. The outcomes of the log stay,
+/// whatever they are, and the message follows them.
 pub fn append_to_log(alloc: Global, log: &[u8], message: &[u8]) -> Result<Vec<u8>, AllocError>
     requires at_sentinel { IsAtSentinel log.now }
     requires fits { max_encoded_len (length message.now) < 2 ^ 64 }
@@ -302,7 +304,7 @@ pub fn append_to_log(alloc: Global, log: &[u8], message: &[u8]) -> Result<Vec<u8
     Ok(longer)
 }
 
-/// Appends the frame of a message that was decoded into this buffer, and nothing for any other end of a piece.
+/// Appends the frame of a message that was decoded into this buffer. For any other end of a piece it appends nothing.
 fn relayed(alloc: Global, log: Vec<u8>, end: PieceEnd, buffer: &[u8]) -> Result<Vec<u8>, AllocError>
     requires at_sentinel { IsAtSentinel log.items }
     requires within { IsWithin (length buffer.now) end }
@@ -342,7 +344,7 @@ pub fn relay<D: FrameDecoder>(
     Ok(out)
 }
 
-/// A log of two messages.
+/// Returns a log of two messages.
 pub fn log_of_two(alloc: Global, first: &[u8], second: &[u8]) -> Result<Vec<u8>, AllocError>
     requires first { max_encoded_len (length first.now) < 2 ^ 64 }
     requires second { max_encoded_len (length second.now) < 2 ^ 64 }
@@ -352,7 +354,7 @@ pub fn log_of_two(alloc: Global, first: &[u8], second: &[u8]) -> Result<Vec<u8>,
     append_to_log(alloc, &log, second)
 }
 
-/// Collects the pieces that end in a chunk of a stream, undecoded: `begun` has the bytes that no zero has ended yet.
+/// Collects the pieces that end in a chunk of a stream, undecoded. `begun` has the bytes that no zero has ended yet.
 pub fn pieces_in(
     alloc: Global,
     begun: &mut Vec<u8>,

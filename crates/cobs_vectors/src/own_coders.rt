@@ -1,4 +1,4 @@
-//! Coders of a user's own, proved from the laws only, and an encoder in a state that another program kept.
+//! Coders that a user could write, proved from the laws only, and an encoder in a state that another program kept.
 ghost use Rattle.std.specs.Prelude.{◌≡◌, ◌≤◌, ◌<◌, ◌^◌, ◌↔◌, List, ℕ, length, take, IfOk, IsOk, IsTrue};
 ghost use Rattle.cobs.specs.Feed.{Feeds};
 ghost use Rattle.cobs.specs.FeedPiece.{TakesPiece};
@@ -21,7 +21,8 @@ use std::alloc::{AllocError, Global};
 /// The code of a full block.
 const FULL: usize = 255;
 
-/// Takes the last bytes of a message and ends it, in whatever state the encoder is: it does exactly if there is room.
+/// Takes the last bytes of a message and ends it, whatever the state of the encoder is. It succeeds exactly if there is
+/// room.
 pub fn end_with(
     encoder: &mut UnbufferedEncoder,
     bytes: &[u8],
@@ -33,7 +34,7 @@ pub fn end_with(
     encoder.finalize(buffer)
 }
 
-/// Writes the frame for a link's sentinel; for 0 there is nothing to XOR.
+/// Writes the frame for a link's sentinel. For 0 no byte is XORed.
 pub fn encode_for_link(message: &[u8], dest: &mut [u8], sentinel: u8) -> usize
     requires { encoded_len message.now ≤ length dest.old }
     ensures { IsEncodedFrameFor sentinel (take result dest.new) message.now }
@@ -45,7 +46,7 @@ pub fn encode_for_link(message: &[u8], dest: &mut [u8], sentinel: u8) -> usize
     encode_with_sentinel(message, dest, sentinel)
 }
 
-/// Changes a frame to one for a sentinel, in its own buffer: it never contains the sentinel.
+/// Changes a frame to one for a sentinel, in its own buffer, which then never contains the sentinel.
 pub fn change_sentinel(frame: &mut [u8], sentinel: u8)
     ensures changed { frame.new ≡ xor_each sentinel frame.old }
     ensures free { IsFrame frame.old → IsFreeOf sentinel frame.new }
@@ -56,7 +57,7 @@ pub fn change_sentinel(frame: &mut [u8], sentinel: u8)
     }
 }
 
-/// The length of a message's frame, counted in one pass: nothing is written.
+/// Returns the length of a message's frame, counted in one pass. Nothing is written.
 pub fn frame_len(message: &[u8]) -> usize
     requires { max_encoded_len (length message.now) < 2 ^ 64 }
     ensures { result ≡ encoded_len message.now }
@@ -116,7 +117,7 @@ pub fn encode_by_byte(message: &[u8], dest: &mut [u8]) -> usize
     index + code as usize
 }
 
-/// Takes bytes one by one through the zero that ends the first piece, or all of them: this is `feed_piece`.
+/// Takes bytes one by one, through the zero that ends the first piece or to the end, as `feed_piece` does.
 pub fn feed_each(
     decoder: &mut UnbufferedDecoder,
     buffer: &mut [u8],
@@ -137,8 +138,8 @@ pub fn feed_each(
     None
 }
 
-/// Handles a byte, and leaves out the zeros between two frames: an idle decoder would only return that no piece has
-/// ended.
+/// Handles a byte, and skips the zeros between two frames, for which an idle decoder would only return that no piece
+/// has ended.
 pub fn feed_between(
     decoder: &mut UnbufferedDecoder,
     buffer: &mut [u8],
@@ -154,7 +155,7 @@ pub fn feed_between(
     decoder.feed(buffer, byte)
 }
 
-/// Which frame a piece is, found from code to code.
+/// Returns the kind of a frame. It goes from code to code.
 pub fn kind_by_code(piece: &[u8]) -> FrameKind
     requires { IsPiece piece.now }
     ensures frame { (result ≡ FrameKind.NotAFrame) ↔ ¬ IsFrame piece.now }
@@ -181,7 +182,7 @@ pub fn kind_by_code(piece: &[u8]) -> FrameKind
     }
 }
 
-/// Decodes a piece from code to code: returns whether it is whole, and its output, without the bytes of a broken block.
+/// Decodes a piece from code to code. Returns whether it is whole, and its output without the bytes of a broken block.
 pub fn decode_by_code(alloc: Global, piece: &[u8]) -> Result<(bool, Vec<u8>), AllocError>
     requires { IsPiece piece.now }
     ensures whole { IfOk result (λ found. found.0 ≡ is_whole piece.now) }

@@ -1,5 +1,5 @@
-//! Receivers that read what `encode` wrote and nothing else, whichever way the bytes come. What each promises is proved
-//! only from the public clauses of `cobs`.
+//! Receivers that read the frames that `encode` wrote and nothing else, for each way of passing the bytes. Their
+//! contracts are proved only from the public clauses of `cobs`.
 ghost use Rattle.std.specs.Prelude.{◌≡◌, ◌≢◌, ◌≤◌, ◌<◌, ◌↔◌, ◌∷◌, ◌++◌, [], All, length, take, List, ℕ, IfOk, IfSome, IsSomeAnd, IsTrue};
 ghost use Rattle.cobs.specs.Feed.{DecoderAfter, Idle};
 ghost use Rattle.cobs.specs.FeedPiece.{outcome_at};
@@ -18,7 +18,7 @@ use cobs::{
 };
 use std::alloc::{AllocError, Global};
 
-/// Ends a piece whose bytes were fed one by one: it reads as the message that comes.
+/// Ends a piece whose bytes were fed one by one. The piece reads as the message that is returned.
 pub fn end_piece<D: FrameDecoder>(decoder: &mut D) -> Option<usize>
     ensures { (f : List ℕ) → DecoderAfter (D.bytes decoder.old) (D.phase decoder.old) f
         → All (λ byte. byte < 256) f → IfSome result (λ n. Reads f (take n (D.bytes decoder.new))) }
@@ -31,8 +31,8 @@ pub fn end_piece<D: FrameDecoder>(decoder: &mut D) -> Option<usize>
     }
 }
 
-/// Reads a piece and its zero by any idle decoder: a message comes exactly if the piece reads as it and the buffer holds
-/// it.
+/// Reads a piece and its zero by any idle decoder. It returns a message exactly if the piece reads as that message and
+/// the buffer has room for it.
 pub fn read_piece<D: FrameDecoder>(decoder: &mut D, ended: &[u8], piece: &[u8]) -> Option<usize>
     requires idle { D.phase decoder.old ≡ Idle }
     requires piece { IsPiece piece.now }
@@ -49,7 +49,8 @@ pub fn read_piece<D: FrameDecoder>(decoder: &mut D, ended: &[u8], piece: &[u8]) 
     }
 }
 
-/// The outcome of a piece and its zero in any idle decoder: only the piece and the buffer's length determine it.
+/// Returns the outcome of a piece and its zero in any idle decoder. It depends only on the piece and the buffer's
+/// length.
 pub fn end_of<D: FrameDecoder>(decoder: &mut D, ended: &[u8], piece: &[u8]) -> PieceEnd
     requires idle { D.phase decoder.old ≡ Idle }
     requires piece { IsPiece piece.now }
@@ -64,8 +65,8 @@ pub fn end_of<D: FrameDecoder>(decoder: &mut D, ended: &[u8], piece: &[u8]) -> P
     }
 }
 
-/// Reads what has come of a piece, with its zero or cut off: the buffer begins with what that decodes to, whether it is a
-/// frame, breaks off or is too long.
+/// Reads the received bytes of a piece, with its zero or cut off. The buffer then begins with the bytes to which the
+/// piece decodes, whether it is a frame, breaks off or is too long.
 pub fn salvage<D: FrameDecoder>(decoder: &mut D, received: &[u8]) -> Option<(PieceEnd, usize)>
     requires { D.phase decoder.old ≡ Idle }
     ensures cut_off { HasNoZero received.now
@@ -80,7 +81,7 @@ pub fn salvage<D: FrameDecoder>(decoder: &mut D, received: &[u8]) -> Option<(Pie
     decoder.feed_piece(received)
 }
 
-/// Reads a piece and its zero by one push of a decoder that has no buffer.
+/// Reads a piece and its zero by one push of a decoder whose buffer is passed to each call.
 pub fn push_reads_unbuffered(ended: &[u8], piece: &[u8], dest: &mut [u8]) -> Option<usize>
     requires piece { IsPiece piece.now }
     requires ended { ended.now ≡ piece.now ++ 0 ∷ [] }
@@ -95,7 +96,7 @@ pub fn push_reads_unbuffered(ended: &[u8], piece: &[u8], dest: &mut [u8]) -> Opt
     }
 }
 
-/// The message of a piece in a vector, or `None` if the piece is no frame.
+/// Returns the message of a piece as a vector, or `None` if the piece is no frame.
 pub fn message_of(alloc: Global, piece: &[u8]) -> Result<Option<Vec<u8>>, AllocError>
     requires { IsPiece piece.now }
     ensures { (m : List ℕ) → IfOk result (λ found.
@@ -108,7 +109,7 @@ pub fn message_of(alloc: Global, piece: &[u8]) -> Result<Option<Vec<u8>>, AllocE
     }
 }
 
-/// The same of what is between two sentinels.
+/// Returns the message of the bytes between two sentinels as a vector, or `None` if they are no frame.
 pub fn message_for(
     alloc: Global,
     sentinel: u8,
@@ -127,7 +128,7 @@ pub fn message_for(
     }
 }
 
-/// Decodes a piece where it lies: its message is then at the front.
+/// Decodes a piece in place. Its message is then at the front.
 pub fn message_in_place(piece: &mut [u8]) -> Option<usize>
     requires { IsPiece piece.old }
     ensures { (m : List ℕ) → (IsSomeAnd result (λ n. BeginsWith piece.new n m) ↔ Reads piece.old m) }
@@ -138,7 +139,7 @@ pub fn message_in_place(piece: &mut [u8]) -> Option<usize>
     }
 }
 
-/// The same with the form that also returns where the piece ended.
+/// Decodes a piece in place, by the form that also returns where the piece ended.
 pub fn report_in_place(piece: &mut [u8]) -> Option<usize>
     requires { IsPiece piece.old }
     ensures { (m : List ℕ) → (IsSomeAnd result (λ n. BeginsWith piece.new n m) ↔ Reads piece.old m) }
@@ -149,7 +150,7 @@ pub fn report_in_place(piece: &mut [u8]) -> Option<usize>
     }
 }
 
-/// The same of what is between two sentinels.
+/// Decodes the bytes between two sentinels in place. Their message is then at the front.
 pub fn message_in_place_for(between: &mut [u8], sentinel: u8) -> Option<usize>
     requires some { between.old ≢ [] }
     requires free { IsFreeOf sentinel between.old }
@@ -163,7 +164,7 @@ pub fn message_in_place_for(between: &mut [u8], sentinel: u8) -> Option<usize>
     }
 }
 
-/// Whether what is between two sentinels reads as the message, and the message fits the buffer.
+/// Returns whether the bytes between two sentinels read as the message, and the message fits the buffer.
 pub fn between_reads_as(sentinel: u8, between: &[u8], message: &[u8], buffer: &mut [u8]) -> bool
     requires some { between.now ≢ [] }
     requires free { IsFreeOf sentinel between.now }
@@ -174,7 +175,7 @@ pub fn between_reads_as(sentinel: u8, between: &[u8], message: &[u8], buffer: &m
     reads_for(sentinel, between, message, buffer)
 }
 
-/// What came before the first sentinel, or all of it.
+/// Returns the bytes before the first sentinel, or all of them if there is none.
 pub fn before_sentinel(received: &[u8], sentinel: u8) -> &[u8]
     ensures { xor_each sentinel result.now ≡ head (xor_each sentinel received.now) }
 {

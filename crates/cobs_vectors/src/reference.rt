@@ -1,8 +1,9 @@
-//! The format once more, written to be plain and not fast, to compare the library with.
+//! The format again, written to be plain instead of fast, to compare the library with it.
 use std::alloc::{AllocError, Global};
 
-/// The encoded frame of a message. Each run of nonzero bytes is cut into blocks of up to 254 bytes; the first block that is
-/// shorter stands for the zero after the run. No zero follows the last run, so it needs no such block after a full one.
+/// Returns the encoded frame of a message. Each run of nonzero bytes is cut into blocks of up to 254 bytes. The first
+/// block that is shorter implies the zero after the run. No zero follows the last run, so it needs no such block after
+/// a full one.
 pub fn frame_of(alloc: Global, message: &[u8]) -> Result<Vec<u8>, AllocError> {
     let mut frame = Vec::new(alloc);
     let mut block = Vec::new(alloc);
@@ -24,7 +25,7 @@ pub fn frame_of(alloc: Global, message: &[u8]) -> Result<Vec<u8>, AllocError> {
     Ok(frame)
 }
 
-/// Appends the code, which counts itself and the bytes, and the bytes.
+/// Appends the code, which counts itself and the bytes, and then the bytes.
 fn append_block(frame: &mut Vec<u8>, block: &[u8]) -> Result<(), AllocError> {
     frame.push(1)?;
     for byte in block {
@@ -37,20 +38,20 @@ fn append_block(frame: &mut Vec<u8>, block: &[u8]) -> Result<(), AllocError> {
     Ok(())
 }
 
-/// What a list of nonzero bytes decodes to.
+/// The bytes to which a list of nonzero bytes decodes.
 #[derive(Drop)]
 pub struct Reading {
     /// The bytes of its blocks, with the zeros that join them.
     pub output: Vec<u8>,
 
-    /// How many of them are before the bytes of its last block, if that breaks off, and otherwise all.
+    /// How many of them are before the bytes of the last block, if that breaks off, and otherwise all of them.
     pub kept: usize,
 
     /// Whether its last block has as many bytes as its code says.
     pub is_whole: bool,
 }
 
-/// Reads the blocks of the list one after another.
+/// Reads the blocks of the list, one after another.
 pub fn reading_of(alloc: Global, piece: &[u8]) -> Result<Reading, AllocError> {
     let mut output = Vec::new(alloc);
     let mut kept = 0;
@@ -82,7 +83,7 @@ pub fn reading_of(alloc: Global, piece: &[u8]) -> Result<Reading, AllocError> {
     })
 }
 
-/// The bytes before the first zero, and the bytes after it if there is one.
+/// Returns the bytes before the first zero, and the bytes after it if there is one.
 pub fn split_at_zero(bytes: &[u8]) -> (&[u8], Option<&[u8]>) {
     for (at, byte) in bytes.iter().enumerate() {
         if *byte == 0 {

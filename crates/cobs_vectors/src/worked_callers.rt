@@ -1,4 +1,4 @@
-//! Callers whose contracts are proved only from the public clauses of `cobs`, and that a test runs.
+//! Callers whose contracts are proved only from the public clauses of `cobs`, and which a test runs.
 ghost use Rattle.std.specs.Prelude.{◌≡◌, ◌<◌, ◌≤◌, ◌^◌, ◌++◌, ◌↔◌, [], ℕ, All, IsOk, IfOk, length, map, slice_set, take};
 ghost use Rattle.cobs.specs.Fields.Decoders.{borrowed_buffer, borrowed_phase, borrowed_slice};
 ghost use Rattle.cobs.specs.Feed.{DecoderAfter};
@@ -14,7 +14,7 @@ use cobs::{
 };
 use std::alloc::{AllocError, Global};
 
-/// A caller who carries out each result of an `EncoderState` in a vector has the open frame of the message.
+/// Carries out each result of an `EncoderState` in a vector, which then has the open frame of the message.
 pub fn encode_by_state(alloc: Global, source: &[u8]) -> Result<Vec<u8>, AllocError>
     ensures { IfOk result
         (λ bytes. (index code : ℕ) × IsOpenFrame bytes.items source.now index code) }
@@ -41,7 +41,7 @@ pub fn encode_by_state(alloc: Global, source: &[u8]) -> Result<Vec<u8>, AllocErr
     Ok(output)
 }
 
-/// Encodes a message of two pieces: they are taken exactly if the frame fits.
+/// Encodes a message of two pieces. They are taken exactly if the frame fits.
 pub fn encode_both(
     first: &[u8],
     second: &[u8],
@@ -58,7 +58,7 @@ pub fn encode_both(
     Ok(encoder.finalize())
 }
 
-/// Writes the first byte of a buffer: the decoder is then the same with that byte.
+/// Writes the first byte of a buffer. The decoder is then the same, with that byte.
 pub fn write_first<D: WriteBuffer>(decoder: &mut D, byte: u8)
     requires { 0 < length (D.bytes decoder.old) }
     ensures { decoder.new ≡ D.with_bytes decoder.old (slice_set (D.bytes decoder.old) 0 byte) }
@@ -67,7 +67,7 @@ pub fn write_first<D: WriteBuffer>(decoder: &mut D, byte: u8)
     dest[0] = byte;
 }
 
-/// A write leaves the phase, and which slice it is.
+/// Writes the first byte of a borrowed slice. The phase stays, and so does the slice that is borrowed.
 pub fn write_first_borrowed(decoder: &mut CobsDecoder<'_>, byte: u8)
     requires { 0 < length (borrowed_buffer decoder.old) }
     ensures phase { borrowed_phase decoder.new ≡ borrowed_phase decoder.old }
@@ -77,7 +77,8 @@ pub fn write_first_borrowed(decoder: &mut CobsDecoder<'_>, byte: u8)
     write_first(decoder, byte);
 }
 
-/// What is sent as frames comes out as the messages, over any idle decoder whose buffer holds each.
+/// Encodes messages as frames and decodes them, by any idle decoder whose buffer has room for each: the result is the
+/// messages.
 pub fn send_and_receive<D: FrameDecoder>(
     alloc: Global,
     decoder: &mut D,
