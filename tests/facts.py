@@ -1,4 +1,4 @@
-"""The facts that tests/docs.py checks in documents: counts, laws, copies, the drawing, the toolchain, addresses, bytes read."""
+"""The facts that tests/docs.py checks in documents: counts, laws and their titles, copies, the drawing, the toolchain, addresses, bytes read."""
 import re
 import subprocess
 import sys
@@ -97,6 +97,16 @@ def laws_left_out():
         yield from (f"docs/PROMISES.md: it doesn't name {law}: {clause}" for clause in sorted(known[law] - named))
 
 
+def other_titles():
+    """A line for each law whose documentation doesn't begin with the title that docs/PROMISES.md gives it."""
+    titles = dict(re.findall(r"^\| `(law_\d+)` \| (.*?) \|", (TOP / "docs/PROMISES.md").read_text(), re.M))
+    texts = [(TOP / "crates/cobs/src" / name).read_text() for name in ("laws.rt", "laws/coders.rt")]
+    for text in texts:
+        for said, law in re.findall(r"^/// (.*)\n(?:///.*\n)*pub fn (law_\d+)", text, re.M):
+            if said != f"{titles.get(law)}.":
+                yield f"docs/PROMISES.md: the title of {law} is '{titles.get(law)}', and its documentation begins '{said}'"
+
+
 def other_toolchains():
     """A line for each document that names another toolchain than the one that built what is prebuilt."""
     built = set(re.findall(r"^\w+ toolchain (.*)$", (TOP / "tests/prebuilt.sums").read_text(), re.M))
@@ -152,7 +162,7 @@ def other_drawings():
     yield from (ran.stdout + ran.stderr).splitlines()
 
 
-CHECKS = (other_copies, other_translations, other_drawings, wrong_counts, other_figures, other_ratios, laws_left_out, other_toolchains, dead_addresses, unread_bytes)
+CHECKS = (other_copies, other_translations, other_drawings, wrong_counts, other_figures, other_ratios, laws_left_out, other_titles, other_toolchains, dead_addresses, unread_bytes)
 
 
 def complaints():
