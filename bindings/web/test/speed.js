@@ -126,6 +126,6 @@ memoryOf(async (pagesNow) => {
   for (const [name, length] of [["8 bytes", 8], ["64 bytes", 64], ["250 bytes", 250], ["1,500 bytes", 1500], ["64 KiB", 65536], ["1 MiB", MIB]]) {
     for (const [kind, zeros] of [["no zeros", 0], ["2 % zeros", 20], ["30 % zeros", 300]]) messages[`${name}, ${kind}`] = bytes(length, zeros, 3);
   }
-  messages["1 MiB, zeros alone"] = new Uint8Array(MIB);
+  messages["1 MiB, only zeros"] = new Uint8Array(MIB);
   globalThis.kinds = { frames: Object.keys(frames), messages: Object.keys(messages) };
 }).catch((error) => (globalThis.kinds = { error: error.stack }));
