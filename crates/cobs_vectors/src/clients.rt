@@ -247,8 +247,8 @@ pub fn encode_two(
     Ok(encoder.finalize())
 }
 
-/// Writes the frame of a message to the front of the buffer, by an encoder that has taken nothing before and has taken
-/// nothing after.
+/// Writes the frame of a message to the front of the buffer. The encoder has taken no byte before the call, and after it
+/// the encoder is ready for the next message.
 pub fn frame_next(
     encoder: &mut UnbufferedEncoder,
     message: &[u8],
