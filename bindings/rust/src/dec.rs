@@ -2,10 +2,8 @@
 
 mod decoder;
 
-#[cfg(not(feature = "small"))]
-use crate::proved as engine;
-#[cfg(feature = "small")]
-use crate::small as engine;
+use crate::simd::HAS_VECTORS;
+use crate::{proved, small};
 
 pub use crate::proved::{
     DecodeError, DecodeReport, DecodeResult, DecoderPhase, DecoderState, FrameDecoder, FrameKind,
@@ -62,7 +60,11 @@ pub type DecodingResult = DecodeReport;
 ///   much of it as fits.
 #[inline]
 pub fn decode(source: &[u8], dest: &mut [u8]) -> Result<DecodeReport, DecodeError> {
-    engine::decode(source, dest)
+    if HAS_VECTORS {
+        proved::decode(source, dest)
+    } else {
+        small::decode(source, dest)
+    }
 }
 
 /// Decodes the frame at the front of `buff` in its own place, and returns the message's length. It ends at the first
@@ -99,7 +101,11 @@ pub fn decode_in_place(buff: &mut [u8]) -> Result<usize, DecodeError> {
 /// Those of [`decode_in_place`].
 #[inline]
 pub fn decode_in_place_report(buf: &mut [u8]) -> Result<DecodeReport, DecodeError> {
-    engine::decode_in_place_report(buf)
+    if HAS_VECTORS {
+        proved::decode_in_place_report(buf)
+    } else {
+        small::decode_in_place_report(buf)
+    }
 }
 
 /// Decodes the frame at the front of `source`, for the given sentinel, to the front of `dest`, and returns the
@@ -127,7 +133,7 @@ pub fn decode_with_sentinel(
     dest: &mut [u8],
     sentinel: u8,
 ) -> Result<usize, DecodeError> {
-    crate::proved::decode_with_sentinel(source, dest, sentinel)
+    proved::decode_with_sentinel(source, dest, sentinel)
 }
 
 /// As [`decode_in_place`], for the given sentinel. Each byte of `buff`, those after the frame too, is first XORed with
@@ -145,7 +151,11 @@ pub fn decode_with_sentinel(
 /// Those of [`decode_in_place`].
 #[inline]
 pub fn decode_in_place_with_sentinel(buff: &mut [u8], sentinel: u8) -> Result<usize, DecodeError> {
-    engine::decode_in_place_with_sentinel(buff, sentinel)
+    if HAS_VECTORS {
+        proved::decode_in_place_with_sentinel(buff, sentinel)
+    } else {
+        small::decode_in_place_with_sentinel(buff, sentinel)
+    }
 }
 
 /// The message of the first frame of `source`, found as [`decode`] finds it.
@@ -197,5 +207,9 @@ pub fn decode_vec_with_sentinel(
 #[inline]
 #[must_use]
 pub fn frame_kind(bytes: &[u8]) -> FrameKind {
-    engine::frame_kind(bytes)
+    if HAS_VECTORS {
+        proved::frame_kind(bytes)
+    } else {
+        small::frame_kind(bytes)
+    }
 }

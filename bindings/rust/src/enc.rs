@@ -2,10 +2,8 @@
 
 mod encoder;
 
-#[cfg(not(feature = "small"))]
-use crate::proved as engine;
-#[cfg(feature = "small")]
-use crate::small as engine;
+use crate::simd::HAS_VECTORS;
+use crate::{proved, small};
 
 pub use crate::proved::{
     DestBufTooSmallError, EncoderProgress, EncoderState, PushResult, UnbufferedEncoder,
@@ -54,7 +52,11 @@ pub fn encode(source: &[u8], dest: &mut [u8]) -> usize {
 /// Where the frame doesn't fit, and only there. Then `dest` is as it was.
 #[inline]
 pub fn try_encode(source: &[u8], dest: &mut [u8]) -> Result<usize, DestBufTooSmallError> {
-    engine::try_encode(source, dest)
+    if HAS_VECTORS {
+        proved::try_encode(source, dest)
+    } else {
+        small::try_encode(source, dest)
+    }
 }
 
 /// Writes 0, the frame of `source`, and 0 to the front of `dest`, and returns the length of all three. The bytes after
@@ -94,7 +96,11 @@ pub fn try_encode_including_sentinels(
     source: &[u8],
     dest: &mut [u8],
 ) -> Result<usize, DestBufTooSmallError> {
-    engine::try_encode_including_sentinels(source, dest)
+    if HAS_VECTORS {
+        proved::try_encode_including_sentinels(source, dest)
+    } else {
+        small::try_encode_including_sentinels(source, dest)
+    }
 }
 
 /// Writes the frame of `source` for the given sentinel to the front of `dest`, and returns its length: the frame for 0,
@@ -135,7 +141,7 @@ pub fn encode_in_place(buffer: &mut [u8], len: usize) -> usize {
         room.is_some_and(|room| room <= buffer.len()),
         "`buffer` has room for the longest frame of `len` bytes"
     );
-    crate::proved::encode_in_place(buffer, len)
+    proved::encode_in_place(buffer, len)
 }
 
 /// As [`encode_with_sentinel`], with an error in place of the panic. The crate `cobs` doesn't have this call.
@@ -155,7 +161,11 @@ pub fn try_encode_with_sentinel(
     dest: &mut [u8],
     sentinel: u8,
 ) -> Result<usize, DestBufTooSmallError> {
-    engine::try_encode_with_sentinel(source, dest, sentinel)
+    if HAS_VECTORS {
+        proved::try_encode_with_sentinel(source, dest, sentinel)
+    } else {
+        small::try_encode_with_sentinel(source, dest, sentinel)
+    }
 }
 
 /// Memory for the longest frame of the message, and this many bytes more.

@@ -86,12 +86,16 @@
 //! - `std` (default): `alloc`; [`MessageReader`] and [`MessageWriter`]; [`Recorded`], a [`FrameSource`] over any
 //!   [`std::io::Read`]; and `std` of `memchr`, which then searches with AVX2 if the processor has it.
 //! - `alloc`: the calls that make vectors, and [`CobsDecoderOwned`].
-//! - `small`: bodies that go byte by byte, for firmware: of [`frame_kind`] and the calls of the crate `cobs`, except
-//!   [`decode_with_sentinel`] and `decode_vec_with_sentinel`. These and all others keep those with vectors.
+//! - `small`: single bytes on any target, as below.
 //! - `serde`, `defmt`: derives for [`DecodeError`], [`DestBufTooSmallError`] and [`DecodeReport`].
 //! - `heapless`: [`CobsDecoderHeapless::new_with_vec`] takes a `heapless::Vec`.
 //!
 //! The crate is `no_std` without `std`.
+//!
+//! # Targets
+//!
+//! If the target has SSE2, NEON or SIMD of WebAssembly, the calls search and copy in vectors and slices. On every other target,
+//! and with the feature `small`, they take one byte at a time, which needs a few hundred bytes of flash for each call.
 #![no_std]
 // Pages of docs.rs then say which feature an item needs.
 #![cfg_attr(docsrs, feature(doc_cfg))]
@@ -133,8 +137,6 @@ pub mod proved;
 #[forbid(unsafe_code)]
 mod read;
 mod simd;
-// Without the feature nothing calls it.
-#[cfg_attr(not(feature = "small"), allow(dead_code, unused_imports))]
 #[forbid(unsafe_code)]
 mod small;
 #[cfg(feature = "std")]

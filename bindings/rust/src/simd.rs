@@ -8,16 +8,15 @@
 
 use core::ops::BitXor;
 
-// `jcobs_no_vectors` is for the tests: it builds for any target what a target without these vectors gets.
 #[cfg(all(
-    not(jcobs_no_vectors),
+    not(feature = "small"),
     target_feature = "neon",
     target_arch = "aarch64",
     target_endian = "little"
 ))]
 use neon as way;
 #[cfg(any(
-    jcobs_no_vectors,
+    feature = "small",
     not(any(
         all(
             target_feature = "sse2",
@@ -32,15 +31,20 @@ use neon as way;
 ))]
 use portable as way;
 #[cfg(all(
-    not(jcobs_no_vectors),
+    not(feature = "small"),
     target_feature = "sse2",
     any(target_arch = "x86", target_arch = "x86_64")
 ))]
 use sse2 as way;
 
-/// Whether vectors pay for short data: if they are instructions of the target, and in WebAssembly, where a few words are faster
-/// than a loop over single bytes. translate.py writes this as the result of `has_vectors`.
-pub const HAS_VECTORS: bool = way::HAS_VECTORS || cfg!(target_family = "wasm");
+/// Whether the calls use vectors and slices: if the target has SSE2, NEON, or SIMD of WebAssembly, and the feature `small` doesn't
+/// ask for the other bodies, which take one byte at a time. translate.py writes this as the result of `has_vectors`.
+pub const HAS_VECTORS: bool = way::HAS_VECTORS
+    || cfg!(all(
+        not(feature = "small"),
+        target_feature = "simd128",
+        target_family = "wasm"
+    ));
 
 /// A vector of `N` bytes.
 #[derive(Clone, Copy)]
@@ -182,7 +186,7 @@ mod portable {
 }
 
 #[cfg(all(
-    not(jcobs_no_vectors),
+    not(feature = "small"),
     target_feature = "sse2",
     any(target_arch = "x86", target_arch = "x86_64")
 ))]
@@ -216,7 +220,7 @@ mod sse2 {
 }
 
 #[cfg(all(
-    not(jcobs_no_vectors),
+    not(feature = "small"),
     target_feature = "neon",
     target_arch = "aarch64",
     target_endian = "little"

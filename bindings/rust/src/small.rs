@@ -1,4 +1,4 @@
-//! The calls by the bodies that go byte by byte, for the feature `small`.
+//! The calls by the bodies that take one byte at a time, for targets without vectors and the feature `small`.
 
 use crate::dec::{DecodeError, DecodeReport, FrameKind};
 use crate::enc::DestBufTooSmallError;

@@ -3,13 +3,11 @@
 #
 # rustup's compiler comes with no library for these targets, so Debian's compiler builds `core` from Debian's source of it
 # (rustc-web and rust-web-src; RUST_SRC names the folder `library` elsewhere). On the Cortex-M4 run the cases of
-# tests/device.sh, in C, over the crate as `jcobs.h` (device/exports.rs), with the feature `small` and without. The tables of README
-# are those of speeds.py.
+# tests/device.sh, in C, over the crate as `jcobs.h` (device/exports.rs). The tables of README are those of speeds.py.
 #
 # Prints a line for each part; the last line counts them.
 #
-# Lists of flags are meant to be split.
-# shellcheck disable=SC2086,SC2317
+# shellcheck disable=SC2317
 set -u
 rust=$(cd "$(dirname "$0")/.." && pwd)
 root=$(cd "$rust/../.." && pwd)
@@ -48,18 +46,11 @@ core() { # TARGET
         mv "$work/$1"/lib*.rlib "$work/sysroot/lib/rustlib/$1/lib"
 }
 
-jcobs() { # TARGET FEATURE..: the crate
-    target=$1
-    shift
-    level=s
-    with=
-    for it; do with="$with --cfg feature=\"$it\""; done
-    crate "$target" memchr "$memchr/src/lib.rs" --edition 2018 &&
-        crate "$target" jcobs "$rust/src/lib.rs" --edition 2021 $with --extern "memchr=$work/$target/libmemchr.rlib"
-}
-
 builds() { # TARGET
-    core "$1" && jcobs "$1" && jcobs "$1" small
+    core "$1" || return 1
+    level=s
+    crate "$1" memchr "$memchr/src/lib.rs" --edition 2018 &&
+        crate "$1" jcobs "$rust/src/lib.rs" --edition 2021 --extern "memchr=$work/$1/libmemchr.rlib"
 }
 
 # The cases whose calls jcobs.h for devices has, as tests/device.sh chooses them.
@@ -88,7 +79,7 @@ on_arm() { # PROGRAM ARGUMENT..
 }
 
 cases() {
-    jcobs thumbv7em-none-eabi "$@" && program vectors "$c/tests/vectors.c" "$tests/absent.c" "$tests/pushed.c" &&
+    program vectors "$c/tests/vectors.c" "$tests/absent.c" "$tests/pushed.c" &&
         on_arm "$work/vectors" "$work/cases" >"$work/ran"
     sed 's/^/= /' "$work/ran"
     grep -q "^$(wc -l <"$work/cases") cases run, 0 of .*, 0 failed" "$work/ran"
@@ -107,16 +98,12 @@ size() { # CALL: the bytes of code and data of the program that makes it
 
 sizes() {
     found='bytes of flash'
-    for feature in '' small; do
-        jcobs thumbv7em-none-eabi $feature || return 1
-        none=$(size none) || { cat "$work/linked"; return 1; }
-        found="$found${feature:+; with the feature $feature}"
-        for call in feed push encoder decode 'in place' encode; do
-            bytes=$(size "$call") || { cat "$work/linked"; return 1; }
-            found="$found, $call $((bytes - none))"
-            # The whole of a call byte by byte is about a kilobyte.
-            [ "$feature" != small ] || [ $((bytes - none)) -le 1400 ] || { echo "$call takes $((bytes - none)) bytes"; return 1; }
-        done
+    none=$(size none) || { cat "$work/linked"; return 1; }
+    for call in feed push encoder decode 'in place' encode; do
+        bytes=$(size "$call") || { cat "$work/linked"; return 1; }
+        found="$found, $call $((bytes - none))"
+        # A call handles single bytes, and may need one function of the C library.
+        [ $((bytes - none)) -le 600 ] || { echo "$call takes $((bytes - none)) bytes"; return 1; }
     done
     echo "= $found"
 }
@@ -129,7 +116,6 @@ if has arm-none-eabi-gcc gcc-arm-none-eabi 'on a Cortex-M4' &&
     part 'sizes' sizes
     if has qemu-system-arm qemu-system-arm 'on a Cortex-M4'; then
         part 'the cases on a Cortex-M4' cases
-        part 'the cases on a Cortex-M4, byte by byte' cases small
     fi
 fi
 finish

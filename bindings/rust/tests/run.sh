@@ -41,11 +41,6 @@ units() { # FEATURES..: the library and its tests, with overflow checks, and war
     RUSTFLAGS='-D warnings' cargo test --lib --tests "$@"
 }
 
-# What a target without vectors gets, such as a Cortex-M4.
-without_vectors() {
-    CARGO_TARGET_DIR=$work/without RUSTFLAGS='-D warnings --cfg jcobs_no_vectors' cargo test --lib --tests
-}
-
 documentation() {
     RUSTDOCFLAGS='-D warnings' cargo doc --no-deps --features "$1"
 }
@@ -131,12 +126,13 @@ oldest() {
 }
 
 part 'units, signatures, differences and cases' units
-part 'without vectors' without_vectors
 part 'every step, and every string of six tokens' cargo test --release --test steps
 part 'every run, room and cut' cargo test --release --test model
 part 'without a feature' units --no-default-features
+# What a target without vectors gets, such as a Cortex-M4.
 part 'byte by byte' units --features small
 part 'byte by byte, without an allocator' units --no-default-features --features small
+part 'byte by byte, every step, run, room and cut' cargo test --release --test steps --test model --features small
 part 'serde, defmt and heapless' features
 part 'a crate that depends on cobs' dependents
 part 'an example over embedded-io' example embedded-io '4 frames' \

@@ -1,5 +1,5 @@
 #!/usr/bin/env python3
-"""Measures flash and instructions of this crate on each target, beside its feature `small` and the crate `cobs`.
+"""Measures flash and instructions of this crate on each target, beside the crate `cobs`, and its feature `small` if that differs.
 
 usage: tests/speeds.py [--docs] [CRATE [TARGET..]]
 
@@ -38,17 +38,25 @@ RUSTC = os.environ.get("RUSTC", "/usr/bin/rustc")
 
 
 class Target(NamedTuple):
-    """A triple of rustc, its linker, an emulator, flags of the compiler, and what links with a C library if it has one."""
+    """A triple of rustc, its linker, an emulator, flags of the compiler, what links with a C library if it has one, and whether
+    the crate uses its vectors."""
 
     triple: str
     linker: str
     emulator: str
     flags: str = ""
     with_libc: str = ""
+    has_vectors: bool = False
 
     @property
     def is_web(self):
         return self.triple.startswith("wasm32")
+
+    @property
+    def libraries(self):
+        """The libraries that are measured, and the names of their rows. Without vectors `small` changes nothing."""
+        small = {"small": "with `small`"} if self.has_vectors else {}
+        return {"jcobs": "this crate", **small, "cobs": "`cobs`"}
 
 
 TARGETS = {
@@ -57,13 +65,12 @@ TARGETS = {
     "RV32IMAC": Target("riscv32imac-unknown-none-elf", "riscv64-unknown-elf-ld -m elf32lriscv", "qemu-riscv32"),
     "armv7": Target("armv7-unknown-linux-gnueabihf", "arm-linux-gnueabihf-ld", "qemu-arm", "", "arm-linux-gnueabihf-gcc"),
     "i586, no SSE": Target("i586-unknown-linux-gnu", "i686-linux-gnu-ld", "qemu-i386 -cpu pentium2", "", "i686-linux-gnu-gcc"),
-    "i686, SSE2": Target("i686-unknown-linux-gnu", "i686-linux-gnu-ld", "qemu-i386", "", "i686-linux-gnu-gcc"),
-    "aarch64": Target("aarch64-unknown-linux-gnu", "aarch64-linux-gnu-ld", "qemu-aarch64", "", "aarch64-linux-gnu-gcc"),
-    "x86-64": Target("x86_64-unknown-linux-gnu", "x86_64-linux-gnu-ld", "qemu-x86_64", "", "x86_64-linux-gnu-gcc"),
+    "i686, SSE2": Target("i686-unknown-linux-gnu", "i686-linux-gnu-ld", "qemu-i386", "", "i686-linux-gnu-gcc", True),
+    "aarch64": Target("aarch64-unknown-linux-gnu", "aarch64-linux-gnu-ld", "qemu-aarch64", "", "aarch64-linux-gnu-gcc", True),
+    "x86-64": Target("x86_64-unknown-linux-gnu", "x86_64-linux-gnu-ld", "qemu-x86_64", "", "x86_64-linux-gnu-gcc", True),
     "wasm32": Target("wasm32-unknown-unknown", "wasm-ld --no-entry", "node", "-C target-feature=-simd128"),
-    "wasm32, SIMD": Target("wasm32-unknown-unknown", "wasm-ld --no-entry", "node", "-C target-feature=+simd128"),
+    "wasm32, SIMD": Target("wasm32-unknown-unknown", "wasm-ld --no-entry", "node", "-C target-feature=+simd128", "", True),
 }
-WHO = ("jcobs", "small", "cobs")
 SIZED = {
     "feed": "`feed`",
     "push": "`push`",
@@ -132,7 +139,7 @@ class Build:
         return sysroot
 
     def libraries(self, level):
-        """The three libraries at this level of optimization."""
+        """The libraries at this level of optimization."""
         to = self.work / level
         to.mkdir()
         host = to / "libthiserror.so"
@@ -149,7 +156,8 @@ class Build:
         library("memchr", "2018", memchr / "src/lib.rs")
         library("heapless", "2021", ROOT / "bench/stand_in/heapless.rs")
         library("cobs", "2021", self.crate / "src/lib.rs", f"--extern thiserror={host}", f"--extern heapless={to}/libheapless.rlib")
-        for name, feature in (("jcobs", ()), ("small", ('--cfg feature="small"',))):
+        for name in self.target.libraries.keys() - {"cobs"}:
+            feature = ('--cfg feature="small"',) if name == "small" else ()
             library(name, "2021", RUST / "src/lib.rs", f"--extern memchr={to}/libmemchr.rlib", *feature)
         return to
 
@@ -240,11 +248,12 @@ def measured(name, crate):
     """The lines of the file of figures for a target."""
     with tempfile.TemporaryDirectory() as folder, ThreadPoolExecutor() as pool:
         build = Build(name, crate, Path(folder))
+        who = tuple(build.target.libraries)
         small, fast = pool.map(build.libraries, "s3")
-        jobs = {(call, who): pool.submit(build.size, small, who, call) for call in ("none", *SIZED) for who in WHO}
-        programs = list(pool.map(lambda who: build.program(fast, who), WHO))
+        jobs = {(call, one): pool.submit(build.size, small, one, call) for call in ("none", *SIZED) for one in who}
+        programs = list(pool.map(lambda one: build.program(fast, one), who))
         for call in SIZED:
-            sizes = [jobs[call, who].result() - jobs["none", who].result() for who in WHO]
+            sizes = [jobs[call, one].result() - jobs["none", one].result() for one in who]
             yield f"{name};bytes;{call};;;{';'.join(map(str, sizes))}"
         if build.target.is_web:
             unit, counts = "nanoseconds", timed(programs)
@@ -262,21 +271,21 @@ def tables(lines):
     yield f"| bytes of flash | of | {' | '.join(SIZED.values())} |"
     yield "|---|---|" + "--:|" * len(SIZED)
     for name in names:
-        for place, who in enumerate(("this crate", "with `small`", "`cobs`")):
+        for place, title in enumerate(TARGETS[name].libraries.values()):
             sizes = [row[5 + place] for row in rows if row[:2] == [name, "bytes"]]
-            yield f"| {name} | {who} | {' | '.join(sizes)} |"
+            yield f"| {name} | {title} | {' | '.join(sizes)} |"
     yield ""
     yield f"| speed / that of `cobs` | of | {' | '.join(CALLS)} |"
     yield "|---|---|" + "---|" * len(CALLS)
     for name in names:
-        for place, who in enumerate(("this crate", "with `small`")):
+        for place, title in enumerate(list(TARGETS[name].libraries.values())[:-1]):
             cells = []
             for call in CALLS:
                 found = [
-                    float(row[7]) / float(row[5 + place]) for row in rows if row[0] == name and row[1] != "bytes" and row[2] == call
+                    float(row[-1]) / float(row[5 + place]) for row in rows if row[0] == name and row[1] != "bytes" and row[2] == call
                 ]
                 cells.append(f"{statistics.median(found):.2f}; {min(found):.2f}")
-            yield f"| {name} | {who} | {' | '.join(cells)} |"
+            yield f"| {name} | {title} | {' | '.join(cells)} |"
 
 
 def main():

@@ -5,7 +5,8 @@
 # of conformance/; wasm32 in Node, with SIMD and without, on random messages and streams (wasm/). Each needs a compiler that has
 # the target's library: rustup's, Debian's /usr/bin/rustc, or the one that RUSTC names. debian-rustc.sh unpacks one for the
 # first four; for wasm32 Debian's lld and the `core` that speeds.py has built for it are enough. A target that lacks something
-# is skipped by name. FLAG.. choose tests, as those of cargo test: targets.sh s390x -- --test model
+# is skipped by name. With SIMD the feature `small` is tested too; on the others it changes nothing. FLAG.. choose tests, as those of
+# cargo test: targets.sh s390x -- --test model
 #
 # Prints a line for each part; the last line counts them. Not a part of run.sh: it takes about ten minutes a target.
 #
@@ -44,7 +45,8 @@ tests() { # NAME TARGET LINKER RUNNER
     in_cargo=$(echo "$2" | tr 'a-z-' 'A-Z_')
     export "CARGO_TARGET_${in_cargo}_LINKER=$3" "CARGO_TARGET_${in_cargo}_RUNNER=$4" "RUSTC=$compiler"
     export "CARGO_TARGET_DIR=$work/target" CARGO_PROFILE_TEST_OPT_LEVEL=1
-    cargo test --target "$2" $flags && cargo test --target "$2" $flags --features small
+    cargo test --target "$2" $flags || return 1
+    case $1 in aarch64 | i686) cargo test --target "$2" $flags --features small ;; esac
 }
 
 # A compiler with the `core` that speeds.py has built with it.
@@ -70,7 +72,7 @@ in_node() { # NAME FLAG..
     export "RUSTC=$compiler"
     [ "$compiler" != "$work/rustc" ] || export CARGO_TARGET_WASM32_UNKNOWN_UNKNOWN_LINKER=wasm-ld
     RUSTFLAGS="$*" CARGO_TARGET_DIR=$work/$called cargo build --release --target wasm32-unknown-unknown \
-        --manifest-path tests/wasm/Cargo.toml $features &&
+        --manifest-path tests/wasm/Cargo.toml &&
         node tests/wasm/run.mjs "$work/$called/wasm32-unknown-unknown/release/jcobs_in_node.wasm" >"$work/in-node" &&
         sed 's/^/= /' "$work/in-node"
 }
@@ -80,11 +82,8 @@ case " $chosen " in *' wasm32 '*)
     if ! compiler=$(compiler_for wasm32-unknown-unknown) && ! compiler=$(with_built_core); then
         skip 'on wasm32' 'needs rustup target add wasm32-unknown-unknown, or the core of tests/speeds.py CRATE wasm32 and lld'
     elif has node nodejs 'on wasm32'; then
-        features=
         part 'on wasm32' in_node plain -C target-feature=-simd128
         part 'on wasm32, with SIMD' in_node simd -C target-feature=+simd128
-        features='--features small'
-        part 'on wasm32, byte by byte' in_node small -C target-feature=-simd128
     fi
     ;;
 esac

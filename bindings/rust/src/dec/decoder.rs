@@ -4,6 +4,8 @@
 
 use crate::ArrayVec;
 use crate::dec::{DecodeError, DecodeReport, FrameDecoder, PieceEnd, UnbufferedDecoder};
+use crate::simd::HAS_VECTORS;
+
 /// What the three decoders share: all but the buffer.
 #[derive(Debug)]
 struct Progress {
@@ -21,14 +23,16 @@ impl Progress {
     // Inlined, so that a loop of pushes of one byte is a loop of `feed`.
     #[inline(always)]
     fn push(&mut self, dest: &mut [u8], data: &[u8]) -> Result<Option<DecodeReport>, DecodeError> {
-        if let [byte] = *data {
-            let length = self.feed(dest, byte)?;
-            return Ok(length.map(|frame_size| DecodeReport {
-                parsed_size: 1,
-                frame_size,
-            }));
+        match *data {
+            [byte] if HAS_VECTORS => {
+                let length = self.feed(dest, byte)?;
+                Ok(length.map(|frame_size| DecodeReport {
+                    parsed_size: 1,
+                    frame_size,
+                }))
+            }
+            _ => self.push_more(dest, data),
         }
-        self.push_more(dest, data)
     }
 
     /// Does what `push` does, without a question of its own for one byte.
@@ -59,10 +63,11 @@ impl Progress {
     /// Takes bytes through the zero that ends a piece, or all.
     #[inline]
     fn feed_piece(&mut self, dest: &mut [u8], data: &[u8]) -> Option<(PieceEnd, usize)> {
-        #[cfg(feature = "small")]
-        return self.decoder.feed_each(dest, data, 0);
-        #[cfg(not(feature = "small"))]
-        self.decoder.feed_piece(dest, data)
+        if HAS_VECTORS {
+            self.decoder.feed_piece(dest, data)
+        } else {
+            self.decoder.feed_each(dest, data, 0)
+        }
     }
 
     #[inline]

@@ -3,6 +3,7 @@
 use crate::enc::DestBufTooSmallError;
 use crate::proved::UnbufferedEncoder;
 use crate::proved::enc::blocks::close;
+use crate::simd::HAS_VECTORS;
 
 /// Encodes a message that comes in pieces into a slice.
 ///
@@ -40,10 +41,11 @@ impl<'a> CobsEncoder<'a> {
     /// the frame of what was taken before can still be had, or fewer bytes be pushed.
     #[inline]
     pub fn push(&mut self, data: &[u8]) -> Result<(), DestBufTooSmallError> {
-        #[cfg(not(feature = "small"))]
-        return self.encoder.push(self.dest, data);
-        #[cfg(feature = "small")]
-        self.encoder.push_each(self.dest, data)
+        if HAS_VECTORS {
+            self.encoder.push(self.dest, data)
+        } else {
+            self.encoder.push_each(self.dest, data)
+        }
     }
 
     /// Ends the message: the slice begins with its frame, of the returned length, without a sentinel. It is the frame
