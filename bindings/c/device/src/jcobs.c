@@ -188,7 +188,7 @@ static JCOBS_INLINE void jcobs_decoder_take_byte(jcobs_decoder *decoder, unsigne
     decoder->joint = jcobs_joint_after(byte);
 }
 
-/* Returns how a piece has ended, by the result of feed for the zero: None if no piece was open. */
+/* Returns how a piece has ended, given the result of feed for its zero, or None if no piece had begun. */
 static JCOBS_INLINE jcobs_outcome jcobs_piece_end_reported(jcobs_outcome returned)
 {
     switch (returned.kind) {
@@ -461,17 +461,11 @@ size_t jcobs_max_length(size_t message_len)
 }
 
 /* Whether spare bytes cover the overhead of every message of len bytes: whether len is at most 254 times spare. It
- * needs no division, for which small processors have no instruction. So that no product is too large, it subtracts
- * 254 from both sides for each 256 bytes of len. */
+ * needs no division, for which small processors have no instruction. So that no product is too large, it compares
+ * halves, and only if spare isn't clearly enough. */
 static JCOBS_INLINE int jcobs_covers_overhead(size_t len, size_t spare)
 {
-    size_t rows = len / 256;
-
-    if (spare <= rows) {
-        return 0;
-    }
-    size_t more = spare - rows;
-    return rows + 1 < more || 2 * rows + len % 256 <= 254 * more;
+    return len / 128 < spare || len - len / 2 <= 127 * spare;
 }
 
 /* Whether fewer than spare blocks become full and are followed by another byte, once the open block with this code
@@ -504,6 +498,103 @@ static int jcobs_has_room(unsigned char code, const unsigned char *bytes, size_t
     }
     size_t spare = room - held - bytes_len;
     return jcobs_covers_overhead(held + bytes_len, spare) || jcobs_fits_each(code, bytes, bytes_len, spare);
+}
+
+/* Does what encode does, one byte at a time. */
+static size_t jcobs_write_each(const unsigned char *source, size_t source_len, unsigned char *dest)
+{
+    size_t index = 0;
+    size_t next = 1;
+    size_t read = 0;
+
+    while (read < source_len) {
+        if (next - index == JCOBS_FULL_CODE) {
+            dest[index] = JCOBS_FULL_CODE;
+            index = next;
+            next++;
+        }
+        size_t room = JCOBS_FULL_CODE - (next - index);
+        size_t len = room < source_len - read ? room : source_len - read;
+        const unsigned char *part = source + read;
+        size_t part_len = len;
+        for (size_t i = 0; i < part_len; i++) {
+            unsigned char byte = part[i];
+            if (byte == 0) {
+                dest[index] = (unsigned char)(next - index);
+                index = next;
+            } else {
+                dest[next] = byte;
+            }
+            next++;
+        }
+        read += len;
+    }
+    dest[index] = (unsigned char)(next - index);
+    return next;
+}
+
+/* Does what try_encode does, one byte at a time: in less code and more time, for small devices. It reads the
+ * message twice only if dest is shorter than the longest frame of a message of that length. (A choice of this
+ * library.) */
+static jcobs_outcome jcobs_try_encode_each(const unsigned char *source, size_t source_len, unsigned char *dest,
+                                           size_t dest_len)
+{
+    if (!jcobs_has_room(1, source, source_len, dest_len)) {
+        return jcobs_outcome_of(JCOBS_IS_DEST_BUF_TOO_SMALL_ERROR, 0);
+    }
+    return jcobs_outcome_of(JCOBS_IS_OK, jcobs_write_each(source, source_len, dest));
+}
+
+/* Writes the frame of the message to the front of the buffer, if it fits, and returns its length in bytes.
+ * Otherwise it returns 0, and nothing is written. */
+static JCOBS_NOINLINE size_t jcobs_write_frame(const unsigned char *message, size_t message_len, unsigned char *buffer,
+                                               size_t buffer_len)
+{
+    jcobs_outcome found = jcobs_try_encode_each(message, message_len, buffer, buffer_len);
+
+    if (found.kind == JCOBS_IS_OK) {
+        return found.count;
+    }
+    return 0;
+}
+
+/* The result of a call that consumed and wrote nothing, since the buffer is too short. */
+static jcobs_answer jcobs_too_small(void)
+{
+    return jcobs_answered(JCOBS_TOO_SMALL, 0, 0);
+}
+
+/* Writes the frame of the message to the front of the buffer frame, if it fits. Otherwise nothing is written.
+ * Proved, by the contract in encode.rt: if the frame fits, it is the message's, and bytes after it are as they
+ * were; if it doesn't, the status is TOO_SMALL, and the buffer is as it was. */
+jcobs_answer jcobs_encode(const void *message, size_t message_len, void *frame, size_t frame_len)
+{
+    size_t length = jcobs_write_frame((const unsigned char *)message, message_len, (unsigned char *)frame, frame_len);
+
+    if (length == 0) {
+        return jcobs_too_small();
+    }
+    return jcobs_done(message_len, length);
+}
+
+/* Writes the frame of the message and a zero after it to the front of the buffer frame, if both fit. Otherwise
+ * nothing is written.
+ * Proved, by the contract in encode.rt: if the frame and the zero fit, they are the message's, and bytes after
+ * them are as they were; if they don't, the status is TOO_SMALL, and the buffer is as it was. */
+jcobs_answer jcobs_encode_terminated(const void *message, size_t message_len, void *frame, size_t frame_len)
+{
+    unsigned char *const to = (unsigned char *)frame;
+
+    if (frame_len == 0) {
+        return jcobs_too_small();
+    }
+    size_t last = frame_len - 1;
+    size_t length = jcobs_write_frame((const unsigned char *)message, message_len, to, last);
+    if (length == 0) {
+        return jcobs_too_small();
+    }
+    to[length] = 0;
+    return jcobs_done(message_len, length + 1);
 }
 
 /* Makes an encoder that has taken nothing yet, for a buffer of one byte at least: the frame of the empty message
@@ -558,74 +649,6 @@ static JCOBS_INLINE size_t jcobs_close(unsigned char *dest, size_t dest_len, jco
 static jcobs_progress jcobs_encoder_progress(const jcobs_encoder *encoder)
 {
     return jcobs_progress_of(encoder->index, (unsigned char)(encoder->taken + 1), encoder->full != 0);
-}
-
-/* Does what try_encode does, one byte at a time: in less code and more time, for small devices. It reads the
- * message twice only if dest is shorter than the longest frame of a message of that length. (A choice of this
- * library.) */
-static JCOBS_INLINE jcobs_outcome jcobs_try_encode_each(const unsigned char *source, size_t source_len,
-                                                        unsigned char *dest, size_t dest_len)
-{
-    if (!jcobs_has_room(1, source, source_len, dest_len)) {
-        return jcobs_outcome_of(JCOBS_IS_DEST_BUF_TOO_SMALL_ERROR, 0);
-    }
-    jcobs_encoder encoder = jcobs_encoder_new();
-    for (size_t i = 0; i < source_len; i++) {
-        jcobs_encoder_append_byte(&encoder, dest, source[i]);
-    }
-    return jcobs_outcome_of(JCOBS_IS_OK, jcobs_close(dest, dest_len, jcobs_encoder_progress(&encoder)));
-}
-
-/* Writes the frame of the message to the front of the buffer, if it fits, and returns its length in bytes.
- * Otherwise it returns 0, and nothing is written. */
-static JCOBS_NOINLINE size_t jcobs_write_frame(const unsigned char *message, size_t message_len, unsigned char *buffer,
-                                               size_t buffer_len)
-{
-    jcobs_outcome found = jcobs_try_encode_each(message, message_len, buffer, buffer_len);
-
-    if (found.kind == JCOBS_IS_OK) {
-        return found.count;
-    }
-    return 0;
-}
-
-/* The result of a call that consumed and wrote nothing, since the buffer is too short. */
-static jcobs_answer jcobs_too_small(void)
-{
-    return jcobs_answered(JCOBS_TOO_SMALL, 0, 0);
-}
-
-/* Writes the frame of the message to the front of the buffer frame, if it fits. Otherwise nothing is written.
- * Proved, by the contract in encode.rt: if the frame fits, it is the message's, and bytes after it are as they
- * were; if it doesn't, the status is TOO_SMALL, and the buffer is as it was. */
-jcobs_answer jcobs_encode(const void *message, size_t message_len, void *frame, size_t frame_len)
-{
-    size_t length = jcobs_write_frame((const unsigned char *)message, message_len, (unsigned char *)frame, frame_len);
-
-    if (length == 0) {
-        return jcobs_too_small();
-    }
-    return jcobs_done(message_len, length);
-}
-
-/* Writes the frame of the message and a zero after it to the front of the buffer frame, if both fit. Otherwise
- * nothing is written.
- * Proved, by the contract in encode.rt: if the frame and the zero fit, they are the message's, and bytes after
- * them are as they were; if they don't, the status is TOO_SMALL, and the buffer is as it was. */
-jcobs_answer jcobs_encode_terminated(const void *message, size_t message_len, void *frame, size_t frame_len)
-{
-    unsigned char *const to = (unsigned char *)frame;
-
-    if (frame_len == 0) {
-        return jcobs_too_small();
-    }
-    size_t last = frame_len - 1;
-    size_t length = jcobs_write_frame((const unsigned char *)message, message_len, to, last);
-    if (length == 0) {
-        return jcobs_too_small();
-    }
-    to[length] = 0;
-    return jcobs_done(message_len, length + 1);
 }
 
 /* Encodes a message in its own buffer, and returns the length of its frame in bytes. */
@@ -868,22 +891,25 @@ static jcobs_answer jcobs_result_by(size_t consumed, size_t room, jcobs_outcome 
     return jcobs_answered(status, consumed, length);
 }
 
-/* Returns how many bytes come before the first zero. */
+/* Returns how many bytes come before the first zero: all of them if there is none. It uses no vectors, so that it
+ * is small. (A choice of this library.) */
 static JCOBS_NOINLINE size_t jcobs_len_to_zero(const unsigned char *bytes, size_t bytes_len)
 {
-    if (bytes_len == 0) {
-        return 0;
-    }
-    size_t len = 0;
-    for (;;) {
-        if (bytes[len] == 0) {
-            return len;
+    const unsigned char *rest = bytes;
+    size_t rest_len = bytes_len;
+
+    while (rest_len >= 4) {
+        if (rest[0] == 0 || rest[1] == 0 || rest[2] == 0 || rest[3] == 0) {
+            break;
         }
-        len++;
-        if (len == bytes_len) {
-            return len;
-        }
+        rest += 4;
+        rest_len -= 4;
     }
+    while (rest_len != 0 && rest[0] != 0) {
+        rest++;
+        rest_len--;
+    }
+    return bytes_len - rest_len;
 }
 
 /* Moves len bytes of the buffer, which begin at from, to to, and returns where they end. */
@@ -906,8 +932,10 @@ static JCOBS_INLINE size_t jcobs_move_bytes(unsigned char *buffer, size_t from, 
     }
 }
 
-/* Decodes the blocks in the first end bytes of the buffer, and returns the length of their output. */
-static JCOBS_NOINLINE jcobs_outcome jcobs_decode_blocks(unsigned char *buffer, size_t end)
+/* Decodes the blocks in the first end bytes of the buffer in their own place, one byte after another, and returns
+ * the message's length. Every byte after the message is as it was. It is small, and uses no vectors. (A choice of
+ * this library.) */
+static JCOBS_NOINLINE jcobs_outcome jcobs_decode_blocks_each(unsigned char *buffer, size_t end)
 {
     size_t read = 0;
     size_t written = 0;
@@ -919,7 +947,7 @@ static JCOBS_NOINLINE jcobs_outcome jcobs_decode_blocks(unsigned char *buffer, s
         }
         written = jcobs_move_bytes(buffer, read + 1, written, code - 1);
         read += code;
-        if (code != JCOBS_FULL && read < end) {
+        if (code != JCOBS_FULL_CODE && read < end) {
             buffer[written] = 0;
             written++;
         }
@@ -939,12 +967,12 @@ jcobs_answer jcobs_decode_in_place(void *buffer, size_t buffer_len)
         return jcobs_result_by(0, room, jcobs_outcome_of(JCOBS_IS_EMPTY_FRAME, 0));
     }
     size_t end = jcobs_len_to_zero(to, buffer_len);
-    jcobs_outcome size = jcobs_decode_blocks(to, end);
+    jcobs_outcome size = jcobs_decode_blocks_each(to, end);
     return jcobs_result_by(room < end + 1 ? room : end + 1, room, size);
 }
 
-/* Returns which frame the bytes are, as frame_kind does, from one code to the next, without a search for a zero
- * among them. (A choice of this library.) */
+/* Returns the kind of a frame, as frame_kind does. It goes from one code to the next, and doesn't search the bytes
+ * for a zero. (A choice of this library.) */
 static enum jcobs_frame_kind jcobs_kind_by_blocks(const unsigned char *bytes, size_t bytes_len)
 {
     size_t read = 0;

@@ -2,6 +2,7 @@
 //! Decoding: from frames to messages.
 
 pub(crate) mod buffered;
+pub(crate) mod each;
 pub(crate) mod forms;
 pub(crate) mod frame_decoder;
 pub(crate) mod heapless;
@@ -17,6 +18,7 @@ pub(crate) mod whole;
 pub use buffered::CobsDecoder;
 #[cfg(feature = "alloc")]
 pub use buffered::CobsDecoderOwned;
+pub use each::{decode_blocks_each, len_to_zero};
 pub use forms::decode_with_sentinel;
 #[cfg(feature = "alloc")]
 pub use forms::{decode_vec, decode_vec_with_sentinel};

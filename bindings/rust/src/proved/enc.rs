@@ -15,10 +15,11 @@ pub(crate) mod vector;
 
 use crate::proved::block::FULL_CODE;
 use crate::proved::cobs_bytes::lanes::xor_bytes;
-use crate::proved::cobs_bytes::window::WINDOW;
+use crate::proved::cobs_bytes::window::{WINDOW, has_vectors};
 use crate::proved::error::DestBufTooSmallError;
 use blocks::{append, append_short, close};
 pub use each::try_encode_each;
+use each::write_each;
 pub use encoder::CobsEncoder;
 pub use in_place::encode_in_place;
 pub use progress::EncoderProgress;
@@ -53,6 +54,9 @@ pub use vector::{encode_vec, encode_vec_including_sentinels, encode_vec_with_sen
 // Inlined, so that a short message is encoded in the caller's code, without a call.
 #[inline(always)]
 pub fn encode(source: &[u8], dest: &mut [u8]) -> usize {
+    if !has_vectors() {
+        return write_each(source, dest);
+    }
     if 0 < source.len() && source.len() <= WINDOW {
         let progress = append_short(source, dest, START, false);
         return close(dest, progress);
@@ -87,6 +91,9 @@ fn encode_long(source: &[u8], dest: &mut [u8]) -> usize {
 /// ```
 #[inline]
 pub fn try_encode(source: &[u8], dest: &mut [u8]) -> Result<usize, DestBufTooSmallError> {
+    if !has_vectors() {
+        return try_encode_each(source, dest);
+    }
     if let Some(len) = encode_few(source, dest, 0) {
         return Ok(len);
     }

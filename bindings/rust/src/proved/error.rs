@@ -3,7 +3,7 @@
 
 use crate::memory::AllocError;
 
-/// The frame is longer than the slice that was to hold it.
+/// The frame is longer than the slice that it should be written to.
 ///
 /// ```
 /// use jcobs::DestBufTooSmallError;
@@ -26,7 +26,7 @@ impl core::fmt::Display for DestBufTooSmallError {
 
 impl core::error::Error for DestBufTooSmallError {}
 
-/// Why a frame is rejected. The names are those of the crate `cobs`.
+/// The reason why a frame is rejected. The names are those of the crate `cobs`.
 ///
 /// ```
 /// use jcobs::{DecodeError, decode};
@@ -42,7 +42,7 @@ pub enum DecodeError {
     /// There was no byte to decode.
     EmptyFrame,
 
-    /// The frame breaks off inside a block, or no frame is there.
+    /// The frame breaks off inside a block, or the source has no frame.
     InvalidFrame {
         /// How many bytes were decoded. They are at the front of the buffer, if the caller passed one.
         decoded_bytes: usize,
@@ -67,9 +67,9 @@ impl core::fmt::Display for DecodeError {
 
 impl core::error::Error for DecodeError {}
 
-/// Why a `push` of a streaming decoder found no message, and after how many bytes.
+/// The error of a `push` to a streaming decoder, with the number of bytes that were consumed.
 ///
-/// The decoder has taken these bytes and none after them, so the caller continues by pushing the bytes after them.
+/// The decoder has consumed these bytes and no others. To continue, the caller pushes the bytes after them.
 ///
 /// ```
 /// use jcobs::{DecodeError, PushError, UnbufferedDecoder};
@@ -87,7 +87,7 @@ pub struct PushError {
     /// The result for the last byte that was consumed.
     pub error: DecodeError,
 
-    /// How many bytes were consumed, the one that raised the error included.
+    /// How many bytes were consumed, including the one that raised the error.
     pub parsed_size: usize,
 }
 
@@ -101,7 +101,7 @@ impl core::fmt::Display for PushError {
 
 impl core::error::Error for PushError {}
 
-/// Why a call returned no vector. (A choice of this library: memory may run out, and nothing aborts.)
+/// The reason why a call returned no vector. (A choice of this library: memory can run out, and nothing aborts.)
 ///
 /// ```
 /// # use jcobs::proved::*;
@@ -130,8 +130,8 @@ impl core::fmt::Display for DecodeVecError {
 
 impl core::error::Error for DecodeVecError {}
 
-/// The sizes of a decoded message: how many bytes were consumed for it, and how many it has. The names are those of the
-/// crate `cobs`.
+/// The sizes of a decoded message: how many bytes of the source were consumed, and how many bytes the message has. The
+/// names are those of the crate `cobs`.
 ///
 /// ```
 /// use jcobs::decode;
@@ -150,8 +150,8 @@ pub struct DecodeReport {
 }
 
 impl DecodeReport {
-    /// Returns how many bytes of the source were consumed. The call that made the report says whether leading sentinels
-    /// and the one after the frame are among them.
+    /// Returns how many bytes of the source were consumed. The documentation of the call that made the report says
+    /// whether leading sentinels, and the sentinel after the frame, are counted.
     ///
     /// ```
     /// use jcobs::decode;
@@ -163,7 +163,7 @@ impl DecodeReport {
         self.parsed_size
     }
 
-    /// Returns how many bytes the message has; they are at the front of the buffer.
+    /// Returns the length of the message in bytes. The message is at the front of the buffer.
     ///
     /// ```
     /// use jcobs::decode;
@@ -176,7 +176,7 @@ impl DecodeReport {
     }
 }
 
-/// The name that [`DecodeReport`] had. It is deprecated since version 0.5.0: use `DecodeReport`.
+/// The former name of [`DecodeReport`]. It is deprecated since version 0.5.0: use `DecodeReport`.
 ///
 /// ```
 /// # use jcobs::proved::*;

@@ -1,7 +1,7 @@
 // Made by bindings/rust/translate.py from `crates/cobs/src/find.rt`: change that file, and run it again.
 //! Where pieces begin and end.
 
-use crate::proved::cobs_bytes::window::{WIDE_WINDOW, WINDOW, first_zero, has_vectors, zeros_at};
+use crate::proved::cobs_bytes::window::{WIDE_WINDOW, WINDOW, first_zero, zeros_at};
 use memchr::memchr;
 
 /// Where the first such byte of a source is, or the source's length if there is none.
@@ -12,7 +12,7 @@ pub(crate) fn position_or_len(source: &[u8], byte: u8) -> usize {
 /// Where the first zero of a source is, or the source's length if there is none.
 #[inline(always)]
 pub(crate) fn zero_or_len(source: &[u8]) -> usize {
-    if has_vectors() && source.len() < WIDE_WINDOW {
+    if source.len() < WIDE_WINDOW {
         first_zero(source)
     } else {
         position_or_len(source, 0)
@@ -30,8 +30,8 @@ pub(crate) fn len_without_end(source: &[u8], sentinel: u8) -> usize {
     }
 }
 
-/// The length of the source before a zero among its first 64 bytes, or its whole length if none was found there: in a source of
-/// 32 to 63 bytes only the first 32 are searched.
+/// The length of the source before a zero among its first 66 bytes, or its whole length if none was found there: in a source of
+/// 32 to 63 bytes only the first 32 are searched, and in one of 64 or 65 bytes the first 64.
 // A second search for the others would cost a source that has its zero at the end, as a frame that is pushed alone.
 #[inline(always)]
 pub(crate) fn front_len(source: &[u8]) -> usize {
@@ -48,6 +48,15 @@ pub(crate) fn front_len(source: &[u8]) -> usize {
     let later = zeros_at::<32>(source, WINDOW);
     if later != 0 {
         return WINDOW + later.trailing_zeros() as usize;
+    }
+    // The frames of messages of 63 and 64 bytes end here.
+    if WIDE_WINDOW + 1 < source.len() {
+        if source[WIDE_WINDOW] == 0 {
+            return WIDE_WINDOW;
+        }
+        if source[WIDE_WINDOW + 1] == 0 {
+            return WIDE_WINDOW + 1;
+        }
     }
     source.len()
 }

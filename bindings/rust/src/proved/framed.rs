@@ -1,16 +1,17 @@
 // Made by bindings/rust/translate.py from `crates/cobs/src/framed.rt`: change that file, and run it again.
 //! A reader of frames over any source of bytes.
 //!
-//! `FrameReader` reads chunks of 64 bytes from a file, a socket, a serial port or anything else that is a
-//! `FrameSource`, and returns one outcome for each call. It reads only if the bytes that it has kept end no piece. No
-//! byte is lost: the next call first uses the bytes that were read and not used yet, also after a fault. No call here
-//! allocates. (That a zero ends each piece is Cheshire and Baker's; the rest of this module is our own.)
+//! `FrameReader` reads chunks of 64 bytes from a `FrameSource`: a file, a socket, a serial port or any other source.
+//! Each call returns one outcome. The reader reads only if the bytes that it has kept don't end a piece. No byte is
+//! lost, also after a fault: the next call first uses the bytes that were read and not used yet. No call here
+//! allocates. (Ending each piece with a zero is from Cheshire and Baker's paper; the rest of this module is a choice of
+//! this library.)
 
 use crate::proved::dec::{FrameDecoder, PieceEnd};
 #[cfg(feature = "std")]
 use std::io::Read;
 
-/// What a call of [`next_frame`](FrameReader::next_frame) found.
+/// The result of a call of [`next_frame`](FrameReader::next_frame) that didn't fail.
 ///
 /// ```
 /// # #[cfg(feature = "std")] {
@@ -23,24 +24,24 @@ use std::io::Read;
 /// ```
 #[derive(Debug, Clone, Copy, PartialEq, Eq)]
 pub enum Next {
-    /// A piece ended that is a frame. Its message is this many bytes at the front of the decoder's buffer.
+    /// A piece ended, and it is a frame. Its message is this many bytes at the front of the decoder's buffer.
     Message(usize),
 
-    /// A piece ended that breaks off inside a block. It decodes to this many bytes, those of the broken block
-    /// included, which are at the front of the decoder's buffer.
+    /// A piece ended, and it breaks off inside a block. It decodes to this many bytes, those of the broken block
+    /// included. They are at the front of the decoder's buffer.
     Broken(usize),
 
-    /// A piece ended that decodes to more bytes than the decoder's buffer holds.
+    /// A piece ended, and it decodes to more bytes than the decoder's buffer holds.
     TooLong,
 
-    /// The source gave no more bytes, and no piece ended.
+    /// The source returned no more bytes, and no piece ended.
     End {
         /// Whether a piece has begun that no zero has ended yet.
         unfinished: bool,
     },
 }
 
-/// Why a call of `next_frame` found nothing. No byte is lost: a later call continues from there.
+/// The reason why a call of `next_frame` found no outcome. No byte is lost: a later call continues from there.
 ///
 /// ```
 /// use jcobs::{FrameDecoder, FrameReader, FrameSource, Next, ReadFault};
@@ -58,16 +59,16 @@ pub enum Next {
 /// ```
 #[derive(Debug, Clone, Copy, PartialEq, Eq)]
 pub enum ReadFault {
-    /// A read failed; an interrupted read is a failed one.
+    /// A read failed. An interrupted read counts as a failed one.
     Io,
 
-    /// The call made 65,536 reads that all gave bytes, and no piece ended.
+    /// The call made 65,536 reads, each of which returned bytes, and no piece ended.
     TooManyReads,
 }
 
 /// A source of the bytes of a stream.
 ///
-/// [`FrameReader::next_frame`] panics if a read says that it gave more than 64 bytes.
+/// [`FrameReader::next_frame`] panics if a read returns a number above 64.
 ///
 /// ```
 /// # #[cfg(feature = "std")] {
@@ -81,10 +82,10 @@ pub enum ReadFault {
 /// # }
 /// ```
 pub trait FrameSource {
-    /// Reads once.
+    /// Reads once, into `chunk`.
     ///
-    /// `Some(n)` says that the read gave the first n bytes of the chunk, 0 at the end of the source,
-    /// and `None` that it failed.
+    /// Returns `Some(n)` if the read returned the first n bytes of `chunk`; n is 0 at the end of the source. Returns
+    /// `None` if the read failed.
     ///
     /// ```
     /// # #[cfg(feature = "std")] {
@@ -99,7 +100,7 @@ pub trait FrameSource {
     fn read_some(&mut self, chunk: &mut [u8; 64]) -> Option<usize>;
 }
 
-/// Any reader as a source of bytes: one `read` for each call, and each error of it is a failed read.
+/// Any reader as a source of bytes. Each call reads once, and each error of the reader is a failed read.
 ///
 /// ```
 /// # #[cfg(feature = "std")] {
@@ -168,7 +169,7 @@ fn next_at(end: PieceEnd) -> Next {
     }
 }
 
-/// Whether a piece is unfinished after these bytes. `before` says whether one was unfinished before them.
+/// Returns whether a piece is unfinished after these bytes. `before` says whether one was unfinished before them.
 fn is_unfinished(before: bool, bytes: &[u8]) -> bool {
     match bytes {
         [] => before,
@@ -176,12 +177,12 @@ fn is_unfinished(before: bool, bytes: &[u8]) -> bool {
     }
 }
 
-/// How many reads a call makes at most.
+/// The most reads that a call makes.
 const MOST_READS: usize = 65536;
 
 /// Reads the frames of a stream, one for each call, with a decoder of its own.
 ///
-/// The source isn't part of it but given to each call, so a stream may continue in another source.
+/// The source isn't part of the reader. It is passed to each call, so a stream may continue in another source.
 ///
 /// ```
 /// # #[cfg(feature = "std")] {
@@ -203,7 +204,7 @@ pub struct FrameReader<D: FrameDecoder> {
 }
 
 impl<D: FrameDecoder> FrameReader<D> {
-    /// Makes a reader with this decoder, which has read nothing yet.
+    /// Makes a reader with this decoder. The reader has read nothing yet.
     ///
     /// The decoder is idle, as it is when new, after a reset, and after each zero. Otherwise the first
     /// outcome is that of the piece that it has begun.
@@ -254,16 +255,17 @@ impl<D: FrameDecoder> FrameReader<D> {
         }
     }
 
-    /// Returns the outcome of the next piece of the stream, once a zero has ended it, or the end of the source.
+    /// Returns the outcome of the next piece of the stream once a zero has ended it, or the end of the source.
     ///
-    /// Bytes that earlier calls have kept are used first, and the bytes after the zero of the piece that ends are kept
-    /// for the next call. While no piece ends, the source is read, at most 65,536 times. Nothing is read after a
-    /// piece's end, after a read that failed, or after one that gave no bytes. After `Next::End` the stream may
-    /// continue, in this source or in another one.
+    /// Bytes that earlier calls have kept are used first. The bytes after the zero that ends the piece are kept for the
+    /// next call. As long as no piece ends, the source is read, at most 65,536 times. Nothing is read after the end of
+    /// a piece, after a failed read, or after a read that returned no bytes. After `Next::End` the stream may continue,
+    /// in this source or in another one.
     ///
     /// # Errors
-    /// `Io` if the last read of this call failed, and `TooManyReads` if this call made 65,536 reads that all gave
-    /// bytes. In both cases no piece ended, the decoder has taken all bytes that were read, and the next call continues.
+    /// `Io` if the last read of this call failed, and `TooManyReads` if this call made 65,536 reads that all returned
+    /// bytes. In both cases no piece ended, the decoder has taken all bytes that were read, and the next call
+    /// continues.
     ///
     /// ```
     /// # #[cfg(feature = "std")] {

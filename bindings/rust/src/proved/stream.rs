@@ -1,10 +1,10 @@
 // Made by bindings/rust/translate.py from `crates/cobs/src/stream.rt`: change that file, and run it again.
-//! Whole streams: the outcomes of all pieces that end in some bytes, and frames one after another.
+//! Whole streams: decodes all pieces that end in a part of a stream, and encodes several messages.
 //!
 //! A stream is cut at its zeros. The bytes between two zeros are a piece, unless there are none. Each piece is decoded
-//! by itself: it is a message, or it breaks off inside a block, or it decodes to more than the buffer holds. So damage to
-//! one piece has no effect after the next zero. (That a zero ends each frame is Cheshire and Baker's; how broken and too
-//! long pieces are reported is a choice of this library.)
+//! separately: it is a message, it breaks off inside a block, or it decodes to more bytes than the buffer holds. So
+//! damage to one piece has no effect after the next zero. (Ending each frame with a zero is from Cheshire and Baker's
+//! paper; how broken and too long pieces are reported is a choice of this library.)
 
 use crate::memory::AllocError;
 use crate::proved::dec::{FrameDecoder, PieceEnd};
@@ -13,7 +13,7 @@ use crate::proved::max_encoding_length;
 #[cfg(feature = "alloc")]
 use alloc::vec::Vec;
 
-/// The outcome of a piece of a stream: one or more nonzero bytes that a zero ended.
+/// The outcome of a piece of a stream. A piece is one or more nonzero bytes, and a zero ends it.
 ///
 /// ```
 /// # #[cfg(feature = "alloc")] {
@@ -39,7 +39,7 @@ pub enum FrameOutcome {
     TooLong,
 }
 
-/// The outcome of the piece with this end, whose output is in `buffer`.
+/// Converts the end of a piece, whose output is in `buffer`, to its outcome.
 #[cfg(feature = "alloc")]
 fn frame_outcome(end: PieceEnd, buffer: &[u8]) -> Result<FrameOutcome, AllocError> {
     match end {
@@ -49,19 +49,18 @@ fn frame_outcome(end: PieceEnd, buffer: &[u8]) -> Result<FrameOutcome, AllocErro
     }
 }
 
-/// Decodes a part of a stream: one outcome for each piece that ends in the bytes, in order.
+/// Decodes a part of a stream, and returns one outcome for each piece that ends in it, in order.
 ///
-/// The first of these pieces may have begun before this call, and the next call continues a piece that hasn't ended:
-/// the decoder keeps its state. So a stream can be passed in parts, cut anywhere, and the joined results are those of the
-/// whole stream. Leading and doubled zeros make no piece.
+/// The first of these pieces may have begun in an earlier call. A piece that hasn't ended is continued by the next
+/// call, because the decoder keeps its state. So a stream can be passed in parts, cut anywhere, and the joined results
+/// are those of the whole stream. Leading and doubled zeros make no piece.
 ///
-/// If the caller wrote to the decoder's buffer inside a piece, the bytes of that piece's message, the first outcome,
-/// aren't determined. Its length is, and so is everything after it.
+/// If the caller wrote to the decoder's buffer while a piece was open, the bytes of that piece's message are
+/// unspecified. This message is the first outcome. Its length and all later outcomes are as usual.
 ///
 /// # Errors
-/// `AllocError` if memory for an outcome runs out. The outcomes are lost then, and the decoder is idle, so the
-/// next byte begins a new piece. Only messages and the list of outcomes allocate: if no piece
-/// ends, the result is `Ok`.
+/// `AllocError` if memory for an outcome runs out. Then the outcomes are lost, and the decoder is idle, so the next
+/// byte begins a new piece. Only messages and the list of outcomes need memory: if no piece ends, the result is `Ok`.
 ///
 /// ```
 /// # #[cfg(feature = "alloc")] {
@@ -91,10 +90,10 @@ pub fn decode_stream<D: FrameDecoder>(
     Ok(outcomes)
 }
 
-/// Makes the stream of some messages: the encoded frame of each one and a zero after it, in order.
+/// Makes a stream of these messages: the encoded frame of each one and a zero after it, in order.
 ///
-/// Whoever feeds these bytes to an idle decoder whose buffer holds each message gets exactly the messages back. For
-/// no messages the stream is empty.
+/// An idle decoder whose buffer has room for each message decodes these bytes to exactly these messages. For no
+/// messages the stream is empty.
 ///
 /// Memory is allocated once, for [`encode_frames_room`] of the messages.
 ///
@@ -126,12 +125,12 @@ pub fn encode_frames(messages: &[Vec<u8>]) -> Result<Vec<u8>, AllocError> {
     Ok(frames)
 }
 
-/// Returns how many bytes have room for the frames of the messages and a zero after each: the sum of
-/// [`max_encoding_length`](crate::max_encoding_length) plus 1 over the messages. `None` if the sum doesn't fit a `usize`.
+/// Returns the number of bytes that are enough for the frames of the messages, each with a zero after it: the sum of
+/// [`max_encoding_length`](crate::max_encoding_length) plus 1 over the messages. Returns `None` if the sum doesn't fit
+/// a `usize`.
 ///
-/// A caller of [`encode_frames`] tests its precondition with this function. The result is the number of bytes that it
-/// allocates.
-/// This function allocates nothing.
+/// [`encode_frames`] requires that there is such a number, and allocates that many bytes. This function allocates
+/// nothing.
 ///
 /// ```
 /// # use jcobs::proved::*;

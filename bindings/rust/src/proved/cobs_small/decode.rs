@@ -5,25 +5,6 @@ use crate::proved::cobs_abi::{Answer, BROKEN, EMPTY, MORE, TOO_SMALL, done};
 use crate::proved::cobs_small::decoder::jcobs_decoder_push;
 use crate::proved::{PieceEnd, UnbufferedDecoder};
 
-/// Returns how many bytes come before the first zero.
-// A function of its own, so that its loop has all registers of a small processor.
-#[inline(never)]
-pub(crate) fn len_to_zero(bytes: &[u8]) -> usize {
-    if bytes.is_empty() {
-        return 0;
-    }
-    let mut len = 0;
-    'by_byte: loop {
-        if bytes[len] == 0 {
-            return len;
-        }
-        len += 1;
-        if len == bytes.len() {
-            return len;
-        }
-    }
-}
-
 /// Returns the result of a call that took these bytes, into a buffer of `room` bytes, by how the piece has ended.
 fn result_for_end(consumed: usize, room: usize, end: Option<PieceEnd>) -> Answer {
     let (status, length) = match end {

@@ -2,8 +2,7 @@
 //! Which frame bytes are.
 
 use crate::proved::cobs_abi::{CANONICAL, LONGER, NOT_A_FRAME};
-use crate::proved::cobs_small::decode::len_to_zero;
-use crate::proved::{FrameKind, kind_by_blocks};
+use crate::proved::{FrameKind, kind_by_blocks, len_to_zero};
 
 /// Returns whether the bytes are a frame, and which one of its message.
 pub fn jcobs_frame_kind(bytes: &[u8]) -> u32 {

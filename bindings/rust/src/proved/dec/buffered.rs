@@ -1,5 +1,5 @@
 // Made by bindings/rust/translate.py from `crates/cobs/src/dec/buffered.rt`: change that file, and run it again.
-//! The streaming decoders over a buffer that is borrowed, and over one of their own.
+//! The streaming decoders over a borrowed buffer, and over a buffer of their own.
 
 use crate::memory::AllocError;
 use crate::proved::dec::frame_decoder::{FrameDecoder, PieceEnd, WriteBuffer};
@@ -10,9 +10,10 @@ use alloc::vec::Vec;
 
 /// Decodes a stream of frames, each ended by a zero, into a slice that it borrows.
 ///
-/// The stream is passed to it in calls of any number of bytes. When a frame ends, its message is at the front of the
-/// slice, until the next frame begins. The outcome of a piece of the stream, that is of the bytes between two zeros,
-/// depends only on these bytes and the slice's length: after every zero the decoder is idle, so a broken frame never
+/// Each call takes any number of bytes of the stream. When a frame ends, its message is at the front of the slice,
+/// until the next frame begins. A piece of the stream is the bytes between two zeros. Its outcome depends only on these
+/// bytes and on the length of the slice: the decoder is idle after every zero, so a broken frame never affects another.
+/// Ending each frame with a zero is from Cheshire and Baker's paper.
 /// affects another. That a zero ends each frame is Cheshire and Baker's.
 ///
 /// ```
@@ -33,7 +34,7 @@ pub struct CobsDecoder<'a> {
 }
 
 impl<'a> CobsDecoder<'a> {
-    /// Makes an idle decoder over the slice, which may be of any length, also empty. No byte of it is changed.
+    /// Makes an idle decoder over the slice, which may have any length, also 0. No byte of it is changed.
     ///
     /// ```
     /// # use jcobs::proved::*;
@@ -51,14 +52,17 @@ impl<'a> CobsDecoder<'a> {
 
     /// Takes the next byte of the stream.
     ///
-    /// `Ok(None)`: no piece has ended, and the output of this piece so far fits the slice; the slice begins with
-    /// it. `Ok(Some(n))`: the byte was the zero after a whole frame, and the message is the slice's first `n`
-    /// bytes. All other bytes of the slice are as they were.
+    /// - `Ok(None)`: no piece has ended, and the output of this piece so far fits the slice, which begins with it.
+    /// - `Ok(Some(n))`: the byte was the zero after a whole frame, and the message is the slice's first `n` bytes.
+    ///
+    /// All other bytes of the slice are as they were.
     ///
     /// # Errors
-    /// `InvalidFrame`: the byte was a zero inside a block; `decoded_bytes` counts the piece's output, which is
-    /// at the front of the slice. `TargetBufTooSmall`: the output of the piece is longer than the slice, which
-    /// holds its first bytes; that is the result for each byte from the one that finds no room through the zero.
+    /// - `InvalidFrame`: the byte was a zero inside a block. `decoded_bytes` is the length of the piece's output, which
+    ///   is at the front of the slice.
+    /// - `TargetBufTooSmall`: the output of the piece is longer than the slice, which holds its first bytes. This is
+    ///   the result for each byte from the first one without room through the zero.
+    ///
     /// After every zero the decoder is idle. (The result after an overflow is a choice of this library.)
     ///
     /// ```
@@ -74,16 +78,18 @@ impl<'a> CobsDecoder<'a> {
         self.inner.feed(self.dest, byte)
     }
 
-    /// Takes bytes of the stream, through the first one whose result by `feed` isn't `Ok(None)`.
+    /// Takes bytes of the stream, through the first one for which `feed` doesn't return `Ok(None)`.
     ///
-    /// `Ok(None)`: all bytes were taken, and no piece has ended in them. `Ok(Some(report))`: a whole frame has ended;
-    /// `frame_size` is the length of its message, which is at the front of the slice, and `parsed_size` counts
-    /// the bytes that were taken, the zero after the frame included. The bytes after them have no effect: push them next.
+    /// - `Ok(None)`: all bytes were taken, and no piece has ended in them.
+    /// - `Ok(Some(report))`: a whole frame has ended. `frame_size` is the length of its message, which is at the front
+    ///   of the slice. `parsed_size` is the number of bytes taken, including the zero after the frame. The bytes after
+    ///   them have no effect: push them next.
     ///
     /// # Errors
-    /// A `PushError` has the error of `feed` and how many bytes were taken, the one that raised it included.
-    /// To continue with the stream, push the bytes after these. If a zero raised the error, its piece is over. If a piece
-    /// is too long for the slice, each push takes one byte of it and returns the error again, until its zero is taken.
+    /// A `PushError` has the error of `feed` and the number of bytes taken, including the one that raised the error. To
+    /// continue with the stream, push the bytes after these. If a zero raised the error, its piece has ended. If a
+    /// piece is too long for the slice, each push takes one byte of it and returns the error again, until its zero is
+    /// taken.
     ///
     /// ```
     /// # use jcobs::proved::*;
@@ -109,11 +115,12 @@ impl<'a> CobsDecoder<'a> {
         self.dest
     }
 
-    /// Returns the whole slice, to be written to.
+    /// Returns the whole slice, for writing.
     ///
-    /// Writing inside a piece changes no result of this piece; only the bytes of its message are then unknown. From
-    /// this call, a proof about its caller knows the bytes of the slice while it is borrowed, but not the decoder's
-    /// state after the write: [`write_dest`](crate::WriteBuffer::write_dest) says that too.
+    /// Writing while a piece is open changes no result of this piece; only the bytes of its message are then
+    /// unspecified. A proof about a caller of this function knows the bytes of the slice as long as it is borrowed, but
+    /// not the decoder's state after the write. A caller of [`write_dest`](crate::WriteBuffer::write_dest) knows that
+    /// too.
     ///
     /// ```
     /// # use jcobs::proved::*;
@@ -149,9 +156,9 @@ impl WriteBuffer for CobsDecoder<'_> {
 
 /// Decodes a stream of frames, each ended by a zero, into a buffer of its own.
 ///
-/// By the byte it returns what
-/// [`CobsDecoder`](crate::CobsDecoder) does. Its memory is allocated once, by `new`, and its buffer
-/// keeps its length. That a zero ends each frame is Cheshire and Baker's; the calls are those of the crate `cobs`.
+/// Its results are those of [`CobsDecoder`](crate::CobsDecoder). Memory is allocated once, by `new`, and the buffer
+/// keeps its length. Ending each frame with a zero is from Cheshire and Baker's paper; the calls are those of the crate
+/// `cobs`.
 ///
 /// ```
 /// # use jcobs::proved::*;
@@ -173,10 +180,10 @@ pub struct CobsDecoderOwned {
 
 #[cfg(feature = "alloc")]
 impl CobsDecoderOwned {
-    /// Makes an idle decoder over a buffer of this many zeros.
+    /// Makes an idle decoder with a buffer of `dest_buf_size` zeros.
     ///
     /// # Errors
-    /// `AllocError`: no memory was found for the buffer.
+    /// `AllocError`: there isn't enough memory for the buffer.
     ///
     /// ```
     /// # use jcobs::proved::*;
@@ -208,7 +215,7 @@ impl CobsDecoderOwned {
         self.inner.feed(&mut self.dest, byte)
     }
 
-    /// Takes bytes of the stream through the first one whose result by `feed` isn't `Ok(None)`.
+    /// Takes bytes of the stream, through the first one for which `feed` doesn't return `Ok(None)`.
     /// The error says how many bytes were taken.
     ///
     /// ```
@@ -257,7 +264,7 @@ impl CobsDecoderOwned {
         self.dest.as_slice()
     }
 
-    /// Returns the whole buffer, to be written to, as [`CobsDecoder::dest_mut`](crate::CobsDecoder::dest_mut) does.
+    /// Returns the whole buffer, for writing, as [`CobsDecoder::dest_mut`](crate::CobsDecoder::dest_mut) does.
     ///
     /// ```
     /// # use jcobs::proved::*;

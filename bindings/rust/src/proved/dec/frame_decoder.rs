@@ -1,5 +1,6 @@
 // Made by bindings/rust/translate.py from `crates/cobs/src/dec/frame_decoder.rt`: change that file, and run it again.
-//! The traits of the streaming decoders: the one that `stream` and `framed` use, and one for writing to the buffer.
+//! The traits of the streaming decoders: one for decoding, which `stream` and `framed` use, and one for writing to the
+//! buffer.
 
 use crate::proved::error::DecodeError;
 
@@ -25,7 +26,7 @@ pub enum PieceEnd {
 }
 
 impl PieceEnd {
-    /// Returns how a piece has ended, by the result of `feed` for the zero: `None` if no piece was open.
+    /// Returns how a piece has ended, given the result of `feed` for its zero, or `None` if no piece had begun.
     ///
     /// ```
     /// use jcobs::{PieceEnd, UnbufferedDecoder};
@@ -49,7 +50,7 @@ impl PieceEnd {
     }
 }
 
-/// A decoder that is fed one byte of a stream after another, and owns or borrows the buffer of its output.
+/// A decoder that takes a stream byte by byte or piece by piece, and owns or borrows the buffer for its output.
 ///
 /// ```
 /// use jcobs::{CobsDecoderHeapless, FrameDecoder, PieceEnd};
@@ -70,14 +71,14 @@ pub trait FrameDecoder {
     /// ```
     fn feed_byte(&mut self, byte: u8) -> Result<Option<usize>, DecodeError>;
 
-    /// Takes bytes of the stream through the first zero that ends a piece.
+    /// Takes bytes of the stream, through the first zero that ends a piece.
     ///
-    /// `None` says that no piece ended in these bytes, and that all were taken. `Some((end, count))` says that a piece
-    /// ended with the byte at index `count - 1`, and how. The bytes after that one had no effect, and the bytes of the
-    /// buffer after the output are as they were. A piece that is too long for the buffer ends at its zero, as every
-    /// other, so the caller never has to feed single bytes.
+    /// Returns `None` if no piece ended in these bytes, and then all of them were taken. Returns `Some((end, count))`
+    /// if a piece ended with the byte at index `count - 1`; `end` says how. The bytes after that one had no effect, and
+    /// the bytes of the buffer after the output are as they were. A piece that is too long for the buffer ends at its
+    /// zero, like every other, so the caller never has to feed single bytes.
     ///
-    /// An implementation needn't have this method: the provided one feeds one byte after another. The decoders of this
+    /// An implementation doesn't need this method: the provided one feeds one byte after another. The decoders of this
     /// library copy whole blocks instead.
     ///
     /// ```
@@ -110,14 +111,14 @@ pub trait FrameDecoder {
     fn buffer(&self) -> &[u8];
 }
 
-/// A decoder whose buffer can be borrowed to be written to.
+/// A decoder that lends its buffer for writing.
 ///
-/// Writing changes the buffer's bytes to those that were written, and neither the decoder's state nor its slice. So a
-/// decoder that has taken the front of a piece (`PhaseAfter`) still has: each result of this piece is the same, and
-/// only the bytes of its message are then unknown.
+/// Writing replaces the bytes of the buffer. It changes neither the decoder's state nor which slice the buffer is. So
+/// if a decoder has taken the front of a piece (`PhaseAfter`), the results of this piece stay the same; only the bytes
+/// of its message are then unspecified.
 ///
-/// Each streaming decoder has a method `dest_mut` of its own too. With the one of a `CobsDecoder`, whose slice is itself
-/// borrowed, a caller's proof knows only the bytes of the slice while it is borrowed. Such a caller writes with
+/// Each streaming decoder also has a method `dest_mut` of its own. The slice of a `CobsDecoder` is itself borrowed, so
+/// a caller of that method knows only the bytes of the slice as long as it is borrowed. Such a caller writes with
 /// [`write_dest`](WriteBuffer::write_dest), or in code that is generic over this trait.
 ///
 /// ```
@@ -131,7 +132,7 @@ pub trait FrameDecoder {
 /// assert_eq!(decoder.dest(), [9, 8, 0].as_slice());
 /// ```
 pub trait WriteBuffer: FrameDecoder {
-    /// Returns the whole buffer, to be written to: its bytes are then those that the caller has written.
+    /// Returns the whole buffer, for writing. Its bytes are then those that the caller has written.
     ///
     /// ```
     /// # use jcobs::proved::*;
@@ -141,9 +142,9 @@ pub trait WriteBuffer: FrameDecoder {
     /// ```
     fn dest_mut(&mut self) -> &mut [u8];
 
-    /// Writes these bytes over those of the buffer, from index `at` on.
+    /// Writes the bytes of `source` over those of the buffer, from index `at` on.
     ///
-    /// Precondition: they fit, so `at` plus their number is at most the buffer's length.
+    /// Precondition: they fit, so `at` plus their number is at most the length of the buffer.
     ///
     /// ```
     /// # use jcobs::proved::*;

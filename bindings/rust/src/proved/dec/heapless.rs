@@ -1,16 +1,15 @@
 // Made by bindings/rust/translate.py from `crates/cobs/src/dec/heapless.rt`: change that file, and run it again.
-//! The streaming decoder over a buffer that lies in the value itself.
+//! The streaming decoder whose buffer is part of the value itself.
 
 use crate::array_vec::ArrayVec;
 use crate::proved::dec::frame_decoder::{FrameDecoder, PieceEnd, WriteBuffer};
 use crate::proved::dec::unbuffered::UnbufferedDecoder;
 use crate::proved::error::{DecodeError, DecodeReport, PushError};
 
-/// Decodes a stream of frames, each ended by a zero, into a buffer of `N` bytes that lies in the value itself.
+/// Decodes a stream of frames, each ended by a zero, into a buffer of `N` bytes that is part of the value itself.
 ///
-/// By the byte it returns what
-/// [`CobsDecoder`](crate::CobsDecoder) does, and doesn't allocate. That a zero ends each frame is
-/// Cheshire and Baker's; the calls are those of the crate `cobs`.
+/// Its results are those of [`CobsDecoder`](crate::CobsDecoder), and it doesn't allocate. Ending each frame with a zero
+/// is from Cheshire and Baker's paper; the calls are those of the crate `cobs`.
 ///
 /// ```
 /// # use jcobs::proved::*;
@@ -27,7 +26,7 @@ pub struct CobsDecoderHeapless<const N: usize> {
 }
 
 impl<const N: usize> CobsDecoderHeapless<N> {
-    /// Makes an idle decoder over `N` zeros.
+    /// Makes an idle decoder whose buffer has `N` zeros.
     ///
     /// ```
     /// # use jcobs::proved::*;
@@ -37,7 +36,8 @@ impl<const N: usize> CobsDecoderHeapless<N> {
         CobsDecoderHeapless::new_with_vec(ArrayVec::new())
     }
 
-    /// Makes an idle decoder over the vector. It keeps the vector's bytes, and adds zeros up to the capacity, `N` bytes.
+    /// Makes an idle decoder whose buffer is the vector. It keeps the vector's bytes, and appends zeros up to the
+    /// capacity, `N` bytes.
     ///
     /// ```
     /// # use jcobs::proved::*;
@@ -72,7 +72,7 @@ impl<const N: usize> CobsDecoderHeapless<N> {
         self.inner.feed(self.dest.as_mut_slice(), byte)
     }
 
-    /// Takes bytes of the stream through the first one whose result by `feed` isn't `Ok(None)`.
+    /// Takes bytes of the stream, through the first one for which `feed` doesn't return `Ok(None)`.
     /// The error says how many bytes were taken.
     ///
     /// ```
@@ -113,7 +113,7 @@ impl<const N: usize> CobsDecoderHeapless<N> {
         self.dest.as_slice()
     }
 
-    /// Returns the whole buffer, to be written to, as [`CobsDecoder::dest_mut`](crate::CobsDecoder::dest_mut) does.
+    /// Returns the whole buffer, for writing, as [`CobsDecoder::dest_mut`](crate::CobsDecoder::dest_mut) does.
     ///
     /// ```
     /// # use jcobs::proved::*;
@@ -127,7 +127,7 @@ impl<const N: usize> CobsDecoderHeapless<N> {
 }
 
 impl<const N: usize> Default for CobsDecoderHeapless<N> {
-    /// Makes an idle decoder over `N` zeros, as `new` does.
+    /// Makes an idle decoder whose buffer has `N` zeros, as `new` does.
     ///
     /// ```
     /// # use jcobs::proved::*;

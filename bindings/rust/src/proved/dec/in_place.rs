@@ -4,6 +4,7 @@
 use crate::proved::block::FULL_BLOCK_BYTES;
 use crate::proved::cobs_bytes::lanes::{copy_xored_short, move_to_front, xor_bytes};
 use crate::proved::cobs_bytes::window::{WIDE_WINDOW, WINDOW, has_vectors, is_all, write_row};
+use crate::proved::dec::each::decode_in_place_each;
 use crate::proved::dec::run::STRETCH_MAX;
 use crate::proved::dec::stretch::{kept_len, message_len, write_zeros_at_codes};
 use crate::proved::dec::unbuffered::{START, UnbufferedDecoder};
@@ -40,7 +41,7 @@ impl UnbufferedDecoder {
             return WINDOW;
         }
         move_back(buffer, at, read, len);
-        self.take_copied(buffer, len);
+        self.take_moved(buffer, len);
         len
     }
 
@@ -66,42 +67,10 @@ fn decode_blocks_in_place(buffer: &mut [u8], end: usize) -> Result<usize, Decode
     message_len(progress.written, whole)
 }
 
-/// Decodes the first `len` bytes of the buffer, 254 at most, one byte per iteration: each byte after the first moves one place
-/// forward, and a code becomes a zero.
-fn write_output_in_place(buffer: &mut [u8], len: usize) {
-    let mut missing = buffer[0] - 1;
-    'by_byte: for i in 0..len - 1 {
-        let byte = buffer[i + 1];
-        if missing == 0 {
-            buffer[i] = 0;
-            missing = byte - 1;
-        } else {
-            buffer[i] = byte;
-            missing -= 1;
-        }
-    }
-}
-
-/// Does what [`decode_stretch_in_place`] does, without vectors: nothing is written before the frame is known to be whole.
-fn decode_by_byte_in_place(buffer: &mut [u8], len: usize) -> bool {
-    if len < 2 || WIDE_WINDOW + 1 < len || zero_or_len(&buffer[..len]) < len {
-        return false;
-    }
-    let (_, whole) = kept_len(&buffer[..len], 0, 0);
-    if !whole {
-        return false;
-    }
-    write_output_in_place(buffer, len);
-    true
-}
-
 /// Decodes the first `len` bytes of the buffer, if these are 2 to 65 and a frame, and returns whether it did. If not, every byte
-/// stays: with vectors they are copied first, and put back if the frame is broken.
+/// stays: they are copied first, and put back if the frame is broken.
 #[inline(always)]
 fn decode_stretch_in_place(buffer: &mut [u8], len: usize) -> bool {
-    if !has_vectors() {
-        return decode_by_byte_in_place(buffer, len);
-    }
     let mut coded = [0; WIDE_WINDOW + 1];
     if len < 2 || WIDE_WINDOW + 1 < len || buffer[0] == 0 {
         return false;
@@ -148,6 +117,9 @@ fn decode_stretch_in_place(buffer: &mut [u8], len: usize) -> bool {
 // Inlined, because a call that returns its result in memory costs as much as decoding a frame of a few bytes.
 #[inline(always)]
 pub fn decode_in_place_report(buf: &mut [u8]) -> Result<DecodeReport, DecodeError> {
+    if !has_vectors() {
+        return decode_in_place_each(buf);
+    }
     if buf.is_empty() {
         return Err(DecodeError::EmptyFrame);
     }
@@ -166,7 +138,7 @@ pub fn decode_in_place_report(buf: &mut [u8]) -> Result<DecodeReport, DecodeErro
 ///
 /// It decodes a buffer that has 2 to 65 bytes before its first zero, which are a whole frame, and at most this zero after
 /// them.
-/// [`decode_in_place_report`] calls it first. If the target has vectors, it calls nothing itself, as
+/// If the target has vectors, [`decode_in_place_report`] calls it first. It calls nothing itself, as
 /// `decode_short`.
 ///
 /// ```

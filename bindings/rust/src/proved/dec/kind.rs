@@ -1,10 +1,10 @@
 // Made by bindings/rust/translate.py from `crates/cobs/src/dec/kind.rt`: change that file, and run it again.
-//! Whether bytes are a frame, and which one.
+//! The kind of a frame: whether bytes are a frame, and which frame of their message.
 
 use crate::proved::block::FULL_CODE;
 use crate::proved::find::position_or_len;
 
-/// Whether bytes are a frame, and which frame of its message.
+/// Whether bytes are a frame, and which frame of their message.
 ///
 /// ```
 /// use jcobs::{FrameKind, frame_kind};
@@ -14,24 +14,24 @@ use crate::proved::find::position_or_len;
 /// ```
 #[derive(Debug, Clone, Copy, PartialEq, Eq)]
 pub enum FrameKind {
-    /// No message: the list is empty, has a zero, or breaks off inside a block.
+    /// The bytes are no frame: there are none, one of them is a zero, or they break off inside a block.
     NotAFrame,
 
     /// The frame that encoders write for its message.
     Canonical,
 
-    /// The longer frame of its message: the one that encoders write, followed by a block without bytes. Only a message
-    /// whose last run of nonzero bytes fills its blocks has one.
+    /// The longer frame of its message: the one that encoders write, followed by a block without bytes, 01. Only a
+    /// message whose last run of nonzero bytes has a positive length divisible by 254 has such a frame.
     Longer,
 }
 
 /// Returns whether the bytes are a frame, and whether they are the one that encoders write for its message.
 ///
-/// The bytes are a frame without the sentinels around it. It is longer than its message's encoded frame exactly if its last
-/// two blocks are a full one and an empty one; decoders read the two alike. Nothing is allocated.
+/// The bytes are those between two sentinels. They are the longer frame of their message exactly if their last two
+/// blocks are a full one and a block without bytes; decoders read the two frames alike. Nothing is allocated.
 ///
-/// A frame is defined by its blocks, after Cheshire and Baker. Of two frames the shorter one is the canonical one, because
-/// their encoder writes it.
+/// A frame is defined by its blocks, as in Cheshire and Baker's paper. Their encoder writes the shorter of two frames,
+/// so that is the canonical one.
 ///
 /// ```
 /// # use jcobs::proved::*;
@@ -50,8 +50,8 @@ pub fn frame_kind(bytes: &[u8]) -> FrameKind {
     kind_by_blocks(bytes)
 }
 
-/// Returns which frame the bytes are, as [`frame_kind`] does, from one code to the next, without a search for a zero among
-/// them.
+/// Returns the kind of a frame, as [`frame_kind`] does. It goes from one code to the next, and doesn't search the bytes
+/// for a zero.
 ///
 /// Precondition: no byte is a zero.
 ///

@@ -4,9 +4,11 @@
 
 use crate::proved::block::FULL_BLOCK_BYTES;
 use crate::proved::cobs_bytes::lanes::{copy_xored, copy_xored_short};
-use crate::proved::cobs_bytes::window::{WIDE_WINDOW, WINDOW, copy_window, is_all, write_row};
+use crate::proved::cobs_bytes::window::{
+    WIDE_WINDOW, WINDOW, copy_window, has_vectors, is_all, write_row,
+};
 use crate::proved::dec::step::joint_after;
-use crate::proved::dec::stretch::write_zeros_at_codes;
+use crate::proved::dec::stretch::{write_zeros_at_codes, write_zeros_at_copied};
 use crate::proved::dec::unbuffered::{START, UnbufferedDecoder};
 use crate::proved::find::zero_or_len;
 
@@ -56,9 +58,9 @@ impl UnbufferedDecoder {
         1 + len
     }
 
-    /// Takes `len` bytes that are copied after the output, none of them a zero, in which no full block ends.
+    /// Takes `len` bytes that are moved to the end of the output, none of them a zero, in which no full block ends.
     #[inline(always)]
-    pub(crate) fn take_copied(&mut self, dest: &mut [u8], len: usize) {
+    pub(crate) fn take_moved(&mut self, dest: &mut [u8], len: usize) {
         let at = self.written;
         let missing = self.missing as usize;
         self.written = at + len;
@@ -72,6 +74,24 @@ impl UnbufferedDecoder {
         self.missing = missing;
     }
 
+    /// Takes these bytes, which are copied after the output, each XORed with the sentinel. None of them is the sentinel, and no
+    /// full block ends in them.
+    #[inline(always)]
+    fn take_copied(&mut self, dest: &mut [u8], copied: &[u8], sentinel: u8) {
+        let at = self.written;
+        let len = copied.len();
+        let missing = self.missing as usize;
+        self.written = at + len;
+        if len <= missing {
+            self.missing -= len as u8;
+            return;
+        }
+        // As in `take_moved`.
+        let ends = write_zeros_at_copied(&mut dest[at..at + len], copied, missing + 1, sentinel);
+        self.joint = joint_after(ends.0);
+        self.missing = ends.1;
+    }
+
     /// Takes up to 253 bytes, in which no full block ends. Returns how many: 0 if the first has no room.
     #[inline(always)]
     fn take_stretch(&mut self, dest: &mut [u8], bytes: &[u8], sentinel: u8) -> usize {
@@ -81,8 +101,9 @@ impl UnbufferedDecoder {
         if len == 0 {
             return 0;
         }
-        copy_xored(&bytes[..len], &mut dest[at..], sentinel);
-        self.take_copied(dest, len);
+        let copied = &bytes[..len];
+        copy_xored(copied, &mut dest[at..], sentinel);
+        self.take_copied(dest, copied, sentinel);
         len
     }
 
@@ -101,19 +122,19 @@ impl UnbufferedDecoder {
         {
             return false;
         }
-        self.take_copied(dest, len);
+        self.take_copied(dest, bytes, 0);
         true
     }
 
-    /// Takes the code at the front of a piece, and `len` bytes after it, none of them a zero, that are copied to the front of
+    /// Takes the code at the front of a piece, and the bytes after it, none of them a zero, which are copied to the front of
     /// `dest`.
     #[inline(always)]
-    fn begin(&mut self, dest: &mut [u8], code: u8, len: usize) {
+    fn begin(&mut self, dest: &mut [u8], code: u8, copied: &[u8]) {
         // No number of the idle decoder is read, so that none has to be loaded.
         let mut begun = START;
         begun.joint = joint_after(code);
         begun.missing = code - 1;
-        begun.take_copied(dest, len);
+        begun.take_copied(dest, copied, 0);
         *self = begun;
     }
 
@@ -137,7 +158,7 @@ impl UnbufferedDecoder {
         if code == 0 || !copy_xored_short(&bytes[1..], dest, 0) {
             return false;
         }
-        self.begin(dest, code, len - 1);
+        self.begin(dest, code, &bytes[1..]);
         true
     }
 
@@ -150,7 +171,7 @@ impl UnbufferedDecoder {
         }
         let code = bytes[0];
         let _zeros = copy_window(&bytes[1..], dest, 0);
-        self.begin(dest, code, len - 1);
+        self.begin(dest, code, &bytes[1..]);
         true
     }
 
@@ -200,5 +221,16 @@ impl UnbufferedDecoder {
         }
         let end = zero_or_len(bytes);
         self.take_blocks(dest, &bytes[..end], 0)
+    }
+
+    /// Takes bytes that return `Ok(None)`, by a search and slices, and returns how many. A target without vectors has neither: the
+    /// result is 0 there, and each byte is a step.
+    #[inline(always)]
+    pub(crate) fn take_at_once(&mut self, dest: &mut [u8], bytes: &[u8]) -> usize {
+        if has_vectors() {
+            self.take_run(dest, bytes)
+        } else {
+            0
+        }
     }
 }

@@ -5,7 +5,7 @@ use crate::proved::error::DecodeError;
 
 /// A decoder's state within a frame.
 ///
-/// The state holds no output, so a caller can stream the decoded bytes into a container of its own.
+/// The state doesn't hold the output, so a caller can write the decoded bytes to a container of its own.
 ///
 /// ```
 /// use jcobs::{DecodeResult, DecoderState};
@@ -21,14 +21,14 @@ pub enum DecoderState {
     /// No nonzero byte has come since the last sentinel.
     Idle,
 
-    /// In a block with a code from 1 to 254, with this many bytes missing.
+    /// Inside a block with a code from 1 to 254, of which this many bytes are missing.
     Grab(u8),
 
-    /// In a full block, one with the code 255, with this many bytes missing.
+    /// Inside a full block, whose code is 255, of which this many bytes are missing.
     GrabChain(u8),
 }
 
-/// The result of one byte, if it isn't an error.
+/// The result for a byte that raised no error.
 ///
 /// ```
 /// use jcobs::{DecodeResult, DecoderState};
@@ -40,13 +40,13 @@ pub enum DecoderState {
 /// ```
 #[derive(Debug, Clone, Copy, PartialEq, Eq)]
 pub enum DecodeResult {
-    /// No byte of the message.
+    /// This byte adds no byte to the message.
     NoData,
 
-    /// The first code of a frame.
+    /// This byte is the first code of a frame.
     DataStart,
 
-    /// The end of a whole frame: the output so far is its message.
+    /// This byte ends a whole frame: the output so far is its message.
     DataComplete,
 
     /// This byte is the next one of the message.
@@ -54,7 +54,7 @@ pub enum DecodeResult {
 }
 
 impl Default for DecoderState {
-    /// Makes the start: no byte has come.
+    /// Makes the state at the start: no byte has been taken.
     ///
     /// ```
     /// use jcobs::DecoderState;
@@ -67,7 +67,7 @@ impl Default for DecoderState {
 }
 
 impl DecoderState {
-    /// The state after a code: all the bytes that it counts are missing.
+    /// Returns the state after a code: all the bytes that it counts are missing.
     fn opened(code: u8) -> DecoderState {
         if code == 255 {
             DecoderState::GrabChain(254)
@@ -108,19 +108,19 @@ impl DecoderState {
 
     /// Takes the next byte of a frame and returns its result.
     ///
-    /// A sentinel, the byte 0, is `DataComplete` if the last block has all bytes that its code counts,
-    /// and `NoData` if no frame has begun. After each sentinel the state is `Idle`.
+    /// A sentinel, the byte 0, returns `DataComplete` if the last block has all the bytes that its code counts, and
+    /// `NoData` if no frame has begun. After each sentinel the state is `Idle`.
     ///
-    /// Any other byte is a code if no block is open: `DataStart` for the first one, `NoData` after a full
-    /// block, and after any other block `DataContinue(0)`, the zero that joins the two blocks. Inside a block it
-    /// is `DataContinue` of the byte itself.
+    /// Any other byte is a code if no block is open. It returns `DataStart` if it is the first one, `NoData` after a
+    /// full block, and after any other block `DataContinue(0)`, the zero that joins the two blocks. Inside a block, a
+    /// byte returns `DataContinue` with itself.
     ///
-    /// Every state has a result for every byte, also one that no frame leads to, such as `Grab(255)`. These are
-    /// the block rules of the paper by Cheshire and Baker; the names of the results are those of the crate `cobs`.
+    /// Every state has a result for every byte. This includes states that no frame leads to, such as `Grab(255)`. These
+    /// are the block rules of the paper by Cheshire and Baker; the names of the results are those of the crate `cobs`.
     ///
     /// # Errors
-    /// `InvalidFrame` for a sentinel inside a block. Its `decoded_bytes` is always 0 here, since the state counts no
-    /// output.
+    /// `InvalidFrame` for a sentinel inside a block. Its `decoded_bytes` is always 0 here, because the state doesn't
+    /// count the output.
     ///
     /// ```
     /// use jcobs::{DecodeResult, DecoderState};

@@ -5,7 +5,7 @@ use crate::proved::cobs_bytes::lanes::copy_xored_short;
 use crate::proved::cobs_bytes::window::WIDE_WINDOW;
 use crate::proved::error::DecodeError;
 
-/// Writes a zero over each code in `dest`, which has the copied bytes after the code `first`. The caller ensures that no code
+/// Writes a zero over each code in `dest`, which has the moved bytes after the code `first`. The caller ensures that no code
 /// among them follows a full block, since no zero belongs there. Returns the code of the last part, and how many of its
 /// bytes are missing.
 // A recursion, which compilers turn into a loop that keeps the address of the remaining bytes. With an index, which has to be
@@ -20,6 +20,29 @@ pub(crate) fn write_zeros_at_codes(dest: &mut [u8], first: usize) -> (u8, u8) {
     write_zeros_at_codes(&mut dest[first..], code as usize)
 }
 
+/// Does what [`write_zeros_at_codes`] does for bytes that were copied to `dest`, each XORed with the sentinel. It reads the codes
+/// from the place that they were copied from: in `dest` each would have to wait until the copy is stored.
+#[inline(always)]
+pub(crate) fn write_zeros_at_copied(
+    dest: &mut [u8],
+    copied: &[u8],
+    first: usize,
+    sentinel: u8,
+) -> (u8, u8) {
+    if copied.len() < first {
+        return (first as u8, (first - 1 - copied.len()) as u8);
+    }
+    let at = first - 1;
+    let code = copied[at] ^ sentinel;
+    dest[at] = 0;
+    write_zeros_at_copied(
+        &mut dest[first..],
+        &copied[first..],
+        code as usize,
+        sentinel,
+    )
+}
+
 /// Decodes 2 to 65 bytes for a sentinel, if none of them is the sentinel and `dest` has room for one byte fewer. Returns
 /// how many bytes of the last block are missing. The bytes of `dest` after the output stay.
 #[inline(always)]
@@ -31,7 +54,8 @@ pub(crate) fn decode_stretch(source: &[u8], dest: &mut [u8], sentinel: u8) -> Op
     if !copy_xored_short(&source[1..], dest, sentinel) {
         return None;
     }
-    let (_, left) = write_zeros_at_codes(&mut dest[..len - 1], (source[0] ^ sentinel) as usize);
+    let first = (source[0] ^ sentinel) as usize;
+    let (_, left) = write_zeros_at_copied(&mut dest[..len - 1], &source[1..], first, sentinel);
     Some(left)
 }
 

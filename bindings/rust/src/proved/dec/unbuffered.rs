@@ -45,9 +45,9 @@ pub enum DecoderPhase {
 /// state. So one buffer can serve what else a program does between two calls, and a decoder can lie in a struct
 /// beside its buffer, or cross to another language.
 ///
-/// As long as a piece is open, that is from its first byte to the zero that ends it, the caller passes one buffer, as
-/// the call before left it. Any other buffer is safe too, of whatever length: no call panics, or returns a message
-/// that is longer than the buffer. But the results for the piece then, and the bytes of the buffer, are not specified.
+/// While a piece is open, that is from its first byte to the zero that ends it, the caller passes the same buffer to each call
+/// and doesn't change it between two calls. Any other buffer, of any length, is safe too: no call panics, or returns a message
+/// that is longer than the buffer. But then the results for that piece, and the bytes of the buffer, are unspecified.
 ///
 /// ```
 /// use jcobs::UnbufferedDecoder;
@@ -60,8 +60,8 @@ pub enum DecoderPhase {
 /// # Ok::<(), Box<dyn std::error::Error>>(())
 /// ```
 ///
-/// Its state is plain numbers, all 0 before a piece begins, with the layout of a struct of C. Each may be any: every call is
-/// safe then too.
+/// Its state is plain numbers, all 0 before a piece begins, with the layout of a struct of C. Every call is safe whatever the
+/// numbers are.
 // No number says whether a piece has begun: a code at its front is read like one after a full block, which no zero joins
 // to anything. So a nonzero byte asks only how much of its block is missing, and a code whether a zero is due.
 #[repr(C)]
@@ -77,10 +77,10 @@ pub struct UnbufferedDecoder {
     pub too_long: u8,
 }
 
-/// Up to this many bytes cost less a step each than a search among them does.
+/// For up to this many bytes, a step for each costs less than a search among them.
 const FEW: usize = 16;
 
-/// Up to this many bytes cost less a step each than the questions before a copy in vectors.
+/// For up to this many bytes, a step for each costs less than the tests before a copy in vectors.
 const VERY_FEW: usize = 4;
 
 /// No piece has begun.
@@ -231,7 +231,7 @@ impl UnbufferedDecoder {
         self.push_long(dest, bytes)
     }
 
-    /// Does what `push` does, without a question of its own for a short piece.
+    /// Does what `push` does, without the test for a short piece.
     pub(crate) fn push_long(
         &mut self,
         dest: &mut [u8],
@@ -239,7 +239,7 @@ impl UnbufferedDecoder {
     ) -> Result<Option<DecodeReport>, PushError> {
         let mut at = 0;
         'by_run: while at < bytes.len() {
-            at += self.take_run(dest, &bytes[at..]);
+            at += self.take_at_once(dest, &bytes[at..]);
             if at < bytes.len() {
                 let parsed_size = at + 1;
                 match self.feed(dest, bytes[at]) {
@@ -270,24 +270,27 @@ impl UnbufferedDecoder {
     /// ```
     #[inline]
     pub fn feed_piece(&mut self, dest: &mut [u8], bytes: &[u8]) -> Option<(PieceEnd, usize)> {
-        if has_vectors() && VERY_FEW < bytes.len() {
+        // A target without vectors takes a step for each byte.
+        if !has_vectors() {
+            return self.feed_each(dest, bytes, 0);
+        }
+        if VERY_FEW < bytes.len() {
             if self.is_idle() {
+                // One piece with its end, as a line or a datagram gives it.
+                let len = len_without_end(bytes, 0);
+                if len < bytes.len() && self.take_begun(dest, &bytes[..len], 1) {
+                    let end = PieceEnd::reported(self.feed(dest, 0))?;
+                    return Some((end, bytes.len()));
+                }
+                // A short piece, and more bytes after it.
                 let front = front_len(bytes);
-                if front + 1 < bytes.len() {
-                    // A short piece, and others behind it.
+                if front < bytes.len() {
                     if self.take_front(dest, &bytes[..front]) {
                         let end = PieceEnd::reported(self.feed(dest, 0))?;
                         return Some((end, front + 1));
                     }
-                } else {
-                    let len = len_without_end(bytes, 0);
-                    if self.take_begun(dest, &bytes[..len], bytes.len() - len) {
-                        if len == bytes.len() {
-                            return None;
-                        }
-                        let end = PieceEnd::reported(self.feed(dest, 0))?;
-                        return Some((end, bytes.len()));
-                    }
+                } else if self.take_begun(dest, bytes, 0) {
+                    return None;
                 }
             } else if self.take_short(dest, bytes) {
                 return None;
@@ -299,14 +302,14 @@ impl UnbufferedDecoder {
         self.feed_piece_long(dest, bytes)
     }
 
-    /// Does what `feed_piece` does, without a question of its own for short pieces.
+    /// Does what `feed_piece` does, without the tests for short pieces.
     // Inlined, its registers would be saved for each short piece too.
     #[inline(never)]
     fn feed_piece_long(&mut self, dest: &mut [u8], bytes: &[u8]) -> Option<(PieceEnd, usize)> {
         let mut taken = 0;
         'by_run: while taken < bytes.len() {
             if self.too_long != 0 {
-                // Of a piece that is too long for the buffer, all through its zero is taken.
+                // The piece is too long for the buffer: its bytes are skipped through its zero.
                 let rest = &bytes[taken..];
                 let len = position_or_len(rest, 0);
                 if len == rest.len() {

@@ -2,9 +2,7 @@
 //! How a message is cut into blocks: the core that every encoder into a slice is built on.
 
 use crate::proved::block::FULL_CODE;
-use crate::proved::cobs_bytes::window::{
-    WINDOW, copy_at, copy_window, has_vectors, write_row, zeros_at,
-};
+use crate::proved::cobs_bytes::window::{WINDOW, copy_at, copy_window, write_row, zeros_at};
 use crate::proved::enc::progress::EncoderProgress;
 use crate::proved::find::position_or_len;
 
@@ -57,8 +55,7 @@ fn mark_zeros(dest: &mut [u8], index: usize, next: usize, zeros: u64) -> usize {
 }
 
 /// Takes the first `len` bytes of a source, which can't fill the open block, one by one. The next code is written at a zero's
-/// place. If the target has vectors, no branch tests for zeros, since such a processor may predict it wrong: then the open
-/// block's code is written for each byte.
+/// place. No branch tests for zeros, since a processor may predict it wrong: the open block's code is written for each byte.
 #[inline(always)]
 pub(crate) fn append_few(
     source: &[u8],
@@ -71,9 +68,7 @@ pub(crate) fn append_few(
     'by_byte: for read in 0..len {
         let byte = source[read];
         dest[next] = byte;
-        if byte == 0 || has_vectors() {
-            dest[index] = (next - index) as u8;
-        }
+        dest[index] = (next - index) as u8;
         index = if byte == 0 { next } else { index };
         next += 1;
     }
@@ -91,7 +86,7 @@ pub(crate) fn append_short(
     test_for_none: bool,
 ) -> EncoderProgress {
     let len = source.len();
-    if len < FEW || !has_vectors() {
+    if len < FEW {
         return append_few(source, len, dest, progress);
     }
     let start = progress.index;
@@ -202,7 +197,7 @@ fn append_long_run(
     (read + 1, progress_at(next, next + 1, false))
 }
 
-/// Takes a `source` whose first run has `run` bytes: that run, then in turn a front up to the next long run, and that run.
+/// Takes a `source` whose first run has `run` bytes: that run, then in turn windows up to the next long run, and that run.
 #[inline(never)]
 pub(crate) fn append_rest(
     source: &[u8],
@@ -212,7 +207,7 @@ pub(crate) fn append_rest(
 ) -> EncoderProgress {
     let (mut read, mut progress) = append_long_run(source, run, dest, progress);
     'by_run: while read < source.len() {
-        let (front, reached) = append_front(&source[read..], dest, progress);
+        let (front, reached) = append_windows(&source[read..], dest, progress);
         read += front;
         let rest = &source[read..];
         let (next, reached) = append_long_run(rest, position_or_len(rest, 0), dest, reached);
@@ -222,50 +217,14 @@ pub(crate) fn append_rest(
     progress
 }
 
-/// Takes bytes one by one while more than one is left and the next one can't fill the open block. Returns how many bytes it
-/// took, and how far the frame has come.
-#[inline(always)]
-fn append_parts(
-    source: &[u8],
-    dest: &mut [u8],
-    start: EncoderProgress,
-) -> (usize, EncoderProgress) {
-    let mut progress = start;
-    let mut read = 0;
-    'by_part: loop {
-        let len = (FULL_CODE - 1 - progress.code as usize).min(source.len() - 1 - read);
-        if len == 0 {
-            return (read, progress);
-        }
-        progress = append_few(&source[read..], len, dest, progress);
-        read += len;
-    }
-}
-
-/// Takes a front of `source`, but not all of it, up to a block that is full or that the next byte may fill. It takes windows,
-/// or single bytes if the target has no vectors. The caller continues with slices. Returns how many bytes it took, and how
-/// far the frame has come.
-#[inline(always)]
-fn append_front(
-    source: &[u8],
-    dest: &mut [u8],
-    start: EncoderProgress,
-) -> (usize, EncoderProgress) {
-    if has_vectors() {
-        append_windows(source, dest, start)
-    } else {
-        append_parts(source, dest, start)
-    }
-}
-
 /// Takes `source` into the frame in `dest`, which has come as far as `progress` says, and returns how far it then has come.
 /// [`close`] writes the code of the open block: the byte in its place before that doesn't matter.
 ///
-/// [`append_front`] takes most bytes. Those after them are usually few; [`append_rest`] takes them if they are more than a
+/// [`append_windows`] takes most bytes. Those after them are usually few; [`append_rest`] takes them if they are more than a
 /// window, or may fill the open block.
 #[inline(always)]
 pub(crate) fn append(source: &[u8], dest: &mut [u8], progress: EncoderProgress) -> EncoderProgress {
-    let (read, progress) = append_front(source, dest, progress);
+    let (read, progress) = append_windows(source, dest, progress);
     let rest = &source[read..];
     if fits_window_and_block(progress, rest.len()) {
         append_short(rest, dest, progress, false)

@@ -1,10 +1,42 @@
 // Made by bindings/rust/translate.py from `crates/cobs/src/enc/each.rt`: change that file, and run it again.
 //! A whole message that is encoded byte by byte.
 
-use crate::proved::enc::UnbufferedEncoder;
-use crate::proved::enc::blocks::close;
+use crate::proved::block::FULL_CODE;
 use crate::proved::enc::room::has_room;
 use crate::proved::error::DestBufTooSmallError;
+
+/// Does what [`encode`](crate::encode) does, one byte at a time.
+///
+/// Each turn takes the bytes that can't overfill the open block, so that no test of a single byte asks for that. A full block is
+/// closed when another byte follows, and the last block after the loop, whether it is full or not.
+pub(crate) fn write_each(source: &[u8], dest: &mut [u8]) -> usize {
+    let mut index = 0;
+    let mut next = 1;
+    let mut read = 0;
+    'by_part: while read < source.len() {
+        if next - index == FULL_CODE {
+            dest[index] = FULL_CODE as u8;
+            index = next;
+            next += 1;
+        }
+        let room = FULL_CODE - (next - index);
+        let len = room.min(source.len() - read);
+        let part = &source[read..read + len];
+        'by_byte: for i in 0..part.len() {
+            let byte = part[i];
+            if byte == 0 {
+                dest[index] = (next - index) as u8;
+                index = next;
+            } else {
+                dest[next] = byte;
+            }
+            next += 1;
+        }
+        read += len;
+    }
+    dest[index] = (next - index) as u8;
+    next
+}
 
 /// Does what [`try_encode`](crate::try_encode) does, one byte at a time: in less code and more time, for small devices. It
 /// reads the message twice only if `dest` is shorter than the longest frame of a message of that length.
@@ -20,14 +52,9 @@ use crate::proved::error::DestBufTooSmallError;
 /// assert_eq!(try_encode_each(b"hell", &mut dest), Ok(5));
 /// assert_eq!(&dest, b"\x05hell");
 /// ```
-#[inline(always)]
 pub fn try_encode_each(source: &[u8], dest: &mut [u8]) -> Result<usize, DestBufTooSmallError> {
     if !has_room(1, source, dest.len()) {
         return Err(DestBufTooSmallError);
     }
-    let mut encoder = UnbufferedEncoder::new();
-    'by_byte: for i in 0..source.len() {
-        encoder.append_byte(dest, source[i]);
-    }
-    Ok(close(dest, encoder.progress()))
+    Ok(write_each(source, dest))
 }

@@ -1,15 +1,15 @@
 // Made by bindings/rust/translate.py from `crates/cobs/src/enc/encoder.rt`: change that file, and run it again.
-//! An encoder into a slice, of a message that comes in pieces.
+//! An encoder into a slice, for a message that comes in pieces.
 
 use crate::proved::enc::UnbufferedEncoder;
 use crate::proved::enc::blocks::close;
 use crate::proved::error::DestBufTooSmallError;
 
-/// Encodes a message that comes in pieces, straight into a slice of the caller's.
+/// Encodes a message that comes in pieces, into a slice that it borrows.
 ///
-/// However the message is cut into pieces, the frame is the one that [`encode`](crate::encode) writes. After each push the
-/// slice begins with that frame of the bytes that were taken so far, except the code of the block that is still open;
-/// [`finalize`](CobsEncoder::finalize) writes this last code. The encoder needs no room beyond the frame's.
+/// However the message is cut into pieces, the frame is the one that [`encode`](crate::encode) writes. After each push
+/// the slice begins with the frame of the bytes taken so far, except the code of the open block;
+/// [`finalize`](CobsEncoder::finalize) writes this last code. The encoder needs no more room than the frame.
 ///
 /// The blocks are those of the paper by Cheshire and Baker; the calls are those of the crate `cobs`.
 ///
@@ -31,9 +31,9 @@ pub struct CobsEncoder<'a> {
 
 impl<'a> CobsEncoder<'a> {
     /// Makes an encoder that has taken nothing yet, and that will write to the front of `out_buf`. This call changes no
-    /// byte of it.
+    /// byte of `out_buf`.
     ///
-    /// Precondition: the slice has one byte at least, since the frame of the empty message has one.
+    /// Precondition: the slice has at least one byte, because the frame of the empty message has one.
     ///
     /// ```
     /// # use jcobs::proved::*;
@@ -53,9 +53,9 @@ impl<'a> CobsEncoder<'a> {
     /// An empty push always succeeds, and changes nothing. The bytes of the slice after the frame are never written.
     ///
     /// # Errors
-    /// `DestBufTooSmallError` exactly if the encoded frame of all the bytes that were taken so far, followed by
-    /// these, is longer than the slice. Then neither the encoder nor the slice has changed, so the caller may end the
-    /// frame, or push fewer bytes. That an error changes nothing is a choice of this library.
+    /// `DestBufTooSmallError` exactly if the encoded frame of the message so far, these bytes included, is longer than
+    /// the slice. Then neither the encoder nor the slice has changed, so the caller may end the frame, or push fewer
+    /// bytes. That an error changes nothing is a choice of this library.
     ///
     /// ```
     /// # use jcobs::proved::*;

@@ -1,7 +1,7 @@
 // Made by bindings/rust/translate.py from `crates/cobs/src/enc/progress.rt`: change that file, and run it again.
-//! How far a frame that is being written has come.
+//! The state of a frame that is being written.
 
-/// How far the frame in a buffer has come, in plain numbers: the state of an [`UnbufferedEncoder`](crate::proved::UnbufferedEncoder).
+/// How much of a frame is in the buffer, in plain numbers: the state of an [`UnbufferedEncoder`](crate::proved::UnbufferedEncoder).
 ///
 /// ```
 /// use jcobs::UnbufferedEncoder;
@@ -18,10 +18,11 @@ pub struct EncoderProgress {
     /// The index in the buffer at which the code of the open block belongs.
     pub index: usize,
 
-    /// The code that the open block has so far, which is one more than it has bytes: from 1 to 254.
+    /// The code that the open block has so far: one more than the number of its bytes, from 1 to 254.
     pub code: u8,
 
-    /// Whether the frame's last block is full. Then the open block is only the place after it, and no part of the frame.
+    /// Whether the frame's last block is full. Then the open block is only the place after it, and not a part of the
+    /// frame.
     pub is_full: bool,
 }
 

@@ -29,16 +29,11 @@ fn fits_each(code: u8, bytes: &[u8], spare: usize) -> bool {
 }
 
 /// Whether `spare` bytes cover the overhead of every message of `len` bytes: whether `len` is at most 254 times `spare`. It
-/// needs no division, for which small processors have no instruction. So that no product is too large, it subtracts 254 from
-/// both sides for each 256 bytes of `len`.
+/// needs no division, for which small processors have no instruction. So that no product is too large, it compares halves, and
+/// only if `spare` isn't clearly enough.
 #[inline(always)]
 fn covers_overhead(len: usize, spare: usize) -> bool {
-    let rows = len / 256;
-    if spare <= rows {
-        return false;
-    }
-    let more = spare - rows;
-    rows + 1 < more || 2 * rows + len % 256 <= 254 * more
+    len / 128 < spare || len - len / 2 <= 127 * spare
 }
 
 /// Whether `room` bytes, counted from the code of an open block, are enough for the frame once the block has taken these

@@ -2,7 +2,8 @@
 //! Frames for another sentinel than 0, and frames between sentinels.
 
 use crate::proved::cobs_bytes::lanes::xor_bytes;
-use crate::proved::enc::{encode, encode_few, try_encode, try_encode_any};
+use crate::proved::cobs_bytes::window::has_vectors;
+use crate::proved::enc::{encode, encode_few, try_encode, try_encode_any, try_encode_each};
 use crate::proved::error::DestBufTooSmallError;
 
 /// Writes the encoded frame of `source` for this sentinel to the front of `dest`, and returns its length in bytes.
@@ -46,10 +47,13 @@ pub fn try_encode_with_sentinel(
     dest: &mut [u8],
     sentinel: u8,
 ) -> Result<usize, DestBufTooSmallError> {
-    if let Some(len) = encode_few(source, dest, sentinel) {
+    let written = if !has_vectors() {
+        try_encode_each(source, dest)?
+    } else if let Some(len) = encode_few(source, dest, sentinel) {
         return Ok(len);
-    }
-    let written = try_encode_any(source, dest)?;
+    } else {
+        try_encode_any(source, dest)?
+    };
     xor_bytes(&mut dest[..written], sentinel);
     Ok(written)
 }

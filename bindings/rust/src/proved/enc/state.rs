@@ -1,8 +1,8 @@
 // Made by bindings/rust/translate.py from `crates/cobs/src/enc/state.rt`: change that file, and run it again.
 //! The state machine of an encoder, without a buffer.
 
-/// What a byte of the message changes in the encoded output. Indices count bytes from its start. The names are those of
-/// the crate `cobs`.
+/// The change that a byte of the message makes to the encoded output. Indices count bytes from the start of the output.
+/// The names are those of the crate `cobs`.
 ///
 /// ```
 /// use jcobs::{EncoderState, PushResult};
@@ -16,21 +16,22 @@ pub enum PushResult {
     /// The byte is appended.
     AddSingle(u8),
 
-    /// The byte at the index becomes the code, and a placeholder is appended.
+    /// The byte at the index is replaced by the code, and a placeholder is appended.
     ModifyFromStartAndSkip((usize, u8)),
 
-    /// The byte at the index becomes the code, and the last byte and then a placeholder are appended.
+    /// The byte at the index is replaced by the code. The last of the three numbers, and then a placeholder, are
+    /// appended.
     ModifyFromStartAndPushAndSkip((usize, u8, u8)),
 }
 
-/// The place where the open block of an output begins, and the code that it has so far, from 1 to 254.
+/// The index at which the open block of an output begins, and the code that the block has so far, from 1 to 254.
 ///
-/// The state holds no output, so a caller can stream the encoded bytes into a container of its own. That output begins
-/// as one placeholder, a byte of any value. Each result of [`push`](EncoderState::push) says what a byte of the message
-/// changes in it, and [`finalize`](EncoderState::finalize) returns the last change. A caller who carries out all of them
-/// has the frame of the message whose last block isn't full. That is the frame that [`encode`](crate::encode) writes,
-/// but where the message's last run of nonzero bytes has a positive length divisible by 254: then it is the longer
-/// frame, the encoded one with a `1` after it.
+/// The state doesn't hold the output, so a caller can write the encoded bytes to a container of its own. The output
+/// begins as one placeholder, a byte of any value. Each result of [`push`](EncoderState::push) says what a byte of the
+/// message changes in the output, and [`finalize`](EncoderState::finalize) returns the last change. A caller that
+/// carries out all changes has the frame of the message whose last block isn't full. That is the frame that
+/// [`encode`](crate::encode) writes, unless the message's last run of nonzero bytes has a positive length divisible by
+/// 254. Then it is the longer frame, the encoded one followed by `1`.
 ///
 /// ```
 /// use jcobs::{EncoderState, PushResult};
@@ -54,7 +55,7 @@ pub struct EncoderState {
 }
 
 impl Default for EncoderState {
-    /// Makes the start: the open block is the placeholder at index 0, and has no bytes yet.
+    /// Makes the state at the start: the open block is the placeholder at index 0, and has no bytes yet.
     ///
     /// ```
     /// use jcobs::EncoderState;
@@ -72,7 +73,7 @@ impl Default for EncoderState {
 
 impl EncoderState {
     /// Returns whether another byte can be pushed: whether the index of the next block fits a `usize`, whatever the
-    /// byte. (This call is this library's own.)
+    /// byte is. (This call is this library's own.)
     ///
     /// ```
     /// use jcobs::EncoderState;
@@ -116,7 +117,7 @@ impl EncoderState {
         PushResult::AddSingle(byte)
     }
 
-    /// Ends the message: the index at which the last code belongs in the output, and that code.
+    /// Ends the message. Returns the index in the output at which the last code belongs, and that code.
     ///
     /// ```
     /// use jcobs::EncoderState;

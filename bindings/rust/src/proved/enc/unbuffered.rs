@@ -1,6 +1,7 @@
 // Made by bindings/rust/translate.py from `crates/cobs/src/enc/unbuffered.rt`: change that file, and run it again.
 //! The encoder whose buffer is passed to each call, of a message that comes in pieces.
 
+use crate::proved::cobs_bytes::window::has_vectors;
 use crate::proved::enc::blocks::{append_short, close, fits_window_and_block};
 use crate::proved::enc::progress::EncoderProgress;
 use crate::proved::enc::room::try_append;
@@ -149,6 +150,9 @@ impl UnbufferedEncoder {
     // A loop of short pushes then keeps the encoder in registers.
     #[inline(always)]
     pub fn push(&mut self, dest: &mut [u8], bytes: &[u8]) -> Result<(), DestBufTooSmallError> {
+        if !has_vectors() {
+            return self.push_each(dest, bytes);
+        }
         if bytes.len() == 1 {
             return self.feed(dest, bytes[0]);
         }

@@ -1,5 +1,5 @@
 // Made by bindings/rust/translate.py from `crates/cobs/src/enc/vector.rt`: change that file, and run it again.
-//! Frames in vectors of their own.
+//! Frames as new vectors.
 
 use crate::memory::AllocError;
 use crate::proved::enc::encode;
@@ -8,7 +8,7 @@ use crate::proved::max_encoding_length;
 #[cfg(feature = "alloc")]
 use alloc::vec::Vec;
 
-/// Returns the encoded frame of `source`, in a vector of exactly its bytes. No sentinel is before or after it.
+/// Returns the encoded frame of `source` as a vector, without a sentinel before or after it.
 ///
 /// Precondition: [`max_encoding_length`](crate::max_encoding_length) of the message's length fits a `usize`. Memory is
 /// allocated once, for that many bytes.
@@ -32,11 +32,11 @@ pub fn encode_vec(source: &[u8]) -> Result<Vec<u8>, AllocError> {
     Ok(frame)
 }
 
-/// Returns 0, the encoded frame of `source` and 0, in a vector of exactly these bytes.
+/// Returns 0, the encoded frame of `source` and 0 as a vector.
 ///
 /// Precondition: [`max_encoding_length`](crate::max_encoding_length) of the message's length, plus 2, fits a `usize`.
-/// Memory is allocated once, for that many bytes. That the vector has both sentinels and no byte more is a choice of
-/// this library.
+/// Memory is allocated once, for that many bytes. The vector has exactly both sentinels and the frame, which is a
+/// choice of this library.
 ///
 /// # Errors
 /// `AllocError` if that memory runs out.
@@ -57,8 +57,8 @@ pub fn encode_vec_including_sentinels(source: &[u8]) -> Result<Vec<u8>, AllocErr
     Ok(delimited)
 }
 
-/// Returns the encoded frame of `source` for this sentinel, in a vector of exactly its bytes: each byte of the frame of
-/// [`encode_vec`], XORed with `sentinel`.
+/// Returns the encoded frame of `source` for this sentinel as a vector: each byte of the frame of [`encode_vec`], XORed
+/// with `sentinel`.
 ///
 /// Precondition: [`max_encoding_length`](crate::max_encoding_length) of the message's length fits a `usize`. Memory is
 /// allocated once, for that many bytes.
