@@ -2,7 +2,8 @@
 ghost use Rattle.std.specs.Prelude.{All, ◌≢◌, ◌≡◌, ◌<◌, ◌≤◌, ◌+◌, ◌-◌, length, take, slice_index};
 ghost use Rattle.cobs.specs.Grammar.{HasNoZero};
 
-use cobs_bytes::window::{WIDE_WINDOW, WINDOW, first_zero, zeros_at};
+use crate::dec::len_to_zero;
+use cobs_bytes::window::{WIDE_WINDOW, WINDOW, first_zero, has_vectors, zeros_at};
 use memchr::memchr;
 
 /// Where the first such byte of a source is, or the source's length if there is none.
@@ -21,7 +22,9 @@ pub(crate) fn zero_or_len(source: &[u8]) -> usize
     ensures before { HasNoZero (take result source.now) }
     ensures stop { result < length source.now → slice_index source.now result ≡ 0 }
 {
-    if source.len() < WIDE_WINDOW {
+    if !has_vectors() {
+        len_to_zero(source)
+    } else if source.len() < WIDE_WINDOW {
         first_zero(source)
     } else {
         position_or_len(source, 0)

@@ -3,7 +3,7 @@ ghost use Rattle.std.specs.Prelude.{◌≡◌, ◌↔◌};
 ghost use Rattle.cobs.specs.Grammar.{HasNoZero, IsCanonical, IsFrame};
 
 use crate::block::FULL_CODE;
-use crate::find::position_or_len;
+use crate::find::zero_or_len;
 
 /// Whether bytes are a frame, and which frame of their message. (The names are this library's own.)
 ///
@@ -46,7 +46,7 @@ pub fn frame_kind(bytes: &[u8]) -> FrameKind
     ensures canonical { (result ≡ FrameKind.Canonical) ↔ IsCanonical bytes.now }
     ensures longer { (result ≡ FrameKind.Longer) ↔ (IsFrame bytes.now × ¬ IsCanonical bytes.now) }
 {
-    if position_or_len(bytes, 0) < bytes.len() {
+    if zero_or_len(bytes) < bytes.len() {
         return FrameKind::NotAFrame;
     }
     kind_by_blocks(bytes)

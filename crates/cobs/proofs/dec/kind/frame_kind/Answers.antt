@@ -6,11 +6,11 @@ use Rattle.cobs.proofs.format.FrameLemmas.{frame_nonzero}
 use Rattle.cobs.proofs.format.KindLemmas.{says}
 use Rattle.cobs.proofs.dec.kind.frame_kind.Goals as goal
 
-pub returns-then-position_or_len-bytes : goal.returns-then-position_or_len-bytes
-returns-then-position_or_len-bytes c =
+pub returns-then-zero_or_len-bytes : goal.returns-then-zero_or_len-bytes
+returns-then-zero_or_len-bytes c =
     let bytes : List ℕ = c.args.bytes.now in
-    let more = c.if-position_or_len-bytes.true in
-    says bytes NotAFrame (λ frame. All-get_or (λ b. b ≢ 0) bytes _ 0 more (frame_nonzero bytes _ frame.1) (c.position_or_len.ensures.stop more))
+    let more = c.if-zero_or_len-bytes.true in
+    says bytes NotAFrame (λ frame. All-get_or (λ b. b ≢ 0) bytes _ 0 more (frame_nonzero bytes _ frame.1) (c.zero_or_len.ensures.stop more))
 
 pub kind_by_blocks-requires : goal.kind_by_blocks-requires
-kind_by_blocks-requires c = record { nonzero = subst HasNoZero (take_all _ c.args.bytes.now c.if-position_or_len-bytes.false) c.position_or_len.ensures.before }
+kind_by_blocks-requires c = record { nonzero = subst HasNoZero (take_all _ c.args.bytes.now c.if-zero_or_len-bytes.false) c.zero_or_len.ensures.before }
