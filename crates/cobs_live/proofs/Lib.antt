@@ -11,3 +11,4 @@ pub mod SendLemmas
 pub mod EscapeLemmas
 pub mod ComposedLemmas
 pub mod ReadLemmas
+pub mod AppendLemmas

@@ -8,6 +8,8 @@ use Rattle.cobs.specs.Grammar.{HasNoZero, is_full}
 use Rattle.cobs.specs.Piece.{missing, output, last_part, is_whole}
 use Rattle.cobs.specs.Stream.{outcome_of, TooLong}
 use Rattle.cobs.specs.Feed.{Phase, Idle, Within, Overlong, phase_after, PhaseAfter, DecoderAfter, fed, result_at_end, result_for, Feeds}
+use Rattle.cobs.specs.Fields.Decoders.{phase_of}
+use Rattle.cobs.specs.declared.dec.unbuffered.UnbufferedDecoder.{UnbufferedDecoder}
 use Rattle.cobs.specs.Step.{grows, next_phase, next_buffer, error_if_overlong, end_result, next_result}
 use Rattle.cobs.specs.declared.error.DecodeError.{DecodeError}
 use Rattle.cobs.specs.declared.error.DecodeError.TheVariants.{TargetBufTooSmall}
@@ -17,6 +19,10 @@ use Rattle.cobs.proofs.format.StreamLemmas.{fed-nonzero}
 use Rattle.cobs.proofs.streaming.LastPiece.{output-longer}
 use Rattle.cobs.proofs.streaming.TableLemmas.{returned_by_table, output-nil, phase_by_table}
 use Rattle.cobs.proofs.decoding.PieceLemmas.{output-one, last_part-one, output-push_more, output-push_next, last_part-push_next, missing-push_more, is_full-push_more, output-push}
+
+-- a decoder whose output was too long is in that phase, whatever its other numbers are
+pub over_is : (decoder : UnbufferedDecoder) → decoder.too_long ≢ 0 → phase_of decoder ≡ Overlong
+over_is decoder nz = rw (ne_eqb decoder.too_long 0 nz) refl
 
 -- the phase behind a piece, from what is known of the piece
 phase_after-is : (c : ℕ) (q : List ℕ) (n : ℕ) (full : Bool) (left count : ℕ) → is_full (last_part (c ∷ q)) ≡ full → missing (last_part (c ∷ q)) ≡ left → length (output (c ∷ q)) ≡ count

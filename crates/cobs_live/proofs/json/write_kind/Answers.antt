@@ -1,15 +1,10 @@
-use Rattle.std.proofs.Common.{ℕ, List, ◌++◌, append_assoc, codes, subst, Option, Result, Ok, Err}
+use Rattle.std.proofs.Common.{ℕ, List, ◌++◌, append_assoc, codes, subst, Option, Result}
 use Rattle.std.specs.Prelude.{OnOk}
 use Rattle.std.specs.Fmt.{decimal}
 use Rattle.std.specs.Io.KnownBytes.{Appends}
-use Rattle.std.proofs.KnownBytes.{Appends-trans}
 use Rattle.cobs_live.specs.Json.{json_partial}
+use Rattle.cobs_live.proofs.AppendLemmas.{behind}
 use Rattle.cobs_live.proofs.json.write_kind.Goals as goal
-
--- a text, and more behind it if that was written
-behind : {A E : Type 0} (r : Result A E) (a b c : Option (List ℕ)) (x y : List ℕ) → Appends a b x → OnOk r (Appends b c y) → OnOk r (Appends a c (x ++ y))
-behind (Ok v) a b c x y first more = Appends-trans a b c x y first more
-behind (Err e) a b c x y first more = tt
 
 -- the same, where the text is written in two parts
 behind_two : {A E : Type 0} (r : Result A E) (a b c : Option (List ℕ)) (x y z : List ℕ) → Appends a b (x ++ y) → OnOk r (Appends b c z) → OnOk r (Appends a c (x ++ (y ++ z)))

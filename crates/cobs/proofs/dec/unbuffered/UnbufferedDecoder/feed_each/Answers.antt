@@ -1,5 +1,4 @@
 use Rattle.std.proofs.Common.{◌≡◌, ◌≢◌, ◌≤◌, ◌<◌, ◌∙◌, ℕ, List, Result, Option, length, get_or, sym, ap, refl, arith}
-use Rattle.std.proofs.lemmas.Bool.{ne_eqb}
 use Rattle.std.proofs.lemmas.List.{get_or-map, length-map, take_all}
 use Rattle.std.specs.Int.Bits.{bit_xor}
 use Rattle.cobs.specs.Feed.{Feeds, Overlong, Phase}
@@ -7,15 +6,11 @@ use Rattle.cobs.specs.FeedPiece.{end_reported}
 use Rattle.cobs.specs.Fields.Decoders.{phase_of}
 use Rattle.cobs.specs.Sentinel.{xor_each}
 use Rattle.cobs.specs.declared.dec.frame_decoder.PieceEnd.TheVariants.{TooLong}
-use Rattle.cobs.specs.declared.dec.unbuffered.UnbufferedDecoder.{UnbufferedDecoder}
 use Rattle.cobs.specs.declared.error.DecodeError.{DecodeError}
 use Rattle.cobs.proofs.streaming.ByByteLemmas.{piece-nothing, piece-more, piece-ended}
-use Rattle.cobs.proofs.streaming.FeedLemmas.{Feeds-as, Feeds-overlong, Feeds-zero}
+use Rattle.cobs.proofs.streaming.FeedLemmas.{Feeds-as, Feeds-overlong, Feeds-zero, over_is}
 use Rattle.cobs.proofs.dec.unbuffered.UnbufferedDecoder.feed_each.Goals as goal
 use Rattle.cobs.proofs.dec.unbuffered.UnbufferedDecoder.feed_each.Goals.{then-here-eq0+else-by_byte-test, then-here-eq0+then-by_byte-test+then-byte-ne0+then-here-ne0, else-here-eq0}
-
-over_is : (decoder : UnbufferedDecoder) → decoder.too_long ≢ 0 → phase_of decoder ≡ Overlong
-over_is decoder nz = rw (ne_eqb decoder.too_long 0 nz) refl
 
 -- a byte, as it is in the frame for the sentinel 0
 module _ (bytes : List ℕ) (s i : ℕ) (within : i < length bytes) where

@@ -1,20 +1,15 @@
-use Rattle.std.proofs.Common.{◌≡◌, ◌≤◌, ◌<◌, ◌+◌, ◌-◌, ◌∙◌, sym, subst, arith, ◌≢◌, None, Ok, Err, refl, get_or, length, drop, take, length-drop, length-take, List, ℕ}
-use Rattle.std.proofs.lemmas.Bool.{ne_eqb}
+use Rattle.std.proofs.Common.{◌≡◌, ◌≤◌, ◌<◌, ◌+◌, ◌-◌, ◌∙◌, sym, subst, arith, None, Ok, Err, refl, get_or, length, drop, take, length-drop, length-take, List, ℕ}
 use Rattle.std.proofs.lemmas.List.{get_or-drop, take_all, take_rest}
 use Rattle.cobs.specs.Feed.{Feeds, Idle, Overlong}
 use Rattle.cobs.specs.FeedPiece.{TakesPiece}
 use Rattle.cobs.specs.Fields.Decoders.{phase_of}
 use Rattle.cobs.specs.declared.dec.frame_decoder.PieceEnd.TheVariants.{TooLong}
-use Rattle.cobs.specs.declared.dec.unbuffered.UnbufferedDecoder.{UnbufferedDecoder}
 use Rattle.cobs.specs.declared.error.DecodeError.TheVariants.{TargetBufTooSmall}
 use Rattle.cobs.proofs.streaming.ByByteLemmas.{piece-nothing, piece-more, piece-ended}
-use Rattle.cobs.proofs.streaming.FeedLemmas.{Feeds-step, Feeds-zero}
+use Rattle.cobs.proofs.streaming.FeedLemmas.{Feeds-step, Feeds-zero, over_is}
 use Rattle.cobs.proofs.streaming.RunLemmas.{piece-run, piece-over}
 use Rattle.cobs.proofs.dec.unbuffered.UnbufferedDecoder.feed_piece_long.Goals as goal
 use Rattle.cobs.proofs.dec.unbuffered.UnbufferedDecoder.feed_piece_long.Goals.{After-position_or_len-len, After-take_run-taken}
-
-over_is : (decoder : UnbufferedDecoder) → decoder.too_long ≢ 0 → phase_of decoder ≡ Overlong
-over_is decoder nz = rw (ne_eqb decoder.too_long 0 nz) refl
 
 -- through a piece that is too long
 passed : (c : After-position_or_len-len) → TakesPiece c.args.dest.now (phase_of c.args.self.now) (take (c.by_run.taken + c.position_or_len-len.result) c.args.bytes.now) None c.by_run.dest Overlong
