@@ -3,7 +3,7 @@
 ghost use Rattle.std.specs.Prelude.{◌≡◌, ◌<◌, ◌≤◌, ◌+◌, ◌++◌, length, take, drop, IsTrue, false};
 ghost use Rattle.cobs_bytes.specs.Bytes.{HasNoZero, xor_each};
 
-use crate::window::{WIDE_WINDOW, WINDOW, by_width, has_vectors};
+use crate::window::{WIDE_WINDOW, WINDOW, by_width};
 use std::simd::prelude::*;
 
 /// Moves `N` to `2 * N` bytes, as two parts that may overlap.
@@ -27,7 +27,7 @@ pub fn move_to_front(buffer: &mut [u8], from: usize, len: usize)
     requires { from + len ≤ length buffer.old }
     ensures { buffer.new ≡ take len (drop from buffer.old) ++ drop len buffer.old }
 {
-    if !has_vectors() || len > WIDE_WINDOW {
+    if len > WIDE_WINDOW {
         buffer.copy_within(from..from + len, 0);
     } else if len > 0 {
         by_width!(len, move_two(buffer, from, len));
@@ -59,26 +59,6 @@ fn copy_xored_two<const N: usize>(source: &[u8], dest: &mut [u8], sentinel: u8) 
     true
 }
 
-/// Copies all bytes if none is the sentinel, one byte per iteration, and returns whether it did.
-#[inline(always)]
-fn copy_xored_by_byte(source: &[u8], dest: &mut [u8], sentinel: u8) -> bool
-    requires room { length source.now ≤ length dest.old }
-    ensures taken { HasNoZero (xor_each sentinel source.now) → IsTrue result }
-    ensures nonzero { IsTrue result → HasNoZero (xor_each sentinel source.now) }
-    ensures copied { IsTrue result → dest.new ≡ xor_each sentinel source.now ++ drop (length source.now) dest.old }
-    ensures kept { result ≡ false → dest.new ≡ dest.old }
-{
-    'by_byte: for i in 0..source.len() {
-        if source[i] == sentinel {
-            return false;
-        }
-    }
-    'by_copy: for i in 0..source.len() {
-        dest[i] = source[i] ^ sentinel;
-    }
-    true
-}
-
 /// Copies up to 64 bytes, each XORed with the sentinel, if none is the sentinel, and returns whether it did.
 #[inline(always)]
 pub fn copy_xored_short(source: &[u8], dest: &mut [u8], sentinel: u8) -> bool
@@ -90,11 +70,7 @@ pub fn copy_xored_short(source: &[u8], dest: &mut [u8], sentinel: u8) -> bool
     ensures copied { IsTrue result → dest.new ≡ xor_each sentinel source.now ++ drop (length source.now) dest.old }
     ensures kept { result ≡ false → dest.new ≡ dest.old }
 {
-    if has_vectors() {
-        by_width!(source.len(), copy_xored_two(source, dest, sentinel))
-    } else {
-        copy_xored_by_byte(source, dest, sentinel)
-    }
+    by_width!(source.len(), copy_xored_two(source, dest, sentinel))
 }
 
 /// Copies all bytes as one slice, and XORs each with the sentinel if that isn't 0.
@@ -117,7 +93,7 @@ pub fn copy_xored(source: &[u8], dest: &mut [u8], sentinel: u8)
     requires { length source.now ≤ length dest.old }
     ensures { dest.new ≡ xor_each sentinel source.now ++ drop (length source.now) dest.old }
 {
-    let is_short = has_vectors() && !source.is_empty() && source.len() <= WINDOW;
+    let is_short = !source.is_empty() && source.len() <= WINDOW;
     if !is_short || !copy_xored_short(source, dest, sentinel) {
         copy_xored_slice(source, dest, sentinel);
     }

@@ -1,11 +1,10 @@
 -- Short stretches that are copied, each byte XORed: two windows that may overlap cover the stretch (`two-copied`), and XOR with
 -- one byte twice changes nothing.
-use Rattle.std.proofs.Common.{◌≡◌, ◌≢◌, ℕ, ◌+◌, ◌-◌, ◌%◌, ◌^◌, ◌≤◌, cond, eqb, List, [], ◌∷◌, ◌++◌, length, map, drop, take, replicate, bit_xor, refl, ap, ◌∙◌, sym, subst, arith, take_all, w8}
+use Rattle.std.proofs.Common.{◌≡◌, ◌≢◌, ℕ, ◌+◌, ◌-◌, ◌%◌, ◌^◌, ◌≤◌, cond, eqb, List, [], ◌∷◌, ◌++◌, length, map, drop, take, replicate, bit_xor, refl, ap, ◌∙◌, subst, arith, take_all, w8}
 use Rattle.std.proofs.lemmas.List.{take-map, drop-map, length-map}
 use Rattle.std.proofs.lemmas.Simd.{zip2_splat, length-chunk, bitmask_splat}
-use Rattle.std.proofs.lemmas.List.Elements.{All-drop, All-map, All-take, All-weaker}
+use Rattle.std.proofs.lemmas.List.Elements.{All-drop, All-take}
 use Rattle.std.specs.Int.Bits.{bit_or, xor_assoc, xor_self, xor_zero_r}
-use Rattle.std.specs.List.{All}
 use lib.Lanes.{zip2, put_chunk, mask_l, top}
 use Rattle.cobs_bytes.specs.Bytes.{HasNoZero, xor_each}
 use Rattle.cobs_bytes.specs.Mask.{zero_mask}
@@ -37,12 +36,6 @@ xor_each-zero (b ∷ bytes) = ap (λ (x : ℕ). x ∷ xor_each 0 bytes) (xor_zer
 -- XOR with the same byte twice changes nothing
 pub xor_twice : (b s : ℕ) → bit_xor (bit_xor b s) s ≡ b
 xor_twice b s = xor_assoc b s s ∙ ap (bit_xor b) (xor_self s) ∙ xor_zero_r b
-
--- bytes of which none is s have no zero, each XORed with s
-pub others-nonzero : (bytes : List ℕ) (s : ℕ) → All (λ b. b ≢ s) bytes → HasNoZero (xor_each s bytes)
-others-nonzero bytes s others =
-    All-map (λ b. b ≢ 0) (λ b. bit_xor b s) bytes
-    (All-weaker (λ b. b ≢ s) (λ b. bit_xor b s ≢ 0) (λ b other e. other (sym (xor_twice b s) ∙ ap (λ (x : ℕ). bit_xor x s) e)) bytes others)
 
 -- two parts of n bytes, which may overlap
 module _ (source dest : List ℕ) (s n : ℕ) (long : n ≤ length source) (short : length source ≤ n + n) (room : length source ≤ length dest) (small : n ≤ 64) where
