@@ -1,12 +1,18 @@
-//! Decoding a frame in its own buffer, one byte after another, for targets without vectors.
-ghost use Rattle.std.specs.Prelude.{◌≡◌, ◌+◌, ◌<◌, ◌≤◌, ◌++◌, length, take, drop, slice_index};
+//! Decoding one byte after another, for targets without vectors.
+ghost use Rattle.std.specs.Prelude.{◌≡◌, ◌≢◌, ◌+◌, ◌<◌, ◌≤◌, ◌++◌, length, take, drop, slice_index};
 ghost use Rattle.cobs.specs.Decode.{head_result, in_place, in_place_report};
+ghost use Rattle.cobs.specs.Feed.{Overlong};
+ghost use Rattle.cobs.specs.Fields.Decoders.{phase_of};
 ghost use Rattle.cobs.specs.Grammar.{HasNoZero};
+ghost use Rattle.cobs.specs.Internal.FeedsQuietly.{FeedsQuietly};
 ghost use Rattle.cobs.specs.Overwritten.{overwritten};
 ghost use Rattle.cobs.specs.Piece.{kept_output};
+ghost use Rattle.cobs.specs.Step.{next_phase};
 
 use crate::block::FULL_CODE;
+use crate::dec::unbuffered::UnbufferedDecoder;
 use crate::error::{DecodeError, DecodeReport};
+use cobs_bytes::window::has_vectors;
 
 /// Returns how many bytes come before the first zero: all of them if there is none. It uses no vectors, so that it is small. (A
 /// choice of this library.)
@@ -117,4 +123,35 @@ pub(crate) fn decode_in_place_each(buf: &mut [u8]) -> Result<DecodeReport, Decod
         parsed_size,
         frame_size,
     })
+}
+
+impl UnbufferedDecoder {
+    /// Does what [`take_run`](Self::take_run) does, for a piece that isn't too long. Without vectors, it takes one byte after
+    /// another.
+    #[inline(always)]
+    pub(crate) fn take_to_zero(&mut self, dest: &mut [u8], bytes: &[u8]) -> usize
+        requires going { self.old.too_long ≡ 0 }
+        ensures within { result ≤ length bytes.now }
+        ensures fed { FeedsQuietly dest.old (phase_of self.old) (take result bytes.now) dest.new (phase_of self.new) }
+        ensures stop { result < length bytes.now → slice_index bytes.now result ≢ 0
+            → next_phase (length dest.new) (phase_of self.new) (slice_index bytes.now result) ≡ Overlong }
+    {
+        if has_vectors() {
+            return self.take_run(dest, bytes);
+        }
+        // A copy, so that it stays in registers.
+        let mut here = *self;
+        let mut taken = 0;
+        'by_byte: while taken < bytes.len() && bytes[taken] != 0 {
+            let before = here;
+            here.take_byte(dest, bytes[taken]);
+            if here.too_long != 0 {
+                *self = before;
+                return taken;
+            }
+            taken += 1;
+        }
+        *self = here;
+        taken
+    }
 }

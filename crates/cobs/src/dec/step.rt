@@ -53,7 +53,7 @@ impl UnbufferedDecoder {
 
     /// Takes a byte of a piece, and writes its output to the buffer.
     #[inline(always)]
-    fn take_byte(&mut self, dest: &mut [u8], byte: u8)
+    pub(crate) fn take_byte(&mut self, dest: &mut [u8], byte: u8)
         requires nonzero { byte ≢ 0 }
         ensures buffer { dest.new ≡ next_buffer dest.old (phase_of self.old) byte }
         ensures phase { phase_of self.new ≡ next_phase (length dest.old) (phase_of self.old) byte }

@@ -10,6 +10,7 @@ use crate::dec::stretch::{decode_stretch, message_len};
 use crate::dec::unbuffered::START;
 use crate::error::{DecodeError, DecodeReport};
 use crate::find::len_without_end;
+use cobs_bytes::window::has_vectors;
 
 /// Decodes the first frame of the source into `dest`, and returns how many bytes were consumed and how many the
 /// message has.
@@ -46,6 +47,9 @@ pub fn decode(source: &[u8], dest: &mut [u8]) -> Result<DecodeReport, DecodeErro
     ensures only { IsPiece source.now → (m : List ℕ) → ReportsMessage result dest.new m
         → Reads source.now m × (length m ≤ length dest.old) }
 {
+    if !has_vectors() {
+        return decode_long(source, dest);
+    }
     if let Some(result) = decode_short(source, dest) {
         return result;
     }
@@ -67,7 +71,7 @@ fn decode_long(source: &[u8], dest: &mut [u8]) -> Result<DecodeReport, DecodeErr
     }
     let rest = &source[start..];
     let mut progress = START;
-    let len = progress.take_run(dest, rest);
+    let len = progress.take_to_zero(dest, rest);
     if len < rest.len() && rest[len] != 0 {
         return Err(DecodeError::TargetBufTooSmall);
     }

@@ -90,8 +90,8 @@ pub returns-then-rest-len-ne0-clause-returned : goal.returns-then-rest-len-ne0-c
 returns-then-rest-len-ne0-clause-returned c =
     let source : List ℕ = c.args.source.now in
     let start = c.leading_zeros-start.ensures.count in
-    let fed = c.take_run-len.ensures.fed in
-    let over = c.take_run-len.ensures.stop c.if-len-rest.true c.if-rest-len-ne0.true in
+    let fed = c.take_to_zero-len.ensures.fed in
+    let over = c.take_to_zero-len.ensures.stop c.if-len-rest.true c.if-rest-len-ne0.true in
     answer-by source _ _ _ 0 _ (omega arith) (found source _ start (omega arith)) refl
     (outcome_result-too_long _ _ (long _ _ _ _ _ (begun source _ start (omega arith)) fed c.if-len-rest.true c.if-rest-len-ne0.true over)) tt
 
@@ -99,8 +99,8 @@ pub returns-then-rest-len-ne0-clause-buffer : goal.returns-then-rest-len-ne0-cla
 returns-then-rest-len-ne0-clause-buffer c =
     let source : List ℕ = c.args.source.now in
     let start = c.leading_zeros-start.ensures.count in
-    let fed = c.take_run-len.ensures.fed in
-    let over = c.take_run-len.ensures.stop c.if-len-rest.true c.if-rest-len-ne0.true in
+    let fed = c.take_to_zero-len.ensures.fed in
+    let over = c.take_to_zero-len.ensures.stop c.if-len-rest.true c.if-rest-len-ne0.true in
     full _ _ _ _ _ (begun source _ start (omega arith)) fed c.if-len-rest.true c.if-rest-len-ne0.true over
     ∙ ap (λ (l : _). overwritten c.args.dest.now (output_of l)) (sym (found source _ start (omega arith)))
 
@@ -112,13 +112,13 @@ module _ (c : goal.After-map) where
   begins : 0 < length (head piece)
   begins = begun c.args.source.now _ c.leading_zeros-start.ensures.count (omega arith)
 
-  fed : FeedsQuietly c.args.dest.now Idle (take c.take_run-len.result piece) c.take_run-len.new.dest (phase_of c.take_run-len.new.self)
-  fed = c.take_run-len.ensures.fed
+  fed : FeedsQuietly c.args.dest.now Idle (take c.take_to_zero-len.result piece) c.take_to_zero-len.new.dest (phase_of c.take_to_zero-len.new.self)
+  fed = c.take_to_zero-len.ensures.fed
 
-  stop : c.take_run-len.result < length piece → get_or piece c.take_run-len.result 0 ≡ 0
+  stop : c.take_to_zero-len.result < length piece → get_or piece c.take_to_zero-len.result 0 ≡ 0
   stop = grind arith
 
-  decoded : Quiet c.args.dest.now c.take_run-len.new.dest (phase_of c.take_run-len.new.self) (head piece)
+  decoded : Quiet c.args.dest.now c.take_to_zero-len.new.dest (phase_of c.take_to_zero-len.new.self) (head piece)
   decoded = whole piece _ _ _ _ begins fed (omega arith) stop
 
   is-found : first_piece c.args.source.now ≡ Some (head piece)
@@ -127,7 +127,7 @@ module _ (c : goal.After-map) where
 pub returns-clause-returned : goal.returns-clause-returned
 returns-clause-returned c =
     let is : c.map.result ≡ report_result c.min-parsed_size.result c.message_len-result.result = search rules in
-    let at = quiet-at _ _ _ _ (decoded c) c.take_run-len.new.self refl in
+    let at = quiet-at _ _ _ _ (decoded c) c.take_to_zero-len.new.self refl in
     is ∙ answer-by _ _ _ _ _ _ (omega arith) (is-found c) (omega (arith, c.leading_zeros-start.ensures.count))
     (result-by _ _ _ _ _ (begins c) (decoded c).fits at.0 at.1 c.message_len-result.ensures.whole c.message_len-result.ensures.broken)
     (always _ (count (piece c) _ _ _ _ (begins c) (fed c) (omega arith) (stop c)))
