@@ -1,10 +1,10 @@
--- When the result that came is the one that is wanted.
+-- Compares the actual result of a case with the expected one.
 use Rattle.std.specs.Prelude.{ℕ, ◌≡◌, ◌⊎◌, List, codes}
 
 -- the name of an error
 abbrev pub IsErrorWord : List ℕ → Type 0
 IsErrorWord word = (word ≡ codes "empty") ⊎ (word ≡ codes "invalid") ⊎ (word ≡ codes "too_small") ⊎ (word ≡ codes "broken") ⊎ (word ≡ codes "too_long")
 
--- the word that came is what is wanted: any if `?` is wanted, the same one, any error if `refused` is
+-- the actual word is an expected one: any word if `?` is expected, the same word, or any error if `refused` is
 abbrev pub Agrees : List ℕ → List ℕ → Type 0
 Agrees wanted came = (wanted ≡ codes "?") ⊎ (wanted ≡ came) ⊎ ((wanted ≡ codes "refused") × IsErrorWord came)

@@ -1,4 +1,4 @@
--- What contracts see of a result: its words.
+-- The word by which contracts describe a result: its words.
 use Rattle.std.specs.Prelude.{ℕ, List, [], ◌∷◌, map, codes, string_bytes}
 use Rattle.hex.specs.Hex.{encode_lower}
 use Rattle.cobs_conformance.specs.declared.call_result.CallResult.{CallResult}

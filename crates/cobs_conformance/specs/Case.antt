@@ -1,4 +1,4 @@
--- What a line is.
+-- The kinds of lines.
 use Rattle.std.specs.Prelude.{ℕ, ◌≡◌, List, [], ◌∷◌}
 
 -- the line is empty or begins with a number sign, 35

@@ -1,4 +1,4 @@
--- What contracts see of a decoder that feeds each byte by itself.
+-- The words by which contracts describe a decoder that feeds one byte after another.
 use Rattle.std.specs.Prelude.{ℕ, List}
 use Rattle.cobs.specs.Feed.{Phase}
 use Rattle.cobs.specs.Fields.Decoders.{owned_buffer, owned_phase}
@@ -8,6 +8,6 @@ use Rattle.cobs_conformance.specs.declared.streams.ByBytes.{ByBytes}
 abbrev pub buffer_of : ByBytes → List ℕ
 buffer_of decoder = owned_buffer decoder.decoder
 
--- where it is
+-- its phase
 abbrev pub phase_of : ByBytes → Phase
 phase_of decoder = owned_phase decoder.decoder

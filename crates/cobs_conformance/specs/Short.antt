@@ -1,13 +1,13 @@
--- What a word in short stands for.
+-- The meaning of a short word.
 use Rattle.std.specs.Prelude.{ℕ, ◌==◌, List, [], ◌∷◌}
 use Rattle.std.specs.List.{slice_split, flat_map, repeat}
 use Rattle.std.specs.Str.Parse.{digits_value, without_leading_plus}
 
--- the number that decimal digits write
+-- the number that decimal digits mean
 abbrev pub number_text : List ℕ → ℕ
 number_text digits = digits_value 10 (without_leading_plus digits)
 
--- digits alone stand for themselves, digits and a number for as many repetitions of them
+-- digits without a number mean themselves; digits and a number mean that many repetitions of them
 abbrev pub repeated : List (List ℕ) → List ℕ
 repeated [] = []
 repeated (digits ∷ []) = digits

@@ -13,15 +13,15 @@ in_order c bytes = if c.little then bytes else reverse bytes
 abbrev pub sum_of : Checksum → List ℕ → List ℕ
 sum_of c message = in_order c (take c.params.size (to_le_bytes w32 (crc c.params message)))
 
--- a message with its checksum behind it, if it is to have one
+-- a message with its checksum after it, if it should have one
 abbrev pub with_sum : Option Checksum → List ℕ → List ℕ
 with_sum None message = message
 with_sum (Some c) message = message ++ sum_of c message
 
--- what is in front of a checksum
+-- the bytes before a checksum
 abbrev pub body_of : Checksum → List ℕ → List ℕ
 body_of c bytes = take (length bytes - c.params.size) bytes
 
--- whether the bytes end with the checksum of what is in front of it
+-- whether the bytes end with the checksum of the bytes before it
 abbrev pub is_checked : Checksum → List ℕ → Bool
 is_checked c bytes = ends_with (λ a b. a == b) bytes (sum_of c (body_of c bytes))

@@ -3,10 +3,10 @@ use Rattle.std.specs.Prelude.{ℕ, List, take, Option, Some}
 use Rattle.std.specs.Io.KnownBytes.{append_known}
 use Rattle.cobs_live.specs.declared.composed.Composed.{Composed}
 
--- what has been composed, as what a writer holds
+-- the composed text, as the contents of a writer
 unfoldable pub contents_of : Composed → Option (List ℕ)
 contents_of text = Some (take text.len text.bytes)
 
--- what a writer holds once what has been composed is written to it
+-- the contents of a writer after the composed text was written to it
 abbrev pub with_text : Option (List ℕ) → Composed → Option (List ℕ)
 with_text held text = append_known held (take text.len text.bytes)

@@ -1,4 +1,4 @@
--- How much came.
+-- Counts of the pieces and bytes of a stream.
 use Rattle.std.specs.Prelude.{ℕ, ◌≡◌, ◌-◌, ◌^◌, ◌==◌, min, Bool, List, length, filter, Option, is_some}
 use Rattle.cobs.specs.Stream.{Outcome}
 use Rattle.cobs_live.specs.Seen.{seen_of}
@@ -25,7 +25,7 @@ counted n = min n (2 ^ 64 - 1)
 abbrev pub count_of : Option Checksum → Kind → List Outcome → ℕ
 count_of checksum kind outcomes = counted (length (filter (is_of_kind checksum kind) outcomes))
 
--- the tally of these outcomes, whose messages are to end with such a checksum, and of this many bytes
+-- the tally of these outcomes and of this many bytes, if messages should end with this checksum
 pub record IsTallyOf (checksum : Option Checksum) (tally : Tally) (outcomes : List Outcome) (read : ℕ) : Type 0 where
   pub messages : tally.messages ≡ count_of checksum Message outcomes
   pub broken : tally.broken ≡ count_of checksum Broken outcomes

@@ -7,7 +7,7 @@ use Rattle.cobs_live.specs.declared.crc.Crc.{Crc}
 use Rattle.cobs_live.specs.declared.crc.Crc.TheVariants.{Crc8, Crc16CcittFalse, Crc16Modbus, Crc16Xmodem, Crc16Kermit, Crc16Arc, Crc32c, Crc32}
 use Rattle.cobs_live.specs.declared.crc.Params.{Params}
 
--- the rows of the catalogue; a register has 32 bits, and a shorter polynomial and start are in the high ones
+-- the rows of the catalogue; a register has 32 bits, and a shorter polynomial and start are in its high bits
 abbrev pub params_of : Crc → Params
 params_of Crc8 = record { size = 1; poly = 0x07 * 2 ^ 24; init = 0; reflected = false; xorout = 0 }
 params_of Crc16CcittFalse = record { size = 2; poly = 0x1021 * 2 ^ 16; init = 0xFFFF * 2 ^ 16; reflected = false; xorout = 0 }
@@ -18,7 +18,8 @@ params_of Crc16Arc = record { size = 2; poly = 0x8005 * 2 ^ 16; init = 0; reflec
 params_of Crc32c = record { size = 4; poly = 0x1EDC6F41; init = 0xFFFFFFFF; reflected = true; xorout = 0xFFFFFFFF }
 params_of Crc32 = record { size = 4; poly = 0x04C11DB7; init = 0xFFFFFFFF; reflected = true; xorout = 0xFFFFFFFF }
 
--- a step of the division by a polynomial: the register shifts, and where a one falls out the polynomial is taken off
+-- a step of the division by a polynomial: the register is shifted, and if the bit that is shifted out is a one, the
+-- polynomial is subtracted
 abbrev pub shifted : ℕ → ℕ → ℕ
 shifted poly r = if nat_lt r (2 ^ 31) then 2 * r else bit_xor (2 * r - 2 ^ 32) poly
 
@@ -39,10 +40,10 @@ register p bytes = fold (after_byte p) p.init bytes
 abbrev pub crc : Params → List ℕ → ℕ
 crc p bytes = bit_xor (if p.reflected then reverse_bits w32 (register p bytes) else register p bytes / 2 ^ (32 - 8 * p.size)) p.xorout
 
--- what 8 steps make of a register that has a byte in the high bits, and nothing else
+-- the result of 8 steps for a register that has a byte in its high bits and zeros below
 abbrev pub word_of : ℕ → ℕ → ℕ
 word_of poly byte = after_bits poly 8 (2 ^ 24 * byte)
 
--- a table of that, by bytes
+-- a table of these results, one for each byte
 abbrev pub IsTable : ℕ → List ℕ → Type 0
 IsTable poly words = (byte : ℕ) → byte < 256 → get_or words byte 0 ≡ word_of poly byte

@@ -1,9 +1,9 @@
--- Bytes sixteen a line, with the offset of the first and the characters, as `hexdump -C` prints them.
+-- Bytes, sixteen per line, with the offset of the first and the characters, as `hexdump -C` prints them.
 use Rattle.std.specs.Prelude.{ℕ, zero, suc, ◌+◌, ◌*◌, ◌/◌, ◌^◌, ◌-◌, ◌&&◌, nat_le, nat_lt, false, List, [], ◌∷◌, ◌++◌, length, take, drop, map, slice_index, codes, if◌then◌else◌}
 use Rattle.std.specs.Fmt.{digits, padded_integral, format_spec}
 use Rattle.hex.specs.Hex.{encode_lower}
 
--- the texts of 0 up to n
+-- the texts for 0, 1 and so on, below n
 unfoldable pub upto : (ℕ → List ℕ) → ℕ → List ℕ
 upto f zero = []
 upto f (suc n) = upto f n ++ f n
@@ -12,11 +12,11 @@ upto f (suc n) = upto f n ++ f n
 abbrev pub offset_text : ℕ → List ℕ
 offset_text offset = padded_integral (format_spec 32 0 4 8 (2 ^ 64 - 1)) false [] (digits 16 false offset)
 
--- the digits of a row's byte, or spaces in their place
+-- the digits of a row's byte, or spaces if there is no byte
 abbrev pub cell : List ℕ → ℕ → List ℕ
 cell row i = if nat_lt i (length row) then encode_lower (slice_index row i ∷ []) ++ codes " " else codes "   "
 
--- a byte as a character of ASCII, or a dot
+-- a byte as an ASCII character, or a dot
 abbrev pub character : ℕ → ℕ
 character byte = if nat_le 32 byte && nat_le byte 126 then byte else 46
 

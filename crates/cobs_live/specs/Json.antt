@@ -1,4 +1,4 @@
--- A piece as an object of JSON on a line.
+-- A piece as a JSON object on a line.
 use Rattle.std.specs.Prelude.{ℕ, ◌==◌, List, [], ◌∷◌, ◌++◌, length, codes, if◌then◌else◌}
 use Rattle.std.specs.Fmt.{decimal}
 use Rattle.std.specs.Str.Lossy.{utf8_valid_len}
@@ -24,7 +24,7 @@ abbrev pub json_partial : List ℕ → List ℕ
 json_partial [] = []
 json_partial (byte ∷ bytes) = codes ",\"hex\":\"" ++ encode_lower (byte ∷ bytes) ++ codes "\""
 
--- a kind, and the length of what the piece decodes to
+-- a kind, and the number of bytes that the piece decodes to
 abbrev pub json_kind : Kind → ℕ → List ℕ → List ℕ
 json_kind Message len bytes = codes "\"message\"" ++ json_message len bytes
 json_kind Broken len bytes = codes "\"broken\",\"length\":" ++ decimal len ++ json_partial bytes

@@ -1,4 +1,4 @@
--- A stream that is shown read by read.
+-- A stream that is shown, read by read.
 use Rattle.std.specs.Prelude.{ℕ, ◌≡◌, ◌↔◌, ◌++◌, Bool, true, false, List, [], length, Option, Result, Ok, Err}
 use Rattle.std.specs.Io.KnownBytes.{Appends}
 use Rattle.cobs.specs.Feed.{DecoderAfter, Idle, Phase}
@@ -19,7 +19,8 @@ use Rattle.cobs_live.specs.declared.shown.Settings.{Settings}
 use Rattle.cobs_live.specs.declared.shown.View.{View}
 use Rattle.cobs_live.specs.declared.tally.Tally.{Tally}
 
--- a run so far: the text of every piece that ended in the bytes that were read is written, and the decoder has taken them
+-- a run so far: the text of every piece that ended in the bytes that were read has been written, and the decoder has
+-- taken these bytes
 pub record HasShownSoFar (settings : Settings) (from to before after : Option (List ℕ)) (watch : Watch) : Type 0 where
   pub ended : HasWritten (shown_lines settings) from to before after
   pub taken : DecoderAfter watch.message.items (phase_of watch.decoder) (unended (open_stream settings ended.gone ended.bytes))
@@ -27,10 +28,10 @@ pub record HasShownSoFar (settings : Settings) (from to before after : Option (L
   pub len : length watch.message.items ≡ settings.length
   pub timed : watch.clock.last ≡ ended.times (length (all_outcomes settings ended.gone ended.bytes))
   pub same : watch.settings.now ≡ settings
-  -- whether the first sentinel is still awaited
+  -- whether bytes are still skipped, up to the first sentinel
   pub skips : watch.skipping ≡ skips_on (skips_behind settings.skip_first ended.gone) (xor_each settings.sentinel ended.bytes)
 
--- what was written is the text of all pieces and hang-ups in what came, read by read
+-- the text that was written is that of all pieces and hang-ups in the results of the reads
 pub record HoldsText (settings : Settings) (before : Option (List ℕ)) (came : List (List (Option ℕ))) (after : Option (List ℕ)) : Type 0 where
   pub gone : List (List ℕ)
   pub bytes : List ℕ
@@ -39,20 +40,20 @@ pub record HoldsText (settings : Settings) (before : Option (List ℕ)) (came : 
   pub timeline : IsTimeline times
   pub written : Appends before after (shown_lines settings times gone bytes)
 
--- a run so far that is live, whose reads gave what is shown
+-- a run so far that is live; its reads returned the bytes that are shown
 pub record IsLiveSoFar {S : Type 0} (step : S → Read (Option ℕ) → S → Type 0) (source source' : S) (settings : Settings) (from to before after : Option (List ℕ)) (watch : Watch) : Type 0 where
   pub so_far : HasShownSoFar settings from to before after watch
   pub live : IsLive step source source' (HoldsText settings before)
   pub given : joined (came live.reads) ≡ letters_of so_far.ended.gone so_far.ended.bytes
 
--- what the next read comes to: the run goes on, or it has ended
+-- the state after the next read: the run continues, or it has ended
 abbrev pub ShowsNext : Settings → Result Bool WatchFault → (from to before after : Option (List ℕ)) → Watch → Type 0
 ShowsNext settings (Ok true) from to before after watch = HasShownSoFar settings from to before after watch
 ShowsNext settings (Ok false) from to before after watch = HasShown settings (Ok watch.tally) from to before after
 ShowsNext settings (Err fault) from to before after watch = HasShown settings (Err fault) from to before after
 
--- a decoder over n bytes that had taken the front p of a piece has taken these bytes too; the pieces that ended in them,
--- which these outcomes have gone before, are shown and counted
+-- a decoder over n bytes that had taken the front p of a piece has taken these bytes too. The pieces that ended in them
+-- are shown and counted; the outcomes `gone` were those of the pieces before them.
 pub record ShowsBytes (view : View) (times : ℕ → Moment) (n : ℕ) (p bytes : List ℕ) (gone : List Outcome) (read : ℕ) (buffer : List ℕ) (phase : Phase) (before after : Option (List ℕ)) (tally : Tally) (clock : Times) : Type 0 where
   pub written : Appends before after (shown_from view times (length gone) (all_ended (p ++ bytes) n))
   pub taken : DecoderAfter buffer phase (unended (p ++ bytes))
@@ -60,19 +61,19 @@ pub record ShowsBytes (view : View) (times : ℕ → Moment) (n : ℕ) (p bytes 
   pub timed : IsReadAt times (length (gone ++ stream_outcomes (p ++ bytes) n)) clock
   pub len : length buffer ≡ n
 
--- nothing follows: whether a piece had begun is shown
+-- the input has ended: it is shown whether a piece had begun
 pub record ShowsEnd (phase : Phase) (view : View) (before after : Option (List ℕ)) : Type 0 where
   pub begun : Bool
   pub idle : (begun ≡ false) ↔ (phase ≡ Idle)
   pub written : Appends before after (shown_end view begun)
 
--- a line hung up: whether a piece had begun is shown, and the hang-up
+-- a line hung up: it is shown whether a piece had begun, and then that the line hung up
 pub record ShowsHangUp (phase : Phase) (view : View) (before after : Option (List ℕ)) : Type 0 where
   pub begun : Bool
   pub idle : (begun ≡ false) ↔ (phase ≡ Idle)
   pub written : Appends before after (shown_hang_up view begun)
 
--- behind a hang-up no piece has begun, and the first sentinel is awaited; all else is as it was
+-- after a hang-up no piece has begun, and bytes are skipped up to the first sentinel; everything else is as it was
 pub record BeginsAnew (old new : Watch) : Type 0 where
   pub taken : DecoderAfter new.message.items (phase_of new.decoder) []
   pub awaited : new.skipping ≡ true

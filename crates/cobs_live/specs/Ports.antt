@@ -4,21 +4,21 @@ use Rattle.cobs_live.specs.Reads.{GivesBytes}
 use Rattle.cobs_live.specs.declared.port.Port.{Port}
 use Rattle.cobs_live.specs.declared.port.Logged.{Logged}
 
--- the reader or writer that a port is made of
+-- the reader or writer of a port
 abbrev pub inner_of : {C F : Type 0} → Port C F → F
 inner_of port = port.inner
 
--- the writer that has a log beside it
+-- the writer that has a log
 abbrev pub logged_inner : {W L : Type 0} → Logged W L → W
 logged_inner logged = logged.inner
 
--- what a log holds, where that is known; nothing is known of no log
+-- the contents of a log, if they are known; nothing is known if there is no log
 abbrev pub log_contents : {L : Type 0} → (L → Option (List ℕ)) → Option L → Option (List ℕ)
 log_contents contents None = None
 log_contents contents (Some log) = contents log
 
--- what a read gives of a line that is opened again: if it stays open, bytes of the line, or of one that was opened for the
--- read; else a hang-up, or nothing if none could be opened
+-- the result of a read of a line that is opened again. If the line stays open, it is bytes of the line, or of one that
+-- was opened for the read. Otherwise it is a hang-up, or nothing if no line could be opened.
 abbrev pub GivesNext : {R : Type 0} → (R → Option (List ℕ)) → Option R → Option R → List (Option ℕ) → Type 0
 GivesNext remaining (Some line) (Some line') came = GivesBytes (remaining line) (remaining line') came
 GivesNext {R} remaining None (Some line') came = (opened : R) × GivesBytes (remaining opened) (remaining line') came

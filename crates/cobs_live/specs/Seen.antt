@@ -1,4 +1,4 @@
--- A piece as it is shown.
+-- A piece of a stream, with its kind and its bytes, before it is shown.
 use Rattle.std.specs.Prelude.{ℕ, ◌-◌, ◌^◌, Bool, true, false, List, [], ◌∷◌, ◌++◌, length, map, min, take, codes, Option, Some, None, if◌then◌else◌}
 use Rattle.std.specs.Fmt.{decimal}
 use Rattle.cobs.specs.Piece.{output}
@@ -10,17 +10,17 @@ use Rattle.cobs_live.specs.declared.seen.Kind.{Kind}
 use Rattle.cobs_live.specs.declared.seen.Kind.TheVariants.{Message, Broken, TooLong, BadCrc}
 use Rattle.cobs_live.specs.declared.seen.Sight.{Sight}
 
--- what became of a piece, how many bytes it decodes to, and those of them that are shown
+-- the kind of a piece, how many bytes it decodes to, and those bytes that can be shown
 pub record Seen : Type 0 where
   pub kind : Kind
   pub len : ℕ
   pub bytes : List ℕ
 
--- what a `Sight` has
+-- the fields of a `Sight`
 abbrev pub seen_in : Sight → Seen
 seen_in sight = record { kind = sight.kind; len = sight.len; bytes = sight.bytes.now }
 
--- the kind of a piece, and how many bytes it decodes to
+-- the kind of a piece, and the number of bytes that it decodes to
 abbrev pub title : Kind → ℕ → List ℕ
 title Message len = codes "message " ++ decimal len
 title Broken len = codes "broken " ++ decimal len
@@ -37,7 +37,7 @@ color_of BadCrc = codes "\u{1b}[31m"
 abbrev pub color_end : List ℕ
 color_end = codes "\u{1b}[0m"
 
--- the same title, in the colour of its kind where that is wanted
+-- the same title, in the colour of its kind if colours are on
 abbrev pub titled : (color : Bool) → Kind → ℕ → List ℕ
 titled false kind len = title kind len
 titled true kind len = color_of kind ++ title kind len ++ color_end
@@ -46,18 +46,19 @@ titled true kind len = color_of kind ++ title kind len ++ color_end
 abbrev pub whole : Kind → List ℕ → Seen
 whole kind bytes = record { kind = kind; len = length bytes; bytes = bytes }
 
--- what is seen of a message: where it is to end with its checksum, what is in front of that, if it is right
+-- the piece for a message: if messages should end with a checksum, and it is right, the message has no checksum any
+-- more
 abbrev pub seen_message : Option Checksum → List ℕ → Seen
 seen_message None message = whole Message message
 seen_message (Some checksum) message = if is_checked checksum message then whole Message (body_of checksum message) else whole BadCrc message
 
--- what is seen of an outcome; a piece that is too long is longer than each limit
+-- the piece for an outcome; a piece that is too long is longer than each limit
 abbrev pub seen_of : Option Checksum → Outcome → Seen
 seen_of checksum (OfMessage message) = seen_message checksum message
 seen_of checksum (OfBroken count) = record { kind = Broken; len = count; bytes = [] }
 seen_of checksum OfTooLong = record { kind = TooLong; len = 2 ^ 64 - 1; bytes = [] }
 
--- a piece that has ended, over a buffer of n bytes: what becomes of it, and the first n of the bytes that it decodes to
+-- a piece that has ended, in a buffer of n bytes: its outcome, and the first n bytes of its output
 pub record Ended : Type 0 where
   pub outcome : Outcome
   pub decoded : List ℕ
@@ -69,30 +70,30 @@ ended_in n piece = record { outcome = outcome_of piece n; decoded = take n (outp
 unfoldable pub all_ended : List ℕ → ℕ → List Ended
 all_ended t n = map (ended_in n) (ended_pieces t)
 
--- of a piece of this kind, its message, or what else was decoded of it
+-- the message of a piece of this kind, or otherwise the decoded bytes
 abbrev pub part_of : Kind → List ℕ → List ℕ → List ℕ
 part_of Message message decoded = message
 part_of Broken message decoded = decoded
 part_of TooLong message decoded = decoded
 part_of BadCrc message decoded = message
 
--- with `partial`, the bytes of a piece that is no message are those that were decoded of it
+-- with `partial`, the bytes of a piece that is no message are its decoded bytes
 abbrev pub with_part : Bool → Seen → List ℕ → Seen
 with_part false seen decoded = seen
 with_part true seen decoded = record { kind = seen.kind; len = seen.len; bytes = part_of seen.kind seen.bytes decoded }
 
--- what is seen of a piece that has ended
+-- a piece that has ended, before it is shown
 abbrev pub seen_piece : Option Checksum → Bool → Ended → Seen
 seen_piece checksum partial ended = with_part partial (seen_of checksum ended.outcome) ended.decoded
 
--- the bytes that a buffer holds of a piece of this kind that decodes to this many bytes
+-- the bytes in a buffer for a piece of this kind that decodes to this many bytes
 abbrev pub held : Kind → ℕ → List ℕ → List ℕ
 held Message len buffer = buffer
 held Broken len buffer = take (min len (length buffer)) buffer
 held TooLong len buffer = buffer
 held BadCrc len buffer = buffer
 
--- the word in front of bytes that are no message, if there are any
+-- the word before bytes that are no message, if there are any
 abbrev pub mark_if_any : List ℕ → List ℕ
 mark_if_any [] = []
 mark_if_any (byte ∷ bytes) = codes " partial"
@@ -103,6 +104,6 @@ mark Broken bytes = mark_if_any bytes
 mark TooLong bytes = mark_if_any bytes
 mark BadCrc bytes = []
 
--- what begins a piece's line
+-- the beginning of a piece's line
 abbrev pub heading : (color : Bool) → Seen → List ℕ
 heading color seen = titled color seen.kind seen.len ++ mark seen.kind seen.bytes

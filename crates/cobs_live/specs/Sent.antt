@@ -1,4 +1,4 @@
--- What a run of `send` has read, and what it has written of it.
+-- The lines that a run of `send` has read, and the frames that it has written.
 use Rattle.std.specs.Prelude.{ℕ, ◌≡◌, ◌↔◌, ◌-◌, ◌==◌, ◌&&◌, ◌||◌, not, nat_lt, Bool, true, false, IsTrue, IsOk, List, [], ◌∷◌, ◌++◌, filter, length, take, slice_index, All, Option, IfSome, Result, Ok, Err, MatchResult, if◌then◌else◌}
 use Rattle.std.specs.List.{AllZip, concat}
 use Rattle.std.specs.Io.{StopsAt}
@@ -20,7 +20,8 @@ pub record IsSent (sentinel : ℕ) (message bytes : List ℕ) : Type 0 where
   pub encoded : IsEncodedFrameFor sentinel frame message
   pub ended : bytes ≡ frame ++ sentinel ∷ []
 
--- what is written of a message: its frame, or with a checksum the frame of the message with its checksum behind it
+-- the bytes that are written for a message: its frame or, if there is a checksum, the frame of the message with its
+-- checksum after it
 abbrev pub SendsMessage : Settings → List ℕ → List ℕ → Type 0
 SendsMessage settings message bytes = IsSent settings.sentinel (with_sum settings.checksum message) bytes
 
@@ -31,7 +32,8 @@ is_digit byte = not ((byte == 32) || ((byte == 9) || (byte == 13)))
 abbrev pub digits_of : List ℕ → List ℕ
 digits_of text = filter is_digit text
 
--- what is written of a line's text: as a message, or of the message whose digits it has; nothing where it has none
+-- the bytes that are written for a line's text: for the text as a message, or for the message whose digits it has;
+-- nothing if it isn't digits
 abbrev pub SendsAs : (hex : Bool) → Settings → List ℕ → List ℕ → Type 0
 SendsAs false settings text bytes = SendsMessage settings text bytes
 SendsAs true settings text bytes = MatchResult (decode_of (digits_of text)) (λ message. SendsMessage settings message bytes) (λ error. bytes ≡ [])
@@ -39,11 +41,11 @@ SendsAs true settings text bytes = MatchResult (decode_of (digits_of text)) (λ 
 abbrev pub SendsText : Settings → List ℕ → List ℕ → Type 0
 SendsText settings text bytes = SendsAs settings.hex settings text bytes
 
--- a line's text stands for a message: where its digits are wanted, it has them
+-- a line's text has a message: if it should be digits, it is
 abbrev pub IsSendable : Settings → List ℕ → Type 0
 IsSendable settings text = IsTrue settings.hex → IsOk (decode_of (digits_of text))
 
--- a byte in front of the first of some lines
+-- a byte before the first of some lines
 abbrev pub in_front : ℕ → List (List ℕ) → List (List ℕ)
 in_front byte [] = (byte ∷ []) ∷ []
 in_front byte (line ∷ lines) = (byte ∷ line) ∷ lines
@@ -53,8 +55,8 @@ unfoldable pub lines_of : List ℕ → List (List ℕ)
 lines_of [] = []
 lines_of (byte ∷ bytes) = if byte == 10 then (byte ∷ []) ∷ lines_of bytes else in_front byte (lines_of bytes)
 
--- lines that were read, the first of those that the reader had, and what was written of each; `rest` was read after them and
--- not sent: what a failed read cut off, or a line for whose frame memory ran out
+-- the lines that were read, which are the first lines of the reader, and the bytes that were written for each. `rest`
+-- was read after them and not sent: a failed read cut it off, or memory ran out for its frame.
 pub record HasSentLines (settings : Settings) (rest : List ℕ) (from to before after : Option (List ℕ)) : Type 0 where
   pub lines : List (List ℕ)
   pub first : IfSome from (λ bytes. (more : List (List ℕ)) × (lines_of bytes ≡ lines ++ more))
@@ -65,20 +67,20 @@ pub record HasSentLines (settings : Settings) (rest : List ℕ) (from to before 
   pub read : Consumes from to (concat lines ++ rest)
   pub written : Appends before after (concat sent)
 
--- all lines that the reader had, and a flag that says whether each could be sent
+-- all lines of the reader, and a flag that says whether each could be sent
 pub record HasSentAll (settings : Settings) (all_sent : Bool) (from to before after : Option (List ℕ)) : Type 0 where
   pub so_far : HasSentLines settings [] from to before after
   pub all : IfSome from (λ bytes. so_far.lines ≡ lines_of bytes)
   pub end : IfSome from (λ bytes. IsAtEnd to)
   pub flag : IsTrue all_sent ↔ All (λ line. IsSendable settings (text_of line)) so_far.lines
 
--- what was written is the frames of the lines that came
+-- the bytes that were written are the frames of the lines that were read
 pub record HoldsFrames (settings : Settings) (before : Option (List ℕ)) (came : List (List ℕ)) (after : Option (List ℕ)) : Type 0 where
   pub sent : List (List ℕ)
   pub each : AllZip (λ line bytes. SendsText settings (text_of line) bytes) came sent
   pub written : Appends before after (concat sent)
 
--- a run of `send`, by its result
+-- a run of `send`, with its result
 abbrev pub HasSent : Settings → Result Bool WatchFault → (from to before after : Option (List ℕ)) → Type 0
 HasSent settings (Ok all_sent) from to before after = HasSentAll settings all_sent from to before after
 HasSent settings (Err ReadFailed) from to before after = (rest : List ℕ) × HasSentLines settings rest from to before after

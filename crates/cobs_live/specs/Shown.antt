@@ -1,4 +1,4 @@
--- What is shown of a stream.
+-- The text that is shown of a stream.
 use Rattle.std.specs.Prelude.{ℕ, ◌+◌, ◌==◌, ◌&&◌, nat_le, Bool, true, false, not, List, [], ◌∷◌, ◌++◌, length, codes, if◌then◌else◌}
 use Rattle.std.specs.Fmt.{decimal}
 use Rattle.std.specs.List.{list_all, starts_with}
@@ -28,12 +28,12 @@ use Rattle.cobs_live.specs.declared.tally.Tally.{Tally}
 abbrev pub is_plain : List ℕ → Bool
 is_plain bytes = (utf8_valid_len bytes == length bytes) && list_all (λ c. not (is_hidden c)) (chars bytes)
 
--- a text and a space in front of it; nothing for the empty text
+-- a space and a text, or nothing for the empty text
 abbrev pub spaced : List ℕ → List ℕ
 spaced [] = []
 spaced (byte ∷ bytes) = codes " " ++ (byte ∷ bytes)
 
--- a piece's line, with its bytes as digits, as text, and sixteen a line below it; what becomes of it may have a colour
+-- the line of a piece, with its bytes as digits, as text, or sixteen per line below it; its kind may have a colour
 abbrev pub hex_line : (color : Bool) → Seen → List ℕ
 hex_line color seen = heading color seen ++ spaced_digits seen.bytes ++ codes "\n"
 
@@ -43,7 +43,8 @@ text_line color seen = heading color seen ++ (if is_plain seen.bytes then spaced
 abbrev pub dump_lines : (color : Bool) → Seen → List ℕ
 dump_lines color seen = heading color seen ++ codes "\n" ++ dump seen.bytes
 
--- what a style that shows messages alone makes of one: its bytes, with a newline behind them, or a record of a capture
+-- the bytes for a message in a style that shows only messages: its bytes, with a newline after them, or a record of a
+-- capture
 abbrev pub alone : Style → ℕ → List ℕ → List ℕ
 alone Hex time bytes = bytes
 alone Text time bytes = bytes
@@ -53,14 +54,14 @@ alone Json time bytes = bytes
 alone Bytes time bytes = bytes
 alone Pcap time bytes = record_head time (length bytes) ++ bytes
 
--- nothing of other pieces than messages
+-- such a style shows nothing of other pieces
 abbrev pub of_message : Kind → List ℕ → List ℕ
 of_message Message text = text
 of_message Broken text = []
 of_message TooLong text = []
 of_message BadCrc text = []
 
--- what a style makes of a piece that has this number and these times; lines alone have colours
+-- the text of a piece with this number and these times in a style; only lines have colours
 abbrev pub styled : Style → (color : Bool) → ℕ → Stamp → Times → Seen → List ℕ
 styled Hex color number stamp times seen = hex_line color seen
 styled Text color number stamp times seen = text_line color seen
@@ -70,7 +71,7 @@ styled Json color number stamp times seen = json number stamp times seen
 styled Bytes color number stamp times seen = of_message seen.kind (alone Bytes times.next.millis seen.bytes)
 styled Pcap color number stamp times seen = of_message seen.kind (alone Pcap times.next.millis seen.bytes)
 
--- the time of a piece in front of its line, which JSON has inside, and raw bytes haven't
+-- the time of a piece before its line; a JSON object has it inside, and raw bytes have none
 abbrev pub in_front : Style → Stamp → Times → List ℕ
 in_front Hex stamp times = stamped stamp times
 in_front Text stamp times = stamped stamp times
@@ -80,7 +81,7 @@ in_front Json stamp times = []
 in_front Bytes stamp times = []
 in_front Pcap stamp times = []
 
--- the number of a piece in front of its line
+-- the number of a piece before its line
 abbrev pub numbered : Bool → ℕ → List ℕ
 numbered true number = decimal number ++ codes " "
 numbered false number = []
@@ -96,20 +97,20 @@ has_kind filter BadCrc = filter.bad_crc
 abbrev pub passes : Filter → Seen → Bool
 passes filter seen = has_kind filter seen.kind && (nat_le filter.min seen.len && (nat_le seen.len filter.max && starts_with (λ a b. a == b) seen.bytes filter.prefix.items))
 
--- what a view makes of a piece that has this number and these times
+-- the text of a piece with this number and these times in a view
 abbrev pub in_view : View → ℕ → Times → Seen → List ℕ
 in_view view number times seen = if passes view.filter seen then in_front view.style view.stamp times ++ numbered view.number number ++ styled view.style view.color number view.stamp times seen else []
 
--- WHAT IS SHOWN OF A PIECE that this many others have gone before: the pieces are numbered from 1 on, and each has a time
+-- THE TEXT OF A PIECE after this many other pieces: pieces are numbered from 1 on, and each has a time
 abbrev pub shown : View → (ℕ → Moment) → ℕ → Ended → List ℕ
 shown view times index piece = in_view view (counted (index + 1)) (record { last = times index; next = times (index + 1) }) (seen_piece view.checksum view.partial piece)
 
--- what is shown of pieces that this many others have gone before
+-- the text of pieces after this many other pieces
 unfoldable pub shown_from : View → (ℕ → Moment) → ℕ → List Ended → List ℕ
 shown_from view times index [] = []
 shown_from view times index (piece ∷ pieces) = shown view times index piece ++ shown_from view times (index + 1) pieces
 
--- that a piece has begun, by style
+-- the text that a piece has begun, by style
 abbrev pub unfinished_in : Style → List ℕ
 unfinished_in Hex = codes "unfinished\n"
 unfinished_in Text = codes "unfinished\n"
@@ -119,11 +120,11 @@ unfinished_in Json = codes "{\"kind\":\"unfinished\"}\n"
 unfinished_in Bytes = []
 unfinished_in Pcap = []
 
--- what is shown after a stream that has come to its end: whether a piece has begun that no zero ended
+-- the text after a stream that has ended: it says whether a piece has begun that no zero ended
 abbrev pub shown_end : View → Bool → List ℕ
 shown_end view begun = if begun && view.filter.unfinished then unfinished_in view.style else []
 
--- that a line hung up, by style
+-- the text that a line hung up, by style
 abbrev pub hung_up_in : Style → List ℕ
 hung_up_in Hex = codes "hung up\n"
 hung_up_in Text = codes "hung up\n"
@@ -133,21 +134,22 @@ hung_up_in Json = codes "{\"kind\":\"hung-up\"}\n"
 hung_up_in Bytes = []
 hung_up_in Pcap = []
 
--- what is shown after the stream of a line that hung up: whether a piece has begun, which the hang-up doesn't end, and the hang-up
+-- the text after the stream of a line that hung up: whether a piece has begun, which the hang-up doesn't end, and that
+-- the line hung up
 abbrev pub shown_hang_up : View → Bool → List ℕ
 shown_hang_up view begun = shown_end view begun ++ (if view.filter.unfinished then hung_up_in view.style else [])
 
--- the outcomes of the pieces that have ended in streams, over a buffer of n bytes
+-- the outcomes of the pieces that have ended in streams, in a buffer of n bytes
 abbrev pub outcomes_of : List (List ℕ) → ℕ → List Outcome
 outcomes_of [] n = []
 outcomes_of (t ∷ ts) n = stream_outcomes t n ++ outcomes_of ts n
 
--- what is shown of the streams of lines that hung up, whose pieces this many others have gone before
+-- the text of the streams of lines that hung up, after this many other pieces
 abbrev pub shown_gone : View → (ℕ → Moment) → (n index : ℕ) → List (List ℕ) → List ℕ
 shown_gone view times n index [] = []
 shown_gone view times n index (t ∷ ts) = shown_from view times index (all_ended t n) ++ (shown_hang_up view (is_nonempty (unended t)) ++ shown_gone view times n (index + length (stream_outcomes t n)) ts)
 
--- the text of how much came; where messages are to end with checksums, how many were wrong too
+-- the text of the counts; if messages should end with checksums, it also says how many were wrong
 abbrev pub tally_text : Tally → List ℕ
 tally_text tally =
     codes "messages " ++ decimal tally.messages ++ codes ", broken " ++ decimal tally.broken ++ codes ", too long " ++ decimal tally.too_long ++ (if tally.checked then codes ", bad crc " ++ decimal tally.bad_crc else []) ++ codes ", bytes " ++ decimal tally.bytes

@@ -1,4 +1,4 @@
--- When pieces were read, and how that is written.
+-- The times at which pieces were read, and their text.
 use Rattle.std.specs.Prelude.{ℕ, ◌≡◌, ◌≤◌, ◌<◌, ◌+◌, ◌-◌, ◌/◌, ◌%◌, ◌^◌, false, List, [], ◌++◌, Some, pos, codes, if◌then◌else◌}
 use Rattle.std.specs.Fmt.{decimal, digits, padded_integral, format_spec}
 use Rattle.std.specs.Ordering.{int_eq}
@@ -9,17 +9,18 @@ use Rattle.cobs_live.specs.declared.clock.Stamp.{Stamp}
 use Rattle.cobs_live.specs.declared.clock.Stamp.TheVariants.{Untimed, Start, Last, Date}
 use Rattle.cobs_live.specs.declared.clock.Times.{Times}
 
--- the time of each piece, by its number: it never goes back, and before the first piece it is 0 (the start, or of `Date` 1970)
+-- the time of each piece, by its number. It never decreases, and before the first piece it is 0: the start, or 1970 for
+-- `Date`.
 pub record IsTimeline (times : ℕ → Moment) : Type 0 where
   pub start : (times 0).millis ≡ 0
   pub rises : (number : ℕ) → (times number).millis ≤ (times (number + 1)).millis
 
--- the piece of this number was read last, and all that follow are read now
+-- the piece with this number was read last, and all later pieces are read now
 pub record IsReadAt (times : ℕ → Moment) (number : ℕ) (clock : Times) : Type 0 where
   pub last : clock.last ≡ times number
   pub now : (later : ℕ) → number < later → times later ≡ clock.next
 
--- a number with zeros in front, up to a width
+-- a number with zeros before it, up to a width
 abbrev pub padded : ℕ → ℕ → List ℕ
 padded width n = padded_integral (format_spec 32 0 4 width (2 ^ 64 - 1)) false [] (digits 10 false n)
 
@@ -30,25 +31,25 @@ seconds time = decimal (time / 1000) ++ codes "." ++ padded 3 (time % 1000)
 abbrev pub zone_text : Offset → List ℕ
 zone_text offset = if int_eq offset.seconds (pos 0) then codes "Z" else offset_text offset
 
--- date and time of day as RFC 3339 has them: in upper case, with a T (84) between them, and three decimals
+-- the date and time of day as in RFC 3339: in upper case, with a T (84) between them, and three decimals
 abbrev pub date_time : Moment → List ℕ
 date_time moment = datetime_text false 84 (Some 3) moment.civil ++ zone_text moment.offset
 
--- the time that a stamp gives a piece, by when the one before it and the piece itself were read
+-- the time of a piece, given by its stamp, from the times at which it and the piece before it were read
 abbrev pub time_text : Stamp → Times → List ℕ
 time_text Untimed times = []
 time_text Start times = seconds times.next.millis
 time_text Last times = seconds (times.next.millis - times.last.millis)
 time_text Date times = date_time times.next
 
--- the time in front of a line
+-- the time before a line
 abbrev pub stamped : Stamp → Times → List ℕ
 stamped Untimed times = []
 stamped Start times = time_text Start times ++ codes " "
 stamped Last times = time_text Last times ++ codes " "
 stamped Date times = time_text Date times ++ codes " "
 
--- the time as a member of an object of JSON: a number of seconds, or a string
+-- the time as a member of a JSON object: a number of seconds, or a string
 abbrev pub json_time : Stamp → Times → List ℕ
 json_time Untimed times = []
 json_time Start times = codes ",\"time\":" ++ time_text Start times

@@ -1,4 +1,4 @@
--- What the modes write.
+-- The bytes that the modes write.
 use Rattle.std.specs.Prelude.{ℕ, ◌≡◌, List, [], ◌∷◌, ◌++◌, Option}
 use Rattle.std.specs.Io.KnownBytes.{Appends}
 use Rattle.cobs.specs.Grammar.{IsEncodedFrame}
@@ -7,7 +7,7 @@ use Rattle.cobs_tool.specs.Text.{hex_line}
 use Rattle.cobs_tool.specs.declared.mode.Mode.{Mode}
 use Rattle.cobs_tool.specs.declared.mode.Mode.TheVariants.{Show, Encode, Decode}
 
--- a writer whose contents are known has got some more bytes, of which P holds
+-- a writer whose contents are known has some more bytes, for which P holds
 abbrev pub WritesSome : (List ℕ → Type 0) → Option (List ℕ) → Option (List ℕ) → Type 0
 WritesSome P old new = (bytes : List ℕ) × P bytes × Appends old new bytes
 
@@ -17,13 +17,13 @@ pub record IsTerminatedFrame (bytes message : List ℕ) : Type 0 where
   pub encoded : IsEncodedFrame frame message
   pub terminated : bytes ≡ frame ++ 0 ∷ []
 
--- the same as hexadecimal digits
+-- the frame of the message and a zero after it, as hexadecimal digits
 pub record IsShown (line message : List ℕ) : Type 0 where
   pub bytes : List ℕ
   pub frame : IsTerminatedFrame bytes message
   pub digits : line ≡ hex_line bytes
 
--- what a mode writes of an input
+-- the bytes that a mode writes for an input
 abbrev pub IsOutputOf : Mode → List ℕ → List ℕ → Type 0
 IsOutputOf Show message line = IsShown line message
 IsOutputOf Encode message bytes = IsTerminatedFrame bytes message

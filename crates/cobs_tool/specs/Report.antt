@@ -1,4 +1,4 @@
--- What becomes of the pieces of a stream, in words.
+-- The outcomes of the pieces of a stream, as text.
 use Rattle.std.specs.Prelude.{ℕ, List, [], ◌++◌, codes, if◌then◌else◌}
 use Rattle.std.specs.List.{flat_map}
 use Rattle.cobs_lines.specs.Lines.{outcome_line}
@@ -8,10 +8,10 @@ use Rattle.cobs.specs.Stream.{is_nonempty, stream_outcomes, unended}
 abbrev pub longest_message : ℕ
 longest_message = 65536
 
--- the last line, where a piece has begun after the last zero
+-- the last line, if a piece has begun after the last zero
 abbrev pub unfinished_line : List ℕ → List ℕ
 unfinished_line stream = if is_nonempty (unended stream) then codes "unfinished\n" else []
 
--- a line for each piece that has ended in the stream, in order, and that last one
+-- a line for each piece that has ended in the stream, in order, and then that last line
 abbrev pub report : List ℕ → List ℕ
 report stream = flat_map outcome_line (stream_outcomes stream longest_message) ++ unfinished_line stream

@@ -1,11 +1,11 @@
--- What the program prints.
+-- The texts that the program prints.
 use Rattle.std.specs.Prelude.{ℕ, List, [], ◌∷◌, ◌++◌, map, codes}
 use Rattle.std.specs.List.{join_with_byte}
 use Rattle.hex.specs.Hex.{encode_lower}
 use Rattle.cobs_tool.specs.declared.fault.ToolFault.{ToolFault}
 use Rattle.cobs_tool.specs.declared.fault.ToolFault.TheVariants.{ReadFailed, WriteFailed, OutOfMemory, InputTooLong}
 
--- what standard error says of a fault
+-- the line on standard error for a fault
 abbrev pub fault_text : ToolFault → List ℕ
 fault_text ReadFailed = codes "cobs_tool: read failed"
 fault_text WriteFailed = codes "cobs_tool: write failed"

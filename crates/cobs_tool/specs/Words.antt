@@ -2,6 +2,6 @@
 use Rattle.std.specs.Prelude.{ℕ, List, map, String, string_bytes}
 use Rattle.std.specs.Global.{Global}
 
--- what some words say
+-- the mode that some words ask for
 abbrev pub texts : List (String Global) → List (List ℕ)
 texts words = map string_bytes words

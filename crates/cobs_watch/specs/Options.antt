@@ -1,14 +1,14 @@
--- What the command line may ask for.
+-- The tasks that the command line can ask for.
 use Rattle.std.specs.Prelude.{ℕ, ◌≡◌, ◌≤◌, List, Option, option_map}
 use Rattle.cobs_watch.specs.declared.options.Task.{Task}
 use Rattle.cobs_watch.specs.declared.options.Task.TheVariants.{Show, Send}
 
--- a task that the command line offers: no message longer than 16 MiB is held
+-- a task that the command line offers: the longest message has at most 16 MiB
 abbrev pub IsOffered : Task → Type 0
 IsOffered (Show show) = show.settings.length ≤ 16777216
 IsOffered (Send settings) = Unit {0}
 
--- a stream is shown from this path, and goes to this log too, if they are given
+-- a stream is shown from this path, and its output also goes to this log, if they are given
 abbrev pub HasPaths : (path log : Option (List ℕ)) → Task → Type 0
 HasPaths path log (Show show) = (option_map (λ text. text.now) show.path ≡ path) × (option_map (λ text. text.now) show.log ≡ log)
 HasPaths path log (Send settings) = Unit {0}
