@@ -2,7 +2,6 @@
 ghost use Rattle.std.specs.Prelude.{All, ◌≢◌, ◌≡◌, ◌<◌, ◌≤◌, ◌+◌, ◌-◌, length, take, slice_index};
 ghost use Rattle.cobs.specs.Grammar.{HasNoZero};
 
-use crate::dec::len_to_zero;
 use cobs_bytes::window::{WIDE_WINDOW, WINDOW, first_zero, has_vectors, zeros_at};
 use memchr::memchr;
 
@@ -13,6 +12,34 @@ pub(crate) fn position_or_len(source: &[u8], byte: u8) -> usize
     ensures stop { result < length source.now → slice_index source.now result ≡ byte }
 {
     memchr(byte, source).unwrap_or(source.len())
+}
+
+/// Returns how many bytes come before the first zero: all of them if there is none. It uses no vectors, so that it is small. (A
+/// choice of this library.)
+///
+/// ```
+/// assert_eq!(rt; len_to_zero(&[3, 7, 8, 0, 2]), 3);
+/// assert_eq!(rt; len_to_zero(&[3, 7]), 2);
+/// ```
+// A function of its own, so that its loops have all registers of a small processor. They keep the address of the remaining
+// bytes, so that no address is computed from an index. Four bytes per iteration need half as many steps as one.
+#[inline(never)]
+pub fn len_to_zero(bytes: &[u8]) -> usize
+    ensures within { result ≤ length bytes.now }
+    ensures before { HasNoZero (take result bytes.now) }
+    ensures stop { result < length bytes.now → slice_index bytes.now result ≡ 0 }
+{
+    let mut rest = bytes;
+    'by_four: while rest.len() >= 4 {
+        if rest[0] == 0 || rest[1] == 0 || rest[2] == 0 || rest[3] == 0 {
+            break;
+        }
+        rest = &rest[4..];
+    }
+    'by_byte: while !rest.is_empty() && rest[0] != 0 {
+        rest = &rest[1..];
+    }
+    bytes.len() - rest.len()
 }
 
 /// Where the first zero of a source is, or the source's length if there is none.

@@ -597,8 +597,8 @@ jcobs_answer jcobs_encode_terminated(const void *message, size_t message_len, vo
     return jcobs_done(message_len, length + 1);
 }
 
-/* Makes an encoder that has taken nothing yet, for a buffer of one byte at least: the frame of the empty message
- * has one. */
+/* Makes an encoder that has taken nothing yet. Its buffer needs at least one byte, because the frame of the empty
+ * message has one. */
 static jcobs_encoder jcobs_encoder_new(void)
 {
     return jcobs_encoder_of(0, 0, 0);

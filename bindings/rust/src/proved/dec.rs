@@ -18,7 +18,7 @@ pub(crate) mod whole;
 pub use buffered::CobsDecoder;
 #[cfg(feature = "alloc")]
 pub use buffered::CobsDecoderOwned;
-pub use each::{decode_blocks_each, len_to_zero};
+pub use each::decode_blocks_each;
 pub use forms::decode_with_sentinel;
 #[cfg(feature = "alloc")]
 pub use forms::{decode_vec, decode_vec_with_sentinel};

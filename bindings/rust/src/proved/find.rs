@@ -1,7 +1,7 @@
 // Made by bindings/rust/translate.py from `crates/cobs/src/find.rt`: change that file, and run it again.
 //! Where pieces begin and end.
 
-use crate::proved::cobs_bytes::window::{WIDE_WINDOW, WINDOW, first_zero, zeros_at};
+use crate::proved::cobs_bytes::window::{WIDE_WINDOW, WINDOW, first_zero, has_vectors, zeros_at};
 use memchr::memchr;
 
 /// Where the first such byte of a source is, or the source's length if there is none.
@@ -9,10 +9,36 @@ pub(crate) fn position_or_len(source: &[u8], byte: u8) -> usize {
     memchr(byte, source).unwrap_or(source.len())
 }
 
+/// Returns how many bytes come before the first zero: all of them if there is none. It uses no vectors, so that it is small.
+///
+/// ```
+/// # use jcobs::proved::*;
+/// assert_eq!(len_to_zero(&[3, 7, 8, 0, 2]), 3);
+/// assert_eq!(len_to_zero(&[3, 7]), 2);
+/// ```
+// A function of its own, so that its loops have all registers of a small processor. They keep the address of the remaining
+// bytes, so that no address is computed from an index. Four bytes per iteration need half as many steps as one.
+#[inline(never)]
+pub fn len_to_zero(bytes: &[u8]) -> usize {
+    let mut rest = bytes;
+    'by_four: while rest.len() >= 4 {
+        if rest[0] == 0 || rest[1] == 0 || rest[2] == 0 || rest[3] == 0 {
+            break;
+        }
+        rest = &rest[4..];
+    }
+    'by_byte: while !rest.is_empty() && rest[0] != 0 {
+        rest = &rest[1..];
+    }
+    bytes.len() - rest.len()
+}
+
 /// Where the first zero of a source is, or the source's length if there is none.
 #[inline(always)]
 pub(crate) fn zero_or_len(source: &[u8]) -> usize {
-    if source.len() < WIDE_WINDOW {
+    if !has_vectors() {
+        len_to_zero(source)
+    } else if source.len() < WIDE_WINDOW {
         first_zero(source)
     } else {
         position_or_len(source, 0)

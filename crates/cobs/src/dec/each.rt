@@ -12,35 +12,8 @@ ghost use Rattle.cobs.specs.Step.{next_phase};
 use crate::block::FULL_CODE;
 use crate::dec::unbuffered::UnbufferedDecoder;
 use crate::error::{DecodeError, DecodeReport};
+use crate::find::len_to_zero;
 use cobs_bytes::window::has_vectors;
-
-/// Returns how many bytes come before the first zero: all of them if there is none. It uses no vectors, so that it is small. (A
-/// choice of this library.)
-///
-/// ```
-/// assert_eq!(rt; len_to_zero(&[3, 7, 8, 0, 2]), 3);
-/// assert_eq!(rt; len_to_zero(&[3, 7]), 2);
-/// ```
-// A function of its own, so that its loops have all registers of a small processor. They keep the address of the remaining
-// bytes, so that no address is computed from an index. Four bytes per iteration need half as many steps as one.
-#[inline(never)]
-pub fn len_to_zero(bytes: &[u8]) -> usize
-    ensures within { result ≤ length bytes.now }
-    ensures before { HasNoZero (take result bytes.now) }
-    ensures stop { result < length bytes.now → slice_index bytes.now result ≡ 0 }
-{
-    let mut rest = bytes;
-    'by_four: while rest.len() >= 4 {
-        if rest[0] == 0 || rest[1] == 0 || rest[2] == 0 || rest[3] == 0 {
-            break;
-        }
-        rest = &rest[4..];
-    }
-    'by_byte: while !rest.is_empty() && rest[0] != 0 {
-        rest = &rest[1..];
-    }
-    bytes.len() - rest.len()
-}
 
 /// Moves `len` bytes of the buffer, which begin at `from`, to `to`, and returns where they end.
 #[inline(always)]
@@ -71,7 +44,7 @@ fn move_bytes(buffer: &mut [u8], from: usize, to: usize, len: usize) -> usize
 /// Decodes the blocks in the first `end` bytes of the buffer in their own place, one byte after another, and returns the
 /// message's length. Every byte after the message is as it was. It is small, and uses no vectors. (A choice of this library.)
 ///
-/// Precondition: the buffer has `end` bytes, and none of them is a zero. [`len_to_zero`] counts such bytes.
+/// Precondition: the buffer has `end` bytes, and none of them is a zero. [`len_to_zero`](crate::len_to_zero) counts such bytes.
 ///
 /// # Errors
 ///

@@ -2,7 +2,7 @@
 //! Functions over bytes of any number: they copy, copy if no byte is a sentinel, and move within one buffer, where the old
 //! place and the new one may overlap. All bytes of a vector are loaded before any of them is stored.
 
-use crate::proved::cobs_bytes::window::{WIDE_WINDOW, WINDOW, by_width, has_vectors};
+use crate::proved::cobs_bytes::window::{WIDE_WINDOW, WINDOW, by_width};
 use crate::simd::*;
 
 /// Moves `N` to `2 * N` bytes, as two parts that may overlap.
@@ -18,7 +18,7 @@ fn move_two<const N: usize>(buffer: &mut [u8], from: usize, len: usize) {
 // A call of `copy_within` costs more than the moves themselves if these are a few windows.
 #[inline(always)]
 pub fn move_to_front(buffer: &mut [u8], from: usize, len: usize) {
-    if !has_vectors() || len > WIDE_WINDOW {
+    if len > WIDE_WINDOW {
         buffer.copy_within(from..from + len, 0);
     } else if len > 0 {
         by_width!(len, move_two(buffer, from, len));
@@ -41,28 +41,10 @@ fn copy_xored_two<const N: usize>(source: &[u8], dest: &mut [u8], sentinel: u8) 
     true
 }
 
-/// Copies all bytes if none is the sentinel, one byte per iteration, and returns whether it did.
-#[inline(always)]
-fn copy_xored_by_byte(source: &[u8], dest: &mut [u8], sentinel: u8) -> bool {
-    'by_byte: for i in 0..source.len() {
-        if source[i] == sentinel {
-            return false;
-        }
-    }
-    'by_copy: for i in 0..source.len() {
-        dest[i] = source[i] ^ sentinel;
-    }
-    true
-}
-
 /// Copies up to 64 bytes, each XORed with the sentinel, if none is the sentinel, and returns whether it did.
 #[inline(always)]
 pub fn copy_xored_short(source: &[u8], dest: &mut [u8], sentinel: u8) -> bool {
-    if has_vectors() {
-        by_width!(source.len(), copy_xored_two(source, dest, sentinel))
-    } else {
-        copy_xored_by_byte(source, dest, sentinel)
-    }
+    by_width!(source.len(), copy_xored_two(source, dest, sentinel))
 }
 
 /// Copies all bytes as one slice, and XORs each with the sentinel if that isn't 0.
@@ -79,7 +61,7 @@ fn copy_xored_slice(source: &[u8], dest: &mut [u8], sentinel: u8) {
 // For up to 32 bytes a call costs more than the copy. If a sentinel is among them, they are copied as a slice too.
 #[inline(always)]
 pub fn copy_xored(source: &[u8], dest: &mut [u8], sentinel: u8) {
-    let is_short = has_vectors() && !source.is_empty() && source.len() <= WINDOW;
+    let is_short = !source.is_empty() && source.len() <= WINDOW;
     if !is_short || !copy_xored_short(source, dest, sentinel) {
         copy_xored_slice(source, dest, sentinel);
     }

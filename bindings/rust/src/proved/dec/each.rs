@@ -1,32 +1,11 @@
 // Made by bindings/rust/translate.py from `crates/cobs/src/dec/each.rt`: change that file, and run it again.
-//! Decoding a frame in its own buffer, one byte after another, for targets without vectors.
+//! Decoding one byte after another, for targets without vectors.
 
 use crate::proved::block::FULL_CODE;
+use crate::proved::cobs_bytes::window::has_vectors;
+use crate::proved::dec::unbuffered::UnbufferedDecoder;
 use crate::proved::error::{DecodeError, DecodeReport};
-
-/// Returns how many bytes come before the first zero: all of them if there is none. It uses no vectors, so that it is small.
-///
-/// ```
-/// # use jcobs::proved::*;
-/// assert_eq!(len_to_zero(&[3, 7, 8, 0, 2]), 3);
-/// assert_eq!(len_to_zero(&[3, 7]), 2);
-/// ```
-// A function of its own, so that its loops have all registers of a small processor. They keep the address of the remaining
-// bytes, so that no address is computed from an index. Four bytes per iteration need half as many steps as one.
-#[inline(never)]
-pub fn len_to_zero(bytes: &[u8]) -> usize {
-    let mut rest = bytes;
-    'by_four: while rest.len() >= 4 {
-        if rest[0] == 0 || rest[1] == 0 || rest[2] == 0 || rest[3] == 0 {
-            break;
-        }
-        rest = &rest[4..];
-    }
-    'by_byte: while !rest.is_empty() && rest[0] != 0 {
-        rest = &rest[1..];
-    }
-    bytes.len() - rest.len()
-}
+use crate::proved::find::len_to_zero;
 
 /// Moves `len` bytes of the buffer, which begin at `from`, to `to`, and returns where they end.
 #[inline(always)]
@@ -51,7 +30,7 @@ fn move_bytes(buffer: &mut [u8], from: usize, to: usize, len: usize) -> usize {
 /// Decodes the blocks in the first `end` bytes of the buffer in their own place, one byte after another, and returns the
 /// message's length. Every byte after the message is as it was. It is small, and uses no vectors.
 ///
-/// Precondition: the buffer has `end` bytes, and none of them is a zero. [`len_to_zero`] counts such bytes.
+/// Precondition: the buffer has `end` bytes, and none of them is a zero. [`len_to_zero`](crate::len_to_zero) counts such bytes.
 ///
 /// # Errors
 ///
@@ -96,4 +75,29 @@ pub(crate) fn decode_in_place_each(buf: &mut [u8]) -> Result<DecodeReport, Decod
         parsed_size,
         frame_size,
     })
+}
+
+impl UnbufferedDecoder {
+    /// Does what [`take_run`](Self::take_run) does, for a piece that isn't too long. Without vectors, it takes one byte after
+    /// another.
+    #[inline(always)]
+    pub(crate) fn take_to_zero(&mut self, dest: &mut [u8], bytes: &[u8]) -> usize {
+        if has_vectors() {
+            return self.take_run(dest, bytes);
+        }
+        // A copy, so that it stays in registers.
+        let mut here = *self;
+        let mut taken = 0;
+        'by_byte: while taken < bytes.len() && bytes[taken] != 0 {
+            let before = here;
+            here.take_byte(dest, bytes[taken]);
+            if here.too_long != 0 {
+                *self = before;
+                return taken;
+            }
+            taken += 1;
+        }
+        *self = here;
+        taken
+    }
 }

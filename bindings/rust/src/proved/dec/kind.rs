@@ -2,7 +2,7 @@
 //! The kind of a frame: whether bytes are a frame, and which frame of their message.
 
 use crate::proved::block::FULL_CODE;
-use crate::proved::find::position_or_len;
+use crate::proved::find::zero_or_len;
 
 /// Whether bytes are a frame, and which frame of their message.
 ///
@@ -44,7 +44,7 @@ pub enum FrameKind {
 /// assert_eq!(frame_kind(&longer[..255]), FrameKind::Canonical);
 /// ```
 pub fn frame_kind(bytes: &[u8]) -> FrameKind {
-    if position_or_len(bytes, 0) < bytes.len() {
+    if zero_or_len(bytes) < bytes.len() {
         return FrameKind::NotAFrame;
     }
     kind_by_blocks(bytes)

@@ -42,7 +42,7 @@ impl UnbufferedDecoder {
 
     /// Takes a byte of a piece, and writes its output to the buffer.
     #[inline(always)]
-    fn take_byte(&mut self, dest: &mut [u8], byte: u8) {
+    pub(crate) fn take_byte(&mut self, dest: &mut [u8], byte: u8) {
         if self.too_long != 0 {
             return;
         }

@@ -1,6 +1,7 @@
 // Made by bindings/rust/translate.py from `crates/cobs/src/dec/whole.rt`: change that file, and run it again.
 //! Decoding a whole frame into another buffer.
 
+use crate::proved::cobs_bytes::window::has_vectors;
 use crate::proved::dec::stretch::{decode_stretch, message_len};
 use crate::proved::dec::unbuffered::START;
 use crate::proved::error::{DecodeError, DecodeReport};
@@ -37,6 +38,9 @@ use crate::proved::find::len_without_end;
 /// # Ok::<(), Box<dyn std::error::Error>>(())
 /// ```
 pub fn decode(source: &[u8], dest: &mut [u8]) -> Result<DecodeReport, DecodeError> {
+    if !has_vectors() {
+        return decode_long(source, dest);
+    }
     if let Some(result) = decode_short(source, dest) {
         return result;
     }
@@ -55,7 +59,7 @@ fn decode_long(source: &[u8], dest: &mut [u8]) -> Result<DecodeReport, DecodeErr
     }
     let rest = &source[start..];
     let mut progress = START;
-    let len = progress.take_run(dest, rest);
+    let len = progress.take_to_zero(dest, rest);
     if len < rest.len() && rest[len] != 0 {
         return Err(DecodeError::TargetBufTooSmall);
     }

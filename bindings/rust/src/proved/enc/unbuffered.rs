@@ -13,9 +13,9 @@ use crate::proved::error::DestBufTooSmallError;
 /// how far the frame has come, and are all 0 at the start. So an encoder can lie in a struct beside its buffer, or cross
 /// to another language.
 ///
-/// From the first push to the end of the message the caller passes one buffer, as the call before left it. Any other
-/// buffer is safe too, of whatever length, and so are any numbers: no call panics, or returns a length that is greater
-/// than the buffer's. The bytes of the buffer are then unspecified.
+/// From the first push to the end of the message the caller passes the same buffer to each call and doesn't change it between
+/// two calls. Any other buffer, of any length, is safe too, and so are any numbers: no call panics, or returns a length that is
+/// greater than the buffer's. But then the bytes of the buffer are unspecified.
 ///
 /// ```
 /// use jcobs::UnbufferedEncoder;
@@ -34,7 +34,7 @@ pub struct UnbufferedEncoder {
     /// The index in the buffer at which the code of the open block belongs.
     pub index: usize,
 
-    /// How many bytes the open block has, which are 253 at most.
+    /// How many bytes the open block has: at most 253.
     pub taken: u8,
 
     /// Not 0 if the frame's last block is full, so that the open one is only the place after it.
@@ -42,7 +42,7 @@ pub struct UnbufferedEncoder {
 }
 
 impl UnbufferedEncoder {
-    /// Makes an encoder that has taken nothing yet, for a buffer of one byte at least: the frame of the empty message
+    /// Makes an encoder that has taken nothing yet. Its buffer needs at least one byte, because the frame of the empty message
     /// has one.
     ///
     /// ```

@@ -4,8 +4,8 @@ use Rattle.std.proofs.lemmas.List.{drop-drop, take_more}
 use Rattle.std.proofs.lemmas.List.Elements.{All-append, All-nil, All-push}
 use Rattle.std.proofs.Math.Seq.{take-add}
 use Rattle.cobs.specs.Grammar.{HasNoZero}
-use Rattle.cobs.proofs.dec.each.len_to_zero.Invariants.{Searched}
-use Rattle.cobs.proofs.dec.each.len_to_zero.Goals as goal
+use Rattle.cobs.proofs.find.len_to_zero.Invariants.{Searched}
+use Rattle.cobs.proofs.find.len_to_zero.Goals as goal
 
 -- one more byte that isn't a zero
 next : (xs : List ℕ) (n : ℕ) → n < length xs → get_or xs n 0 ≢ 0 → HasNoZero (take n xs) → HasNoZero (take (n + 1) xs)

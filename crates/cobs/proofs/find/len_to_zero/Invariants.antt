@@ -1,6 +1,6 @@
 use Rattle.std.proofs.Common.{◌≡◌, ◌-◌, ◌≤◌, List, ℕ, length, take, drop}
 use Rattle.cobs.specs.Grammar.{HasNoZero}
-use Rattle.cobs.proofs.dec.each.len_to_zero.Given as goal
+use Rattle.cobs.proofs.find.len_to_zero.Given as goal
 
 -- the bytes before the rest have no zero
 abbrev pub Searched : List ℕ → List ℕ → Type 0
