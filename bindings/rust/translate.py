@@ -15,12 +15,10 @@ import sys
 from pathlib import Path
 
 HERE = Path(__file__).resolve().parent
-# The crates, their modules here, and the files of each that are left out: proofs for callers, and what only C sees.
+# The crates, their modules here, and the files of each that are left out: proofs for callers.
 SOURCES = {
     "cobs": ("crate::proved", ("laws.rt", "laws/")),
     "cobs_bytes": ("crate::proved::cobs_bytes", ()),
-    "cobs_abi": ("crate::proved::cobs_abi", ("text.rt",)),
-    "cobs_small": ("crate::proved::cobs_small", ()),
 }
 PATHS = {
     "std::simd::prelude": "crate::simd",
@@ -31,7 +29,7 @@ PATHS = {
     "memchr": "memchr",
 }
 # Names that Rust has no use for.
-DROPPED = ("std::alloc::Global", "std::marker::Model", "serde::", "thiserror::", "cobs::laws", "text::")
+DROPPED = ("std::alloc::Global", "std::marker::Model", "serde::", "thiserror::", "cobs::laws")
 DERIVES = ("Debug", "Clone", "Copy", "PartialEq", "Eq")
 NOT_DERIVED = ("Drop", "Error", "Serialize", "Deserialize")
 # What Rust programs expect of a type beside what its source derives.
@@ -80,12 +78,12 @@ CONST = {"max_encoding_overhead", "max_encoding_length", "UnbufferedDecoder::new
 # Calls for one byte or a short frame, which are to be compiled into the caller's loop.
 INLINE = set(
     "decode_with_sentinel UnbufferedDecoder::feed_piece DecoderState::feed EncoderState::push UnbufferedEncoder::progress"
-    " UnbufferedEncoder::from_progress cobs_abi::done cobs_abi::too_small has_room".split()
+    " UnbufferedEncoder::from_progress has_room".split()
 )
 # The feature that an item needs, if its code has this word.
 FEATURES = {"alloc": r"(?<!\w)(Vec\b|vec!)", "std": r"(?<!\w)std::|(?<![\w:])Read\b"}
-FUNCTION = r'(?:pub(?:\(crate\))? )?(?:const )?(?:extern "C" )?fn (\w+)'
-ITEM = rf"(?:pub(?:\(crate\))? )?(?:const|static|type|mod|struct|enum|trait|macro_rules!|fn|extern \"C\" fn) (\w+)"
+FUNCTION = r'(?:pub(?:\(crate\))? )?(?:const )?fn (\w+)'
+ITEM = rf"(?:pub(?:\(crate\))? )?(?:const|static|type|mod|struct|enum|trait|macro_rules!|fn) (\w+)"
 
 
 class Source:
@@ -288,7 +286,6 @@ def signature(source):
     indent, name = re.match(rf"(\s*){FUNCTION}", head[0]).groups()
     call = f"{source.owner}::{name}" if indent else name
     call = call if source.crate == "cobs" else f"{source.crate}::{call}"
-    head[0] = head[0].replace('extern "C" ', "")
     if call in CONST:
         head[0] = head[0].replace("fn ", "const fn ", 1)
     source.seen.add(call)
@@ -315,8 +312,8 @@ def code(source, line):
 
 
 def attribute(source, out, text):
-    """An attribute: those about proofs and for C go, and a derive waits for its type."""
-    if text.startswith(("#[tactic", "#![tactic", "#[unsafe(no_mangle)]")):
+    """An attribute: those about proofs go, and a derive waits for its type."""
+    if text.startswith(("#[tactic", "#![tactic")):
         source.skip()
     elif text.startswith("#[derive("):
         source.at, source.derive = source.at + 1, (text, len(out))

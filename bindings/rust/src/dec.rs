@@ -2,8 +2,7 @@
 
 mod decoder;
 
-use crate::simd::HAS_VECTORS;
-use crate::{proved, small};
+use crate::proved;
 
 pub use crate::proved::{
     DecodeError, DecodeReport, DecodeResult, DecoderPhase, DecoderState, FrameDecoder, FrameKind,
@@ -60,11 +59,7 @@ pub type DecodingResult = DecodeReport;
 ///   much of it as fits.
 #[inline]
 pub fn decode(source: &[u8], dest: &mut [u8]) -> Result<DecodeReport, DecodeError> {
-    if HAS_VECTORS {
-        proved::decode(source, dest)
-    } else {
-        small::decode(source, dest)
-    }
+    proved::decode(source, dest)
 }
 
 /// Decodes the frame at the front of `buff` in its own place, and returns the message's length. It ends at the first
@@ -101,11 +96,7 @@ pub fn decode_in_place(buff: &mut [u8]) -> Result<usize, DecodeError> {
 /// Those of [`decode_in_place`].
 #[inline]
 pub fn decode_in_place_report(buf: &mut [u8]) -> Result<DecodeReport, DecodeError> {
-    if HAS_VECTORS {
-        proved::decode_in_place_report(buf)
-    } else {
-        small::decode_in_place_report(buf)
-    }
+    proved::decode_in_place_report(buf)
 }
 
 /// Decodes the frame at the front of `source`, for the given sentinel, to the front of `dest`, and returns the
@@ -151,11 +142,7 @@ pub fn decode_with_sentinel(
 /// Those of [`decode_in_place`].
 #[inline]
 pub fn decode_in_place_with_sentinel(buff: &mut [u8], sentinel: u8) -> Result<usize, DecodeError> {
-    if HAS_VECTORS {
-        proved::decode_in_place_with_sentinel(buff, sentinel)
-    } else {
-        small::decode_in_place_with_sentinel(buff, sentinel)
-    }
+    proved::decode_in_place_with_sentinel(buff, sentinel)
 }
 
 /// The message of the first frame of `source`, found as [`decode`] finds it.
@@ -207,9 +194,5 @@ pub fn decode_vec_with_sentinel(
 #[inline]
 #[must_use]
 pub fn frame_kind(bytes: &[u8]) -> FrameKind {
-    if HAS_VECTORS {
-        proved::frame_kind(bytes)
-    } else {
-        small::frame_kind(bytes)
-    }
+    proved::frame_kind(bytes)
 }

@@ -2,8 +2,7 @@
 
 mod encoder;
 
-use crate::simd::HAS_VECTORS;
-use crate::{proved, small};
+use crate::proved;
 
 pub use crate::proved::{
     DestBufTooSmallError, EncoderProgress, EncoderState, PushResult, UnbufferedEncoder,
@@ -52,11 +51,7 @@ pub fn encode(source: &[u8], dest: &mut [u8]) -> usize {
 /// Where the frame doesn't fit, and only there. Then `dest` is as it was.
 #[inline]
 pub fn try_encode(source: &[u8], dest: &mut [u8]) -> Result<usize, DestBufTooSmallError> {
-    if HAS_VECTORS {
-        proved::try_encode(source, dest)
-    } else {
-        small::try_encode(source, dest)
-    }
+    proved::try_encode(source, dest)
 }
 
 /// Writes 0, the frame of `source`, and 0 to the front of `dest`, and returns the length of all three. The bytes after
@@ -96,11 +91,7 @@ pub fn try_encode_including_sentinels(
     source: &[u8],
     dest: &mut [u8],
 ) -> Result<usize, DestBufTooSmallError> {
-    if HAS_VECTORS {
-        proved::try_encode_including_sentinels(source, dest)
-    } else {
-        small::try_encode_including_sentinels(source, dest)
-    }
+    proved::try_encode_including_sentinels(source, dest)
 }
 
 /// Writes the frame of `source` for the given sentinel to the front of `dest`, and returns its length: the frame for 0,
@@ -161,11 +152,7 @@ pub fn try_encode_with_sentinel(
     dest: &mut [u8],
     sentinel: u8,
 ) -> Result<usize, DestBufTooSmallError> {
-    if HAS_VECTORS {
-        proved::try_encode_with_sentinel(source, dest, sentinel)
-    } else {
-        small::try_encode_with_sentinel(source, dest, sentinel)
-    }
+    proved::try_encode_with_sentinel(source, dest, sentinel)
 }
 
 /// Memory for the longest frame of the message, and this many bytes more.

@@ -76,10 +76,10 @@
 //!
 //! # What is proved
 //!
-//! The functions of `src/proved/` are those of the Rattle crates `cobs`, `cobs_bytes`, `cobs_abi` and `cobs_small`
-//! without their contracts. There each one is proved to return the right result, not to panic, and to end, for a `usize`
-//! of 64 bits. The files beside that folder give them the crate's signatures, choose among them for a short push, and are
-//! tested. Memory safety rests on the compiler and on `memchr`: only the vectors of `src/simd.rs` have `unsafe` code here.
+//! The functions of `src/proved/` are those of the Rattle crates `cobs` and `cobs_bytes` without their contracts. There each
+//! one is proved to return the right result, not to panic, and to end, for a `usize` of 64 bits. The files beside that folder
+//! give them the crate's signatures, choose among them for a push of one byte, and are tested. Memory safety rests on the
+//! compiler and on `memchr`: only the vectors of `src/simd.rs` have `unsafe` code here.
 //!
 //! # Features
 //!
@@ -137,8 +137,6 @@ pub mod proved;
 #[forbid(unsafe_code)]
 mod read;
 mod simd;
-#[forbid(unsafe_code)]
-mod small;
 #[cfg(feature = "std")]
 #[forbid(unsafe_code)]
 mod write;

@@ -9,29 +9,24 @@
 use core::ops::BitXor;
 
 #[cfg(all(
-    not(feature = "small"),
     target_feature = "neon",
     target_arch = "aarch64",
     target_endian = "little"
 ))]
 use neon as way;
-#[cfg(any(
-    feature = "small",
-    not(any(
-        all(
-            target_feature = "sse2",
-            any(target_arch = "x86", target_arch = "x86_64")
-        ),
-        all(
-            target_feature = "neon",
-            target_arch = "aarch64",
-            target_endian = "little"
-        )
-    ))
-))]
+#[cfg(not(any(
+    all(
+        target_feature = "sse2",
+        any(target_arch = "x86", target_arch = "x86_64")
+    ),
+    all(
+        target_feature = "neon",
+        target_arch = "aarch64",
+        target_endian = "little"
+    )
+)))]
 use portable as way;
 #[cfg(all(
-    not(feature = "small"),
     target_feature = "sse2",
     any(target_arch = "x86", target_arch = "x86_64")
 ))]
@@ -39,12 +34,8 @@ use sse2 as way;
 
 /// Whether the calls use vectors and slices: if the target has SSE2, NEON, or SIMD of WebAssembly, and the feature `small` doesn't
 /// ask for the other bodies, which take one byte at a time. translate.py writes this as the result of `has_vectors`.
-pub const HAS_VECTORS: bool = way::HAS_VECTORS
-    || cfg!(all(
-        not(feature = "small"),
-        target_feature = "simd128",
-        target_family = "wasm"
-    ));
+pub const HAS_VECTORS: bool = !cfg!(feature = "small")
+    && (way::HAS_VECTORS || cfg!(all(target_feature = "simd128", target_family = "wasm")));
 
 /// A vector of `N` bytes.
 #[derive(Clone, Copy)]
@@ -186,7 +177,6 @@ mod portable {
 }
 
 #[cfg(all(
-    not(feature = "small"),
     target_feature = "sse2",
     any(target_arch = "x86", target_arch = "x86_64")
 ))]
@@ -220,7 +210,6 @@ mod sse2 {
 }
 
 #[cfg(all(
-    not(feature = "small"),
     target_feature = "neon",
     target_arch = "aarch64",
     target_endian = "little"

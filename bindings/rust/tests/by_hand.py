@@ -2,8 +2,8 @@
 """Checks that the crate's calls code nothing by hand: the files over src/proved/ that are named below have no loop, and no
 arithmetic over positions in a slice. What they return is so a proved function's result.
 
-It prints the lines that have one, and the status is then 1. Not looked at: src/small.rs, which says for single bytes which zeros
-are counted; the types of messages over ports, which read and write in loops; the vectors and the memory.
+It prints the lines that have one, and the status is then 1. Not looked at: the types of messages over ports, which read and write
+in loops; the vectors and the memory.
 """
 
 import re

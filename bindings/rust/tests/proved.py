@@ -22,12 +22,11 @@ CRATES = Path(sys.argv[1] if len(sys.argv) > 1 else RUST / "../../crates").resol
 PROVED = Path(sys.argv[2] if len(sys.argv) > 2 else RUST / "src/proved").resolve()
 
 TOKEN = re.compile(r"""//[^\n]*|/\*.*?\*/|(b?"(?:\\.|[^"\\])*"|b?'(?:\\.|[^'\\])'|'\w+|\w+|::|=>|->|[^\s])""", re.S)
-# Files that aren't here: the laws, which a proof cites, and two files for C.
-LEFT_OUT = re.compile(r"cobs/src/laws|cobs_abi/src/(text|source)\.rt")
-# What a source has, in tokens, and what is here instead: no allocator is passed, nothing is exported to C, `ArrayVec` is a vector
-# of bytes, and the target decides whether vectors are used. Where they aren't, the other branch does the same.
+# Files that aren't here: the laws, which a proof cites.
+LEFT_OUT = re.compile(r"cobs/src/laws")
+# What a source has, in tokens, and what is here instead: no allocator is passed, `ArrayVec` is a vector of bytes, and the target
+# decides whether vectors are used. Where they aren't, the other branch does the same.
 PERMITTED = [
-    (r' extern "C" fn ', " fn "),
     (r" law_\d+ \( \) ;", ""),
     (r" alloc : Global ,?", ""),
     (r" ArrayVec < u8 , N >", " ArrayVec < N >"),
@@ -52,7 +51,6 @@ PATHS = [
     ("std::mem", "core::mem"),
     ("arrayvec::ArrayVec", "crate::array_vec::ArrayVec"),
     ("cobs_bytes", "crate::proved::cobs_bytes"),
-    ("cobs_abi", "crate::proved::cobs_abi"),
     ("cobs", "crate::proved"),
 ]
 # Names that only proofs and derives have use for; of others, those that the file doesn't use.
@@ -179,7 +177,7 @@ def differences(source, crate, made):
 def compared():
     """What differs between the sources and the folder, by tokens."""
     made, const = set(), []
-    for crate in ("cobs", "cobs_bytes", "cobs_abi", "cobs_small"):
+    for crate in ("cobs", "cobs_bytes"):
         for source in sorted((CRATES / crate / "src").rglob("*.rt")):
             place = source.relative_to(CRATES / crate / "src").with_suffix(".rs")
             place = place.with_name("mod.rs") if str(place) == "lib.rs" else place

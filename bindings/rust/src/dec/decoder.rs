@@ -42,7 +42,7 @@ impl Progress {
         dest: &mut [u8],
         data: &[u8],
     ) -> Result<Option<DecodeReport>, DecodeError> {
-        let ended = self.feed_piece(dest, data);
+        let ended = self.decoder.feed_piece(dest, data);
         self.parsed_size = ended.map_or(data.len(), |(_, taken)| taken);
         match ended {
             Some((PieceEnd::Message(frame_size), parsed_size)) => Ok(Some(DecodeReport {
@@ -57,16 +57,6 @@ impl Progress {
                 Err(DecodeError::TargetBufTooSmall)
             }
             None => Ok(None),
-        }
-    }
-
-    /// Takes bytes through the zero that ends a piece, or all.
-    #[inline]
-    fn feed_piece(&mut self, dest: &mut [u8], data: &[u8]) -> Option<(PieceEnd, usize)> {
-        if HAS_VECTORS {
-            self.decoder.feed_piece(dest, data)
-        } else {
-            self.decoder.feed_each(dest, data, 0)
         }
     }
 

@@ -3,7 +3,6 @@
 use crate::enc::DestBufTooSmallError;
 use crate::proved::UnbufferedEncoder;
 use crate::proved::enc::blocks::close;
-use crate::simd::HAS_VECTORS;
 
 /// Encodes a message that comes in pieces into a slice.
 ///
@@ -41,11 +40,7 @@ impl<'a> CobsEncoder<'a> {
     /// the frame of what was taken before can still be had, or fewer bytes be pushed.
     #[inline]
     pub fn push(&mut self, data: &[u8]) -> Result<(), DestBufTooSmallError> {
-        if HAS_VECTORS {
-            self.encoder.push(self.dest, data)
-        } else {
-            self.encoder.push_each(self.dest, data)
-        }
+        self.encoder.push(self.dest, data)
     }
 
     /// Ends the message: the slice begins with its frame, of the returned length, without a sentinel. It is the frame

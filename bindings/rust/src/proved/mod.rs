@@ -57,9 +57,7 @@
 //! - The size of a buffer: [`max_encoding_length`]. Whether bytes are a frame: [`frame_kind`].
 
 pub(crate) mod block;
-pub(crate) mod cobs_abi;
 pub(crate) mod cobs_bytes;
-pub(crate) mod cobs_small;
 pub(crate) mod dec;
 pub(crate) mod enc;
 pub(crate) mod error;
