@@ -3,7 +3,7 @@ use Rattle.std.specs.Prelude.{ℕ, zero, suc, ◌+◌, ◌*◌, ◌/◌, ◌^◌
 use Rattle.std.specs.Fmt.{digits, padded_integral, format_spec}
 use Rattle.hex.specs.Hex.{encode_lower}
 
--- the texts for 0, 1 and so on, below n
+-- the texts of 0 to n - 1, one after the other
 unfoldable pub upto : (ℕ → List ℕ) → ℕ → List ℕ
 upto f zero = []
 upto f (suc n) = upto f n ++ f n
