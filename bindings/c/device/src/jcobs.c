@@ -24,10 +24,14 @@ typedef char jcobs_bytes_have_8_bits[CHAR_BIT == 8 ? 1 : -1];
 typedef char jcobs_size_t_is_no_shorter_than_int[sizeof(size_t) >= sizeof(unsigned int) ? 1 : -1];
 
 /* Functions that a loop over bytes calls become part of it. Some that have such a loop stay functions of their own, so that
- * the loop has all registers of a small processor. */
+ * the loop has all registers of a small processor; x86-64 has more of them, and a call costs as much there as some bytes. */
 #ifdef __GNUC__
 #define JCOBS_INLINE __inline__ __attribute__((always_inline))
+#ifdef __x86_64__
+#define JCOBS_NOINLINE
+#else
 #define JCOBS_NOINLINE __attribute__((noinline))
+#endif
 #else
 #if defined(__cplusplus) || (defined(__STDC_VERSION__) && __STDC_VERSION__ >= 199901L)
 #define JCOBS_INLINE inline
