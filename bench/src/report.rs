@@ -146,7 +146,7 @@ fn spread(title: &str, limit: f64, ratio: impl Fn(&str, &str) -> Option<f64>) {
         let slower = match (below.len(), others.len()) {
             (0, _) => "-".into(),
             (_, 0) => "all".into(),
-            (slower, faster) if slower > 2 * faster => format!("all but {}", names(&others)),
+            (slower, faster) if slower > 2 * faster => format!("all except {}", names(&others)),
             _ => names(&below),
         };
         rows.sort_by(|a, b| a.0.total_cmp(&b.0));
