@@ -6,9 +6,10 @@
 
 use cobs::{
     CobsDecoder, DecodeError, DecodeResult, DecodeVecError, DecoderState, DecodingResult,
-    DestBufTooSmallError, FrameKind, PushError, decode, decode_in_place, decode_in_place_report,
-    decode_in_place_with_sentinel, decode_short, decode_short_in_place, decode_vec,
-    decode_vec_with_sentinel, decode_with_sentinel, frame_kind, kind_by_blocks, leading_zeros,
+    DestBufTooSmallError, FrameKind, PushError, decode, decode_blocks_each, decode_in_place,
+    decode_in_place_report, decode_in_place_with_sentinel, decode_short, decode_short_in_place,
+    decode_vec, decode_vec_with_sentinel, decode_with_sentinel, frame_kind, kind_by_blocks,
+    leading_zeros, len_to_zero,
 };
 use std::test::Fail;
 
