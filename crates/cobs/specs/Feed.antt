@@ -1,4 +1,4 @@
--- What a streaming decoder returns, and where it is, after the front of a piece.
+-- The result of a streaming decoder for a byte, and its phase after the front of a piece.
 use Rattle.std.specs.Prelude.{ℕ, ◌≡◌, ◌≢◌, ◌≤◌, ◌<◌, ◌+◌, ◌⊎◌, ◌==◌, nat_le, Bool, true, false, List, [], ◌∷◌, ◌++◌, length, take, drop, Option, Some, None, Result, Ok, Err, IfOk, IfSome, if◌then◌else◌}
 use Rattle.std.specs.Result.{result_map_both}
 use Rattle.cobs.specs.Grammar.{HasNoZero, is_full}
@@ -13,33 +13,33 @@ use Rattle.cobs.specs.declared.dec.state.DecodeResult.{DecodeResult}
 use Rattle.cobs.specs.declared.dec.state.DecodeResult.TheVariants.{NoData, DataStart, DataComplete, DataContinue}
 use Rattle.cobs.specs.declared.error.DecodeError.TheVariants.{InvalidFrame, TargetBufTooSmall}
 
--- how a streaming decoder reports an outcome: as the free decoders do, in an option
+-- how a streaming decoder reports an outcome: as the calls for whole frames do, in an option
 abbrev pub fed_result : Outcome → Result (Option ℕ) DecodeError
 fed_result outcome = result_map_both Some (λ error. error) (outcome_result outcome)
 
--- the result for the zero after the front p of a piece, over a buffer of n bytes: where p is empty no piece has ended
+-- the result for the zero after the front p of a piece, in a buffer of n bytes; if p is empty, no piece has ended
 unfoldable pub result_at_end : List ℕ → ℕ → Result (Option ℕ) DecodeError
 result_at_end [] n = Ok None
 result_at_end (byte ∷ bytes) n = fed_result (outcome_of (byte ∷ bytes) n)
 
--- the result for a byte after the front p of a piece, over a buffer of n bytes
+-- the result for a byte after the front p of a piece, in a buffer of n bytes
 unfoldable pub result_for : List ℕ → ℕ → ℕ → Result (Option ℕ) DecodeError
 result_for p byte n =
     if byte == 0 then result_at_end p n
     else (if nat_le (length (output (p ++ byte ∷ []))) n then Ok None else Err TargetBufTooSmall)
 
--- the front of the piece once a byte is fed: a zero ends the piece
+-- the front of the piece after a byte was fed; a zero ends the piece
 abbrev pub fed : List ℕ → ℕ → List ℕ
 fed p byte = if byte == 0 then [] else p ++ byte ∷ []
 
--- where a decoder is: no piece has begun; in a block, full or not, of which this many bytes are missing, with this many
--- bytes written; or the output was too long for the buffer
+-- the phase of a decoder: no piece has begun; or it is in a block, full or not, of which `left` bytes are missing, and
+-- `count` bytes are written; or the output was too long for the buffer
 pub data Phase : Type 0 where
   Idle : Phase
   Within : (full : Bool) (left count : ℕ) → Phase
   Overlong : Phase
 
--- a decoder's state in the table of `DecoderState`; none if the output was too long
+-- a decoder's state in the table of `DecoderState`, or `None` if the output was too long
 abbrev pub state_in : Phase → Option DecoderState
 state_in Idle = Some states.Idle
 state_in (Within false left count) = Some (states.Grab left)
@@ -52,7 +52,7 @@ written_in Idle = 0
 written_in (Within full left count) = count
 written_in Overlong = 0
 
--- what a result of that table is for a decoder that has written n bytes
+-- the result of a decoder that has written n bytes, for a result of that table
 abbrev pub counted : ℕ → Result DecodeResult DecodeError → Result (Option ℕ) DecodeError
 counted n (Ok NoData) = Ok None
 counted n (Ok DataStart) = Ok None
@@ -60,24 +60,25 @@ counted n (Ok (DataContinue byte)) = Ok None
 counted n (Ok DataComplete) = Ok (Some n)
 counted n (Err error) = Err (InvalidFrame n)
 
--- the phase after the front p of a piece, over a buffer of n bytes
+-- the phase after the front p of a piece, in a buffer of n bytes
 unfoldable pub phase_after : List ℕ → ℕ → Phase
 phase_after [] n = Idle
 phase_after (byte ∷ bytes) n =
     let p = byte ∷ bytes in
     if nat_le (length (output p)) n then Within (is_full (last_part p)) (missing (last_part p)) (length (output p)) else Overlong
 
--- a decoder over a buffer of n bytes has taken the front p of a piece, as its phase shows
+-- the phase shows that a decoder over a buffer of n bytes has taken the front p of a piece
 pub record PhaseAfter (n : ℕ) (phase : Phase) (p : List ℕ) : Type 0 where
   pub piece : HasNoZero p
   pub phase_is : phase ≡ phase_after p n
 
--- the same, and its buffer begins with the output of p, or is the first bytes of an output that is longer
+-- the same, and the buffer begins with the output of p; if the output is longer than the buffer, the buffer has its
+-- first bytes
 pub record DecoderAfter (buffer : List ℕ) (phase : Phase) (p : List ℕ) : Type 0 where
   pub phased : PhaseAfter (length buffer) phase p
   pub begins : take (length (output p)) buffer ≡ take (length buffer) (output p)
 
--- feeding a byte takes a decoder from the one buffer and phase to the other, with this result
+-- feeding a byte changes the decoder's buffer and phase to `buffer'` and `phase'`, and has this result
 pub record Feeds (buffer : List ℕ) (phase : Phase) (byte : ℕ) (result : Result (Option ℕ) DecodeError) (buffer' : List ℕ) (phase' : Phase) : Type 0 where
   pub returned : (p : List ℕ) → PhaseAfter (length buffer) phase p → result ≡ result_for p byte (length buffer)
   pub phased : (p : List ℕ) → PhaseAfter (length buffer) phase p → PhaseAfter (length buffer) phase' (fed p byte)
@@ -87,9 +88,9 @@ pub record Feeds (buffer : List ℕ) (phase : Phase) (byte : ℕ) (result : Resu
   -- in every phase
   pub zero_idle : byte ≡ 0 → phase' ≡ Idle
   pub zero_unchanged : byte ≡ 0 → buffer' ≡ buffer
-  -- its state moves as the table says, unless the output is now too long
+  -- the state changes as in the table, unless the output is now too long
   pub by_table : (state : DecoderState) → state_in phase ≡ Some state → phase' ≢ Overlong → state_in phase' ≡ Some (table_state state byte)
-  -- it returns what the table does, unless the byte of the message that the table gives has no room in the buffer
+  -- the result is that of the table, unless it has a byte of the message for which the buffer has no room
   pub result_by_table : (state : DecoderState) → state_in phase ≡ Some state
       → (result ≡ counted (written_in phase) (table_result state byte))
       ⊎ ((result ≡ Err TargetBufTooSmall) × (length buffer < written_in phase + length (data_of (table_result state byte))))

@@ -1,4 +1,4 @@
--- What a streaming decoder makes of the bytes through the end of a piece.
+-- The result of a streaming decoder for the bytes through the end of a piece.
 use Rattle.std.specs.Prelude.{ℕ, ◌≡◌, ◌≤◌, List, [], ◌∷◌, ◌++◌, length, take, drop, Option, Some, None, Result, Ok, Err, IfSome}
 use Rattle.std.specs.List.{Contains}
 use Rattle.cobs.specs.Stream.{Outcome, Message, Broken, TooLong, stream_outcomes, unended}
@@ -11,7 +11,7 @@ use Rattle.cobs.specs.declared.error.DecodeError.TheVariants.{EmptyFrame, Invali
 use Rattle.cobs.specs.declared.dec.frame_decoder.PieceEnd.{PieceEnd}
 use Rattle.cobs.specs.declared.dec.frame_decoder.PieceEnd.TheVariants as ends
 
--- equal, or both messages of one length
+-- the outcomes are equal, or both are messages of the same length
 abbrev pub AreAlike : Outcome → Outcome → Type 0
 AreAlike (Message m) (Message k) = length m ≡ length k
 AreAlike (Message m) (Broken count) = ⊥
@@ -19,40 +19,41 @@ AreAlike (Message m) TooLong = ⊥
 AreAlike (Broken count) other = Broken count ≡ other
 AreAlike TooLong other = TooLong ≡ other
 
--- as many outcomes, alike at the first place and equal after it
+-- there are as many outcomes, alike at the first place and equal after it
 abbrev pub AreAlikeAtFirst : List Outcome → List Outcome → Type 0
 AreAlikeAtFirst [] [] = Unit {0}
 AreAlikeAtFirst [] (y ∷ ys) = ⊥
 AreAlikeAtFirst (x ∷ xs) [] = ⊥
 AreAlikeAtFirst (x ∷ xs) (y ∷ ys) = AreAlike x y × (xs ≡ ys)
 
--- the bytes are fed one after another, from the one buffer and phase to the other, whatever each returns
+-- the bytes are fed one after another, and change buffer and phase to `buffer'` and `phase'`, whatever each byte
+-- returns
 abbrev pub FeedsEach : List ℕ → Phase → List ℕ → List ℕ → Phase → Type 0
 FeedsEach buffer phase [] buffer' phase' = (buffer' ≡ buffer) × (phase' ≡ phase)
 FeedsEach buffer phase (byte ∷ bytes) buffer' phase' =
     (returned : Result (Option ℕ) DecodeError) × (between : List ℕ) × (phase_between : Phase) × Feeds buffer phase byte returned between phase_between
     × FeedsEach between phase_between bytes buffer' phase'
 
--- a decoder that takes these bytes goes from the one buffer and phase to the other, and reports these outcomes of the
--- pieces that end in them
+-- a decoder that takes these bytes changes its buffer and phase to `buffer'` and `phase'`, and reports the outcomes
+-- `given` of the pieces that end in the bytes
 pub record TakesBytes (buffer : List ℕ) (phase : Phase) (bytes : List ℕ) (given : List Outcome) (buffer' : List ℕ) (phase' : Phase) : Type 0 where
   pub len : length buffer' ≡ length buffer
   -- in every phase
   pub feeds : FeedsEach buffer phase bytes buffer' phase'
   pub after : (p : List ℕ) → DecoderAfter buffer phase p → DecoderAfter buffer' phase' (unended (p ++ bytes))
   pub outcomes : (p : List ℕ) → DecoderAfter buffer phase p → given ≡ stream_outcomes (p ++ bytes) (length buffer)
-  -- where the buffer was written to inside p, the same but for the bytes of the first message
+  -- if the buffer was written to inside p, the same holds except for the bytes of the first message
   pub phased : (p : List ℕ) → PhaseAfter (length buffer) phase p → PhaseAfter (length buffer) phase' (unended (p ++ bytes))
   pub alike : (p : List ℕ) → PhaseAfter (length buffer) phase p → AreAlikeAtFirst given (stream_outcomes (p ++ bytes) (length buffer))
   pub after_zero : (p : List ℕ) → PhaseAfter (length buffer) phase p → Contains bytes 0 → DecoderAfter buffer' phase' (unended (p ++ bytes))
 
--- the outcome that a `PieceEnd` means, over the buffer after the piece
+-- the outcome that a `PieceEnd` means, if `buffer` is the buffer after the piece
 abbrev pub outcome_at : PieceEnd → List ℕ → Outcome
 outcome_at (ends.Message n) buffer = Message (take n buffer)
 outcome_at (ends.Broken count) buffer = Broken count
 outcome_at ends.TooLong buffer = TooLong
 
--- the end of a piece that the result for its zero means; none if no piece has ended
+-- the end of a piece that the result for its zero means, or `None` if no piece has ended
 abbrev pub end_reported : Result (Option ℕ) DecodeError → Option PieceEnd
 end_reported (Ok None) = None
 end_reported (Ok (Some n)) = Some (ends.Message n)
@@ -72,27 +73,28 @@ IsCountWithin len (ends.Message n) = n ≤ len
 IsCountWithin len (ends.Broken count) = count ≤ len
 IsCountWithin len ends.TooLong = Unit {0}
 
--- which of the bytes were taken: those through the zero that ended a piece, or all
+-- the bytes that were taken: those through the zero that ended a piece, or all
 abbrev pub bytes_taken : List ℕ → Option (PieceEnd × ℕ) → List ℕ
 bytes_taken bytes None = bytes
 bytes_taken bytes (Some (end, count)) = take count bytes
 
--- what was reported of them
+-- the outcomes that were reported for them
 abbrev pub outcomes_taken : Option (PieceEnd × ℕ) → List ℕ → List Outcome
 outcomes_taken None buffer = []
 outcomes_taken (Some (end, count)) buffer = outcome_at end buffer ∷ []
 
--- of the first bytes, this many, the last is the first zero that ends a piece, for a decoder over n bytes in this phase
+-- the last of the first `count` bytes is the first zero that ends a piece, for a decoder in this phase over n bytes
 pub record EndsPiece (n : ℕ) (phase : Phase) (bytes : List ℕ) (count : ℕ) : Type 0 where
   pub front : List ℕ
   pub taken : take count bytes ≡ front ++ 0 ∷ []
   pub none_before : (p : List ℕ) → PhaseAfter n phase p → stream_outcomes (p ++ front) n ≡ []
 
--- a decoder takes the bytes through the first zero that ends a piece, or all of them, and this is its result
+-- a decoder takes the bytes through the first zero that ends a piece, or all of them, and has this result
 pub record TakesPiece (buffer : List ℕ) (phase : Phase) (bytes : List ℕ) (result : Option (PieceEnd × ℕ)) (buffer' : List ℕ) (phase' : Phase) : Type 0 where
   pub takes : TakesBytes buffer phase (bytes_taken bytes result) (outcomes_taken result buffer') buffer' phase'
   pub ends : IfSome result (λ found. EndsPiece (length buffer) phase bytes found.1)
-  -- its buffer begins with the output of the piece that was read last, as far as it fits, and is otherwise as it was
+  -- the buffer begins with the output of the piece that was read last, as far as it fits; its other bytes are as they
+  -- were
   pub holds : (p : List ℕ) → DecoderAfter buffer phase p → buffer' ≡ overwritten buffer (output (last_piece (p ++ bytes_taken bytes result)))
   pub untouched : (p : List ℕ) → PhaseAfter (length buffer) phase p
       → let written = length (output (last_piece (p ++ bytes_taken bytes result))) in drop written buffer' ≡ drop written buffer

@@ -1,4 +1,4 @@
--- What contracts see of types whose fields are private.
+-- The words by which contracts describe types with private fields.
 pub mod Report
 pub mod Decoders
 pub mod Progress

@@ -1,4 +1,4 @@
--- Blocks, frames and the messages that they stand for, where the sentinel is 0.
+-- Blocks, frames and the messages that they stand for, for the sentinel 0.
 -- After Cheshire and Baker, "Consistent Overhead Byte Stuffing", 1999.
 use Rattle.std.specs.Prelude.{◌≡◌, ◌≢◌, ℕ, ◌+◌, ◌<◌, ◌==◌, Bool, List, [], ◌∷◌, ◌++◌, length, All, IsTrue, if◌then◌else◌}
 use Rattle.std.specs.List.{concat}
@@ -31,17 +31,18 @@ IsFull block = IsTrue (is_full block)
 abbrev pub lone_block : List ℕ
 lone_block = 1 ∷ []
 
--- what a block puts between its bytes and the next block's: a zero, unless it is full
+-- the bytes of the message that a block puts between its own bytes and those of the next block: a zero, unless it is
+-- full
 abbrev pub joint : List ℕ → List ℕ
 joint block = if is_full block then [] else 0 ∷ []
 
--- what blocks stand for: their bytes, and between two neighbours the joint of the first
+-- the message that blocks stand for: their bytes, with the joint of the first between two neighbours
 abbrev pub message_of : List (List ℕ) → List ℕ
 message_of [] = []
 message_of (block ∷ []) = bytes_of block
 message_of (block ∷ next ∷ blocks) = bytes_of block ++ joint block ++ message_of (next ∷ blocks)
 
--- the last of some lists, or the empty list where there is none
+-- the last of some lists, or the empty list if there is none
 abbrev pub last_of : List (List ℕ) → List ℕ
 last_of [] = []
 last_of (xs ∷ []) = xs
@@ -69,12 +70,12 @@ pub record IsCanonical (f : List ℕ) : Type 0 where
   pub frame : IsFrameOf f blocks
   pub shorter : (front : List (List ℕ)) (block : List ℕ) → IsFull block → blocks ≢ front ++ block ∷ lone_block ∷ []
 
--- f is the frame that encoders give for m
+-- f is the frame that encoders write for m
 pub record IsEncodedFrame (f m : List ℕ) : Type 0 where
   pub reads : Reads f m
   pub canonical : IsCanonical f
 
--- f reads as m, and its last block isn't full: it begins at this index, with this code
+-- f reads as m, and its last block, which begins at this index with this code, isn't full
 pub record IsOpenFrame (f m : List ℕ) (index code : ℕ) : Type 0 where
   pub front : List (List ℕ)
   pub bytes : List ℕ

@@ -1,4 +1,4 @@
--- Words that contracts of private functions alone cite.
+-- Words that only contracts of private functions use.
 pub mod Taking
 pub mod Reaches
 pub mod Marks

@@ -17,7 +17,7 @@ use Rattle.cobs.specs.declared.error.PushError.{PushError}
 use Rattle.cobs.specs.declared.dec.frame_decoder.PieceEnd.{PieceEnd}
 use Rattle.cobs.specs.declared.dec.frame_decoder.PieceEnd.TheVariants.{Message}
 
--- f is the encoded frame of m or, where m ends in a full run, that frame and the lone block after it
+-- f is the encoded frame of m or, if m ends in a full run, that frame and the lone block after it
 abbrev pub IsFrameFor : List ℕ → List ℕ → Type 0
 IsFrameFor f m = IsEncodedFrame f m ⊎ (EndsInFullRun m × ((g : List ℕ) × IsEncodedFrame g m × (f ≡ g ++ lone_block)))
 
@@ -29,11 +29,11 @@ EndsAtBlock p blocks = (first : List (List ℕ)) × (rest : List (List ℕ)) × 
 abbrev pub IsFront : List ℕ → List ℕ → Type 0
 IsFront front xs = (rest : List ℕ) × (xs ≡ front ++ rest)
 
--- the stream ends in a sentinel, or nothing of it has come: so no piece is open, and what follows begins one of its own
+-- the stream is empty or ends in a sentinel, so no piece is open, and the next byte begins a new piece
 abbrev pub IsAtSentinel : List ℕ → Type 0
 IsAtSentinel t = (t ≡ []) ⊎ ((front : List ℕ) × (t ≡ front ++ 0 ∷ []))
 
--- `law_9`: a stream may be cut anywhere. A lemma may take it whole
+-- `law_9`: a stream may be cut anywhere; a lemma may take this record as one argument
 pub record StreamLaw : Type 0 where
   pub cut : (x y : List ℕ) (n : ℕ) → stream_outcomes (x ++ y) n ≡ stream_outcomes x n ++ stream_outcomes (unended x ++ y) n
   pub left : (x y : List ℕ) → unended (x ++ y) ≡ unended (unended x ++ y)
@@ -62,7 +62,7 @@ pub record DecoderLaw : Type 0 where
   pub byte : (bytes buffer between buffer' : List ℕ) (phase phase_between phase' : Phase) (result : Result (Option ℕ) DecodeError) (i : ℕ) → i < length bytes → TakesPiece buffer phase (take i bytes) None between phase_between → Feeds between phase_between (slice_index bytes i) result buffer' phase' → (slice_index bytes i ≡ 0 → end_reported result ≡ None) → TakesPiece buffer phase (take (i + 1) bytes) None buffer' phase'
   pub end : (bytes buffer between buffer' : List ℕ) (phase phase_between phase' : Phase) (result : Result (Option ℕ) DecodeError) (end : PieceEnd) (i : ℕ) → i < length bytes → TakesPiece buffer phase (take i bytes) None between phase_between → Feeds between phase_between (slice_index bytes i) result buffer' phase' → slice_index bytes i ≡ 0 → end_reported result ≡ Some end → TakesPiece buffer phase bytes (Some (end, i + 1)) buffer' phase'
 
--- `law_18`: what the streaming decoders make of a frame
+-- `law_18`: the results of the streaming decoders for a frame
 pub record FrameLaw : Type 0 where
   pub fed : (buffer buffer' f m : List ℕ) (phase phase' : Phase) (result : Result (Option ℕ) DecodeError) → Feeds buffer phase 0 result buffer' phase' → DecoderAfter buffer phase f → Reads f m → length m ≤ length buffer → (result ≡ Ok (Some (length m))) × (take (length m) buffer' ≡ m)
   pub fed_only : (buffer buffer' f : List ℕ) (phase phase' : Phase) (n : ℕ) → Feeds buffer phase 0 (Ok (Some n)) buffer' phase' → DecoderAfter buffer phase f → All (λ byte. byte < 256) f → Reads f (take n buffer')

@@ -1,13 +1,14 @@
--- How long frames are.
+-- The lengths of frames.
 use Rattle.std.specs.Prelude.{◌≡◌, ◌<◌, ◌%◌, ℕ, ◌+◌, ◌-◌, ◌/◌, List, [], ◌∷◌, ◌++◌, length, map, max, replicate}
 use Rattle.cobs.specs.Stream.{stretches}
 
--- the lengths of a message's runs: the stretches of nonzero bytes between its zeros and its ends, empty ones too
+-- the lengths of a message's runs: of the nonzero bytes between two zeros, before the first and after the last, empty
+-- runs included
 abbrev pub runs : List ℕ → List ℕ
 runs m = map length (stretches m)
 
--- how many blocks more than zeros a message's encoded frame has, but for the last: a run fills a block with each 254
--- bytes, and the last run closes its last block without one more after it
+-- the number of blocks of a message's encoded frame beyond one for each run: L / 254 for a run of L bytes, and for the
+-- last run, which needs no block after a last full one, (L - 1) / 254
 abbrev pub full_blocks : List ℕ → ℕ
 full_blocks [] = 0
 full_blocks (run ∷ []) = (run - 1) / 254
@@ -17,8 +18,8 @@ full_blocks (run ∷ next ∷ more) = run / 254 + full_blocks (next ∷ more)
 abbrev pub encoded_len : List ℕ → ℕ
 encoded_len m = length m + 1 + full_blocks (runs m)
 
--- the same counted from an open block, once the block with this code has taken these bytes. Of the `code - 1` bytes that
--- it had only the number counts, since none is zero: ones give the same length (`law_15: same`).
+-- the same, counted from an open block with this code, if the block takes these bytes. Only the number of the bytes
+-- that it has matters, since none of them is a zero: ones give the same length (`law_15: same`).
 abbrev pub open_len : ℕ → List ℕ → ℕ
 open_len code bytes = encoded_len (replicate (code - 1) 1 ++ bytes)
 

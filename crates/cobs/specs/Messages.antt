@@ -1,4 +1,4 @@
--- Several messages: their outcomes and their frames, as vectors hold them, and the room for the frames.
+-- Several messages: their outcomes and frames in vectors, and the room for the frames.
 use Rattle.std.specs.Prelude.{ℕ, ◌≡◌, ◌+◌, List, [], ◌∷◌, ◌++◌, length, map, sum_by}
 use Rattle.std.specs.List.{AllZip, flat_map}
 use Rattle.std.specs.Global.{Vec}
@@ -8,17 +8,17 @@ use Rattle.cobs.specs.Stream.{Outcome, Message, Broken, TooLong}
 use Rattle.cobs.specs.declared.stream.FrameOutcome.{FrameOutcome}
 use Rattle.cobs.specs.declared.stream.FrameOutcome.TheVariants as frames
 
--- the outcome that a `FrameOutcome` holds: a message by the bytes of its vector
+-- the outcome of a `FrameOutcome`: a message is the bytes of its vector
 abbrev pub outcome_in : FrameOutcome → Outcome
 outcome_in (frames.Message message) = Message message.items
 outcome_in (frames.Broken count) = Broken count
 outcome_in frames.TooLong = TooLong
 
--- the outcomes that some of them hold, in order
+-- the outcomes of several of them, in order
 abbrev pub outcomes_in : List FrameOutcome → List Outcome
 outcomes_in found = map outcome_in found
 
--- the messages that some vectors hold
+-- the messages in some vectors
 abbrev pub messages_in : List (Vec ℕ) → List (List ℕ)
 messages_in vectors = map (λ vector. vector.items) vectors
 
@@ -28,6 +28,7 @@ pub record AreFrames (messages : List (List ℕ)) (bytes : List ℕ) : Type 0 wh
   pub each : AllZip IsEncodedFrame frames messages
   pub joined : bytes ≡ flat_map (λ frame. frame ++ 0 ∷ []) frames
 
--- how many bytes have room for the frames of the messages and their zeros, which depends only on the messages' lengths
+-- the number of bytes that have room for the frames of the messages and their zeros; it depends only on the messages'
+-- lengths
 abbrev pub room_for_frames : List (List ℕ) → ℕ
 room_for_frames messages = sum_by (λ message. max_encoded_len (length message) + 1) messages

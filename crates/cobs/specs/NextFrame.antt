@@ -1,4 +1,4 @@
--- What a source of bytes gives, and what a call of `next_frame` makes of it.
+-- The reads of a source of bytes, and the result of a call of `next_frame` for them.
 use Rattle.std.specs.Prelude.{ℕ, ◌≡◌, ◌≢◌, ◌<◌, ◌≤◌, ◌↔◌, List, [], ◌∷◌, ◌++◌, length, take, All, Option, Some, None, Result, Ok, Err}
 use Rattle.std.specs.List.{flat_map}
 use Rattle.std.specs.Io.KnownBytes.{Consumes}
@@ -12,7 +12,7 @@ use Rattle.cobs.specs.declared.framed.ReadFault.TheVariants as faults
 
 -- READS
 
--- a read: the bytes that it gave, or nothing where it failed
+-- a read: the bytes that it returned, or nothing if it failed
 abbrev pub Read : Type 0
 Read = Option (List ℕ)
 
@@ -20,11 +20,11 @@ abbrev pub bytes_given : Read → List ℕ
 bytes_given None = []
 bytes_given (Some bytes) = bytes
 
--- the read didn't fail, and it wasn't empty
+-- the read didn't fail, and it returned bytes
 abbrev pub GaveBytes : Read → Type 0
 GaveBytes read = bytes_given read ≢ []
 
--- the bytes that the reads gave, in order
+-- the bytes that the reads returned, in order
 abbrev pub all_given : List Read → List ℕ
 all_given reads = flat_map bytes_given reads
 
@@ -32,42 +32,43 @@ all_given reads = flat_map bytes_given reads
 abbrev pub EndsIn : List Read → Read → Type 0
 EndsIn reads last = (earlier : List Read) × (reads ≡ earlier ++ last ∷ [])
 
--- the reads take a source from the one state to the other, each by a step
+-- the reads change a source from the one state to the other, each by a step
 abbrev pub Runs : {S : Type 0} → (S → Read → S → Type 0) → S → List Read → S → Type 0
 Runs step from [] to = from ≡ to
 Runs {S} step from (read ∷ reads) to = (next : S) × step from read next × Runs step next reads to
 
--- a read from a reader that has these bytes left, before and after, if they are known: a failure, or at most 64
--- bytes, exactly those that the reader gave
+-- a read from a reader that has these bytes left before it and after it, if they are known: it fails, or returns at
+-- most 64 bytes, exactly those that the reader returned
 abbrev pub IsReadOf : Option (List ℕ) → Read → Option (List ℕ) → Type 0
 IsReadOf before None after = Unit {0}
 IsReadOf before (Some bytes) after = (length bytes ≤ 64) × Consumes before after bytes
 
--- WHEN A READ IS CALLED FOR
+-- WHEN ANOTHER READ IS MADE
 
--- after these reads another is called for: there are fewer than 65,536 of them, each gave bytes, and no piece has
--- ended in the stream that the front and their bytes make
+-- after these reads another one is made: there are fewer than 65,536 of them, each returned bytes, and no piece has
+-- ended in the stream of the front and their bytes
 pub record CallsForMore (front : List ℕ) (n : ℕ) (reads : List Read) : Type 0 where
   pub few : length reads < 65536
   pub gave : All GaveBytes reads
   pub none_ended : stream_outcomes (front ++ all_given reads) n ≡ []
 
--- each of the reads was called for by those in front of it
+-- each of the reads is made after those before it
 abbrev pub EachCalledFor : List ℕ → ℕ → List Read → Type 0
 EachCalledFor front n reads =
     (earlier later : List Read) (read : Read) → reads ≡ earlier ++ read ∷ later → CallsForMore front n earlier
 
--- WHAT A RESULT MEANS
+-- THE MEANING OF A RESULT
 
--- the first piece that ends in the stream t comes to this outcome, in a buffer of n bytes, and these bytes are
--- after the zero that ends it
+-- the first piece that ends in the stream t has this outcome in a buffer of n bytes, and these bytes follow the zero
+-- that ends it
 pub record EndsFirst (t : List ℕ) (n : ℕ) (outcome : Outcome) (rest : List ℕ) : Type 0 where
   pub front : List ℕ
   pub cut : t ≡ front ++ 0 ∷ rest
   pub none_before : stream_outcomes front n ≡ []
   pub outcomes : stream_outcomes t n ≡ outcome ∷ stream_outcomes rest n
 
--- what contracts see of a `FrameReader`: its decoder's buffer and phase, and the bytes that it has read but not fed
+-- the words by which contracts describe a `FrameReader`: its decoder's buffer and phase, and the bytes that it has read
+-- but not fed
 pub record ReaderState : Type 0 where
   pub buffer : List ℕ
   pub phase : Phase
@@ -77,27 +78,26 @@ pub record ReaderState : Type 0 where
 abbrev pub ReaderAfter : ReaderState → List ℕ → Type 0
 ReaderAfter reader p = DecoderAfter reader.buffer reader.phase p
 
--- the buffer has what this piece, that comes to the outcome, decodes to: a broken piece's is at its front, and of one
--- that is too long it is the first bytes
+-- the buffer has the output of this piece, which has this outcome: the output of a broken piece is at the front, and if
+-- the piece is too long, the buffer has the first bytes of the output
 abbrev pub HasDecoded : Outcome → List ℕ → List ℕ → Type 0
 HasDecoded (Message message) buffer piece = Unit {0}
 HasDecoded (Broken count) buffer piece = (count ≤ length buffer) × (take count buffer ≡ output piece)
 HasDecoded TooLong buffer piece = buffer ≡ take (length buffer) (output piece)
 
--- a piece has ended in the stream t, and the reader is at its end: the decoder is idle, and what follows is kept
+-- a piece has ended in the stream t, and the reader is at its end: the decoder is idle, and the bytes after it are kept
 pub record AtPieceEnd (t : List ℕ) (outcome : Outcome) (reader : ReaderState) : Type 0 where
   pub first : EndsFirst t (length reader.buffer) outcome reader.kept
   pub decoded : HasDecoded outcome reader.buffer (unended first.front)
   pub idle : ReaderAfter reader []
 
--- no piece has ended in the stream t, and the reader is at the end of t: the decoder has taken it, and nothing is
--- kept
+-- no piece has ended in the stream t, and the reader is at the end of t: the decoder has taken t, and no byte is kept
 pub record AtStreamEnd (t : List ℕ) (reader : ReaderState) : Type 0 where
   pub none_ended : stream_outcomes t (length reader.buffer) ≡ []
   pub after : ReaderAfter reader (unended t)
   pub nothing_kept : reader.kept ≡ []
 
--- what a result says of the reads and of the stream t that they brought, and how it leaves the reader
+-- the meaning of a result for the reads and the stream t of their bytes, and the state of the reader after it
 abbrev pub Reports : Result Next ReadFault → List Read → List ℕ → ReaderState → Type 0
 Reports (Ok (nexts.Message n)) reads t reader =
     AtPieceEnd t (Message (take n reader.buffer)) reader × (n ≤ length reader.buffer)
@@ -116,14 +116,14 @@ IsNextWithin len (nexts.Broken count) = count ≤ len
 IsNextWithin len nexts.TooLong = Unit {0}
 IsNextWithin len (nexts.End unfinished) = Unit {0}
 
--- a call that takes the source and the reader from the one state to the other, with this result
+-- a call that changes the source and the reader from the one state to the other, with this result
 pub record ReadsNext {S : Type 0} (step : S → Read → S → Type 0) (source source' : S)
     (reader : ReaderState) (result : Result Next ReadFault) (reader' : ReaderState) : Type 0 where
   -- the reads of this call
   pub reads : List Read
   pub runs : Runs step source reads source'
   pub failed : (result ≡ Err faults.Io) ↔ EndsIn reads None
-  -- after each front p of a piece, the stream is p, what was kept, and what the reads gave; so nothing is read where
-  -- p and the kept bytes end a piece
+  -- if the decoder had taken the front p of a piece, the stream is p, the kept bytes, and the bytes that the reads
+  -- returned; so nothing is read if p and the kept bytes end a piece
   pub called_for : (p : List ℕ) → ReaderAfter reader p → EachCalledFor (p ++ reader.kept) (length reader.buffer) reads
   pub result_says : (p : List ℕ) → ReaderAfter reader p → Reports result reads (p ++ reader.kept ++ all_given reads) reader'

@@ -1,11 +1,11 @@
--- What a streaming encoder has taken of a message, and what a caller does with its results.
+-- The message that a streaming encoder has taken so far, and the changes that a caller carries out.
 use Rattle.std.specs.Prelude.{◌≡◌, ℕ, ◌+◌, ◌<◌, ◌≤◌, ◌==◌, Bool, List, [], ◌∷◌, ◌++◌, length, take, slice_set, if◌then◌else◌}
 use Rattle.cobs.specs.declared.enc.state.PushResult.{PushResult}
 use Rattle.cobs.specs.declared.enc.state.PushResult.TheVariants.{AddSingle, ModifyFromStartAndSkip, ModifyFromStartAndPushAndSkip}
 use Rattle.cobs.specs.Grammar.{IsEncodedFrame, IsOpenFrame, is_full, last_of}
 use Rattle.cobs.specs.Length.{open_len}
 
--- where the open block of a frame begins, and its code so far
+-- the index at which the open block of a frame begins, and the code that it has so far
 pub record OpenBlock : Type 0 where
   pub index : ℕ
   pub code : ℕ
@@ -14,16 +14,17 @@ pub record OpenBlock : Type 0 where
 abbrev pub EncoderAfter : OpenBlock → List ℕ → Type 0
 EncoderAfter state m = (f : List ℕ) × IsOpenFrame f m state.index state.code
 
--- g is f, but for the byte at i
+-- g is f, except for the byte at i
 abbrev pub AgreeOutside : ℕ → List ℕ → List ℕ → Type 0
 AgreeOutside i f g = (x : ℕ) × (g ≡ slice_set f i x)
 
--- what a caller has who carried out each result over m: the open frame of m that ends in this block, but for the byte
--- at the block's index
+-- the bytes of a caller that carried out each result for m: the open frame of m that ends in this block, except for the
+-- byte at the block's index
 abbrev pub IsOpenOutput : List ℕ → OpenBlock → List ℕ → Type 0
 IsOpenOutput g state m = (f : List ℕ) × IsOpenFrame f m state.index state.code × AgreeOutside state.index f g
 
--- the result for a byte: a zero closes the open block, the 254th nonzero byte fills it, any other one joins it
+-- the result for a byte: a zero closes the open block, the 254th nonzero byte fills it, and any other byte is appended
+-- to it
 abbrev pub push_result : OpenBlock → ℕ → PushResult
 push_result state byte =
     if byte == 0 then ModifyFromStartAndSkip (state.index, state.code)
@@ -35,50 +36,51 @@ next_open state byte =
     if byte == 0 then record { index = state.index + state.code; code = 1 }
     else (if state.code == 254 then record { index = state.index + 255; code = 1 } else record { index = state.index; code = state.code + 1 })
 
--- the list g with a result carried out, with x as the placeholder
+-- the list g after a result was carried out, with x as the placeholder
 abbrev pub applied : List ℕ → PushResult → ℕ → List ℕ
 applied g (AddSingle b) x = g ++ b ∷ []
 applied g (ModifyFromStartAndSkip (i, c)) x = slice_set g i c ++ x ∷ []
 applied g (ModifyFromStartAndPushAndSkip (i, c, b)) x = slice_set g i c ++ b ∷ x ∷ []
 
--- how far a frame in a slice has come: its open block, and whether the encoded frame's last block is full, so that the
--- open one is a placeholder after it
+-- how much of a frame is in a slice: its open block, and whether the last block of the encoded frame is full, so that
+-- the open one is a placeholder after it
 pub record Reached : Type 0 where
   pub block : OpenBlock
   pub full : Bool
 
--- so far: an open block that begins at this index, with this code, after a full one or not
+-- the frame so far, with an open block at this index, with this code, after a full block or not
 abbrev pub place_at : ℕ → ℕ → Bool → Reached
 place_at index code full = record { block = record { index = index; code = code }; full = full }
 
--- where the next byte goes
+-- the index of the next byte
 abbrev pub next_of : Reached → ℕ
 next_of reached = reached.block.index + reached.block.code
 
--- where the encoded frame ends
+-- the index at which the encoded frame ends
 abbrev pub end_of : Reached → ℕ
 end_of reached = if reached.full then reached.block.index else next_of reached
 
--- where the encoded frame ends once these bytes are taken too: no byte before the open block changes, and from there on
--- it is as long as a frame of what the block has and these bytes
+-- the index at which the encoded frame ends if these bytes are taken too. No byte before the open block changes; from
+-- there on it is as long as a frame of the block's bytes and these bytes.
 abbrev pub end_after : Reached → List ℕ → ℕ
 end_after reached [] = end_of reached
 end_after reached (byte ∷ bytes) = reached.block.index + open_len reached.block.code (byte ∷ bytes)
 
--- a frame can have come so far in a buffer of n bytes: its open block has a code and isn't full, and it ends in there
+-- a frame can have this progress in a buffer of n bytes: its open block has a code and isn't full, and ends within the
+-- buffer
 pub record IsPlaceIn (n : ℕ) (reached : Reached) : Type 0 where
   pub some : 0 < reached.block.code
   pub not_full : reached.block.code < 255
   pub fits : end_of reached ≤ n
 
--- an encoder that has come so far takes these bytes in a buffer of n bytes: a frame can have come so far there, and
+-- an encoder with this progress takes these bytes in a buffer of n bytes: a frame can have this progress there, and
 -- with these bytes too it fits
 pub record HasRoomFor (n : ℕ) (reached : Reached) (bytes : List ℕ) : Type 0 where
   pub place : IsPlaceIn n reached
   pub fits : end_after reached bytes ≤ n
 
--- A `CobsEncoder` over this slice, which has come so far, has taken m: the slice begins with the encoded frame of m,
--- but for the byte at the open block's index, and it is noted whether that frame's last block is full.
+-- A `CobsEncoder` with this progress over this slice has taken m: the slice begins with the encoded frame of m, except
+-- for the byte at the open block's index, and it is noted whether that frame's last block is full.
 pub record CobsEncoderAfter (slice : List ℕ) (reached : Reached) (m : List ℕ) : Type 0 where
   pub frame : List ℕ
   pub encoded : IsEncodedFrame frame m

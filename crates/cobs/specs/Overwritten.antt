@@ -1,4 +1,4 @@
--- What a buffer holds after a call.
+-- The bytes of a buffer after a call.
 use Rattle.std.specs.Prelude.{ℕ, List, ◌+◌, ◌++◌, length, take, drop}
 use Rattle.cobs.specs.Length.{max_overhead}
 
@@ -6,10 +6,10 @@ use Rattle.cobs.specs.Length.{max_overhead}
 abbrev pub overwritten : List ℕ → List ℕ → List ℕ
 overwritten buffer bytes = take (length buffer) bytes ++ drop (length bytes) buffer
 
--- the buffer with these bytes over its own from an index on
+-- the buffer in which these bytes replace its own from an index on
 abbrev pub written_at : List ℕ → ℕ → List ℕ → List ℕ
 written_at buffer at bytes = take at buffer ++ bytes ++ drop (at + length bytes) buffer
 
--- the message of n bytes that lies in a buffer behind the room for the longest frame's other bytes
+-- the message of n bytes that is in a buffer after the room for the other bytes of its longest frame
 abbrev pub message_in : ℕ → List ℕ → List ℕ
 message_in n buffer = take n (drop (max_overhead n) buffer)

@@ -1,10 +1,10 @@
--- A piece is a nonempty stretch of a stream without a zero. It is read in parts: blocks, of which the last may be cut
+-- A piece is one or more nonzero bytes of a stream. It is read in parts, which are blocks; the last one may be cut
 -- short.
 use Rattle.std.specs.Prelude.{ℕ, zero, suc, ◌-◌, ◌==◌, Bool, false, List, [], ◌∷◌, length, take, if◌then◌else◌, IsTrue}
 use Rattle.cobs.specs.Grammar.{code_of, bytes_of, message_of, last_of}
 
--- the parts of what is after the first n bytes. A part is as many bytes as its code says, or what is left; the next one
--- begins behind it, so the bytes after its code are those to skip then.
+-- the parts of the bytes after the first n bytes. A part has as many bytes as its code says, or all remaining bytes if
+-- these are fewer. The next part begins after it, so the bytes after its code are those to skip next.
 unfoldable pub parts_after : ℕ → List ℕ → List (List ℕ)
 parts_after n [] = []
 parts_after (suc n) (byte ∷ bytes) = parts_after n bytes
@@ -30,10 +30,10 @@ is_whole (byte ∷ bytes) = missing (last_part (byte ∷ bytes)) == 0
 abbrev pub IsWhole : List ℕ → Type 0
 IsWhole p = IsTrue (is_whole p)
 
--- what a piece decodes to: what its parts stand for, as if they were blocks
+-- the output of a piece: the message that its parts stand for, as if they were blocks
 unfoldable pub output : List ℕ → List ℕ
 output p = message_of (parts p)
 
--- the output without the bytes of a last part that is cut short; the zero in front of that part stays
+-- the output without the bytes of a last part that is cut short; the zero before that part stays
 unfoldable pub kept_output : List ℕ → List ℕ
 kept_output p = if is_whole p then output p else take (length (output p) - length (bytes_of (last_part p))) (output p)

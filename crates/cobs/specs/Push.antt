@@ -1,4 +1,4 @@
--- What a push of bytes to a streaming decoder returns, and how it leaves the decoder.
+-- The result of pushing bytes to a streaming decoder, and the decoder's buffer and phase after it.
 use Rattle.std.specs.Prelude.{ℕ, ◌≡◌, ◌+◌, ◌-◌, ◌<◌, ◌≤◌, ◌==◌, List, [], ◌∷◌, ◌++◌, length, take, drop, filter, slice_index, Option, Some, None, Result, Ok, Err, IfOk, IfSome, if◌then◌else◌}
 use Rattle.cobs.specs.Grammar.{last_of}
 use Rattle.cobs.specs.Piece.{output}
@@ -11,19 +11,19 @@ use Rattle.cobs.specs.declared.error.PushError.{PushError}
 use Rattle.cobs.specs.declared.error.DecodeError.{DecodeError}
 use Rattle.cobs.specs.declared.error.DecodeError.TheVariants.{EmptyFrame, InvalidFrame, TargetBufTooSmall}
 
--- the last piece of a stream, whether a zero ends it or the stream does; the empty list where there is none
+-- the last piece of a stream, ended by a zero or by the end of the stream, or the empty list if there is none
 unfoldable pub last_piece : List ℕ → List ℕ
 last_piece t = last_of (filter is_nonempty (stretches t))
 
--- the result for the byte at this place, where a decoder over n bytes after the front p is fed the bytes one by one
+-- the result for the byte at this place, if the bytes are fed one by one to a decoder over n bytes after the front p
 abbrev pub result_at : List ℕ → List ℕ → ℕ → ℕ → Result (Option ℕ) DecodeError
 result_at p bytes n place = result_for (unended (p ++ take place bytes)) (slice_index bytes place) n
 
--- the first bytes, this many, each return `Ok(None)`
+-- each of the first `count` bytes returns `Ok(None)`
 abbrev pub IsQuiet : List ℕ → List ℕ → ℕ → ℕ → Type 0
 IsQuiet p bytes n count = (place : ℕ) → place < count → result_at p bytes n place ≡ Ok None
 
--- of the first bytes, this many, each but the last returns `Ok(None)`, and the last one returns this
+-- each of the first `count` bytes except the last returns `Ok(None)`, and the last one returns `returned`
 pub record StopsAfter (p bytes : List ℕ) (n count : ℕ) (returned : Result (Option ℕ) DecodeError) : Type 0 where
   pub place : ℕ
   pub within : place < length bytes
@@ -31,30 +31,30 @@ pub record StopsAfter (p bytes : List ℕ) (n count : ℕ) (returned : Result (O
   pub quiet : IsQuiet p bytes n place
   pub result_there : result_at p bytes n place ≡ returned
 
--- a push after the front p returns the result of the first byte that doesn't return `Ok(None)`, with the
--- count of bytes through that one
+-- a push after the front p returns the result of the first byte that doesn't return `Ok(None)`, with the number of
+-- bytes through that one
 abbrev pub PushReturns : List ℕ → List ℕ → ℕ → Result (Option DecodeReport) PushError → Type 0
 PushReturns p bytes n (Ok None) = IsQuiet p bytes n (length bytes)
 PushReturns p bytes n (Ok (Some report)) = StopsAfter p bytes n (parsed_size_of report) (Ok (Some (frame_size_of report)))
 PushReturns p bytes n (Err failure) = StopsAfter p bytes n failure.parsed_size (Err failure.error)
 
--- how many bytes a push consumed: this many as it says, or all
+-- how many bytes a push consumed: the number in its result, or all
 abbrev pub consumed_size : List ℕ → Result (Option DecodeReport) PushError → ℕ
 consumed_size bytes (Ok None) = length bytes
 consumed_size bytes (Ok (Some report)) = parsed_size_of report
 consumed_size bytes (Err failure) = failure.parsed_size
 
--- these bytes
+-- the bytes that a push consumed
 abbrev pub consumed : List ℕ → Result (Option DecodeReport) PushError → List ℕ
 consumed bytes result = take (consumed_size bytes result) bytes
 
--- what the error that a zero returns says of the piece that it ends
+-- the outcome of the piece that a zero ends, if the zero returns this error
 abbrev pub error_outcomes : DecodeError → List Outcome
 error_outcomes EmptyFrame = []
 error_outcomes (InvalidFrame count) = Broken count ∷ []
 error_outcomes TargetBufTooSmall = TooLong ∷ []
 
--- the outcomes that a push reports: the message at the buffer's front; for an error the outcome of its piece, where
+-- the outcomes that a push reports: the message at the front of the buffer; for an error the outcome of its piece, if
 -- the last byte consumed is a zero
 abbrev pub pushed_outcomes : List ℕ → Result (Option DecodeReport) PushError → List ℕ → List Outcome
 pushed_outcomes bytes (Ok None) buffer = []
@@ -62,8 +62,8 @@ pushed_outcomes bytes (Ok (Some report)) buffer = Message (take (frame_size_of r
 pushed_outcomes bytes (Err failure) buffer =
     if slice_index bytes (failure.parsed_size - 1) == 0 then error_outcomes failure.error else []
 
--- the bytes are fed one after another, from the one buffer and phase to the other: each but the last returns
--- `Ok(None)`, and the last one so
+-- the bytes are fed one after another, and change buffer and phase to `buffer'` and `phase'`. Each except the last
+-- returns `Ok(None)`, and the last one returns `returned`.
 abbrev pub FeedsInTurn : List ℕ → Phase → List ℕ → Result (Option ℕ) DecodeError → List ℕ → Phase → Type 0
 FeedsInTurn buffer phase [] returned buffer' phase' = (returned ≡ Ok None) × (buffer' ≡ buffer) × (phase' ≡ phase)
 FeedsInTurn buffer phase (byte ∷ []) returned buffer' phase' = Feeds buffer phase byte returned buffer' phase'
@@ -71,29 +71,29 @@ FeedsInTurn buffer phase (byte ∷ next ∷ bytes) returned buffer' phase' =
     (between : List ℕ) × (phase_between : Phase) × Feeds buffer phase byte (Ok None) between phase_between
     × FeedsInTurn between phase_between (next ∷ bytes) returned buffer' phase'
 
--- what `feed` returns for the last byte that a push consumed
+-- the result of `feed` for the last byte that a push consumed
 abbrev pub last_result : Result (Option DecodeReport) PushError → Result (Option ℕ) DecodeError
 last_result (Ok None) = Ok None
 last_result (Ok (Some report)) = Ok (Some (frame_size_of report))
 last_result (Err failure) = Err failure.error
 
--- a push of the bytes takes a decoder from the one buffer and phase to the other, and this is its result
+-- a push of the bytes changes the decoder's buffer and phase to `buffer'` and `phase'`, and has this result
 pub record PushesBytes (buffer : List ℕ) (phase : Phase) (bytes : List ℕ)
     (result : Result (Option DecodeReport) PushError) (buffer' : List ℕ) (phase' : Phase) : Type 0 where
   pub push_returns : (p : List ℕ) → PhaseAfter (length buffer) phase p → PushReturns p bytes (length buffer) result
-  -- it has taken the bytes that were consumed
+  -- the decoder has taken the bytes that were consumed
   pub phased : (p : List ℕ) → PhaseAfter (length buffer) phase p
       → PhaseAfter (length buffer) phase' (unended (p ++ consumed bytes result))
   pub after : (p : List ℕ) → DecoderAfter buffer phase p → DecoderAfter buffer' phase' (unended (p ++ consumed bytes result))
-  -- its buffer begins with the output of the piece that was read last, as far as it fits
+  -- the buffer begins with the output of the piece that was read last, as far as it fits
   pub holds : (p : List ℕ) → DecoderAfter buffer phase p
       → buffer' ≡ overwritten buffer (output (last_piece (p ++ consumed bytes result)))
   pub untouched : (p : List ℕ) → PhaseAfter (length buffer) phase p
       → let written = length (output (last_piece (p ++ consumed bytes result))) in drop written buffer' ≡ drop written buffer
-  -- it reports each piece that ended in these bytes
+  -- the push reports each piece that ended in these bytes
   pub outcomes : (p : List ℕ) → DecoderAfter buffer phase p
       → stream_outcomes (p ++ consumed bytes result) (length buffer) ≡ pushed_outcomes bytes result buffer'
-  -- in every phase: it feeds the bytes that were consumed
+  -- in every phase, the push feeds the bytes that were consumed
   pub feeds : FeedsInTurn buffer phase (consumed bytes result) (last_result result) buffer' phase'
   pub within : consumed_size bytes result ≤ length bytes
   pub bound : IfOk result (λ found. IfSome found (λ report. frame_size_of report ≤ length buffer))

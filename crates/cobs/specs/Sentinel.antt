@@ -2,21 +2,21 @@
 use Rattle.std.specs.Prelude.{◌≡◌, ◌≢◌, ◌-◌, ℕ, List, [], ◌∷◌, ◌++◌, length, All}
 use Rattle.std.specs.List.{slice_range}
 use Rattle.cobs.specs.Grammar.{IsEncodedFrame}
--- each byte XORed with s; a frame for the sentinel s is a frame for 0 so changed, and the other way round
+-- each byte XORed with s; this turns a frame for 0 into a frame for the sentinel s, and back
 pub use Rattle.cobs_bytes.specs.Bytes.{xor_each}
 
 -- no byte of the list is the sentinel s
 abbrev pub IsFreeOf : ℕ → List ℕ → Type 0
 IsFreeOf s bytes = All (λ byte. byte ≢ s) bytes
 
--- f is the frame that encoders give for m and the sentinel s
+-- f is the frame that encoders write for m and the sentinel s
 abbrev pub IsEncodedFrameFor : ℕ → List ℕ → List ℕ → Type 0
 IsEncodedFrameFor s f m = IsEncodedFrame (xor_each s f) m
 
--- the bytes are the frame that encoders give for m, between two sentinels
+-- the bytes are the frame that encoders write for m, between two sentinels
 abbrev pub IsDelimitedFrame : List ℕ → List ℕ → Type 0
 IsDelimitedFrame bytes m = (f : List ℕ) × IsEncodedFrame f m × (bytes ≡ 0 ∷ f ++ 0 ∷ [])
 
--- what is between the first byte of a list and its last
+-- the bytes between the first byte of a list and its last
 abbrev pub between_ends : List ℕ → List ℕ
 between_ends bytes = slice_range bytes 1 (length bytes - 1)

@@ -1,15 +1,16 @@
--- A machine for decoders of one's own: what one makes of one byte, in any phase. It is no specification: no clause of
--- `feed` rests on it, and `law_17` ties it to `Feeds`, which says what a byte means after the front of a piece.
+-- A machine for your own decoder: its result and its phase for one byte, in any phase. It isn't a specification: no
+-- clause of `feed` depends on it. `law_17` ties it to `Feeds`, which gives the meaning of a byte after the front of a
+-- piece.
 use Rattle.std.specs.Prelude.{ℕ, zero, suc, ◌+◌, ◌-◌, ◌==◌, nat_lt, nat_le, Bool, true, false, List, slice_set, Option, Some, None, Result, Ok, Err, if◌then◌else◌}
 use Rattle.cobs.specs.Feed.{Phase, Idle, Within, Overlong}
 use Rattle.cobs.specs.declared.error.DecodeError.{DecodeError}
 use Rattle.cobs.specs.declared.error.DecodeError.TheVariants.{InvalidFrame, TargetBufTooSmall}
 
--- one more byte in the buffer, where it has room
+-- the buffer with one more byte in it, if there is room
 abbrev pub grows : ℕ → Bool → ℕ → ℕ → Phase
 grows n full left count = if nat_lt count n then Within full left (count + 1) else Overlong
 
--- the phase after a byte, over a buffer of n bytes
+-- the phase after a byte, in a buffer of n bytes
 abbrev pub next_phase : ℕ → Phase → ℕ → Phase
 next_phase n Idle byte = if byte == 0 then Idle else Within (byte == 255) (byte - 1) 0
 next_phase n Overlong byte = if byte == 0 then Idle else Overlong
@@ -17,7 +18,7 @@ next_phase n (Within full (suc left) count) byte = if byte == 0 then Idle else g
 next_phase n (Within true zero count) byte = if byte == 0 then Idle else Within (byte == 255) (byte - 1) count
 next_phase n (Within false zero count) byte = if byte == 0 then Idle else grows n (byte == 255) (byte - 1) count
 
--- the buffer after it
+-- the buffer after the byte
 abbrev pub next_buffer : List ℕ → Phase → ℕ → List ℕ
 next_buffer buffer Idle byte = buffer
 next_buffer buffer Overlong byte = buffer
@@ -25,7 +26,7 @@ next_buffer buffer (Within full (suc left) count) byte = if byte == 0 then buffe
 next_buffer buffer (Within true zero count) byte = buffer
 next_buffer buffer (Within false zero count) byte = if byte == 0 then buffer else slice_set buffer count 0
 
--- the result for a byte that is no zero, by the phase after it
+-- the result for a byte that is no zero, given the phase after it
 abbrev pub error_if_overlong : Phase → Result (Option ℕ) DecodeError
 error_if_overlong Idle = Ok None
 error_if_overlong (Within full left count) = Ok None
@@ -38,6 +39,6 @@ end_result n Overlong = Err TargetBufTooSmall
 end_result n (Within full (suc left) count) = Err (InvalidFrame count)
 end_result n (Within full zero count) = if nat_le count n then Ok (Some count) else Err TargetBufTooSmall
 
--- the result for it
+-- the result for the byte
 abbrev pub next_result : ℕ → Phase → ℕ → Result (Option ℕ) DecodeError
 next_result n phase byte = if byte == 0 then end_result n phase else error_if_overlong (next_phase n phase byte)

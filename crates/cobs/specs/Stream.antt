@@ -1,10 +1,10 @@
--- A stream is cut at its zeros, and each piece between them is judged by itself.
+-- A stream is cut at its zeros, and each piece between them has its own outcome.
 use Rattle.std.specs.Prelude.{ℕ, ◌==◌, nat_le, Bool, true, false, List, [], ◌∷◌, length, filter, map, Option, Some, None, if◌then◌else◌}
 use Rattle.std.specs.List.{slice_split}
 use Rattle.cobs.specs.Grammar.{last_of}
 use Rattle.cobs.specs.Piece.{output, is_whole}
 
--- what is between the zeros and the ends of a list, empty stretches too
+-- the parts of a list between its zeros, before the first and after the last, empty ones included
 abbrev pub stretches : List ℕ → List (List ℕ)
 stretches t = slice_split (λ byte. byte == 0) t
 
@@ -12,13 +12,13 @@ abbrev pub is_nonempty : List ℕ → Bool
 is_nonempty [] = false
 is_nonempty (byte ∷ bytes) = true
 
--- all but the last of some lists
+-- all of some lists except the last
 unfoldable pub but_last : List (List ℕ) → List (List ℕ)
 but_last [] = []
 but_last (xs ∷ []) = []
 but_last (xs ∷ next ∷ more) = xs ∷ but_last (next ∷ more)
 
--- the first of some lists, or the empty list where there is none
+-- the first of some lists, or the empty list if there is none
 abbrev pub first_of : List (List ℕ) → List ℕ
 first_of [] = []
 first_of (xs ∷ more) = xs
@@ -31,25 +31,26 @@ first_found (xs ∷ more) = Some xs
 unfoldable pub ended_pieces : List ℕ → List (List ℕ)
 ended_pieces t = filter is_nonempty (but_last (stretches t))
 
--- what follows the last zero, or all of the stream
+-- the bytes after the last zero, or all of the stream
 unfoldable pub unended : List ℕ → List ℕ
 unended t = last_of (stretches t)
 
--- the first piece, whether a zero ends it or the stream does
+-- the first piece, ended by a zero or by the end of the stream
 unfoldable pub first_piece : List ℕ → Option (List ℕ)
 first_piece t = first_found (filter is_nonempty (stretches t))
 
--- what is before the first zero, or all of the stream
+-- the bytes before the first zero, or all of the stream
 unfoldable pub head : List ℕ → List ℕ
 head t = first_of (stretches t)
 
--- what becomes of a piece that has ended
+-- the outcome of a piece that has ended
 pub data Outcome : Type 0 where
   Message : (message : List ℕ) → Outcome
   Broken : (count : ℕ) → Outcome
   TooLong : Outcome
 
--- the outcome of a piece in a buffer of n bytes: its output is too long for it, or is a message, or is broken off
+-- the outcome of a piece in a buffer of n bytes: its output is too long for the buffer, or it is a message, or it is
+-- broken
 unfoldable pub outcome_of : List ℕ → ℕ → Outcome
 outcome_of p n =
     if nat_le (length (output p)) n then (if is_whole p then Message (output p) else Broken (length (output p)))

@@ -8,7 +8,7 @@ use Rattle.cobs.specs.declared.DecodeError.TheVariants.{EmptyFrame, InvalidFrame
 use Rattle.cobs_abi.specs.declared.answer.Answer.{Answer}
 use Rattle.cobs_abi.specs.declared.answer.TheConstants.{OK, TOO_SMALL, BROKEN, EMPTY}
 
--- the result of a decoding call that took this many bytes, into a buffer of n bytes, by the message's length or the
+-- the result of a decoding call that took this many bytes, into a buffer of n bytes, given the message's length or the
 -- error
 abbrev pub result_by : ℕ → ℕ → Result ℕ DecodeError → Answer
 result_by consumed n (Ok size) = record { status = OK; consumed = consumed; length = size }
@@ -16,11 +16,11 @@ result_by consumed n (Err EmptyFrame) = record { status = EMPTY; consumed = cons
 result_by consumed n (Err (InvalidFrame count)) = record { status = BROKEN; consumed = consumed; length = count }
 result_by consumed n (Err TargetBufTooSmall) = record { status = TOO_SMALL; consumed = consumed; length = n }
 
--- how many bytes a source has up to its first zero, with that zero if there is one
+-- the number of bytes of a source up to its first zero, with that zero if there is one
 abbrev pub head_end : List ℕ → ℕ
 head_end source = min (length source) (length (head source) + 1)
 
--- what the result of a push says: how a piece of the stream ended, and after how many bytes
+-- the meaning of a push's result: how a piece of the stream ended, and after how many bytes
 abbrev pub piece_end_of : Answer → Option (PieceEnd × ℕ)
 piece_end_of returned =
     if returned.status == OK then Some (Message returned.length, returned.consumed)

@@ -1,4 +1,4 @@
--- What the calls that decode whole frames ensure.
+-- The postconditions of the calls that decode whole frames.
 use Rattle.std.specs.Prelude.{◌≡◌, ◌≢◌, ◌≤◌, ◌↔◌, ◌++◌, ℕ, List, length, drop, Some, None}
 use Rattle.cobs.specs.Decode.{first_output, in_place, result_in_place, len_through_piece, outcome_result, result_of_sentinel_decode}
 use Rattle.cobs.specs.Grammar.{IsCanonical, IsFrame}
@@ -17,10 +17,10 @@ pub record Decodes (source message : List ℕ) (result : Answer) (message' : Lis
   pub some : (p : List ℕ) → first_piece source ≡ Some p
       → result ≡ result_by (len_through_piece source p) (length message) (outcome_result (outcome_of p (length message)))
   pub buffer : message' ≡ overwritten message (first_output source)
-  -- a buffer as long as the source suffices
+  -- a buffer as long as the source is enough
   pub room : length source ≤ length message → result.status ≢ TOO_SMALL
 
--- `jcobs_decode_with_sentinel`: so is what is in front of the first sentinel s
+-- `jcobs_decode_with_sentinel`: the bytes before the first sentinel s are decoded to the front of the buffer
 pub record DecodesFor (s : ℕ) (source message : List ℕ) (result : Answer) (message' : List ℕ) : Type 0 where
   pub returned : let t = xor_each s source in result ≡ result_by (head_end t) (length message) (result_of_sentinel_decode t (length message))
   pub buffer : message' ≡ overwritten message (kept_output (head (xor_each s source)))
@@ -30,7 +30,7 @@ pub record DecodesInPlace (source : List ℕ) (result : Answer) (source' : List 
   pub returned : result ≡ result_by (head_end source) (length source) (result_in_place source)
   pub buffer : source' ≡ in_place source
 
--- `jcobs_decode_in_place_with_sentinel`: the bytes of the frame, in front of the first sentinel s, are XORed with it, and
+-- `jcobs_decode_in_place_with_sentinel`: the bytes of the frame, before the first sentinel s, are XORed with it, and
 -- then begin with the message. The sentinel and the bytes after it are as they were.
 pub record DecodesInPlaceFor (s : ℕ) (source : List ℕ) (result : Answer) (source' : List ℕ) : Type 0 where
   pub returned : let t = xor_each s source in result ≡ result_by (head_end t) (length source) (result_in_place t)

@@ -1,4 +1,4 @@
--- What the calls that write frames ensure.
+-- The postconditions of the calls that write frames.
 use Rattle.std.specs.Prelude.{◌≡◌, ◌≤◌, ◌<◌, ◌+◌, ℕ, List, length, take, drop}
 use Rattle.cobs.specs.Length.{encoded_len, max_encoded_len}
 use Rattle.cobs.specs.Overwritten.{message_in}
@@ -6,7 +6,7 @@ use Rattle.cobs_abi.specs.Frames.{IsFrameOnWire, IsFrameOnWireFor, IsTerminatedF
 use Rattle.cobs_abi.specs.declared.answer.Answer.{Answer}
 use Rattle.cobs_abi.specs.declared.answer.TheConstants.{OK, TOO_SMALL}
 
--- If `size` bytes fit the buffer, it begins with that many bytes of which the fact holds, and the call has taken
+-- If `size` bytes fit the buffer, it begins with that many bytes for which the fact holds, and the call has taken
 -- `taken` bytes. Otherwise the call takes and changes nothing.
 pub record Writes (size taken : ℕ) (IsWanted : List ℕ → Type 0) (buffer : List ℕ) (result : Answer) (buffer' : List ℕ) : Type 0 where
   pub fits : size ≤ length buffer → result ≡ record { status = OK; consumed = taken; length = size }
@@ -27,8 +27,8 @@ abbrev pub EncodesTerminated : ℕ → List ℕ → List ℕ → Answer → List
 EncodesTerminated s message buffer result buffer' =
     Writes (encoded_len message + 1) (length message) (λ f. IsTerminatedFrame s f message) buffer result buffer'
 
--- `jcobs_encode_in_place`, of a message of n bytes: if the longest frame fits the buffer, so that the message lies in it,
--- the buffer begins with the frame. Otherwise the call takes and changes nothing.
+-- `jcobs_encode_in_place`, for a message of n bytes: if the longest frame fits the buffer, so that the message is
+-- within it, the buffer begins with the frame. Otherwise the call takes and changes nothing.
 pub record EncodesInPlace (n : ℕ) (buffer : List ℕ) (result : Answer) (buffer' : List ℕ) : Type 0 where
   pub fits : max_encoded_len n ≤ length buffer → result ≡ record { status = OK; consumed = n; length = encoded_len (message_in n buffer) }
   pub wanted : max_encoded_len n ≤ length buffer → IsFrameOnWire (take result.length buffer') (message_in n buffer)

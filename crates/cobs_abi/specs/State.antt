@@ -1,4 +1,4 @@
--- How much of a message that a decoder has open is in the buffer.
+-- How much of an open message of a decoder is in the buffer.
 use Rattle.std.specs.Prelude.{ℕ, min}
 use Rattle.cobs.specs.Feed.{Phase, Idle, Within, Overlong}
 

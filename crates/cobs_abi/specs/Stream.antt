@@ -1,4 +1,4 @@
--- What the calls over a state and a buffer of the caller's ensure.
+-- The postconditions of the calls over a state and a buffer of the caller.
 use Rattle.std.specs.Prelude.{◌≡◌, ◌≢◌, ◌≤◌, ◌<◌, ◌+◌, ◌↔◌, ◌++◌, [], ℕ, List, length, drop, false}
 use Rattle.cobs.specs.Feed.{DecoderAfter, Idle}
 use Rattle.cobs.specs.FeedPiece.{TakesPiece}
@@ -42,8 +42,8 @@ pub record IsFreshEncoder (encoder : UnbufferedEncoder) : Type 0 where
   pub start : reached_by encoder ≡ record { block = record { index = 0; code = 1 }; full = false }
   pub taken : (buffer : List ℕ) → 0 < length buffer → CobsEncoderAfter buffer (reached_by encoder) []
 
--- `jcobs_encoder_push`, and `jcobs_encoder_feed` of one byte: the encoder takes the bytes, if the frame of all that it has
--- taken fits
+-- `jcobs_encoder_push`, and `jcobs_encoder_feed` of one byte: the encoder takes the bytes, if the frame of all bytes so
+-- far fits
 pub record EncodesNext (encoder : UnbufferedEncoder) (buffer bytes : List ℕ) (result : Answer) (encoder' : UnbufferedEncoder) (buffer' : List ℕ) : Type 0 where
   pub fits : (m : List ℕ) → CobsEncoderAfter buffer (reached_by encoder) m
       → ((result.status ≡ OK) ↔ (encoded_len (m ++ bytes) ≤ length buffer))
@@ -59,8 +59,8 @@ pub record EncodesNext (encoder : UnbufferedEncoder) (buffer bytes : List ℕ) (
   pub bound : result.length ≤ length buffer
   pub len : length buffer' ≡ length buffer
 
--- `jcobs_encoder_finish` and its forms, by how many bytes are added to a frame, and by what is written for a message: the
--- encoder ends the message, if what is to be written fits
+-- `jcobs_encoder_finish` and its forms, given how many bytes are added to a frame, and the bytes that are written for a
+-- message: the encoder ends the message, if these bytes fit
 pub record Finishes (added : ℕ) (IsWanted : List ℕ → List ℕ → Type 0) (encoder : UnbufferedEncoder) (buffer : List ℕ) (result : Answer) (encoder' : UnbufferedEncoder) (buffer' : List ℕ) : Type 0 where
   pub writes : (m : List ℕ) → CobsEncoderAfter buffer (reached_by encoder) m
       → Writes (encoded_len m + added) 0 (λ bytes. IsWanted bytes m) buffer result buffer'

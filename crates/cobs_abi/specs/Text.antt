@@ -1,4 +1,4 @@
--- What a status means in words.
+-- The text of each status.
 use Rattle.std.specs.Prelude.{ℕ, ◌==◌, List, codes, if◌then◌else◌}
 use Rattle.cobs_abi.specs.declared.answer.TheConstants.{OK, MORE, TOO_SMALL, BROKEN, EMPTY}
 

@@ -2,12 +2,12 @@
 use Rattle.std.specs.Prelude.{ℕ, ◌+◌, ◌-◌, ◌*◌, ◌==◌, if◌then◌else◌, List, [], ◌∷◌, bit_and}
 use Rattle.std.specs.Int.Count.{count_trailing_zeros}
 
--- bit k is set where byte k is 0
+-- bit k is set if byte k is 0
 abbrev pub zero_mask : List ℕ → ℕ
 zero_mask [] = 0
 zero_mask (byte ∷ bytes) = (if byte == 0 then 1 else 0) + 2 * zero_mask bytes
 
--- the place of the first zero of a mask, or 64 if it has none
+-- the index of the first zero of a mask, or 64 if it has none
 abbrev pub lowest : ℕ → ℕ
 lowest mask = count_trailing_zeros 64 mask
 

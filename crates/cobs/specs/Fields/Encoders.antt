@@ -1,4 +1,4 @@
--- What contracts see of a `CobsEncoder` and of an `UnbufferedEncoder`.
+-- The words by which contracts describe a `CobsEncoder` and an `UnbufferedEncoder`.
 use Rattle.std.specs.Prelude.{◌≡◌, ℕ, List}
 use Rattle.std.specs.Borrow.{MutBor}
 use Rattle.cobs.specs.declared.enc.encoder.CobsEncoder.{CobsEncoder}
@@ -10,7 +10,7 @@ pub use Rattle.cobs.specs.Fields.Progress.{reached_at, reached_by}
 abbrev pub slice_of : CobsEncoder → List ℕ
 slice_of encoder = encoder.dest.now
 
--- how far the frame in the slice has come
+-- how much of the frame is in the slice
 abbrev pub slice_reached : CobsEncoder → Reached
 slice_reached encoder = reached_by encoder.encoder
 
@@ -18,14 +18,14 @@ slice_reached encoder = reached_by encoder.encoder
 abbrev pub HasTaken : CobsEncoder → List ℕ → Type 0
 HasTaken encoder m = CobsEncoderAfter (slice_of encoder) (slice_reached encoder) m
 
--- the encoder writes to this slice of the caller's
+-- the encoder writes to this slice, which the caller lends
 abbrev pub WritesTo : CobsEncoder → MutBor (List ℕ) → Type 0
 WritesTo encoder slice = encoder.dest.ghost_name ≡ slice.ghost_name
 
--- both are over one slice of the caller's
+-- both write to the same slice of the caller
 abbrev pub IsOverSameSlice : CobsEncoder → CobsEncoder → Type 0
 IsOverSameSlice old new = new.dest.ghost_name ≡ old.dest.ghost_name
 
--- neither the slice nor how far the frame has come has changed
+-- neither the slice nor the progress of the frame has changed
 abbrev pub IsUnchanged : CobsEncoder → CobsEncoder → Type 0
 IsUnchanged old new = (slice_of new ≡ slice_of old) × (slice_reached new ≡ slice_reached old)

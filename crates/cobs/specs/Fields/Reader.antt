@@ -1,4 +1,4 @@
--- What contracts see of a `FrameReader` and of a `Recorded`.
+-- The words by which contracts describe a `FrameReader` and a `Recorded`.
 use Rattle.std.specs.Prelude.{ℕ, List, slice_range}
 use Rattle.cobs.specs.Feed.{Phase}
 use Rattle.cobs.specs.NextFrame.{ReaderState}
@@ -14,7 +14,7 @@ module _ {D : Type 0} {g : _} where
   abbrev pub kept_of : FrameReader D g → List ℕ
   kept_of reader = slice_range reader.chunk reader.start reader.end
 
-  -- the whole of it, by the buffer and the phase that contracts see of its decoder
+  -- the reader, described by the buffer and the phase of its decoder
   abbrev pub reader_state : (D → List ℕ) → (D → Phase) → FrameReader D g → ReaderState
   reader_state bytes phase reader =
       record { buffer = bytes reader.decoder; phase = phase reader.decoder; kept = kept_of reader }

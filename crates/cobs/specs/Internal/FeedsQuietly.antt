@@ -1,9 +1,10 @@
--- Several bytes of which none ends a piece or overflows the buffer, as the decoder under the streaming ones takes them.
+-- Several bytes, none of which ends a piece or overflows the buffer, fed to the decoder on which the streaming decoders
+-- are built.
 use Rattle.std.specs.Prelude.{◌≡◌, List, [], ◌∷◌, ℕ, length, Ok, None}
 use Rattle.cobs.specs.Feed.{Phase}
 use Rattle.cobs.specs.Step.{next_result, next_buffer, next_phase}
 
--- the bytes are fed one after another, each returns `Ok(None)`, and that is what they lead to
+-- the bytes are fed one after another, each returns `Ok(None)`, and buffer and phase are then these
 abbrev pub FeedsQuietly : List ℕ → Phase → List ℕ → List ℕ → Phase → Type 0
 FeedsQuietly buffer phase [] buffer' phase' = (buffer' ≡ buffer) × (phase' ≡ phase)
 FeedsQuietly buffer phase (byte ∷ bytes) buffer' phase' =

@@ -1,4 +1,5 @@
--- How far the core of the encoder has come with a source: what lies in the slice, of which message, and where the frame ends.
+-- How much of a source the core of the encoder has taken: the bytes in the slice, their message, and the end of the
+-- frame.
 use Rattle.std.specs.Prelude.{◌≡◌, ◌<◌, ◌≤◌, ℕ, ◌+◌, ◌-◌, Bool, false, List, [], ◌∷◌, ◌++◌, length, take, drop, All}
 use Rattle.std.specs.List.{concat}
 use Rattle.cobs.specs.Grammar.{HasNoZero, IsBlock, is_full, last_of, message_of}
@@ -11,7 +12,8 @@ ends_in_full front [] = is_full (last_of front)
 ends_in_full front (byte ∷ bytes) = false
 
 -- The slice begins with the blocks of m before its open one, and has that block's bytes after the place of its code.
--- The next byte goes to `next`. Unlike a public state this one may have 254 bytes in its block, before the block is closed.
+-- The next byte goes to `next`. Unlike a public state, this one may have 254 bytes in its block before the block is
+-- closed.
 pub record Opened (slice m : List ℕ) (index next : ℕ) (full : Bool) : Type 0 where
   pub front : List (List ℕ)
   pub bytes : List ℕ
@@ -25,7 +27,7 @@ pub record Opened (slice m : List ℕ) (index next : ℕ) (full : Bool) : Type 0
   pub bytes_there : drop (index + 1) (take next slice) ≡ bytes
   pub noted : full ≡ ends_in_full front bytes
 
--- how a call starts: the slice, how far the frame has come in it, and the source that is to be taken
+-- the start of a call: the slice, the progress of the frame in it, and the source that is taken
 pub record Start : Type 0 where
   pub slice : List ℕ
   pub reached : Reached
@@ -34,17 +36,17 @@ pub record Start : Type 0 where
 abbrev pub start_with : List ℕ → Reached → List ℕ → Start
 start_with slice reached source = record { slice = slice; reached = reached; source = source }
 
--- where the frame ends once the whole source is taken
+-- the index at which the frame ends after the whole source is taken
 abbrev pub whole_end : Start → ℕ
 whole_end start = end_after start.reached start.source
 
--- the encoder had taken m then
+-- the encoder had taken m at that start
 unfoldable pub HadTaken : Start → List ℕ → Type 0
 HadTaken start m = CobsEncoderAfter start.slice start.reached m
 
--- From that start the first `pos` bytes of the source are taken, and led to this slice: its open block begins at `index`, and
--- the next byte goes to `next`. The frame still ends where it is to end, and after that the slice is as it was. P says whether
--- the frame's last block is full.
+-- From that start, the first `pos` bytes of the source are taken. The slice is then this one: its open block begins at
+-- `index`, and the next byte goes to `next`. The frame still ends where it must end, and the bytes after that end are
+-- as they were. P says whether the frame's last block is full.
 pub record Reaches (start : Start) (slice : List ℕ) (pos index next : ℕ) (P : Bool → Type 0) : Type 0 where
   pub ordered : index < next
   pub short : next ≤ index + 255

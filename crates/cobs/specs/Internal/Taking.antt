@@ -1,17 +1,18 @@
--- What a step of the encoder makes of the front of a source.
+-- The result of a step of the encoder for the front of a source.
 use Rattle.std.specs.Prelude.{◌≡◌, ◌<◌, ◌≤◌, ℕ, List, ◌++◌, length, take, drop, slice_index}
 use Rattle.cobs.specs.Grammar.{HasNoZero}
 use Rattle.cobs.specs.OpenBlock.{Reached, CobsEncoderAfter, IsPlaceIn, end_after}
 
--- From a slice, in which the frame had come so far, a step took n bytes of a source, and led to this slice and so far.
--- The frame of the whole source ends where it would have, and the slice behind that is as it was.
+-- From a slice and the progress of the frame in it, a step took n bytes of a source, and left this slice and this
+-- progress. The frame of the whole source ends at the same index as before, and the bytes of the slice after that end
+-- are as they were.
 pub record TakesFront (slice : List ℕ) (reached : Reached) (source : List ℕ) (n : ℕ) (slice' : List ℕ) (reached' : Reached) : Type 0 where
   pub place : IsPlaceIn (length slice') reached'
   pub after : (m : List ℕ) → CobsEncoderAfter slice reached m → CobsEncoderAfter slice' reached' (m ++ take n source)
   pub end : end_after reached' (drop n source) ≡ end_after reached source
   pub rest : drop (end_after reached source) slice' ≡ drop (end_after reached source) slice
 
--- the source begins with a run of this many bytes: a zero comes after them, or nothing
+-- the source begins with a run of this many bytes: after them is a zero, or the end of the source
 pub record IsFirstRun (run : ℕ) (source : List ℕ) : Type 0 where
   pub within : run ≤ length source
   pub nonzero : HasNoZero (take run source)
