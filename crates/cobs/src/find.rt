@@ -1,11 +1,11 @@
-//! Where pieces begin and end.
+//! Searches for the beginning and the end of pieces.
 ghost use Rattle.std.specs.Prelude.{All, ◌≢◌, ◌≡◌, ◌<◌, ◌≤◌, ◌+◌, ◌-◌, length, take, slice_index};
 ghost use Rattle.cobs.specs.Grammar.{HasNoZero};
 
 use cobs_bytes::window::{WIDE_WINDOW, WINDOW, first_zero, has_vectors, zeros_at};
 use memchr::memchr;
 
-/// Where the first such byte of a source is, or the source's length if there is none.
+/// Returns the index of the first such byte of a source, or the source's length if there is none.
 pub(crate) fn position_or_len(source: &[u8], byte: u8) -> usize
     ensures within { result ≤ length source.now }
     ensures before { All (λ other. other ≢ byte) (take result source.now) }
@@ -58,7 +58,7 @@ pub(crate) fn zero_or_len(source: &[u8]) -> usize
     }
 }
 
-/// The length of the source without a sentinel that ends it.
+/// Returns the length of the source without a sentinel at its end.
 #[inline(always)]
 pub(crate) fn len_without_end(source: &[u8], sentinel: u8) -> usize
     requires some { 0 < length source.now }

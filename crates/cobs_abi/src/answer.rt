@@ -1,4 +1,4 @@
-//! What a call returns, as C sees it.
+//! The result of a call, as C sees it.
 ghost use Rattle.std.specs.Prelude.{◌≡◌};
 ghost use Rattle.cobs_abi.specs.Answer.{result_by};
 
@@ -28,7 +28,8 @@ pub struct Answer {
     pub length: usize,
 }
 
-/// The result of a call that succeeded: this many bytes taken, and this many at the front of the buffer.
+/// Returns the result of a call that succeeded: this many bytes were taken, and this many are at the front of the
+/// buffer.
 pub fn done(consumed: usize, length: usize) -> Answer
     ensures { result ≡ record { status = OK; consumed = consumed; length = length } }
 {
@@ -39,7 +40,7 @@ pub fn done(consumed: usize, length: usize) -> Answer
     }
 }
 
-/// The result of a call that consumed and wrote nothing, since the buffer is too short.
+/// Returns the result of a call that consumed and wrote nothing, because the buffer is too short.
 pub fn too_small() -> Answer
     ensures { result ≡ record { status = TOO_SMALL; consumed = 0; length = 0 } }
 {
@@ -50,8 +51,8 @@ pub fn too_small() -> Answer
     }
 }
 
-/// The result of a decoding call that took this many bytes, into a buffer of `room` bytes, by the message's length or
-/// the error.
+/// Returns the result of a decoding call that took this many bytes, into a buffer of `room` bytes, given the message's
+/// length or the error.
 pub fn result_by(consumed: usize, room: usize, size: Result<usize, DecodeError>) -> Answer
     ensures { result ≡ result_by consumed room size }
 {

@@ -1,4 +1,4 @@
-//! What C sees of the streaming decoder's steps.
+//! The results of the streaming decoder's steps, as C sees them.
 ghost use Rattle.std.specs.Prelude.{◌≡◌, ℕ, List, [], ◌∷◌, length};
 ghost use Rattle.cobs.specs.FeedPiece.{TakesPiece};
 ghost use Rattle.cobs.specs.Fields.Decoders.{phase_of};
@@ -59,7 +59,7 @@ pub fn result_of(
     }
 }
 
-/// Takes bytes of a stream of frames for this sentinel through the one that ends the first piece, or all of them.
+/// Takes bytes of a stream of frames for this sentinel, through the sentinel that ends the first piece, or all of them.
 #[inline(always)]
 pub fn decode_each(
     decoder: &mut UnbufferedDecoder,

@@ -1,4 +1,5 @@
-//! The streaming encoder, whose state is C's, and a message that is encoded in its own buffer: what the calls return.
+//! The results of the calls of the streaming encoder, whose state a program in C keeps, and of the call that encodes a
+//! message in its own buffer.
 ghost use Rattle.std.specs.Prelude.{◌≡◌, ◌<◌, ◌^◌, [], ◌∷◌};
 ghost use Rattle.cobs.specs.Fields.Encoders.{reached_by};
 ghost use Rattle.cobs.specs.OpenBlock.{end_of};
@@ -24,7 +25,7 @@ pub fn end_of(encoder: &UnbufferedEncoder) -> usize
     }
 }
 
-/// Takes the next bytes of a message, if the frame of all that was taken fits the buffer.
+/// Takes the next bytes of a message, if the frame of all bytes so far fits the buffer.
 #[inline]
 pub fn encode_each(encoder: &mut UnbufferedEncoder, buffer: &mut [u8], bytes: &[u8]) -> Answer
     ensures encodes { EncodesNext encoder.old buffer.old bytes.now result
@@ -37,7 +38,7 @@ pub fn encode_each(encoder: &mut UnbufferedEncoder, buffer: &mut [u8], bytes: &[
     done(bytes.len(), end_of(encoder))
 }
 
-/// Takes the next byte of a message, if the frame of all that was taken fits the buffer.
+/// Takes the next byte of a message, if the frame of all bytes so far fits the buffer.
 #[inline]
 pub fn encode_byte(encoder: &mut UnbufferedEncoder, buffer: &mut [u8], byte: u8) -> Answer
     ensures encodes { EncodesNext encoder.old buffer.old (byte ∷ []) result
@@ -85,8 +86,8 @@ pub fn finish_terminated(encoder: &mut UnbufferedEncoder, buffer: &mut [u8]) -> 
     done(returned.consumed, returned.length + 1)
 }
 
-/// Encodes the message of `message_len` bytes that lies in the buffer, in its own place, if the longest frame of such a
-/// message fits.
+/// Encodes the message of `message_len` bytes that is in the buffer, in place, if the longest frame of a message of
+/// that length fits.
 #[inline]
 pub fn encode_within(buffer: &mut [u8], message_len: usize) -> Answer
     ensures encodes { EncodesInPlace message_len buffer.old result buffer.new }

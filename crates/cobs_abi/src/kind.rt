@@ -1,4 +1,4 @@
-//! Which frame bytes are.
+//! The kinds of frames.
 
 /// The bytes are no frame.
 pub const NOT_A_FRAME: u32 = 0;

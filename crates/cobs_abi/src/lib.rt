@@ -1,4 +1,4 @@
-//! Shared by the libraries for C: the structs and numbers that cross to C, and what each exported call ensures.
+//! Shared by the libraries for C: the structs and numbers that cross to C, and the postcondition of each exported call.
 //!
 //! `cobs_c` and `cobs_small` export the same calls, with other bodies. Each export cites one definition of `specs/`, named
 //! after what the call does, so that both state the same contract.

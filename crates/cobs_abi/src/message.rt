@@ -1,4 +1,4 @@
-//! A whole message to its frame.
+//! Encodes a whole message.
 ghost use Rattle.std.specs.Prelude.{◌≡◌, ◌≤◌, ◌<◌, length, take, drop};
 ghost use Rattle.cobs.specs.Length.{encoded_len};
 ghost use Rattle.cobs_abi.specs.Frames.{IsFrameOnWire};

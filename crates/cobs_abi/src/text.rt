@@ -1,4 +1,4 @@
-//! What a status means in words, and the version.
+//! The text of each status, and the version.
 ghost use Rattle.std.specs.Prelude.{◌≡◌};
 ghost use Rattle.cobs_abi.specs.Text.{words};
 

@@ -1,6 +1,6 @@
 //! Functions over windows and slices of bytes, in vectors: they find zeros, copy, XOR, move and write.
 //!
-//! The part of `cobs` that knows nothing of frames. Its names aren't stable: call `cobs`.
+//! This is the part of `cobs` that knows nothing of frames. Its names aren't stable: call `cobs`.
 #![tactic(auto)]
 
 pub mod lanes;

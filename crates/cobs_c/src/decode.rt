@@ -1,4 +1,4 @@
-//! Whole frames to messages.
+//! Decodes whole frames.
 ghost use Rattle.std.specs.Prelude.{◌≡◌, ◌≢◌, ◌+◌, ◌≤◌, ◌<◌, ℕ, List, length, min, take, slice_index, IfSome, Some, None, Err};
 ghost use Rattle.std.specs.List.{All};
 ghost use Rattle.cobs.specs.Decode.{first_output, len_through_piece, result_of_decode};
@@ -13,7 +13,7 @@ use cobs::{DecodeError, FrameKind, decode_short, decode_short_in_place, leading_
 use cobs_abi::{Answer, CANONICAL, EMPTY, LONGER, NOT_A_FRAME, OK, done, result_by};
 use memchr::memchr;
 
-/// The place of the first sentinel, or how many bytes there are if none is one.
+/// Returns the index of the first sentinel, or the number of bytes if there is none.
 fn first_sentinel(bytes: &[u8], sentinel: u8) -> usize
     ensures within { result ≤ length bytes.now }
     ensures before { All (λ byte. byte ≢ sentinel) (take result bytes.now) }
@@ -22,7 +22,7 @@ fn first_sentinel(bytes: &[u8], sentinel: u8) -> usize
     memchr(sentinel, bytes).unwrap_or(bytes.len())
 }
 
-/// How many bytes there are up to the first sentinel, with that sentinel if there is one.
+/// Returns the number of bytes up to the first sentinel, with that sentinel if there is one.
 fn head_end(bytes: &[u8], sentinel: u8) -> usize
     ensures end { result ≡ head_end (xor_each sentinel bytes.now) }
 {
@@ -31,8 +31,8 @@ fn head_end(bytes: &[u8], sentinel: u8) -> usize
     if end < bytes.len() { end + 1 } else { end }
 }
 
-/// How many bytes the source has up to the end of its first piece, with the zero after it if there is one, or
-/// `None` if it has no piece.
+/// Returns the number of bytes up to the end of the source's first piece, with the zero after it if there is one, or
+/// `None` if the source has no piece.
 fn first_piece_end(source: &[u8]) -> Option<usize>
     ensures none { result ≡ None → first_piece source.now ≡ None }
     ensures some { IfSome result
@@ -50,8 +50,8 @@ fn first_piece_end(source: &[u8]) -> Option<usize>
     Some(if end < source.len() { end + 1 } else { end })
 }
 
-/// Returns the status and the length for a source whose first frame has this error, or that has no frame, and a buffer of
-/// `room` bytes. It returns two numbers, which stay in registers, and no `Answer`.
+/// Returns the status and the length for a source whose first frame has this error, or that has no frame, and a buffer
+/// of `room` bytes. It returns two numbers, which stay in registers, instead of an `Answer`.
 #[inline(never)]
 fn rejected(source: &[u8], room: usize, error: DecodeError, consumed: &mut usize) -> (u32, usize)
     requires { Err error ≡ result_of_decode source.now room }
@@ -69,8 +69,8 @@ fn rejected(source: &[u8], room: usize, error: DecodeError, consumed: &mut usize
     (returned.status, returned.length)
 }
 
-/// Does what [`jcobs_decode`] does for a source that [`decode_short`] doesn't decode. Its result is as that of [`rejected`]. It
-/// is a function of its own, so that a short frame saves no registers for it.
+/// Does what [`jcobs_decode`] does for a source that [`decode_short`] doesn't decode. It returns the numbers that
+/// [`rejected`] returns. It is a separate function, so that a short frame saves no registers for it.
 #[inline(never)]
 fn decode_long(source: &[u8], message: &mut [u8], consumed: &mut usize) -> (u32, usize)
     ensures decodes { Decodes source.now message.old
@@ -85,7 +85,7 @@ fn decode_long(source: &[u8], message: &mut [u8], consumed: &mut usize) -> (u32,
     }
 }
 
-/// The first frame of the source, decoded to the front of `message`.
+/// Decodes the first frame of the source to the front of `message`.
 #[unsafe(no_mangle)]
 pub extern "C" fn jcobs_decode(source: &[u8], message: &mut [u8]) -> Answer
     ensures decodes { Decodes source.now message.old result message.new }
@@ -103,7 +103,7 @@ pub extern "C" fn jcobs_decode(source: &[u8], message: &mut [u8]) -> Answer
     }
 }
 
-/// The frame at the front of the source, for this sentinel, decoded to the front of `message`.
+/// Decodes the frame at the front of the source, for this sentinel, to the front of `message`.
 #[unsafe(no_mangle)]
 pub extern "C" fn jcobs_decode_with_sentinel(
     source: &[u8],
@@ -121,15 +121,15 @@ pub extern "C" fn jcobs_decode_with_sentinel(
     )
 }
 
-/// How many of `len` bytes there are up to this end, with the zero after it if there is one.
+/// Returns how many of `len` bytes there are up to this end, with the zero after it if there is one.
 fn with_zero(end: usize, len: usize) -> usize
     ensures { result ≡ min len (end + 1) }
 {
     if end < len { end + 1 } else { len }
 }
 
-/// Does what [`jcobs_decode_in_place`] does for a buffer that [`decode_short_in_place`] doesn't decode. It is a function of
-/// its own, and returns two numbers, for the reasons of [`decode_long`].
+/// Does what [`jcobs_decode_in_place`] does for a buffer that [`decode_short_in_place`] doesn't decode. It is a
+/// separate function, and returns two numbers, for the reasons of [`decode_long`].
 #[inline(never)]
 fn decode_long_in_place(buffer: &mut [u8], consumed: &mut usize) -> (u32, usize)
     ensures decodes { DecodesInPlace buffer.old
@@ -144,7 +144,7 @@ fn decode_long_in_place(buffer: &mut [u8], consumed: &mut usize) -> (u32, usize)
             result_by(consumed, room, Ok(report.frame_size()))
         }
         Err(DecodeError::InvalidFrame { decoded_bytes }) => {
-            // The frame's end is after the bytes that were decoded, and nothing there has changed.
+            // The end of the frame is after the decoded bytes, where nothing has changed.
             let end = decoded_bytes + first_sentinel(&buffer[decoded_bytes..], 0);
             let error = DecodeError::InvalidFrame { decoded_bytes };
             result_by(with_zero(end, room), room, Err(error))
@@ -155,7 +155,7 @@ fn decode_long_in_place(buffer: &mut [u8], consumed: &mut usize) -> (u32, usize)
     (returned.status, returned.length)
 }
 
-/// The frame at the front of the buffer, decoded in its own place.
+/// Decodes the frame at the front of the buffer in place.
 #[unsafe(no_mangle)]
 pub extern "C" fn jcobs_decode_in_place(buffer: &mut [u8]) -> Answer
     ensures decodes { DecodesInPlace buffer.old result buffer.new }
@@ -173,7 +173,7 @@ pub extern "C" fn jcobs_decode_in_place(buffer: &mut [u8]) -> Answer
     }
 }
 
-/// The frame at the front of the buffer, for this sentinel, decoded in its own place.
+/// Decodes the frame at the front of the buffer, for this sentinel, in place.
 #[unsafe(no_mangle)]
 pub extern "C" fn jcobs_decode_in_place_with_sentinel(buffer: &mut [u8], sentinel: u8) -> Answer
     ensures decodes { DecodesInPlaceFor sentinel buffer.old result buffer.new }
@@ -194,7 +194,7 @@ pub extern "C" fn jcobs_decode_in_place_with_sentinel(buffer: &mut [u8], sentine
     )
 }
 
-/// Whether the bytes are a frame, and which one of its message.
+/// Returns whether the bytes are a frame, and which one of their message.
 #[unsafe(no_mangle)]
 pub extern "C" fn jcobs_frame_kind(bytes: &[u8]) -> u32
     ensures kind { IsKindOf bytes.now result }

@@ -1,4 +1,4 @@
-//! Streams of frames to messages: decoders whose state and buffer are C's.
+//! Decodes streams of frames. The state and the buffer of each decoder belong to a program in C.
 ghost use Rattle.std.specs.Prelude.{[], ◌∷◌};
 ghost use Rattle.cobs.specs.Sentinel.{xor_each};
 ghost use Rattle.cobs_abi.specs.Stream.{DecodesNext, IsFreshDecoder, ReportsIdle};
@@ -6,7 +6,7 @@ ghost use Rattle.cobs_abi.specs.Stream.{DecodesNext, IsFreshDecoder, ReportsIdle
 use cobs::UnbufferedDecoder;
 use cobs_abi::{Answer, decode_byte, decode_each, result_of};
 
-/// Makes the decoder one that has taken nothing, whatever was in it.
+/// Makes the decoder one that has taken nothing, whatever its state was.
 #[unsafe(no_mangle)]
 pub extern "C" fn jcobs_decoder_reset(decoder: &mut UnbufferedDecoder)
     ensures fresh { IsFreshDecoder decoder.new }
@@ -14,7 +14,7 @@ pub extern "C" fn jcobs_decoder_reset(decoder: &mut UnbufferedDecoder)
     *decoder = UnbufferedDecoder::new();
 }
 
-/// Whether no piece is open: 1, or else 0.
+/// Returns 1 if no piece is open, and 0 otherwise.
 #[unsafe(no_mangle)]
 pub extern "C" fn jcobs_decoder_is_idle(decoder: &UnbufferedDecoder) -> u32
     ensures idle { ReportsIdle decoder.now result }
@@ -22,7 +22,7 @@ pub extern "C" fn jcobs_decoder_is_idle(decoder: &UnbufferedDecoder) -> u32
     if decoder.is_idle() { 1 } else { 0 }
 }
 
-/// Takes bytes of the stream through the zero that ends the first piece, or all of them. Even if the state is corrupt,
+/// Takes bytes of the stream, through the zero that ends the first piece, or all of them. Even if the state is corrupt,
 /// the buffer keeps its length, and the counts are within the bytes and the buffer.
 #[unsafe(no_mangle)]
 pub extern "C" fn jcobs_decoder_push(
@@ -33,7 +33,7 @@ pub extern "C" fn jcobs_decoder_push(
     ensures decodes { DecodesNext decoder.old buffer.old bytes.now result
         decoder.new buffer.new }
 {
-    // For one byte a search and a copy would cost more.
+    // For one byte, a search and a copy would take longer.
     if bytes.len() == 1 {
         return decode_byte(decoder, buffer, bytes[0]);
     }

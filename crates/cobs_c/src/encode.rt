@@ -1,4 +1,4 @@
-//! Whole messages to frames, and how long these are at most.
+//! Encodes whole messages, and returns the greatest lengths of frames.
 ghost use Rattle.std.specs.Prelude.{◌≡◌, ◌≤◌, ◌<◌, ◌^◌, ◌==◌, if◌then◌else◌};
 ghost use Rattle.cobs.specs.Length.{max_encoded_len};
 ghost use Rattle.cobs_abi.specs.Encode.{Encodes, EncodesFor, EncodesInPlace, EncodesTerminated};
@@ -13,7 +13,7 @@ const FULL_CODE: usize = 255;
 /// Fewer bytes are encoded one by one.
 const FEW: usize = 8;
 
-/// Returns how many bytes the longest frame of a message of `message_len` bytes has, or 0 if that number doesn't fit.
+/// Returns the length of the longest frame of a message of `message_len` bytes, or 0 if that number doesn't fit.
 #[unsafe(no_mangle)]
 pub extern "C" fn jcobs_max_length(message_len: usize) -> usize
     ensures fits { max_encoded_len message_len < 2 ^ 64 → result ≡ max_encoded_len message_len }
@@ -24,8 +24,8 @@ pub extern "C" fn jcobs_max_length(message_len: usize) -> usize
         .unwrap_or(0)
 }
 
-/// Does what [`jcobs_encode`] does with any message, and returns how many bytes were taken and the length, which is 0 if the
-/// frame doesn't fit. It is a function of its own, so that a short message saves no registers for it.
+/// Does what [`jcobs_encode`] does with any message. Returns how many bytes were taken, and the length of the frame,
+/// which is 0 if it doesn't fit. It is a separate function, so that a short message saves no registers for it.
 #[inline(never)]
 fn encode_long(message: &[u8], frame: &mut [u8]) -> (usize, usize)
     ensures encodes { Encodes message.now frame.old
@@ -124,8 +124,8 @@ pub extern "C" fn jcobs_encode_terminated_with_sentinel(
     done(returned.consumed, returned.length + 1)
 }
 
-/// Encodes the message of `message_len` bytes that lies in the buffer, after the room for the longest frame's other bytes,
-/// to the front of the buffer, if the longest frame fits. Otherwise nothing is written.
+/// Encodes the message of `message_len` bytes that is in the buffer, after the room for the other bytes of the longest
+/// frame, to the front of the buffer, if the longest frame fits. Otherwise nothing is written.
 #[unsafe(no_mangle)]
 pub extern "C" fn jcobs_encode_in_place(buffer: &mut [u8], message_len: usize) -> Answer
     ensures encodes { EncodesInPlace message_len buffer.old result buffer.new }

@@ -1,4 +1,4 @@
-//! Messages in pieces to frames: encoders whose state and buffer are C's.
+//! Encodes messages that come in pieces. The state and the buffer of each encoder belong to a program in C.
 ghost use Rattle.std.specs.Prelude.{◌≡◌, [], ◌∷◌};
 ghost use Rattle.cobs_abi.specs.Frames.{IsFrameOnWire, IsFrameOnWireFor, IsTerminatedFrame};
 ghost use Rattle.cobs_abi.specs.Stream.{EncodesNext, Finishes, IsFreshEncoder};
@@ -16,8 +16,8 @@ pub extern "C" fn jcobs_encoder_reset(encoder: &mut UnbufferedEncoder)
     *encoder = UnbufferedEncoder::new();
 }
 
-/// Takes the next bytes of a message, if the frame of all that was taken fits the buffer. Even if the state is corrupt, the
-/// buffer keeps its length, and the counts are within the bytes and the buffer.
+/// Takes the next bytes of a message, if the frame of all bytes so far fits the buffer. Even if the state is corrupt,
+/// the buffer keeps its length, and the counts are within the bytes and the buffer.
 #[unsafe(no_mangle)]
 pub extern "C" fn jcobs_encoder_push(
     encoder: &mut UnbufferedEncoder,

@@ -1,12 +1,12 @@
-//! What a status means in words, and the library's version.
+//! The text of each status, and the library's version.
 ghost use Rattle.std.specs.Prelude.{◌≡◌, ◌-◌, ◌∷◌, ◌++◌, [], length, take};
 ghost use Rattle.cobs.specs.Overwritten.{overwritten};
 ghost use Rattle.cobs_abi.specs.Text.{words};
 
 use cobs_abi::{VERSION, words};
 
-/// What a status means, written to the front of `text` as far as it fits, with a zero after it. The result is the
-/// length of all the words.
+/// Writes the text of a status to the front of `text`, as far as it fits, with a zero after it. Returns the length of
+/// the whole text.
 #[unsafe(no_mangle)]
 pub extern "C" fn jcobs_strerror(status: u32, text: &mut [u8]) -> usize
     ensures len { result ≡ length (words status) }
@@ -23,7 +23,7 @@ pub extern "C" fn jcobs_strerror(status: u32, text: &mut [u8]) -> usize
     words.len()
 }
 
-/// The version of the library.
+/// Returns the version of the library.
 #[unsafe(no_mangle)]
 pub extern "C" fn jcobs_version() -> u32
     ensures { result ≡ VERSION }
@@ -31,8 +31,8 @@ pub extern "C" fn jcobs_version() -> u32
     VERSION
 }
 
-/// Returns 1, the version of the interface. Its name carries that version, so that a program of another one can't be
-/// linked.
+/// Returns 1, the version of the interface. The function's name has that version, so that a program for another version
+/// can't be linked.
 #[unsafe(no_mangle)]
 pub extern "C" fn jcobs_abi_1() -> u32
     ensures { result ≡ 1 }

@@ -1,4 +1,4 @@
-//! Streams of frames to messages.
+//! Decodes streams of frames.
 ghost use Rattle.std.specs.Prelude.{[], ◌∷◌};
 ghost use Rattle.cobs_abi.specs.Stream.{DecodesNext, IsFreshDecoder, ReportsIdle};
 
@@ -21,8 +21,8 @@ pub extern "C" fn jcobs_decoder_is_idle(decoder: &UnbufferedDecoder) -> u32
     if decoder.is_idle() { 1 } else { 0 }
 }
 
-/// Takes bytes of the stream through the zero that ends the first piece, or all of them. Even if the state is corrupt, the
-/// buffer keeps its length, and the counts are within the bytes and the buffer.
+/// Takes bytes of the stream, through the zero that ends the first piece, or all of them. Even if the state is corrupt,
+/// the buffer keeps its length, and the counts are within the bytes and the buffer.
 #[unsafe(no_mangle)]
 pub extern "C" fn jcobs_decoder_push(
     decoder: &mut UnbufferedDecoder,
@@ -35,7 +35,7 @@ pub extern "C" fn jcobs_decoder_push(
     decode_each(decoder, buffer, bytes, 0)
 }
 
-/// Takes one byte of the stream, as a push of that byte.
+/// Takes one byte of the stream, as a push of that byte does.
 #[unsafe(no_mangle)]
 pub extern "C" fn jcobs_decoder_feed(
     decoder: &mut UnbufferedDecoder,

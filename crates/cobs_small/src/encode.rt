@@ -1,4 +1,4 @@
-//! Whole messages to frames, and how long these are at most.
+//! Encodes whole messages, and returns the greatest lengths of frames.
 ghost use Rattle.std.specs.Prelude.{◌≡◌, ◌≤◌, ◌<◌, ◌^◌};
 ghost use Rattle.cobs.specs.Length.{max_encoded_len};
 ghost use Rattle.cobs_abi.specs.Encode.{Encodes, EncodesInPlace, EncodesTerminated};
@@ -6,7 +6,7 @@ ghost use Rattle.cobs_abi.specs.Encode.{Encodes, EncodesInPlace, EncodesTerminat
 use cobs::max_encoding_overhead;
 use cobs_abi::{Answer, done, encode_within, too_small, write_frame};
 
-/// Returns how many bytes the longest frame of a message of `message_len` bytes has, or 0 if that number doesn't fit.
+/// Returns the length of the longest frame of a message of `message_len` bytes, or 0 if that number doesn't fit.
 #[unsafe(no_mangle)]
 pub extern "C" fn jcobs_max_length(message_len: usize) -> usize
     ensures fits { max_encoded_len message_len < 2 ^ 64 → result ≡ max_encoded_len message_len }
@@ -47,8 +47,8 @@ pub extern "C" fn jcobs_encode_terminated(message: &[u8], frame: &mut [u8]) -> A
     done(message.len(), length + 1)
 }
 
-/// Encodes the message of `message_len` bytes that lies in the buffer, after the room for the longest frame's other bytes,
-/// to the front of the buffer, if the longest frame fits. Otherwise nothing is written.
+/// Encodes the message of `message_len` bytes that is in the buffer, after the room for the other bytes of the longest
+/// frame, to the front of the buffer, if the longest frame fits. Otherwise nothing is written.
 #[unsafe(no_mangle)]
 pub extern "C" fn jcobs_encode_in_place(buffer: &mut [u8], message_len: usize) -> Answer
     ensures encodes { EncodesInPlace message_len buffer.old result buffer.new }

@@ -1,4 +1,4 @@
-//! Messages in pieces to frames.
+//! Encodes messages that come in pieces.
 ghost use Rattle.std.specs.Prelude.{[], ◌∷◌};
 ghost use Rattle.cobs_abi.specs.Frames.{IsFrameOnWire, IsTerminatedFrame};
 ghost use Rattle.cobs_abi.specs.Stream.{EncodesNext, Finishes, IsFreshEncoder};
@@ -14,8 +14,8 @@ pub extern "C" fn jcobs_encoder_reset(encoder: &mut UnbufferedEncoder)
     *encoder = UnbufferedEncoder::new();
 }
 
-/// Takes the next bytes of a message, if the frame of all that was taken fits the buffer. Even if the state is corrupt, the
-/// buffer keeps its length, and the counts are within the bytes and the buffer.
+/// Takes the next bytes of a message, if the frame of all bytes so far fits the buffer. Even if the state is corrupt,
+/// the buffer keeps its length, and the counts are within the bytes and the buffer.
 #[unsafe(no_mangle)]
 pub extern "C" fn jcobs_encoder_push(
     encoder: &mut UnbufferedEncoder,
@@ -28,7 +28,7 @@ pub extern "C" fn jcobs_encoder_push(
     encode_each(encoder, buffer, bytes)
 }
 
-/// Takes the next byte of a message, as a push of that byte.
+/// Takes the next byte of a message, as a push of that byte does.
 #[unsafe(no_mangle)]
 pub extern "C" fn jcobs_encoder_feed(
     encoder: &mut UnbufferedEncoder,

@@ -1,4 +1,4 @@
-//! The other decode forms from a source that stays as it is: for any sentinel, and into a vector.
+//! The forms of `decode` for any sentinel, and into a vector.
 ghost use Rattle.std.specs.Prelude.{◌≡◌, ◌≢◌, ◌≤◌, length, List, ℕ, [], IfOk, IfErr, IsOkAnd};
 ghost use Rattle.cobs.specs.Overwritten.{overwritten};
 ghost use Rattle.cobs.specs.Decode.{head_result_within, result_of_sentinel_decode, decoded, decoded_head, IsErrorFor};
@@ -51,8 +51,8 @@ fn decode_blocks(source: &[u8], dest: &mut [u8], sentinel: u8) -> Result<usize, 
 /// - `InvalidFrame` if the frame breaks off inside a block and that message fits: `dest` begins with it, `decoded_bytes`
 ///   says how many bytes these are, and every byte after them is as it was.
 ///
-/// Frames for another sentinel than 0 are Cheshire and Baker's; the results for broken ones are a choice of this
-/// library.
+/// Frames for another sentinel than 0 are from Cheshire and Baker's paper; the results for broken ones are a choice of
+/// this library.
 ///
 /// ```
 /// let mut dest = [170; 5];
@@ -93,8 +93,8 @@ pub fn decode_with_sentinel(
 ///
 /// # Errors
 ///
-/// `Decode(EmptyFrame)` if the source is empty, and then nothing is allocated; else `Memory` if memory ran
-/// out; else `Decode` with the error of [`decode`].
+/// `Decode(EmptyFrame)` if the source is empty, and then nothing is allocated. Otherwise `Memory` if memory ran out, or
+/// `Decode` with the error of [`decode`].
 ///
 /// ```
 /// let message = decode_vec(alloc, b"\x06hello\0")?;

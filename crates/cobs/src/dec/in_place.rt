@@ -32,8 +32,8 @@ fn move_back(buffer: &mut [u8], at: usize, read: usize, len: usize)
 }
 
 impl UnbufferedDecoder {
-    /// Takes the bytes of one step, from `read` on and before `end`, of the buffer that it also writes to. Returns how many:
-    /// as `take_part`, but of a long block also only its first bytes.
+    /// Takes the bytes of one step, from `read` on and before `end`, of the buffer to which it also writes, and returns
+    /// how many. It does what `take_part` does, except that it may take only the first bytes of a long block.
     #[inline(always)]
     fn take_part_in_place(&mut self, buffer: &mut [u8], read: usize, end: usize) -> usize
         requires going { self.old.too_long ≡ 0 }
@@ -73,7 +73,7 @@ impl UnbufferedDecoder {
         len
     }
 
-    /// Takes the bytes from `read` on and before `end`, of the buffer that it also writes to.
+    /// Takes the bytes from `read` on and before `end` of the buffer to which it also writes.
     #[inline]
     fn take_in_place(&mut self, buffer: &mut [u8], read: usize, end: usize)
         requires going { self.old.too_long ≡ 0 }
@@ -133,7 +133,7 @@ fn decode_stretch_in_place(buffer: &mut [u8], len: usize) -> bool
         return false;
     }
     coded[0] = buffer[0];
-    // Read from the copy, the bytes would have to wait until its vectors are stored.
+    // If the bytes were read from the copy, each load would wait until the copy's vectors are stored.
     move_to_front(buffer, 1, len - 1);
     let (_, left) = write_zeros_at_codes(&mut buffer[..len - 1], coded[0] as usize);
     if left != 0 {
@@ -252,7 +252,7 @@ pub fn decode_in_place(buff: &mut [u8]) -> Result<usize, DecodeError>
 ///
 /// First every byte of the buffer is XORed with the sentinel, those after the frame too; then it is decoded as by
 /// [`decode_in_place`], with its errors. So the frame ends at the first sentinel or with the buffer, and a leading
-/// sentinel is read as an empty message. Frames for another sentinel than 0 are Cheshire and Baker's.
+/// sentinel is read as an empty message. Frames for another sentinel than 0 are from Cheshire and Baker's paper.
 ///
 /// ```
 /// let mut buff = [252, 245, 244, 253, 243];

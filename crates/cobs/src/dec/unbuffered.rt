@@ -26,7 +26,7 @@ pub enum DecoderPhase {
 
     /// Inside a piece.
     Within {
-        /// Whether the open block is a full one, which no zero joins to the next.
+        /// Whether the open block is full, so that no zero joins it to the next block.
         is_full: bool,
 
         /// How many bytes of the open block are missing.
@@ -42,9 +42,9 @@ pub enum DecoderPhase {
 
 /// Decodes a stream of frames, each ended by a zero, into a buffer that the caller passes to each call.
 ///
-/// It returns what [`CobsDecoder`](crate::CobsDecoder) does, and has no buffer of its own, only a few words of
-/// state. So one buffer can serve what else a program does between two calls, and a decoder can lie in a struct
-/// beside its buffer, or cross to another language.
+/// It returns what [`CobsDecoder`](crate::CobsDecoder) does, and has no buffer of its own, only a few words of state.
+/// So a program can use the buffer for other data between two pieces, and a decoder can be in a struct together with
+/// its buffer, or be passed to another language.
 ///
 /// While a piece is open, that is from its first byte to the zero that ends it, the caller passes the same buffer to each call
 /// and doesn't change it between two calls. Any other buffer, of any length, is safe too: no call panics, or returns a message
@@ -58,10 +58,11 @@ pub enum DecoderPhase {
 /// assert!(rt; buffer.starts_with(b"hello"));
 /// ```
 ///
-/// Its state is plain numbers, all 0 before a piece begins, with the layout of a struct of C. Every call is safe whatever the
-/// numbers are.
-// No number says whether a piece has begun: a code at its front is read like one after a full block, which no zero joins
-// to anything. So a nonzero byte asks only how much of its block is missing, and a code whether a zero is due.
+/// Its state is plain numbers with the layout of a struct of C, and all are 0 before a piece begins. Every call is safe
+/// for any numbers.
+// No number says whether a piece has begun: a code at the front of a piece is read like one after a full block, with no
+// zero before it. So for a nonzero byte only the number of missing bytes is tested, and for a code whether a zero comes
+// before it.
 #[repr(C)]
 #[derive(Debug, Clone, Copy, PartialEq, Eq)]
 pub struct UnbufferedDecoder {
@@ -226,7 +227,7 @@ impl UnbufferedDecoder {
         self.push_long(dest, bytes)
     }
 
-    /// Does what `push` does, without the test for a short piece.
+    /// Does what `push` does, without its test for a short piece.
     pub(crate) fn push_long(
         &mut self,
         dest: &mut [u8],
@@ -298,8 +299,8 @@ impl UnbufferedDecoder {
         self.feed_piece_long(dest, bytes)
     }
 
-    /// Does what `feed_piece` does, without the tests for short pieces.
-    // Inlined, its registers would be saved for each short piece too.
+    /// Does what `feed_piece` does, without its tests for short pieces.
+    // If it were inlined, registers would be saved for each short piece too.
     #[inline(never)]
     fn feed_piece_long(&mut self, dest: &mut [u8], bytes: &[u8]) -> Option<(PieceEnd, usize)>
         ensures takes { TakesPiece dest.old (phase_of self.old) bytes.now result dest.new (phase_of self.new) }
@@ -307,7 +308,7 @@ impl UnbufferedDecoder {
         let mut taken = 0;
         'by_run: while taken < bytes.len() {
             if self.too_long != 0 {
-                // The piece is too long for the buffer: its bytes are skipped through its zero.
+                // If the piece is too long for the buffer, all bytes through its zero are taken.
                 let rest = &bytes[taken..];
                 let len = position_or_len(rest, 0);
                 if len == rest.len() {
@@ -317,7 +318,7 @@ impl UnbufferedDecoder {
                 return Some((PieceEnd::TooLong, taken + len + 1));
             }
             if bytes[taken] == 0 && self.is_idle() {
-                // As on a line on which nothing is sent.
+                // A zero outside a piece, as on a line on which nothing is sent.
                 taken += 1;
                 continue;
             }

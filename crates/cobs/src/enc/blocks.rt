@@ -15,10 +15,10 @@ use cobs_bytes::window::{WINDOW, copy_at, copy_window, write_row, zeros_at};
 /// Fewer bytes are appended one by one: in the Rust crate that is faster than a window.
 pub(crate) const FEW: usize = 8;
 
-/// The mask of a window that has no byte but zeros.
+/// The mask of a window that has only zeros.
 const ALL_ZEROS: u64 = 0xffff_ffff;
 
-/// The progress with an open block at `index`, whose next byte belongs at `next`.
+/// Returns the progress with an open block at `index`, whose next byte belongs at `next`.
 #[inline(always)]
 fn progress_at(index: usize, next: usize, is_full: bool) -> EncoderProgress
     requires ordered { index < next }
@@ -32,7 +32,7 @@ fn progress_at(index: usize, next: usize, is_full: bool) -> EncoderProgress
     }
 }
 
-/// Whether `len` bytes are at least one and at most a window, and can't fill the open block.
+/// Returns whether `len` bytes are at least one and at most a window, and can't fill the open block.
 #[inline(always)]
 pub(crate) fn fits_window_and_block(progress: EncoderProgress, len: usize) -> bool
     ensures some { IsTrue result → 0 < len }
@@ -42,9 +42,9 @@ pub(crate) fn fits_window_and_block(progress: EncoderProgress, len: usize) -> bo
     0 < len && len <= WINDOW && progress.code as usize + len < FULL_CODE
 }
 
-/// Writes the code of the open block, which the mask's first zero closes. Returns where the next code belongs, and the mask
-/// without that zero. No branch asks whether the mask has a zero: if not, the byte that is written doesn't matter, since the
-/// block stays open.
+/// Writes the code of the open block, which the mask's first zero closes. Returns the index of the next code, and the
+/// mask without that zero. No branch tests whether the mask has a zero. If it has none, the byte that is written
+/// doesn't matter, because the block stays open.
 #[inline(always)]
 fn mark_first(dest: &mut [u8], index: usize, next: usize, zeros: u64) -> (usize, u64)
     requires { IsMask next zeros index dest.old }
@@ -57,8 +57,8 @@ fn mark_first(dest: &mut [u8], index: usize, next: usize, zeros: u64) -> (usize,
     (index, zeros & zeros.wrapping_sub(1))
 }
 
-/// Writes the code at each zero of the mask, two per iteration, because every other byte may be a zero. Returns where the next
-/// code belongs.
+/// Writes the code at each zero of the mask, two per iteration, because every other byte may be a zero. Returns the
+/// index of the next code.
 #[inline(always)]
 fn mark_zeros(dest: &mut [u8], index: usize, next: usize, zeros: u64) -> usize
     requires { IsMask next zeros index dest.old }

@@ -14,8 +14,8 @@ use memchr::memrchr;
 /// The code of a full block, as a byte.
 const FULL: u8 = FULL_CODE as u8;
 
-/// Whether fewer than `spare` blocks become full and are followed by another byte, once the open block with this code has
-/// taken these bytes. Each such block needs one byte of the frame for the code after it.
+/// Returns whether fewer than `spare` blocks become full and are followed by another byte, if the open block with this
+/// code takes these bytes. Each such block needs one byte of the frame for the code after it.
 fn fits_each(code: u8, bytes: &[u8], spare: usize) -> bool
     requires some { 0 < code }
     requires open_block { code < 255 }
@@ -48,8 +48,8 @@ fn covers_overhead(len: usize, spare: usize) -> bool
     len / 128 < spare || len - len / 2 <= 127 * spare
 }
 
-/// Whether `room` bytes, counted from the code of an open block, are enough for the frame once the block has taken these
-/// bytes. It reads the bytes only if their number doesn't decide that.
+/// Returns whether `room` bytes, counted from the code of an open block, are enough for the frame if the block takes
+/// these bytes. It reads the bytes only if their number doesn't decide that.
 #[tactic(auto, using(crate::proofs::encoding::RoomLemmas::counted))]
 pub(crate) fn has_room(code: u8, bytes: &[u8], room: usize) -> bool
     requires some { 0 < code }
@@ -64,8 +64,8 @@ pub(crate) fn has_room(code: u8, bytes: &[u8], room: usize) -> bool
     covers_overhead(held + bytes.len(), spare) || fits_each(code, bytes, spare)
 }
 
-/// Whether `room` bytes, counted from the index of an open block with this code, are enough for the frame once the
-/// block has taken `source`.
+/// Returns whether `room` bytes, counted from the index of an open block with this code, are enough for the frame if
+/// the block takes `source`.
 ///
 /// It counts all full blocks except a last one. A block can't become full if one of its next 254 bytes is a zero, so the
 /// count continues after the last such zero. If there is none, the run fills the block, and has a full block for each 254
