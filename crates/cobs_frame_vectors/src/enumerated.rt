@@ -1,5 +1,5 @@
-//! All lists of a few parts through each call that decodes a whole frame, and as messages, compared with the plain
-//! reference.
+//! Decodes all lists of a few parts with each call for whole frames, encodes them as messages, and compares the results
+//! with the plain reference.
 use crate::slices::{CallResult, Decoder, VectorCall, check_decoder, vector};
 use cobs::{DestBufTooSmallError, FrameKind, frame_kind, try_encode};
 use cobs_vectors::bytes::{LONG_FRAME, LONG_MESSAGE, ONES, chosen, joined, repeated};
@@ -8,7 +8,7 @@ use std::alloc::{AllocError, Global};
 use std::process::Abort;
 use std::test::Fail;
 
-/// This many bytes of 170, written over by the front of the output that fits.
+/// Returns this many bytes of 170, with the output over the first of them, as far as it fits.
 fn written(alloc: Global, output: &[u8], room: usize) -> Result<Vec<u8>, AllocError> {
     let mut filled = output.to_vec(alloc)?;
     filled.resize(filled.len().max(room), 170)?;
@@ -16,7 +16,7 @@ fn written(alloc: Global, output: &[u8], room: usize) -> Result<Vec<u8>, AllocEr
     Ok(filled)
 }
 
-/// `decode` into a buffer of 170s of this length.
+/// Checks `decode` with a buffer of `room` bytes of 170.
 fn check_decode(rt: &impl Abort, alloc: Global, source: &[u8], room: usize) -> Result<(), Fail> {
     let zeros = source.iter().take_while(|byte| **byte == 0).count();
     let (_, behind_zeros) = source.split_at(zeros.min(source.len()));
@@ -49,7 +49,7 @@ fn check_decode(rt: &impl Abort, alloc: Global, source: &[u8], room: usize) -> R
     )
 }
 
-/// `decode_in_place_report`.
+/// Checks `decode_in_place_report`.
 fn check_in_place(rt: &impl Abort, alloc: Global, source: &[u8]) -> Result<(), Fail> {
     let (head, _) = split_at_zero(source);
     let Reading {
@@ -77,7 +77,7 @@ fn check_in_place(rt: &impl Abort, alloc: Global, source: &[u8]) -> Result<(), F
     )
 }
 
-/// `decode_with_sentinel` into a buffer of 170s of this length.
+/// Checks `decode_with_sentinel` with a buffer of `room` bytes of 170.
 fn check_with_sentinel(
     rt: &impl Abort,
     alloc: Global,
@@ -111,8 +111,8 @@ fn check_with_sentinel(
     )
 }
 
-/// `frame_kind`: a frame is a whole piece without zeros, and it is the longer one of two if the encoder writes another one
-/// for its message.
+/// Checks `frame_kind`: a frame is a whole piece without zeros, and it is the longer one of two if the encoder writes
+/// another one for its message.
 fn check_kind(rt: &impl Abort, alloc: Global, source: &[u8]) -> Result<(), Fail> {
     let reading = reading_of(alloc, source)?;
     let wanted = if source.contains(&0) || !reading.is_whole {
@@ -126,7 +126,7 @@ fn check_kind(rt: &impl Abort, alloc: Global, source: &[u8]) -> Result<(), Fail>
     Ok(())
 }
 
-/// Every call that decodes a list, into buffers of these lengths.
+/// Checks every call that decodes a list, with buffers of these lengths.
 fn check_list(rt: &impl Abort, alloc: Global, list: &[u8], rooms: &[usize]) -> Result<(), Fail> {
     check_in_place(rt, alloc, list)?;
     check_kind(rt, alloc, list)?;
@@ -137,7 +137,7 @@ fn check_list(rt: &impl Abort, alloc: Global, list: &[u8], rooms: &[usize]) -> R
     Ok(())
 }
 
-/// All lists of this many of the parts, for each count: the count, and how many lists there are.
+/// Checks all lists of these parts. Each pair of `counts` says how many parts a list has, and how many such lists there are.
 fn check_lists(
     rt: &impl Abort,
     alloc: Global,
@@ -184,7 +184,8 @@ fn a_frame_of_two_thousand_bytes_decodes_as_the_reference_says(
     check_list(&rt, rt.alloc(), &frame, &[1000, 2000, 2001])
 }
 
-/// A message to its frame, into a buffer that is a byte short and one that fits, and as vectors there and back.
+/// Checks the frame of a message, in a buffer that is a byte too short, in one that fits, and as vectors in both
+/// directions.
 fn check_message(rt: &impl Abort, alloc: Global, message: &[u8], frame: &[u8]) -> Result<(), Fail> {
     let room = frame.len().saturating_sub(1);
     let mut short = repeated(alloc, 170, room)?;
@@ -208,7 +209,7 @@ fn check_message(rt: &impl Abort, alloc: Global, message: &[u8], frame: &[u8]) -
     Ok(())
 }
 
-/// All messages of this many of the parts, for each count: the count, and how many messages there are.
+/// Checks all messages of these parts. Each pair of `counts` says how many parts a message has, and how many such messages there are.
 fn check_messages(
     rt: &impl Abort,
     alloc: Global,

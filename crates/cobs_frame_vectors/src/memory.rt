@@ -1,4 +1,4 @@
-//! Out of memory.
+//! Tests of each call with too little memory.
 //!
 //! Each call that allocates has a test of its own, in which it succeeds. `tests/fail-alloc.sh` runs copies in which one
 //! allocation of each test fails: in the first copy the first one, in the second copy the second, and so on. Then the call
@@ -29,7 +29,7 @@ const FRAME_FOR_10: &[u8] = &[9, 0, 1, 8, 6];
 /// A broken frame.
 const BROKEN: &[u8] = &[2, 5, 3, 1];
 
-/// Whether one of the next growths fails.
+/// Returns whether one of the next growths fails.
 fn is_next_failing(alloc: Global) -> bool {
     for _ in 0..1000 {
         if repeated(alloc, 0, 1).is_err() {
@@ -39,8 +39,8 @@ fn is_next_failing(alloc: Global) -> bool {
     false
 }
 
-/// Checks that the call returned out of memory exactly if one of its own allocations failed: then none fails after it, as
-/// only one does in each test. If so, the test ends with the words `out of memory`.
+/// Checks that the call returned an error for memory exactly if one of its own allocations failed: then no later one
+/// fails, because only one does in each test. If so, the test ends with the words `out of memory`.
 fn check_growths(rt: &impl Abort, alloc: Global, returned: Result<(), AllocError>) {
     let has_failed = ONE_GROWTH_FAILS && !is_next_failing(alloc);
     assert_eq!(rt;
@@ -51,7 +51,7 @@ fn check_growths(rt: &impl Abort, alloc: Global, returned: Result<(), AllocError
     assert!(rt; !has_failed, "out of memory");
 }
 
-/// A call that returns a vector gives this vector or this error, or is out of memory.
+/// Checks that a call which returns a vector returns this vector or this error, or is out of memory.
 fn find_vector(
     rt: &impl Abort,
     alloc: Global,
@@ -67,7 +67,7 @@ fn find_vector(
     Ok(())
 }
 
-/// The same of `encode_frames`.
+/// Checks that `encode_frames` returns the frames, or is out of memory.
 fn find_frames(rt: &impl Abort, alloc: Global) -> Result<(), AllocError> {
     let messages = [Vec::new(alloc), [0].to_vec(alloc)?, [1, 2].to_vec(alloc)?];
     let found = encode_few(rt, alloc, &messages)?;
@@ -78,7 +78,7 @@ fn find_frames(rt: &impl Abort, alloc: Global) -> Result<(), AllocError> {
 /// Over two bytes: a piece that is too long, a message, a broken piece, and the empty message.
 const STREAM: [u8; 14] = [4, 7, 8, 9, 0, 2, 5, 0, 3, 1, 0, 0, 1, 0];
 
-/// Whether these are the outcomes of the stream over two bytes.
+/// Returns whether these are the outcomes of the stream over two bytes.
 fn are_its_outcomes(outcomes: &[FrameOutcome]) -> bool {
     match outcomes {
         [
@@ -91,7 +91,7 @@ fn are_its_outcomes(outcomes: &[FrameOutcome]) -> bool {
     }
 }
 
-/// The outcomes of the stream, or out of memory and then an idle decoder.
+/// Checks that `decode_stream` returns the outcomes of the stream, or is out of memory and leaves an idle decoder.
 fn find_outcomes<D: FrameDecoder + Drop>(
     rt: &impl Abort,
     alloc: Global,
@@ -109,7 +109,7 @@ fn find_outcomes<D: FrameDecoder + Drop>(
     }
 }
 
-/// The decoder begins a new piece, and there is memory.
+/// Checks that the decoder begins a new piece, now that there is memory.
 fn check_idle<D: FrameDecoder + Drop>(rt: &impl Abort, alloc: Global, mut decoder: D) {
     match decode_stream(alloc, &mut decoder, &[2, 5, 0]) {
         Ok(outcomes) => match outcomes.as_slice() {
@@ -122,14 +122,14 @@ fn check_idle<D: FrameDecoder + Drop>(rt: &impl Abort, alloc: Global, mut decode
     }
 }
 
-/// The same of a decoder with a buffer of its own, which allocates when it is made.
+/// Checks the outcomes with a decoder that owns its buffer, which allocates when it is made.
 fn find_owned(rt: &impl Abort, alloc: Global) -> Result<(), AllocError> {
     let decoder = CobsDecoderOwned::new(alloc, 2)?;
     assert_eq!(rt; decoder.dest(), [0, 0].as_slice());
     find_outcomes(rt, alloc, decoder)
 }
 
-/// The call that returns a vector in a test of its own.
+/// Checks a call that returns a vector, in a test of its own.
 fn check_vector(
     rt: &impl Abort,
     alloc: Global,

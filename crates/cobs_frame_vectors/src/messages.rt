@@ -3,7 +3,7 @@ use cobs::{encode_frames, max_encoding_length};
 use std::alloc::{AllocError, Global};
 use std::process::Abort;
 
-/// The empty message, a zero, and two bytes.
+/// Returns three messages: the empty one, a zero, and two bytes.
 pub fn three_messages(alloc: Global) -> Result<Vec<Vec<u8>>, AllocError> {
     let mut messages = Vec::new(alloc);
     messages.push(Vec::new(alloc))?;
@@ -12,7 +12,7 @@ pub fn three_messages(alloc: Global) -> Result<Vec<Vec<u8>>, AllocError> {
     Ok(messages)
 }
 
-/// `encode_frames` of messages that are few and short enough.
+/// Encodes messages that are few and short enough by `encode_frames`.
 pub fn encode_few(
     rt: &impl Abort,
     alloc: Global,

@@ -26,7 +26,7 @@ pub enum VectorCall {
     DecodeWithSentinel(u8),
 }
 
-/// What a call that decodes returns.
+/// The result of a call that decodes.
 #[derive(Clone, Copy, Debug, PartialEq, Eq)]
 pub enum CallResult {
     /// This many bytes were written.
@@ -45,7 +45,7 @@ pub enum CallResult {
     TooSmall,
 }
 
-/// The error of a decoder.
+/// Returns the error of a decoder in words of this table.
 pub fn rejected(error: &DecodeError) -> CallResult {
     match error {
         DecodeError::EmptyFrame => CallResult::EmptyFrame,
@@ -54,7 +54,7 @@ pub fn rejected(error: &DecodeError) -> CallResult {
     }
 }
 
-/// The result of a decoder that counts bytes.
+/// Returns the result of a decoder that counts bytes.
 fn counted(returned: Result<usize, DecodeError>) -> CallResult {
     match returned {
         Ok(count) => CallResult::Length(count),
@@ -62,7 +62,7 @@ fn counted(returned: Result<usize, DecodeError>) -> CallResult {
     }
 }
 
-/// The result of a decoder that reports sizes.
+/// Returns the result of a decoder that reports sizes.
 fn reported(returned: Result<DecodeReport, DecodeError>) -> CallResult {
     match returned {
         Ok(report) => CallResult::Sizes(report.frame_size(), report.parsed_size()),
@@ -79,7 +79,7 @@ fn decoded(call: Decoder, source: &[u8], buffer: &mut [u8]) -> CallResult {
     }
 }
 
-/// Makes the call, with this source (nothing in place) and the buffer before it: its result, and the buffer after it.
+/// Makes the call with this source (none in place) and this buffer, and compares its result and the buffer after it.
 pub fn check_decoder(
     rt: &impl Abort,
     alloc: Global,

@@ -3,14 +3,14 @@ use cobs::{DecodeError, DecodeResult, DecoderState};
 use std::process::Abort;
 use std::test::Fail;
 
-/// The 513 states: idle, and in a block of either kind with 0 to 255 bytes left to come.
+/// The 513 states: idle, and in a block of either kind with 0 to 255 bytes missing.
 #[derive(Clone, Copy, Debug, PartialEq, Eq)]
 enum State {
     Idle,
     InBlock { full: bool, left: u8 },
 }
 
-/// The result of a byte.
+/// The result for a byte.
 #[derive(Clone, Copy, Debug, PartialEq, Eq)]
 enum CallResult {
     NoData,
@@ -20,7 +20,7 @@ enum CallResult {
     Rejected,
 }
 
-/// The decoder's state for one of this table.
+/// Returns the decoder's state for a state of this table.
 fn built(state: State) -> DecoderState {
     match state {
         State::Idle => DecoderState::Idle,
@@ -29,7 +29,7 @@ fn built(state: State) -> DecoderState {
     }
 }
 
-/// The same, backwards.
+/// Returns the state of this table for a decoder's state.
 fn seen(state: &DecoderState) -> State {
     match state {
         DecoderState::Idle => State::Idle,
@@ -44,7 +44,7 @@ fn seen(state: &DecoderState) -> State {
     }
 }
 
-/// What the decoder returned, in words of this table.
+/// Returns the decoder's result in words of this table.
 fn known_result(returned: &Result<DecodeResult, DecodeError>) -> Option<CallResult> {
     match returned {
         Ok(DecodeResult::NoData) => Some(CallResult::NoData),
@@ -56,7 +56,7 @@ fn known_result(returned: &Result<DecodeResult, DecodeError>) -> Option<CallResu
     }
 }
 
-/// The result that is wanted.
+/// Returns the expected result.
 fn wanted_result(state: State, byte: u8) -> CallResult {
     match (state, byte) {
         (State::Idle, 0) => CallResult::NoData,
@@ -81,7 +81,7 @@ fn wanted_result(state: State, byte: u8) -> CallResult {
     }
 }
 
-/// The state that is wanted afterwards.
+/// Returns the expected state after the byte.
 fn wanted_state(state: State, byte: u8) -> State {
     match state {
         _ if byte == 0 => State::Idle,

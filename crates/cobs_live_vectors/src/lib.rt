@@ -1,5 +1,5 @@
-//! Tests of `cobs_live`: readers and writers that give little, are interrupted, or fail, which no contract speaks of; and
-//! callers that use its promise to show a piece before the next read.
+//! Tests of `cobs_live`: readers and writers that pass on few bytes, are interrupted, or fail, about which no contract
+//! says anything; and callers that use its promise to show a piece before the next read.
 #![tactic(auto)]
 
 pub mod recorder;

@@ -1,4 +1,4 @@
-//! An input that records how much had been written at each read, and what `cobs_live` promises of it.
+//! An input that records how many bytes had been written at each read, and callers that prove it.
 ghost use Rattle.std.specs.Prelude.{◌≡◌, [], List, ℕ, Some};
 ghost use Rattle.std.specs.Io.Buffered.{writer_buffer, writer_inner};
 ghost use Rattle.cobs_live.specs.Live.{HoldsText};
@@ -16,7 +16,7 @@ use std::alloc::Global;
 use std::io::{self, BufRead, BufWriter, Read};
 use std::rt::Clock;
 
-/// Reads from some bytes, and keeps how many had been written when it was read last.
+/// Reads from some bytes, and keeps how many had been written at the last read.
 #[derive(Drop)]
 pub struct Recorder<'a> {
     pub bytes: &'a [u8],
@@ -56,7 +56,7 @@ impl LiveLines<Vec<u8>> for Recorder<'_> {
     }
 }
 
-/// Shows a stream that is recorded: at the last read, the text of all that had ended was written.
+/// Shows a stream, and records it: at the last read, the text of all pieces that had ended was written.
 pub fn show_recorded<C: Clock + Drop>(
     alloc: Global,
     settings: &Settings,
@@ -82,7 +82,7 @@ pub fn show_recorded<C: Clock + Drop>(
     )
 }
 
-/// Sends lines that are recorded: when the last line was asked for, the frames of those before it were written.
+/// Sends lines, and records them: when the last line was read, the frames of those before it were written.
 pub fn send_recorded(
     alloc: Global,
     settings: &send::Settings,

@@ -13,7 +13,7 @@ use cobs_live::shown::{View, show_piece, sight_of, sum_law};
 use std::alloc::Global;
 use std::io::Write;
 
-/// Shows what is sent of a message with the checksum of the view: it is shown as that message.
+/// Shows the frame of a message that is sent with the checksum of the view. It is shown as that message.
 pub fn show_sent<W: Write>(
     alloc: Global,
     output: &mut W,

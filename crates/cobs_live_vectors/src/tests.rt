@@ -1,4 +1,5 @@
-//! What the contracts don't say: that calls succeed, and the results if readers and writers fail or give little.
+//! Tests of facts that no contract says: that calls succeed, and the results if readers and writers fail or pass on few
+//! bytes.
 
 mod faults;
 mod live;
@@ -23,7 +24,7 @@ use std::time::Duration;
 /// Four pieces, for a buffer of four bytes, and the start of a fifth.
 const STREAM: &[u8] = b"\x00\x03\x07\x08\x00\x05\x01\x00\x06\x01\x02\x03\x04\x05\x00\x03hi\x00\x02";
 
-/// How they are shown, by style; in a capture with the time of their one read, 250 ms after the start.
+/// The text that is shown for them, by style; in a capture with the time of their one read, 250 ms after the start.
 const SHOWN: [(Style, &[u8]); 7] = [
     (
         Style::Hex,
@@ -107,8 +108,8 @@ const TIMED: [(Style, Stamp, &[u8]); 4] = [
     ),
 ];
 
-/// A broken piece, one that is too long for four bytes, one that decodes to nothing, and a message, with what was
-/// decoded of each.
+/// A broken piece, one that is too long for four bytes, one that decodes to no byte, and a message, with the decoded
+/// bytes of each.
 const PARTIAL: [(Style, &[u8]); 5] = [
     (
         Style::Hex,
@@ -137,7 +138,7 @@ const PARTIAL: [(Style, &[u8]); 5] = [
     ),
 ];
 
-/// Lines, and what they are sent as.
+/// Lines, and the frames that are sent for them.
 const SENT: [(bool, &[u8], &[u8], bool); 3] = [
     (
         false,
@@ -160,7 +161,7 @@ const SILENT: Counting = Counting {
     every: None,
 };
 
-/// Gives one byte a read. The read numbered `failing`, from 0 on, fails.
+/// Returns one byte per read. The read numbered `failing`, from 0 on, fails.
 #[derive(Drop)]
 struct ByteReader<'a> {
     bytes: &'a [u8],
@@ -183,7 +184,7 @@ impl Read for ByteReader<'_> {
     }
 }
 
-/// Is 250 ms later at each reading.
+/// A clock that is 250 ms later at each reading.
 #[derive(Drop)]
 struct StepClock {
     readings: Cell<u64>,
@@ -209,7 +210,7 @@ fn timer_in(stamp: Stamp, zone: TimeZone<'_>) -> io::Result<Timer<'_, StepClock>
     Timer::new(clock(), stamp, zone)
 }
 
-/// Sleeps for no time, and is 250 ms later at each reading.
+/// Makes a clock that sleeps for no time, and is 250 ms later at each reading.
 fn clock() -> StepClock {
     StepClock {
         readings: Cell::new(3),
@@ -225,7 +226,7 @@ fn reader(bytes: &[u8], failing: usize, fault: ErrorKind) -> ByteReader<'_> {
     }
 }
 
-/// How each piece is shown in a style, with a buffer of four bytes.
+/// Returns settings that show each piece in a style, with a buffer of four bytes.
 fn settings(alloc: Global, style: Style, stamp: Stamp) -> Settings {
     Settings {
         view: View {
@@ -252,7 +253,7 @@ fn settings(alloc: Global, style: Style, stamp: Stamp) -> Settings {
     }
 }
 
-/// How many bytes of the text are written once this many bytes of the stream have come.
+/// Returns how many bytes of the text are written after this many bytes of the stream were read.
 fn written_after(read: usize) -> usize {
     match read {
         0..5 => 0,

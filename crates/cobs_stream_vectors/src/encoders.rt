@@ -6,7 +6,7 @@ use std::alloc::Global;
 use std::process::Abort;
 use std::test::Fail;
 
-/// Encodes the message that these are the pieces of.
+/// Encodes a message that comes in these pieces.
 fn encode_pieces(rt: &impl Abort, pieces: &[&[u8]], slice: &mut [u8]) -> usize {
     assert!(rt; !slice.is_empty());
     let mut encoder = CobsEncoder::new(slice);
@@ -29,8 +29,8 @@ pub fn encode_in_pieces(
     Ok(encode_pieces(rt, &pieces, slice))
 }
 
-/// The message in two pieces, with an empty one between and one after, gives the frame, in a slice of just its bytes and
-/// in one with a byte more, which is unchanged.
+/// Checks that the message in two pieces, with an empty one between and one after, has this frame, in a slice of its
+/// length and in one with a byte more, which is unchanged.
 fn check_two_pieces<'a>(
     rt: &impl Abort,
     alloc: Global,
@@ -73,7 +73,7 @@ fn the_frame_is_the_same_for_pieces_of_any_size(rt: HostRuntime) -> Result<(), F
     Ok(())
 }
 
-/// All messages of this many of the parts, for each count: the count, and how many messages there are.
+/// Checks all messages of these parts. Each pair of `counts` says how many parts a message has, and how many such messages there are.
 fn check_messages(
     rt: &impl Abort,
     alloc: Global,

@@ -1,4 +1,4 @@
-//! All lists of a few parts through each streaming decoder, compared with the plain reference.
+//! Decodes all lists of a few parts with each streaming decoder, and compares the results with the plain reference.
 use crate::streaming::{CallResult, Check, StreamingDecoder, check_all, fed};
 use cobs::{FrameOutcome, decode_stream};
 use cobs_vectors::bytes::{LONG_FRAME, ONES, chosen, joined};
@@ -7,7 +7,7 @@ use std::alloc::{AllocError, Global};
 use std::process::Abort;
 use std::test::Fail;
 
-/// Bytes to a streaming decoder of `room` bytes.
+/// Bytes that are fed to a streaming decoder over `room` bytes.
 #[derive(Drop)]
 struct Fed<'a> {
     list: &'a [u8],
@@ -60,14 +60,14 @@ impl Check for Fed<'_> {
     }
 }
 
-/// Bytes and a zero, as a stream to a decoder of `room` bytes.
+/// Bytes and a zero, as a stream for a decoder over `room` bytes.
 #[derive(Drop)]
 struct Streamed<'a> {
     list: &'a [u8],
     room: usize,
 }
 
-/// The outcomes of the pieces of a stream, in a buffer of `room` bytes.
+/// Returns the outcomes of the pieces of a stream, in a buffer of `room` bytes.
 fn outcomes_of(alloc: Global, stream: &[u8], room: usize) -> Result<Vec<FrameOutcome>, AllocError> {
     let mut outcomes = Vec::new(alloc);
     let mut rest = stream;
@@ -111,8 +111,8 @@ impl Check for Streamed<'_> {
     }
 }
 
-/// Each decoder over buffers of these lengths. Only a short list is fed byte by byte: there the reference reads each
-/// front anew.
+/// Checks each decoder with buffers of these lengths. Only a short list is fed byte by byte, because the reference
+/// reads each front again.
 fn check_list(rt: &impl Abort, alloc: Global, list: &[u8], rooms: &[usize]) -> Result<(), Fail> {
     for room in rooms {
         check_all(rt, alloc, *room, &Streamed { list, room: *room })?;
@@ -123,7 +123,7 @@ fn check_list(rt: &impl Abort, alloc: Global, list: &[u8], rooms: &[usize]) -> R
     Ok(())
 }
 
-/// All lists of this many of the parts, for each count: the count, and how many lists there are.
+/// Checks all lists of these parts. Each pair of `counts` says how many parts a list has, and how many such lists there are.
 fn check_lists(
     rt: &impl Abort,
     alloc: Global,

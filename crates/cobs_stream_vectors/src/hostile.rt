@@ -1,11 +1,11 @@
-//! Decoders in states that no careful caller brings about.
+//! Tests of decoders in states that no careful caller causes.
 use crate::streaming::{CallResult, Check, StreamingDecoder, check_all, feed_all, overwrite};
 use cobs_vectors::bytes::{ONES, Parts, joined};
 use std::alloc::Global;
 use std::process::Abort;
 use std::test::Fail;
 
-/// Over a buffer of this many bytes: bytes that lead from idle to each phase.
+/// For a buffer of this many bytes, bytes that lead from idle to each phase.
 const FRONTS: [(usize, Parts); 10] = [
     // idle, at the start and after a frame
     (4, &[]),
@@ -23,7 +23,7 @@ const FRONTS: [(usize, Parts); 10] = [
     (4, &[&[6, 1, 2, 3, 4, 5]]),
 ];
 
-/// The bytes after the write.
+/// The bytes that follow the write.
 const BEHIND: [&[u8]; 5] = [&[], &[1], &[3], &[2, 9], &[7, 8, 9, 1, 1, 1]];
 
 /// A buffer that is written to inside a piece: whatever the results are, the decoder is idle after the next zero.
@@ -34,7 +34,7 @@ struct Written<'a> {
     is_pushed: bool,
 }
 
-/// Gives the decoder bytes whose results don't matter.
+/// Passes bytes to the decoder whose results don't matter.
 fn give<D: StreamingDecoder>(decoder: &mut D, bytes: &[u8], is_pushed: bool) {
     if is_pushed {
         let _ = decoder.push_some(bytes);
@@ -124,7 +124,7 @@ fn a_decoder_forgets_at_a_zero_and_at_a_reset(rt: HostRuntime) -> Result<(), Fai
     check_fronts(&rt, rt.alloc(), &FRONTS, &BEHIND)
 }
 
-/// What is written to the buffer inside a piece is in its message, and stays at a reset.
+/// The bytes that are written to the buffer inside a piece are in its message, and stay after a reset.
 #[derive(Drop)]
 struct Overwritten;
 

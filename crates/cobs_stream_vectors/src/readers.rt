@@ -1,4 +1,5 @@
-//! Frames from readers that fail, that end and that never end, by a table. `conformance/reader.txt` has more reads.
+//! Tests of frames from readers that fail, that end and that never end, as a table. `conformance/reader.txt` has more
+//! reads.
 use cobs::{
     CobsDecoder, CobsDecoderHeapless, CobsDecoderOwned, FrameDecoder, FrameReader, FrameSource,
     Next, ReadFault, Recorded,
@@ -9,7 +10,7 @@ use std::io::Read;
 use std::process::Abort;
 use std::test::Fail;
 
-/// What a reader gives.
+/// The bytes that a reader returns, and how.
 #[derive(Clone, Copy)]
 enum Given {
     /// The bytes, at most this many per read.
@@ -32,7 +33,7 @@ struct Counted {
     reads: usize,
 }
 
-/// The reader that gives this.
+/// Returns the reader for this row.
 fn reader_of(given: Given) -> Counted {
     let (zeros, bytes, at_a_time, second_fails) = match given {
         Given::Bytes(bytes, at_a_time) => (0, bytes, at_a_time, None),
@@ -68,7 +69,7 @@ impl Read for Counted {
     }
 }
 
-/// What a call of `next_frame` finds.
+/// The result of a call of `next_frame`.
 #[derive(Clone, Copy)]
 enum Found {
     Message(&'static [u8]),
@@ -79,7 +80,7 @@ enum Found {
     TooManyReads,
 }
 
-/// The result that says so.
+/// Returns the result of `next_frame` in this row.
 fn result_of(found: Found) -> Result<Next, ReadFault> {
     match found {
         Found::Message(message) => Ok(Next::Message(message.len())),
@@ -91,7 +92,7 @@ fn result_of(found: Found) -> Result<Next, ReadFault> {
     }
 }
 
-/// What a reader gives, what each call finds in it, and how often it has been read then.
+/// A reader, the result of each call, and how often it has been read then.
 type ReaderRow = (Given, &'static [Found], usize);
 
 /// Finds the frames of a reader.
@@ -131,7 +132,7 @@ const END: Found = Found::End { unfinished: false };
 /// A stream with a message, a broken piece, one that is too long for four bytes, and a message.
 const DAMAGED: &[u8] = &[0, 3, 7, 8, 0, 5, 1, 0, 6, 1, 2, 3, 4, 5, 0, 2, 9, 0];
 
-/// What is found in it.
+/// The outcomes of that stream.
 const OUTCOMES: &[Found] = &[
     Found::Message(&[7, 8]),
     Found::Broken(1),
@@ -180,7 +181,7 @@ const READERS: [&[ReaderRow]; 12] = [
         &[Found::Io, Found::Message(&[5]), END],
         5,
     )],
-    // each call gives up on endless zeros, after the most reads that it makes
+    // each call ends after the most reads that it makes, if zeros never end
     &[(Given::Zeros(u64::MAX, &[]), &[Found::TooManyReads], 65_536)],
     &[(
         Given::Zeros(u64::MAX, &[]),

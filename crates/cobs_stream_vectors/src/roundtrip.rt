@@ -1,4 +1,4 @@
-//! From messages to frames and back, in pieces.
+//! Tests of messages that are encoded and decoded again, in pieces.
 use crate::encoders::encode_in_pieces;
 use crate::streaming::{CallResult, Check, StreamingDecoder, check_all, feed_all, pushed};
 use cobs::{CobsDecoder, CobsDecoderHeapless, CobsDecoderOwned, max_encoding_length};
@@ -7,7 +7,7 @@ use std::alloc::Global;
 use std::process::Abort;
 use std::test::Fail;
 
-/// The bytes from `first` to `2 * first - 1`, each modulo 256.
+/// Returns the bytes from `first` to `2 * first - 1`, each modulo 256.
 fn ascending_from(alloc: Global, first: u16) -> Result<Vec<u8>, Fail> {
     let mut bytes = Vec::new(alloc);
     for number in first..first.saturating_mul(2) {
@@ -16,7 +16,7 @@ fn ascending_from(alloc: Global, first: u16) -> Result<Vec<u8>, Fail> {
     Ok(bytes)
 }
 
-/// Encodes the message pushed by 17 bytes, decodes its frame pushed by 11, and a sentinel fed.
+/// Encodes the message in pushes of 17 bytes, decodes its frame in pushes of 11, and feeds a sentinel.
 ///
 /// Test of the original crate: `stream_roundtrip`, for messages of 1 to 1,000 bytes.
 fn check_stream(rt: &impl Abort, alloc: Global, message: &[u8]) -> Result<(), Fail> {
@@ -46,7 +46,7 @@ fn streams_go_there_and_back(rt: HostRuntime) -> Result<(), Fail> {
     Ok(())
 }
 
-/// A frame of two blocks or more in pieces of one size, and then a sentinel.
+/// A frame of two blocks or more, in pieces of one size, and then a sentinel.
 #[derive(Drop)]
 struct Pieces<'a> {
     frame: &'a [u8],
@@ -55,8 +55,8 @@ struct Pieces<'a> {
 }
 
 impl Check for Pieces<'_> {
-    /// Each piece finds nothing or is an error, and the sentinel gets the result. Once a piece was an error, so is each
-    /// one after it. The buffer then holds what of the message fits.
+    /// Checks that each piece has no result or is an error, and that the sentinel has the result. After a piece that
+    /// was an error, each later one is an error too. The buffer then has the bytes of the message that fit.
     fn check<D: StreamingDecoder + Drop>(
         &self,
         rt: &impl Abort,
@@ -121,8 +121,8 @@ fn pieces_of_any_size_give_the_message_or_overflow(rt: HostRuntime) -> Result<()
     Ok(())
 }
 
-/// Tests of the original crate: `stream_continuously_heapless` and `test_decoder_heapless_push_function`. Those of the
-/// other decoders are in `conformance/`, whose program knows this one only over four bytes.
+/// Tests of the original crate: `stream_continuously_heapless` and `test_decoder_heapless_push_function`. The same
+/// tests of the other decoders are in `conformance/`, whose program has this decoder only with four bytes.
 #[test]
 fn the_decoder_with_its_buffer_inside(rt: HostRuntime) {
     let mut decoder = CobsDecoderHeapless::<32>::new();

@@ -8,7 +8,7 @@ use std::alloc::Global;
 use std::process::Abort;
 use std::test::Fail;
 
-/// A streaming decoder, by its own methods beside those of the library's traits.
+/// A streaming decoder, with methods that the library's traits don't have.
 pub trait StreamingDecoder: FrameDecoder + WriteBuffer {
     fn feed_one(&mut self, byte: u8) -> Result<Option<usize>, DecodeError>;
 
@@ -16,10 +16,10 @@ pub trait StreamingDecoder: FrameDecoder + WriteBuffer {
 
     fn whole_buffer(&self) -> &[u8];
 
-    /// Whether the buffer begins with these bytes, read by `dest` and by `dest_mut`.
+    /// Returns whether the buffer begins with these bytes, by `dest` and by `dest_mut`.
     fn begins_with(&mut self, bytes: &[u8]) -> bool;
 
-    /// Resets the decoder, and says whether it can be reset.
+    /// Resets the decoder, and returns whether it can be reset.
     fn begin_anew(&mut self) -> bool;
 }
 
@@ -91,7 +91,7 @@ impl StreamingDecoder for CobsDecoderOwned {
     }
 }
 
-/// What is tested of a new streaming decoder, whichever of the three it is.
+/// A test of a new streaming decoder, for each of the three.
 pub trait Check {
     fn check<D: StreamingDecoder + Drop>(
         &self,
@@ -133,7 +133,7 @@ pub fn check_all(
     }
 }
 
-/// What a call returns.
+/// The result of a call.
 #[derive(Clone, Copy, Debug, PartialEq, Eq)]
 pub enum CallResult {
     /// Nothing is wrong, and no message has ended.
@@ -149,7 +149,7 @@ pub enum CallResult {
     TooSmall,
 }
 
-/// The error of a decoder.
+/// Returns the error of a decoder in words of these tests.
 fn rejected(error: &DecodeError) -> CallResult {
     match error {
         DecodeError::EmptyFrame => CallResult::Nothing,
@@ -158,7 +158,7 @@ fn rejected(error: &DecodeError) -> CallResult {
     }
 }
 
-/// The result for a byte.
+/// Returns the result for a byte.
 pub fn fed(returned: Result<Option<usize>, DecodeError>) -> CallResult {
     match returned {
         Ok(None) => CallResult::Nothing,
@@ -167,7 +167,7 @@ pub fn fed(returned: Result<Option<usize>, DecodeError>) -> CallResult {
     }
 }
 
-/// The result for this many bytes, and how many of them were consumed.
+/// Returns the result for this many bytes, and how many of them were consumed.
 pub fn pushed(
     returned: Result<Option<DecodeReport>, PushError>,
     count: usize,
@@ -182,7 +182,7 @@ pub fn pushed(
     }
 }
 
-/// Feeds the bytes, and returns the last result. Each before it has to be that nothing has ended.
+/// Feeds the bytes, and returns the last result. Each earlier result has to be that no piece has ended.
 pub fn feed_all<D: StreamingDecoder>(rt: &impl Abort, decoder: &mut D, bytes: &[u8]) -> CallResult {
     let mut last = CallResult::Nothing;
     for byte in bytes {

@@ -6,7 +6,7 @@ use std::alloc::{AllocError, Global};
 use std::process::Abort;
 use std::test::Fail;
 
-/// An outcome that is wanted.
+/// An expected outcome.
 #[derive(Clone, Copy, Debug)]
 enum Wanted {
     Message(&'static [u8]),
@@ -14,7 +14,7 @@ enum Wanted {
     TooLong,
 }
 
-/// The outcomes that are wanted.
+/// Returns the expected outcomes.
 fn outcomes_of(alloc: Global, wanted: &[Wanted]) -> Result<Vec<FrameOutcome>, AllocError> {
     let mut outcomes = Vec::new(alloc);
     for outcome in wanted {
@@ -129,8 +129,8 @@ fn push_all<D: StreamingDecoder>(
     panic!(rt; "a push consumed nothing");
 }
 
-/// The case in one, two and three calls of `decode_stream`, cut at every place and pair of places, and pushed in two
-/// parts, cut at every place. The stream ends with a zero, so the decoder is idle after each round.
+/// A case in one, two and three calls of `decode_stream`, cut at every place and pair of places, and in two pushes, cut
+/// at every place. The stream ends with a zero, so the decoder is idle after each round.
 #[derive(Drop)]
 struct Cuts {
     case: Case,
@@ -178,7 +178,7 @@ impl Check for Cuts {
     }
 }
 
-/// Cuts each stream.
+/// Checks each stream, cut at each place.
 fn check_cuts(rt: &impl Abort, alloc: Global, cases: &[Case]) -> Result<(), Fail> {
     for case in cases {
         let (room, _, _) = *case;
@@ -247,8 +247,8 @@ const PLACES: [(usize, usize, bool); 13] = [
     (16, 3, false),
 ];
 
-/// A stream that differs from the damaged one in one of its pieces has the outcomes of the others, and this many of its
-/// own.
+/// Checks that a stream which differs from the damaged one in one of its pieces has the outcomes of the other pieces,
+/// and this many of its own.
 fn check_damage(
     rt: &impl Abort,
     alloc: Global,
@@ -275,7 +275,7 @@ fn check_damage(
     )
 }
 
-/// Writes a byte of the list, which is there.
+/// Writes a byte of the list, at an index that is there.
 fn write_at(rt: &impl Abort, list: &mut Vec<u8>, at: usize, byte: u8) {
     assert!(rt; at < list.len());
     list[at] = byte;
@@ -313,7 +313,7 @@ fn damage_changes_the_outcome_of_its_own_piece_alone(rt: HostRuntime) -> Result<
     check_places(&rt, rt.alloc(), (&DAMAGED, &OUTCOMES), &PLACES)
 }
 
-/// Each front of the stream has the outcomes of the pieces that end in it.
+/// Checks that each front of the stream has the outcomes of the pieces that end in it.
 fn check_fronts(
     rt: &impl Abort,
     alloc: Global,

@@ -1,4 +1,4 @@
-//! Readers that give little, writers that accept little, and both if they are interrupted or fail.
+//! Tests with readers that return few bytes, writers that accept few bytes, and both if they are interrupted or fail.
 ghost use Rattle.std.specs.Prelude.{◌≡◌, []};
 ghost use Rattle.std.specs.Io.Buffered.{writer_buffer};
 
@@ -15,7 +15,7 @@ use std::cell::Cell;
 use std::io::{self, BufWriter, ErrorKind, Write};
 use std::test::Fail;
 
-/// Takes one byte a write. The write numbered `failing`, from 0 on, fails.
+/// Accepts one byte per write. The write numbered `failing`, from 0 on, fails.
 #[derive(Drop)]
 struct ByteWriter {
     bytes: Vec<u8>,
@@ -84,7 +84,7 @@ fn one_byte_a_read_and_a_write_shows_the_same(rt: HostRuntime) -> Result<(), Fai
     Ok(())
 }
 
-/// The line of a piece that has begun, as its input ends or fails.
+/// The line for a piece that has begun when its input ends or fails.
 const UNFINISHED: &[u8] = b"unfinished\n";
 
 #[test]
@@ -125,7 +125,7 @@ fn a_failed_write_ends_a_run(rt: HostRuntime) -> Result<(), Fail> {
     Ok(())
 }
 
-/// Opens a line that gives these bytes. Every second attempt to open it succeeds, three in all.
+/// Opens a line with these bytes. Every second attempt to open it succeeds, three in all.
 #[derive(Drop)]
 struct Plug<'a> {
     bytes: &'a [u8],
@@ -166,10 +166,10 @@ fn a_line_is_opened_again_after_a_hang_up(rt: HostRuntime) -> Result<(), Fail> {
     Ok(())
 }
 
-/// A frame, at each of whose bytes the line may hang up.
+/// A frame; the line may hang up at each of its bytes.
 const CUT: &[u8] = b"\x03ab\x05cdef\x00";
 
-/// How a hang-up is shown by style: nothing had begun, or a frame had.
+/// The text for a hang-up by style: if no frame had begun, and if one had.
 const HUNG_UP: [(Style, &[u8], &[u8]); 7] = [
     (Style::Hex, b"hung up\n", b"unfinished\nhung up\n"),
     (Style::Text, b"hung up\n", b"unfinished\nhung up\n"),
@@ -184,7 +184,7 @@ const HUNG_UP: [(Style, &[u8], &[u8]); 7] = [
     ),
 ];
 
-/// Opens a line once that gives these bytes.
+/// Opens a line with these bytes, once.
 #[derive(Drop)]
 struct Rest<'a> {
     bytes: &'a [u8],

@@ -1,4 +1,4 @@
-//! What had been written when the next bytes were asked for, at each cut of a stream in two.
+//! Tests of the bytes that had been written when the next ones were read, for each cut of a stream in two.
 
 use super::{SENT, STREAM, settings, timer, written_after};
 use crate::recorder::{Recorder, send_recorded, show_recorded};

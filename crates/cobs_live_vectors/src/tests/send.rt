@@ -1,4 +1,4 @@
-//! What lines are sent as, and checksums.
+//! Tests of the frames that are sent for lines, and of checksums.
 
 use super::{SENT, SILENT, reader, settings, timer};
 use cobs_live::checksum::Checksum;
@@ -11,7 +11,7 @@ use cobs_live::shown::Style;
 use std::io::{BufReader, BufWriter, ErrorKind};
 use std::test::Fail;
 
-/// Checksums of the digits 1 to 9, as the catalogue of parametrised CRC algorithms has them, highest byte first.
+/// Checksums of the digits 1 to 9, as in the catalogue of parametrised CRC algorithms, the highest byte first.
 const SUMS: [(Crc, &[u8]); 8] = [
     (Crc::Crc8, b"\xF4"),
     (Crc::Crc16CcittFalse, b"\x29\xB1"),
