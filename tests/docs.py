@@ -26,7 +26,7 @@ usage: tests/docs.py [--write]
 - The drawing and the table of crates of docs/ARCHITECTURE.md are what docs/architecture.py makes of the manifests (facts.py).
 
 Only files that git tracks are read. It prints what differs, and the status is then 1. It also prints hints
-at words that have a plainer one, and what grew since the last commit, or in it if nothing is changed (growth.py); these change
+at words that have a plainer one and at comments of functions that don't begin with a verb, and what grew since the last commit, or in it if nothing is changed (growth.py); these change
 no status.
 """
 import re
@@ -206,7 +206,7 @@ def main():
         said.append(f"{CALLING.relative_to(TOP)}: its contracts are not those of src; tests/docs.py --write writes them")
     said += [*layout.complaints(), *prose.complaints(), *facts.complaints()]
     grown = [f"grew: {line}" for line in growth.since_parent()]
-    hints = [f"hint: {line}" for line in prose.unplain_words()]
+    hints = [f"hint: {line}" for line in (*prose.unplain_words(), *prose.comments_without_verb())]
     print(*grown, *hints, sep="\n", end="\n" * bool(grown or hints))
     print("\n".join(said) if said else "each public item has an example that is run; the documents name and quote what is there")
     return 1 if said else 0

@@ -117,6 +117,22 @@ def unplain_words():
                     yield f"{name}:{number}: '{found[0].strip()}': plainer may be: {plain}"
 
 
+FUNCTION = re.compile(r'^ */// ?(.*)\n(?: *(?://|#\[).*\n)* *(?:pub(?:\(crate\))? )?(?:extern "C" )?fn (\w+)', re.M)
+
+
+def comments_without_verb():
+    """A hint for each function whose doc comment doesn't begin with a verb in the third person; a law's begins with its title."""
+    for name in files():
+        if not re.fullmatch(r"crates/(?!cobs_doc_vectors/)[^/]+/src/.*\.rt", name):
+            continue
+        text = (TOP / name).read_text()
+        for found in FUNCTION.finditer(text):
+            first, function = found.groups()
+            if not re.match(r"[A-Z]\w*s\b(?<!This)(?<!Its)", first) and "law" not in function.split("_"):
+                number = text[: found.start()].count("\n") + 1
+                yield f"{name}:{number}: the comment of {function}: begin with a verb: Returns, Writes, Checks"
+
+
 def code_lines(name):
     """The lines of a source or a specification without comments and strings, and without the public names that stay."""
     comment, is_public = r"(?:^|\s)--(?:\s.*)?$" if name.endswith(".antt") else r"//.*$", False
