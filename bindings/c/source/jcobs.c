@@ -293,7 +293,8 @@ static JCOBS_INLINE size_t jcobs_held(const jcobs_decoder *decoder, size_t room)
     return decoder->written < room ? decoder->written : room;
 }
 
-/* The result of a call that succeeded: this many bytes taken, and this many at the front of the buffer. */
+/* Returns the result of a call that succeeded: this many bytes were taken, and this many are at the front of the
+ * buffer. */
 static jcobs_answer jcobs_done(size_t consumed, size_t length)
 {
     return jcobs_answered(JCOBS_OK, consumed, length);
@@ -317,7 +318,8 @@ static JCOBS_INLINE jcobs_answer jcobs_result_of(const jcobs_decoder *decoder, j
     }
 }
 
-/* Takes bytes of a stream of frames for this sentinel through the one that ends the first piece, or all of them. */
+/* Takes bytes of a stream of frames for this sentinel, through the sentinel that ends the first piece, or all of
+ * them. */
 static JCOBS_INLINE jcobs_answer jcobs_decode_each(jcobs_decoder *decoder, unsigned char *buffer, size_t buffer_len,
                                                    const unsigned char *bytes, size_t bytes_len, unsigned char sentinel)
 {
@@ -326,7 +328,7 @@ static JCOBS_INLINE jcobs_answer jcobs_decode_each(jcobs_decoder *decoder, unsig
     return jcobs_result_of(decoder, found, bytes_len, buffer_len);
 }
 
-/* Takes bytes of the stream through the zero that ends the first piece, or all of them. Even if the state is
+/* Takes bytes of the stream, through the zero that ends the first piece, or all of them. Even if the state is
  * corrupt, the buffer keeps its length, and the counts are within the bytes and the buffer.
  * Proved, by the contract in decoder.rt: the result, the state and the buffer are those that the definition of the
  * stream has after these bytes, however it is cut into calls. In every state consumed and length are within bytes
@@ -357,7 +359,7 @@ static JCOBS_INLINE jcobs_outcome jcobs_decoder_feed_inside(jcobs_decoder *decod
     return jcobs_decoder_step(decoder, dest, dest_len, byte);
 }
 
-/* Returns the result of a call that took these bytes, into a buffer of room bytes, by how the piece has ended. */
+/* Returns the result of a call that took these bytes, into a buffer of room bytes, given how the piece has ended. */
 static jcobs_answer jcobs_result_for_end(size_t consumed, size_t room, jcobs_outcome end)
 {
     JCOBS_STATUS status;
@@ -439,7 +441,7 @@ static JCOBS_INLINE jcobs_answer jcobs_decode_byte(jcobs_decoder *decoder, unsig
     return jcobs_result_of(decoder, jcobs_found_of(end.kind, end.count, 1), 1, room);
 }
 
-/* Takes one byte of the stream, as a push of that byte.
+/* Takes one byte of the stream, as a push of that byte does.
  * Proved, by the contract in decoder.rt: the result, the state and the buffer are those that the definition of the
  * stream has after these bytes, however it is cut into calls. In every state consumed and length are within bytes
  * and buffer. */
@@ -457,23 +459,23 @@ static size_t jcobs_max_encoding_overhead(size_t source_len)
     return source_len / 254 + (source_len % 254 != 0 ? 1 : 0);
 }
 
-/* Returns how many bytes the longest frame of a message of message_len bytes has, or 0 if that number doesn't fit.
+/* Returns the length of the longest frame of a message of message_len bytes, or 0 if that number doesn't fit.
  * Proved, by the contract in encode.rt: the result is that number if it is below 2 to the 64th, and 0 if not. */
 size_t jcobs_max_length(size_t message_len)
 {
     return jcobs_sum_or(message_len, jcobs_max_encoding_overhead(message_len), 0);
 }
 
-/* Whether spare bytes cover the overhead of every message of len bytes: whether len is at most 254 times spare. It
- * needs no division, for which small processors have no instruction. So that no product is too large, it compares
- * halves, and only if spare isn't clearly enough. */
+/* Returns whether spare bytes cover the overhead of every message of len bytes: whether len is at most 254 times
+ * spare. It needs no division, for which small processors have no instruction. So that no product is too large, it
+ * compares halves, and only if spare isn't clearly enough. */
 static JCOBS_INLINE int jcobs_covers_overhead(size_t len, size_t spare)
 {
     return len / 128 < spare || len - len / 2 <= 127 * spare;
 }
 
-/* Whether fewer than spare blocks become full and are followed by another byte, once the open block with this code
- * has taken these bytes. Each such block needs one byte of the frame for the code after it. */
+/* Returns whether fewer than spare blocks become full and are followed by another byte, if the open block with
+ * this code takes these bytes. Each such block needs one byte of the frame for the code after it. */
 static int jcobs_fits_each(unsigned char code, const unsigned char *bytes, size_t bytes_len, size_t spare)
 {
     size_t left = spare;
@@ -491,7 +493,7 @@ static int jcobs_fits_each(unsigned char code, const unsigned char *bytes, size_
     return 1;
 }
 
-/* Whether room bytes, counted from the code of an open block, are enough for the frame once the block has taken
+/* Returns whether room bytes, counted from the code of an open block, are enough for the frame if the block takes
  * these bytes. It reads the bytes only if their number doesn't decide that. */
 static int jcobs_has_room(unsigned char code, const unsigned char *bytes, size_t bytes_len, size_t room)
 {
@@ -562,7 +564,7 @@ static JCOBS_NOINLINE size_t jcobs_write_frame(const unsigned char *message, siz
     return 0;
 }
 
-/* The result of a call that consumed and wrote nothing, since the buffer is too short. */
+/* Returns the result of a call that consumed and wrote nothing, because the buffer is too short. */
 static jcobs_answer jcobs_too_small(void)
 {
     return jcobs_answered(JCOBS_TOO_SMALL, 0, 0);
@@ -649,7 +651,7 @@ static JCOBS_INLINE size_t jcobs_close(unsigned char *dest, size_t dest_len, jco
     return index + (size_t)code;
 }
 
-/* Returns how far the encoder has come. */
+/* Returns the encoder's progress: how much of the frame is in the buffer. */
 static jcobs_progress jcobs_encoder_progress(const jcobs_encoder *encoder)
 {
     return jcobs_progress_of(encoder->index, (unsigned char)(encoder->taken + 1), encoder->full != 0);
@@ -668,8 +670,8 @@ static size_t jcobs_encode_in_place_inside(unsigned char *buffer, size_t buffer_
     return jcobs_close(buffer, buffer_len, jcobs_encoder_progress(&encoder));
 }
 
-/* Encodes the message of message_len bytes that lies in the buffer, in its own place, if the longest frame of such
- * a message fits. */
+/* Encodes the message of message_len bytes that is in the buffer, in place, if the longest frame of a message of
+ * that length fits. */
 static jcobs_answer jcobs_encode_within(unsigned char *buffer, size_t buffer_len, size_t message_len)
 {
     size_t room = buffer_len;
@@ -681,8 +683,8 @@ static jcobs_answer jcobs_encode_within(unsigned char *buffer, size_t buffer_len
     return jcobs_done(message_len, length);
 }
 
-/* Encodes the message of message_len bytes that lies in the buffer, after the room for the longest frame's other
- * bytes, to the front of the buffer, if the longest frame fits. Otherwise nothing is written.
+/* Encodes the message of message_len bytes that is in the buffer, after the room for the other bytes of the
+ * longest frame, to the front of the buffer, if the longest frame fits. Otherwise nothing is written.
  * Proved, by the contract in encode.rt: if the longest frame fits, the buffer begins with the message's, and bytes
  * after that are as they were; if it doesn't, the status is TOO_SMALL, and the buffer is as it was. */
 jcobs_answer jcobs_encode_in_place(void *buffer, size_t buffer_len, size_t message_len)
@@ -699,7 +701,7 @@ void jcobs_encoder_reset(jcobs_encoder *encoder)
     encoder->full = 0;
 }
 
-/* Whether a frame can have come so far in a buffer of this length. */
+/* Returns whether this progress is possible in a buffer of this length. */
 static JCOBS_INLINE int jcobs_encoder_is_within(const jcobs_encoder *encoder, size_t len)
 {
     if (253 < encoder->taken || len < encoder->index) {
@@ -747,7 +749,7 @@ static JCOBS_INLINE size_t jcobs_end_of(const jcobs_encoder *encoder)
     return progress.is_full ? progress.index : progress.index + (size_t)progress.code;
 }
 
-/* Takes the next bytes of a message, if the frame of all that was taken fits the buffer. */
+/* Takes the next bytes of a message, if the frame of all bytes so far fits the buffer. */
 static jcobs_answer jcobs_encode_each(jcobs_encoder *encoder, unsigned char *buffer, size_t buffer_len,
                                       const unsigned char *bytes, size_t bytes_len)
 {
@@ -757,7 +759,7 @@ static jcobs_answer jcobs_encode_each(jcobs_encoder *encoder, unsigned char *buf
     return jcobs_done(bytes_len, jcobs_end_of(encoder));
 }
 
-/* Takes the next bytes of a message, if the frame of all that was taken fits the buffer. Even if the state is
+/* Takes the next bytes of a message, if the frame of all bytes so far fits the buffer. Even if the state is
  * corrupt, the buffer keeps its length, and the counts are within the bytes and the buffer.
  * Proved, by the contract in encoder.rt: the status is OK exactly if the frame of all that was taken and these
  * bytes fits. If it isn't OK, the state and the buffer are as they were. In every state consumed and length are
@@ -781,7 +783,7 @@ static JCOBS_INLINE int jcobs_encoder_feed_inside(jcobs_encoder *encoder, unsign
     return 1;
 }
 
-/* Takes the next byte of a message, if the frame of all that was taken fits the buffer. */
+/* Takes the next byte of a message, if the frame of all bytes so far fits the buffer. */
 static jcobs_answer jcobs_encode_byte(jcobs_encoder *encoder, unsigned char *buffer, size_t buffer_len,
                                       unsigned char byte)
 {
@@ -791,7 +793,7 @@ static jcobs_answer jcobs_encode_byte(jcobs_encoder *encoder, unsigned char *buf
     return jcobs_done(1, jcobs_end_of(encoder));
 }
 
-/* Takes the next byte of a message, as a push of that byte.
+/* Takes the next byte of a message, as a push of that byte does.
  * Proved, by the contract in encoder.rt: the status is OK exactly if the frame of all that was taken and these
  * bytes fits. If it isn't OK, the state and the buffer are as they were. In every state consumed and length are
  * within bytes and buffer. */
@@ -800,7 +802,7 @@ jcobs_answer jcobs_encoder_feed(jcobs_encoder *encoder, void *buffer, size_t buf
     return jcobs_encode_byte(encoder, (unsigned char *)buffer, buffer_len, byte);
 }
 
-/* Makes the encoder one that has taken nothing. */
+/* Puts the encoder back to the start: it has then taken nothing. */
 static void jcobs_encoder_reset_inside(jcobs_encoder *encoder)
 {
     encoder->index = 0;
@@ -809,7 +811,7 @@ static void jcobs_encoder_reset_inside(jcobs_encoder *encoder)
 }
 
 /* Ends the message, and returns the length of its encoded frame in bytes. The buffer begins with that frame, and
- * the encoder has taken nothing. Every byte after the frame is as it was. */
+ * the encoder is ready for the next message. Every byte after the frame is as it was. */
 static jcobs_outcome jcobs_encoder_finalize(jcobs_encoder *encoder, unsigned char *dest, size_t dest_len)
 {
     if (!jcobs_encoder_is_within(encoder, dest_len)) {
@@ -867,8 +869,8 @@ jcobs_answer jcobs_encoder_finish_terminated(jcobs_encoder *encoder, void *buffe
     return jcobs_finish_terminated(encoder, (unsigned char *)buffer, buffer_len);
 }
 
-/* The result of a decoding call that took this many bytes, into a buffer of room bytes, by the message's length or
- * the error. */
+/* Returns the result of a decoding call that took this many bytes, into a buffer of room bytes, given the
+ * message's length or the error. */
 static jcobs_answer jcobs_result_by(size_t consumed, size_t room, jcobs_outcome size)
 {
     JCOBS_STATUS status;
@@ -959,7 +961,7 @@ static JCOBS_NOINLINE jcobs_outcome jcobs_decode_blocks_each(unsigned char *buff
     return jcobs_outcome_of(JCOBS_IS_OK, written);
 }
 
-/* Decodes the frame at the front of the buffer in its own place.
+/* Decodes the frame at the front of the buffer in place.
  * Proved, by the contract in in_place.rt: the result and every byte of the buffer depend only on the buffer, as
  * COBS is defined. */
 jcobs_answer jcobs_decode_in_place(void *buffer, size_t buffer_len)
@@ -997,7 +999,7 @@ static enum jcobs_frame_kind jcobs_kind_by_blocks(const unsigned char *bytes, si
     return JCOBS_FRAME_KIND_NOT_A_FRAME;
 }
 
-/* Returns whether the bytes are a frame, and which one of its message.
+/* Returns whether the bytes are a frame, and which one of their message.
  * Proved, by the contract in kind.rt: the result is NOT_A_FRAME exactly if the bytes are no frame, and CANONICAL
  * exactly if they are the one that encoders write. */
 unsigned int jcobs_frame_kind(const void *bytes, size_t len)

@@ -42,7 +42,7 @@ pub fn len_to_zero(bytes: &[u8]) -> usize
     bytes.len() - rest.len()
 }
 
-/// Where the first zero of a source is, or the source's length if there is none.
+/// Returns the index of the first zero of a source, or the source's length if there is none.
 #[inline(always)]
 pub(crate) fn zero_or_len(source: &[u8]) -> usize
     ensures within { result ≤ length source.now }
@@ -75,9 +75,9 @@ pub(crate) fn len_without_end(source: &[u8], sentinel: u8) -> usize
     }
 }
 
-/// The length of the source before a zero among its first 66 bytes, or its whole length if none was found there: in a source of
-/// 32 to 63 bytes only the first 32 are searched, and in one of 64 or 65 bytes the first 64.
-// A second search for the others would cost a source that has its zero at the end, as a frame that is pushed alone.
+/// Returns the length of the source before a zero among its first 66 bytes, or its whole length if none was found there. In a
+/// source of 32 to 63 bytes only the first 32 are searched, and in one of 64 or 65 bytes the first 64.
+// A second search, of the other bytes, would make a source slower whose zero is at its end, such as a frame in a push of its own.
 #[inline(always)]
 pub(crate) fn front_len(source: &[u8]) -> usize
     ensures within { result ≤ length source.now }

@@ -1,4 +1,4 @@
-//! Whole frames to messages.
+//! Decodes whole frames.
 ghost use Rattle.std.specs.Prelude.{◌≡◌};
 ghost use Rattle.cobs_abi.specs.Decode.{Decodes};
 ghost use Rattle.cobs_small.specs.End.{result_for_end};
@@ -8,7 +8,7 @@ use cobs::laws::{law_1, law_9, law_10, law_12, law_14};
 use cobs::{PieceEnd, UnbufferedDecoder};
 use cobs_abi::{Answer, BROKEN, EMPTY, MORE, TOO_SMALL, done};
 
-/// Returns the result of a call that took these bytes, into a buffer of `room` bytes, by how the piece has ended.
+/// Returns the result of a call that took these bytes, into a buffer of `room` bytes, given how the piece has ended.
 fn result_for_end(consumed: usize, room: usize, end: Option<PieceEnd>) -> Answer
     ensures { result ≡ result_for_end consumed room end }
 {

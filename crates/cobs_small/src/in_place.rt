@@ -1,11 +1,11 @@
-//! A frame that is decoded in its own place.
+//! Decodes a frame in its own buffer.
 ghost use Rattle.cobs_abi.specs.Decode.{DecodesInPlace};
 
 use cobs::laws::law_12;
 use cobs::{DecodeError, decode_blocks_each, len_to_zero};
 use cobs_abi::{Answer, result_by};
 
-/// Decodes the frame at the front of the buffer in its own place.
+/// Decodes the frame at the front of the buffer in place.
 #[unsafe(no_mangle)]
 pub extern "C" fn jcobs_decode_in_place(buffer: &mut [u8]) -> Answer
     ensures decodes { DecodesInPlace buffer.old result buffer.new }

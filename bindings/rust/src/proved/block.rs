@@ -1,8 +1,8 @@
 // Made by bindings/rust/translate.py from `crates/cobs/src/block.rt`: change that file, and run it again.
-//! What encoders and decoders both know of blocks.
+//! Constants of blocks that encoders and decoders share.
 
-/// The code of a full block, which is how many bytes the block has with its code.
+/// The code of a full block, which is the number of its bytes, the code included.
 pub(crate) const FULL_CODE: usize = 255;
 
-/// How many bytes a full block has after its code.
+/// The number of bytes of a full block after its code.
 pub(crate) const FULL_BLOCK_BYTES: usize = FULL_CODE - 1;

@@ -36,10 +36,10 @@ pub use vector::{encode_vec, encode_vec_including_sentinels, encode_vec_with_sen
 
 /// Writes the encoded frame of `source` to the front of `dest`, and returns its length in bytes.
 ///
-/// A frame is made of blocks, as Cheshire and Baker's paper has them. If the message's last run of nonzero bytes
-/// has a positive length divisible by 254, two frames stand for the message, one of them with a `1` more at its end:
-/// this writes the shorter one, which is a choice of ours. No byte of the frame is the sentinel 0, and no sentinel is
-/// written. The bytes of `dest` after the frame stay as they were.
+/// The frame consists of blocks, as in Cheshire and Baker's paper. If the message's last run of nonzero bytes has a
+/// positive length divisible by 254, the message has two frames, and the longer one has a `1` more at its end. This
+/// function writes the shorter one, which is a choice of this library. No byte of the frame is the sentinel 0, and no
+/// sentinel is written. The bytes of `dest` after the frame stay as they were.
 ///
 /// Precondition: the frame fits `dest`. It always fits [`max_encoding_length`](crate::max_encoding_length) of the
 /// message's length. [`try_encode`] tests the room itself.
@@ -64,7 +64,7 @@ pub fn encode(source: &[u8], dest: &mut [u8]) -> usize {
     encode_long(source, dest)
 }
 
-/// Does what [`encode`] does, for any length. It is a function of its own, so that a short message saves no registers for
+/// Does what [`encode`] does, for any length. It is a separate function, so that a short message saves no registers for
 /// the loop.
 #[inline(never)]
 fn encode_long(source: &[u8], dest: &mut [u8]) -> usize {
@@ -124,7 +124,7 @@ fn encode_block(source: &[u8], dest: &mut [u8], sentinel: u8) -> usize {
 }
 
 /// Encodes a message of 1 to 4 bytes for this sentinel if its frame fits. Otherwise it returns `None`, and nothing has changed.
-// It has an arm for each length, so that compilers write the loops out.
+// It has a match arm for each length, so that compilers unroll the loops.
 #[inline(always)]
 fn encode_few(source: &[u8], dest: &mut [u8], sentinel: u8) -> Option<usize> {
     if dest.len() <= source.len() {

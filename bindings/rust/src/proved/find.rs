@@ -1,10 +1,10 @@
 // Made by bindings/rust/translate.py from `crates/cobs/src/find.rt`: change that file, and run it again.
-//! Where pieces begin and end.
+//! Searches for the beginning and the end of pieces.
 
 use crate::proved::cobs_bytes::window::{WIDE_WINDOW, WINDOW, first_zero, has_vectors, zeros_at};
 use memchr::memchr;
 
-/// Where the first such byte of a source is, or the source's length if there is none.
+/// Returns the index of the first such byte of a source, or the source's length if there is none.
 pub(crate) fn position_or_len(source: &[u8], byte: u8) -> usize {
     memchr(byte, source).unwrap_or(source.len())
 }
@@ -33,7 +33,7 @@ pub fn len_to_zero(bytes: &[u8]) -> usize {
     bytes.len() - rest.len()
 }
 
-/// Where the first zero of a source is, or the source's length if there is none.
+/// Returns the index of the first zero of a source, or the source's length if there is none.
 #[inline(always)]
 pub(crate) fn zero_or_len(source: &[u8]) -> usize {
     if !has_vectors() {
@@ -45,7 +45,7 @@ pub(crate) fn zero_or_len(source: &[u8]) -> usize {
     }
 }
 
-/// The length of the source without a sentinel that ends it.
+/// Returns the length of the source without a sentinel at its end.
 #[inline(always)]
 pub(crate) fn len_without_end(source: &[u8], sentinel: u8) -> usize {
     let last = source.len() - 1;
@@ -56,9 +56,9 @@ pub(crate) fn len_without_end(source: &[u8], sentinel: u8) -> usize {
     }
 }
 
-/// The length of the source before a zero among its first 66 bytes, or its whole length if none was found there: in a source of
-/// 32 to 63 bytes only the first 32 are searched, and in one of 64 or 65 bytes the first 64.
-// A second search for the others would cost a source that has its zero at the end, as a frame that is pushed alone.
+/// Returns the length of the source before a zero among its first 66 bytes, or its whole length if none was found there. In a
+/// source of 32 to 63 bytes only the first 32 are searched, and in one of 64 or 65 bytes the first 64.
+// A second search, of the other bytes, would make a source slower whose zero is at its end, such as a frame in a push of its own.
 #[inline(always)]
 pub(crate) fn front_len(source: &[u8]) -> usize {
     if source.len() < WINDOW {

@@ -112,8 +112,8 @@ fn decode_blocks_in_place(buffer: &mut [u8], end: usize) -> Result<usize, Decode
     message_len(progress.written, whole)
 }
 
-/// Decodes the first `len` bytes of the buffer, if these are 2 to 65 and a frame, and returns whether it did. If not, every byte
-/// stays: they are copied first, and put back if the frame is broken.
+/// Decodes the first `len` bytes of the buffer, if they are 2 to 65 bytes and a frame, and returns whether it did. Otherwise
+/// no byte changes: the bytes are copied before, and put back if the frame is broken.
 #[inline(always)]
 fn decode_stretch_in_place(buffer: &mut [u8], len: usize) -> bool
     requires within { len ≤ length buffer.old }
@@ -194,8 +194,7 @@ pub fn decode_in_place_report(buf: &mut [u8]) -> Result<DecodeReport, DecodeErro
 
 /// Decodes a short frame as [`decode_in_place_report`] does, or returns `None` and leaves the buffer as it was.
 ///
-/// It decodes a buffer that has 2 to 65 bytes before its first zero, which are a whole frame, and at most this zero after
-/// them.
+/// It decodes a buffer if the 2 to 65 bytes before its first zero are a whole frame, and nothing follows that zero.
 /// If the target has vectors, [`decode_in_place_report`] calls it first. It calls nothing itself, as
 /// [`decode_short`](crate::decode_short). (A choice of this library.)
 ///

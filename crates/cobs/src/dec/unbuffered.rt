@@ -76,10 +76,10 @@ pub struct UnbufferedDecoder {
     pub too_long: u8,
 }
 
-/// For up to this many bytes, a step for each costs less than a search among them.
+/// Up to this many bytes, a step for each byte is faster than a search.
 const FEW: usize = 16;
 
-/// For up to this many bytes, a step for each costs less than the tests before a copy in vectors.
+/// Up to this many bytes, a step for each byte is faster than the tests before a copy in vectors.
 const VERY_FEW: usize = 4;
 
 /// No piece has begun.
@@ -308,7 +308,7 @@ impl UnbufferedDecoder {
         let mut taken = 0;
         'by_run: while taken < bytes.len() {
             if self.too_long != 0 {
-                // If the piece is too long for the buffer, all bytes through its zero are taken.
+                // The piece is too long for the buffer: its bytes are skipped through its zero.
                 let rest = &bytes[taken..];
                 let len = position_or_len(rest, 0);
                 if len == rest.len() {

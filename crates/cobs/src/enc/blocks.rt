@@ -256,7 +256,8 @@ fn append_long_run(
     (read + 1, progress_at(next, next + 1, false))
 }
 
-/// Takes a `source` whose first run has `run` bytes: that run, then in turn windows up to the next long run, and that run.
+/// Takes a `source` whose first run has `run` bytes: first that run, and then repeatedly windows up to the next long run, and
+/// that run.
 #[inline(never)]
 #[tactic(auto, using(crate::proofs::encoding::TakingLemmas::next_steps))]
 pub(crate) fn append_rest(

@@ -37,7 +37,7 @@ fn fits_each(code: u8, bytes: &[u8], spare: usize) -> bool
     true
 }
 
-/// Whether `spare` bytes cover the overhead of every message of `len` bytes: whether `len` is at most 254 times `spare`. It
+/// Returns whether `spare` bytes cover the overhead of every message of `len` bytes: whether `len` is at most 254 times `spare`. It
 /// needs no division, for which small processors have no instruction. So that no product is too large, it compares halves, and
 /// only if `spare` isn't clearly enough.
 #[inline(always)]

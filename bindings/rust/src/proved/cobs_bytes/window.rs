@@ -3,13 +3,14 @@
 
 use crate::simd::*;
 
-/// How many bytes a whole window has.
+/// The number of bytes of a whole window.
 pub const WINDOW: usize = 32;
 
-/// How many bytes two windows have, which is the most that short data is copied or moved by.
+/// The number of bytes of two windows. Data of up to this length is copied or moved in vectors.
 pub const WIDE_WINDOW: usize = 64;
 
-/// Whether the target has vectors that make short data faster. If not, a loop over bytes is faster, and much smaller.
+/// Returns whether the target has vectors that make short data faster. If not, a loop over bytes is faster, and much
+/// smaller.
 // It has no clause, so that its callers are proved for both kinds of target.
 #[inline(always)]
 pub fn has_vectors() -> bool {
@@ -41,7 +42,7 @@ macro_rules! by_width {
 
 pub(crate) use by_width;
 
-/// Which of the `N` bytes from `at` on are zeros.
+/// Returns which of the `N` bytes from `at` on are zeros.
 #[inline(always)]
 pub fn zeros_at<const N: usize>(bytes: &[u8], at: usize) -> u64 {
     Simd::<u8, N>::from_slice(&bytes[at..])
@@ -57,14 +58,14 @@ pub fn copy_at<const N: usize>(source: &[u8], read: usize, dest: &mut [u8], at: 
     bytes.simd_eq(Simd::splat(0)).to_bitmask()
 }
 
-/// Which of `N` to `2 * N` bytes are zeros, as two parts that may overlap.
+/// Returns which of `N` to `2 * N` bytes are zeros, as two parts that may overlap.
 #[inline(always)]
 fn zeros_of_two<const N: usize>(source: &[u8]) -> u64 {
     let rest = source.len() - N;
     zeros_at::<N>(source, 0) | (zeros_at::<N>(source, rest) << rest)
 }
 
-/// Which of up to 64 bytes are zeros.
+/// Returns which of up to 64 bytes are zeros.
 #[inline(always)]
 fn zeros_of(bytes: &[u8]) -> u64 {
     by_width!(bytes.len(), zeros_of_two(bytes))
@@ -101,7 +102,7 @@ pub fn copy_window(source: &[u8], dest: &mut [u8], at: usize) -> u64 {
     }
 }
 
-/// Whether the 32 bytes from `at` on are all this one.
+/// Returns whether the 32 bytes from `at` on are all equal to this one.
 #[inline(always)]
 pub fn is_all(bytes: &[u8], at: usize, byte: u8) -> bool {
     u8x32::from_slice(&bytes[at..])

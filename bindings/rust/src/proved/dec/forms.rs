@@ -1,5 +1,5 @@
 // Made by bindings/rust/translate.py from `crates/cobs/src/dec/forms.rt`: change that file, and run it again.
-//! The other decode forms from a source that stays as it is: for any sentinel, and into a vector.
+//! The forms of `decode` for any sentinel, and into a vector.
 
 use crate::proved::block::FULL_BLOCK_BYTES;
 use crate::proved::cobs_bytes::window::WIDE_WINDOW;
@@ -40,8 +40,8 @@ fn decode_blocks(source: &[u8], dest: &mut [u8], sentinel: u8) -> Result<usize, 
 /// - `InvalidFrame` if the frame breaks off inside a block and that message fits: `dest` begins with it, `decoded_bytes`
 ///   says how many bytes these are, and every byte after them is as it was.
 ///
-/// Frames for another sentinel than 0 are Cheshire and Baker's; the results for broken ones are a choice of this
-/// library.
+/// Frames for another sentinel than 0 are from Cheshire and Baker's paper; the results for broken ones are a choice of
+/// this library.
 ///
 /// ```
 /// # use jcobs::proved::*;
@@ -77,8 +77,8 @@ pub fn decode_with_sentinel(
 ///
 /// # Errors
 ///
-/// `Decode(EmptyFrame)` if the source is empty, and then nothing is allocated; else `Memory` if memory ran
-/// out; else `Decode` with the error of [`decode`].
+/// `Decode(EmptyFrame)` if the source is empty, and then nothing is allocated. Otherwise `Memory` if memory ran out, or
+/// `Decode` with the error of [`decode`].
 ///
 /// ```
 /// # use jcobs::proved::*;

@@ -18,8 +18,8 @@ fn move_back(buffer: &mut [u8], at: usize, read: usize, len: usize) {
 }
 
 impl UnbufferedDecoder {
-    /// Takes the bytes of one step, from `read` on and before `end`, of the buffer that it also writes to. Returns how many:
-    /// as `take_part`, but of a long block also only its first bytes.
+    /// Takes the bytes of one step, from `read` on and before `end`, of the buffer to which it also writes, and returns
+    /// how many. It does what `take_part` does, except that it may take only the first bytes of a long block.
     #[inline(always)]
     fn take_part_in_place(&mut self, buffer: &mut [u8], read: usize, end: usize) -> usize {
         let code = buffer[read];
@@ -45,7 +45,7 @@ impl UnbufferedDecoder {
         len
     }
 
-    /// Takes the bytes from `read` on and before `end`, of the buffer that it also writes to.
+    /// Takes the bytes from `read` on and before `end` of the buffer to which it also writes.
     #[inline]
     fn take_in_place(&mut self, buffer: &mut [u8], read: usize, end: usize) {
         let mut at = read;
@@ -67,8 +67,8 @@ fn decode_blocks_in_place(buffer: &mut [u8], end: usize) -> Result<usize, Decode
     message_len(progress.written, whole)
 }
 
-/// Decodes the first `len` bytes of the buffer, if these are 2 to 65 and a frame, and returns whether it did. If not, every byte
-/// stays: they are copied first, and put back if the frame is broken.
+/// Decodes the first `len` bytes of the buffer, if they are 2 to 65 bytes and a frame, and returns whether it did. Otherwise
+/// no byte changes: the bytes are copied before, and put back if the frame is broken.
 #[inline(always)]
 fn decode_stretch_in_place(buffer: &mut [u8], len: usize) -> bool {
     let mut coded = [0; WIDE_WINDOW + 1];
@@ -79,7 +79,7 @@ fn decode_stretch_in_place(buffer: &mut [u8], len: usize) -> bool {
         return false;
     }
     coded[0] = buffer[0];
-    // Read from the copy, the bytes would have to wait until its vectors are stored.
+    // If the bytes were read from the copy, each load would wait until the copy's vectors are stored.
     move_to_front(buffer, 1, len - 1);
     let (_, left) = write_zeros_at_codes(&mut buffer[..len - 1], coded[0] as usize);
     if left != 0 {
@@ -136,8 +136,7 @@ pub fn decode_in_place_report(buf: &mut [u8]) -> Result<DecodeReport, DecodeErro
 
 /// Decodes a short frame as [`decode_in_place_report`] does, or returns `None` and leaves the buffer as it was.
 ///
-/// It decodes a buffer that has 2 to 65 bytes before its first zero, which are a whole frame, and at most this zero after
-/// them.
+/// It decodes a buffer if the 2 to 65 bytes before its first zero are a whole frame, and nothing follows that zero.
 /// If the target has vectors, [`decode_in_place_report`] calls it first. It calls nothing itself, as
 /// `decode_short`.
 ///
@@ -185,7 +184,7 @@ pub fn decode_in_place(buff: &mut [u8]) -> Result<usize, DecodeError> {
 ///
 /// First every byte of the buffer is XORed with the sentinel, those after the frame too; then it is decoded as by
 /// [`decode_in_place`], with its errors. So the frame ends at the first sentinel or with the buffer, and a leading
-/// sentinel is read as an empty message. Frames for another sentinel than 0 are Cheshire and Baker's.
+/// sentinel is read as an empty message. Frames for another sentinel than 0 are from Cheshire and Baker's paper.
 ///
 /// ```
 /// # use jcobs::proved::*;

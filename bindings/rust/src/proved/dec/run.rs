@@ -138,9 +138,9 @@ impl UnbufferedDecoder {
         *self = begun;
     }
 
-    /// Takes the code at the front of a piece and the bytes after it at once, if they are 2 to 65 bytes that end the piece or 2 to
-    /// 31 others, none is a zero and they have room. Returns whether it did. More bytes than that are worth a search. `zeros` is 0
-    /// only if no zero follows them.
+    /// Takes the code at the front of a piece and the bytes after it at once, and returns whether it did. It takes 2 to
+    /// 65 bytes if they end the piece, and otherwise 2 to 31, if none of them is a zero and they have room. With more
+    /// bytes a search is faster. `zeros` is 0 only if no zero follows these bytes.
     #[inline(always)]
     pub(crate) fn take_begun(&mut self, dest: &mut [u8], bytes: &[u8], zeros: usize) -> bool {
         let len = bytes.len();

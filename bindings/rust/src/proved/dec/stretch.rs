@@ -59,9 +59,9 @@ pub(crate) fn decode_stretch(source: &[u8], dest: &mut [u8], sentinel: u8) -> Op
     Some(left)
 }
 
-/// Returns how many of a piece's last bytes to decode, and whether the piece is whole. They are all of them if it is;
-/// otherwise those through the code of the broken last block, whose bytes aren't kept. In these last bytes, the first
-/// `left` belong to a block that began before them. Each byte is XORed with the sentinel.
+/// Returns how many of a piece's last bytes to decode, and whether the piece is whole. If it is whole, these are all of
+/// them. Otherwise they end with the code of the broken last block, whose bytes aren't kept. The first `left` of the
+/// last bytes belong to a block that began before them. Each byte is XORed with the sentinel.
 pub(crate) fn kept_len(bytes: &[u8], left: usize, sentinel: u8) -> (usize, bool) {
     let mut at = left;
     'by_block: while at < bytes.len() {
@@ -74,7 +74,7 @@ pub(crate) fn kept_len(bytes: &[u8], left: usize, sentinel: u8) -> (usize, bool)
     (at, true)
 }
 
-/// The result for a frame that was decoded to `len` bytes, and is whole or broken.
+/// Returns the result for a frame that was decoded to `len` bytes, and is whole or broken.
 #[inline(always)]
 pub(crate) fn message_len(len: usize, whole: bool) -> Result<usize, DecodeError> {
     if whole {

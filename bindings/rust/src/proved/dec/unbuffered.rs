@@ -24,7 +24,7 @@ pub enum DecoderPhase {
 
     /// Inside a piece.
     Within {
-        /// Whether the open block is a full one, which no zero joins to the next.
+        /// Whether the open block is full, so that no zero joins it to the next block.
         is_full: bool,
 
         /// How many bytes of the open block are missing.
@@ -41,9 +41,9 @@ pub enum DecoderPhase {
 /// Decodes a stream of frames, each ended by a zero, into a buffer that the caller passes to each call.
 ///
 /// By the byte it returns what
-/// [`CobsDecoder`](crate::CobsDecoder) does, and has no buffer of its own, only a few words of
-/// state. So one buffer can serve what else a program does between two calls, and a decoder can lie in a struct
-/// beside its buffer, or cross to another language.
+/// [`CobsDecoder`](crate::CobsDecoder) does, and has no buffer of its own, only a few words of state.
+/// So a program can use the buffer for other data between two pieces, and a decoder can be in a struct together with
+/// its buffer, or be passed to another language.
 ///
 /// While a piece is open, that is from its first byte to the zero that ends it, the caller passes the same buffer to each call
 /// and doesn't change it between two calls. Any other buffer, of any length, is safe too: no call panics, or returns a message
@@ -60,10 +60,11 @@ pub enum DecoderPhase {
 /// # Ok::<(), Box<dyn std::error::Error>>(())
 /// ```
 ///
-/// Its state is plain numbers, all 0 before a piece begins, with the layout of a struct of C. Every call is safe whatever the
-/// numbers are.
-// No number says whether a piece has begun: a code at its front is read like one after a full block, which no zero joins
-// to anything. So a nonzero byte asks only how much of its block is missing, and a code whether a zero is due.
+/// Its state is plain numbers with the layout of a struct of C, and all are 0 before a piece begins. Every call is safe
+/// for any numbers.
+// No number says whether a piece has begun: a code at the front of a piece is read like one after a full block, with no
+// zero before it. So for a nonzero byte only the number of missing bytes is tested, and for a code whether a zero comes
+// before it.
 #[repr(C)]
 #[derive(Debug, Clone, Copy, PartialEq, Eq)]
 pub struct UnbufferedDecoder {
@@ -77,10 +78,10 @@ pub struct UnbufferedDecoder {
     pub too_long: u8,
 }
 
-/// For up to this many bytes, a step for each costs less than a search among them.
+/// Up to this many bytes, a step for each byte is faster than a search.
 const FEW: usize = 16;
 
-/// For up to this many bytes, a step for each costs less than the tests before a copy in vectors.
+/// Up to this many bytes, a step for each byte is faster than the tests before a copy in vectors.
 const VERY_FEW: usize = 4;
 
 /// No piece has begun.
@@ -231,7 +232,7 @@ impl UnbufferedDecoder {
         self.push_long(dest, bytes)
     }
 
-    /// Does what `push` does, without the test for a short piece.
+    /// Does what `push` does, without its test for a short piece.
     pub(crate) fn push_long(
         &mut self,
         dest: &mut [u8],
@@ -302,8 +303,8 @@ impl UnbufferedDecoder {
         self.feed_piece_long(dest, bytes)
     }
 
-    /// Does what `feed_piece` does, without the tests for short pieces.
-    // Inlined, its registers would be saved for each short piece too.
+    /// Does what `feed_piece` does, without its tests for short pieces.
+    // If it were inlined, registers would be saved for each short piece too.
     #[inline(never)]
     fn feed_piece_long(&mut self, dest: &mut [u8], bytes: &[u8]) -> Option<(PieceEnd, usize)> {
         let mut taken = 0;
@@ -319,7 +320,7 @@ impl UnbufferedDecoder {
                 return Some((PieceEnd::TooLong, taken + len + 1));
             }
             if bytes[taken] == 0 && self.is_idle() {
-                // As on a line on which nothing is sent.
+                // A zero outside a piece, as on a line on which nothing is sent.
                 taken += 1;
                 continue;
             }

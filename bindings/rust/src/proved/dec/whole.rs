@@ -47,7 +47,8 @@ pub fn decode(source: &[u8], dest: &mut [u8]) -> Result<DecodeReport, DecodeErro
     decode_long(source, dest)
 }
 
-/// Does what [`decode`] does, for any source. It is a function of its own, so that a short frame saves no registers for it.
+/// Does what [`decode`] does, for any source. It is a separate function, so that a short frame saves no registers for
+/// it.
 #[inline(never)]
 fn decode_long(source: &[u8], dest: &mut [u8]) -> Result<DecodeReport, DecodeError> {
     if source.is_empty() {
@@ -73,9 +74,9 @@ fn decode_long(source: &[u8], dest: &mut [u8]) -> Result<DecodeReport, DecodeErr
 
 /// Decodes a short frame as [`decode`] does, or returns `None` and leaves `dest` as it was.
 ///
-/// It decodes a source that has 2 to 65 bytes before its first zero, and at most this zero after them, if `dest` has room for
-/// one byte fewer than the frame has. [`decode`] calls it first. It calls nothing itself, so that it can be compiled into
-/// a function that decodes small frames.
+/// It decodes a source that has 2 to 65 bytes before its first zero, and nothing after that zero, if `dest` has room
+/// for one byte fewer than the frame has. [`decode`] calls it first. It calls nothing itself, so that it can be
+/// compiled into a function that decodes small frames.
 ///
 /// ```
 /// # use jcobs::proved::*;

@@ -9,10 +9,10 @@ use crate::proved::find::position_or_len;
 /// Fewer bytes are appended one by one: in the Rust crate that is faster than a window.
 pub(crate) const FEW: usize = 8;
 
-/// The mask of a window that has no byte but zeros.
+/// The mask of a window that has only zeros.
 const ALL_ZEROS: u64 = 0xffff_ffff;
 
-/// The progress with an open block at `index`, whose next byte belongs at `next`.
+/// Returns the progress with an open block at `index`, whose next byte belongs at `next`.
 #[inline(always)]
 fn progress_at(index: usize, next: usize, is_full: bool) -> EncoderProgress {
     EncoderProgress {
@@ -22,15 +22,15 @@ fn progress_at(index: usize, next: usize, is_full: bool) -> EncoderProgress {
     }
 }
 
-/// Whether `len` bytes are at least one and at most a window, and can't fill the open block.
+/// Returns whether `len` bytes are at least one and at most a window, and can't fill the open block.
 #[inline(always)]
 pub(crate) fn fits_window_and_block(progress: EncoderProgress, len: usize) -> bool {
     0 < len && len <= WINDOW && progress.code as usize + len < FULL_CODE
 }
 
-/// Writes the code of the open block, which the mask's first zero closes. Returns where the next code belongs, and the mask
-/// without that zero. No branch asks whether the mask has a zero: if not, the byte that is written doesn't matter, since the
-/// block stays open.
+/// Writes the code of the open block, which the mask's first zero closes. Returns the index of the next code, and the
+/// mask without that zero. No branch tests whether the mask has a zero. If it has none, the byte that is written
+/// doesn't matter, because the block stays open.
 #[inline(always)]
 fn mark_first(dest: &mut [u8], index: usize, next: usize, zeros: u64) -> (usize, u64) {
     let place = next + zeros.trailing_zeros() as usize;
@@ -39,8 +39,8 @@ fn mark_first(dest: &mut [u8], index: usize, next: usize, zeros: u64) -> (usize,
     (index, zeros & zeros.wrapping_sub(1))
 }
 
-/// Writes the code at each zero of the mask, two per iteration, because every other byte may be a zero. Returns where the next
-/// code belongs.
+/// Writes the code at each zero of the mask, two per iteration, because every other byte may be a zero. Returns the
+/// index of the next code.
 #[inline(always)]
 fn mark_zeros(dest: &mut [u8], index: usize, next: usize, zeros: u64) -> usize {
     let mut index = index;
@@ -197,7 +197,8 @@ fn append_long_run(
     (read + 1, progress_at(next, next + 1, false))
 }
 
-/// Takes a `source` whose first run has `run` bytes: that run, then in turn windows up to the next long run, and that run.
+/// Takes a `source` whose first run has `run` bytes: first that run, and then repeatedly windows up to the next long run, and
+/// that run.
 #[inline(never)]
 pub(crate) fn append_rest(
     source: &[u8],

@@ -10,8 +10,8 @@ use memchr::memrchr;
 /// The code of a full block, as a byte.
 const FULL: u8 = FULL_CODE as u8;
 
-/// Whether fewer than `spare` blocks become full and are followed by another byte, once the open block with this code has
-/// taken these bytes. Each such block needs one byte of the frame for the code after it.
+/// Returns whether fewer than `spare` blocks become full and are followed by another byte, if the open block with this
+/// code takes these bytes. Each such block needs one byte of the frame for the code after it.
 fn fits_each(code: u8, bytes: &[u8], spare: usize) -> bool {
     let mut left = spare;
     let mut code = code;
@@ -28,7 +28,7 @@ fn fits_each(code: u8, bytes: &[u8], spare: usize) -> bool {
     true
 }
 
-/// Whether `spare` bytes cover the overhead of every message of `len` bytes: whether `len` is at most 254 times `spare`. It
+/// Returns whether `spare` bytes cover the overhead of every message of `len` bytes: whether `len` is at most 254 times `spare`. It
 /// needs no division, for which small processors have no instruction. So that no product is too large, it compares halves, and
 /// only if `spare` isn't clearly enough.
 #[inline(always)]
@@ -36,8 +36,8 @@ fn covers_overhead(len: usize, spare: usize) -> bool {
     len / 128 < spare || len - len / 2 <= 127 * spare
 }
 
-/// Whether `room` bytes, counted from the code of an open block, are enough for the frame once the block has taken these
-/// bytes. It reads the bytes only if their number doesn't decide that.
+/// Returns whether `room` bytes, counted from the code of an open block, are enough for the frame if the block takes
+/// these bytes. It reads the bytes only if their number doesn't decide that.
 #[inline]
 pub(crate) fn has_room(code: u8, bytes: &[u8], room: usize) -> bool {
     let held = code as usize - 1;
@@ -48,8 +48,8 @@ pub(crate) fn has_room(code: u8, bytes: &[u8], room: usize) -> bool {
     covers_overhead(held + bytes.len(), spare) || fits_each(code, bytes, spare)
 }
 
-/// Whether `room` bytes, counted from the index of an open block with this code, are enough for the frame once the
-/// block has taken `source`.
+/// Returns whether `room` bytes, counted from the index of an open block with this code, are enough for the frame if
+/// the block takes `source`.
 ///
 /// It counts all full blocks except a last one. A block can't become full if one of its next 254 bytes is a zero, so the
 /// count continues after the last such zero. If there is none, the run fills the block, and has a full block for each 254

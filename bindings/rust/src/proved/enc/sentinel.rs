@@ -12,7 +12,7 @@ use crate::proved::error::DestBufTooSmallError;
 /// sentinel. No sentinel is written, and the bytes of `dest` after the frame stay as they were.
 ///
 /// Precondition: the frame fits `dest`. It always fits [`max_encoding_length`](crate::max_encoding_length) of the
-/// message's length. Frames for another sentinel than 0 are Cheshire and Baker's.
+/// message's length. Frames for another sentinel than 0 are from Cheshire and Baker's paper.
 ///
 /// ```
 /// # use jcobs::proved::*;
@@ -60,7 +60,8 @@ pub fn try_encode_with_sentinel(
 
 /// Writes 0, the encoded frame of `source` and 0 to the front of `dest`, and returns the length of the three in bytes.
 ///
-/// The bytes of `dest` after them stay as they were. A sentinel on both sides of a frame is as in the crate `cobs`.
+/// The bytes of `dest` after them stay as they were. Writing a sentinel on each side of a frame is as in the crate
+/// `cobs`.
 ///
 /// Precondition: the frame and 2 bytes fit `dest`. They always fit
 /// [`max_encoding_length`](crate::max_encoding_length) of the message's length, plus 2.

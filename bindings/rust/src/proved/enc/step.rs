@@ -64,8 +64,8 @@ impl UnbufferedEncoder {
     /// Takes up to 8 bytes of the message if they fit and can't fill the open block, and returns whether it did. Otherwise
     /// nothing has changed, and [`push`](UnbufferedEncoder::push) takes the bytes if they fit.
     ///
-    /// No branch asks whether a byte is a zero, since a processor could predict it wrong. So pushing single bytes, or the
-    /// fields of a record, is faster if zeros come at random, and slower if they are rare.
+    /// No branch tests whether a byte is a zero, because a processor could predict it wrong. So pushing single bytes,
+    /// or the fields of a record, is faster if zeros are at random places, and slower if they are rare.
     ///
     /// ```
     /// use jcobs::UnbufferedEncoder;

@@ -1,5 +1,5 @@
 // Made by bindings/rust/translate.py from `crates/cobs/src/enc/unbuffered.rt`: change that file, and run it again.
-//! The encoder whose buffer is passed to each call, of a message that comes in pieces.
+//! An encoder for a message that comes in pieces, whose buffer is passed to each call.
 
 use crate::proved::cobs_bytes::window::has_vectors;
 use crate::proved::enc::blocks::{append_short, close, fits_window_and_block};
@@ -9,9 +9,9 @@ use crate::proved::error::DestBufTooSmallError;
 
 /// Encodes a message that comes in pieces, straight into a buffer that the caller passes to each call.
 ///
-/// It writes the frame that [`CobsEncoder`](crate::CobsEncoder) writes, and has no buffer of its own: three numbers say
-/// how far the frame has come, and are all 0 at the start. So an encoder can lie in a struct beside its buffer, or cross
-/// to another language.
+/// It writes the frame that [`CobsEncoder`](crate::CobsEncoder) writes, and has no buffer of its own. Three numbers,
+/// which are all 0 at the start, say how much of the frame is in the buffer. So an encoder can be in a struct together
+/// with its buffer, or be passed to another language.
 ///
 /// From the first push to the end of the message the caller passes the same buffer to each call and doesn't change it between
 /// two calls. Any other buffer, of any length, is safe too, and so are any numbers: no call panics, or returns a length that is
@@ -34,10 +34,10 @@ pub struct UnbufferedEncoder {
     /// The index in the buffer at which the code of the open block belongs.
     pub index: usize,
 
-    /// How many bytes the open block has: at most 253.
+    /// How many bytes the open block has, at most 253.
     pub taken: u8,
 
-    /// Not 0 if the frame's last block is full, so that the open one is only the place after it.
+    /// Not 0 if the frame's last block is full, so that the open block is only the place after it.
     pub full: u8,
 }
 
@@ -83,7 +83,7 @@ impl UnbufferedEncoder {
         }
     }
 
-    /// Returns how far the encoder has come.
+    /// Returns the encoder's progress: how much of the frame is in the buffer.
     ///
     /// ```
     /// use jcobs::UnbufferedEncoder;
@@ -100,7 +100,7 @@ impl UnbufferedEncoder {
         }
     }
 
-    /// Makes the encoder one that has taken nothing.
+    /// Puts the encoder back to the start: it has then taken nothing.
     ///
     /// ```
     /// use jcobs::UnbufferedEncoder;
@@ -117,7 +117,7 @@ impl UnbufferedEncoder {
         *self = UnbufferedEncoder::new();
     }
 
-    /// Whether a frame can have come so far in a buffer of this length.
+    /// Returns whether this progress is possible in a buffer of this length.
     #[inline(always)]
     pub(crate) fn is_within(&self, len: usize) -> bool {
         if 253 < self.taken || len < self.index {
@@ -128,10 +128,10 @@ impl UnbufferedEncoder {
 
     /// Takes the next bytes of the message.
     ///
-    /// They don't fit exactly if the encoded frame of all the bytes that were taken so far, followed by these, is
-    /// longer than the buffer, or if the encoder's progress isn't possible in a buffer of this length. Then neither the
-    /// encoder nor the buffer has changed, so the caller may end the frame, or push fewer bytes. An empty push changes
-    /// nothing. The bytes of the buffer after the frame are never written.
+    /// They don't fit exactly if the encoded frame of the message so far, these bytes included, is longer than the
+    /// buffer, or if the encoder's progress isn't possible in a buffer of this length. Then neither the encoder nor the
+    /// buffer has changed, so the caller may end the frame, or push fewer bytes. An empty push changes nothing. The
+    /// bytes of the buffer after the frame are never written.
     ///
     /// # Errors
     /// `DestBufTooSmallError` if the bytes don't fit.
@@ -179,7 +179,7 @@ impl UnbufferedEncoder {
     }
 
     /// Ends the message, and returns the length of its encoded frame in bytes. The buffer begins with that frame, and
-    /// the encoder has taken nothing. Every byte after the frame is as it was.
+    /// the encoder is ready for the next message. Every byte after the frame is as it was.
     ///
     /// # Errors
     /// `DestBufTooSmallError` if the encoder's progress isn't possible in a buffer of this length. Then neither the
