@@ -78,7 +78,7 @@ CONST = {"max_encoding_overhead", "max_encoding_length", "UnbufferedDecoder::new
 # Calls for one byte or a short frame, which are to be compiled into the caller's loop.
 INLINE = set(
     "decode_with_sentinel UnbufferedDecoder::feed_piece DecoderState::feed EncoderState::push UnbufferedEncoder::progress"
-    " UnbufferedEncoder::from_progress has_room".split()
+    " UnbufferedEncoder::from_progress".split()
 )
 # The feature that an item needs, if its code has this word.
 FEATURES = {"alloc": r"(?<!\w)(Vec\b|vec!)", "std": r"(?<!\w)std::|(?<![\w:])Read\b"}
