@@ -1,5 +1,5 @@
 -- Each byte closes the open block or joins it, which has room for all bytes of the part (`opened`).
-use Rattle.std.proofs.Common.{◌≡◌, ◌<◌, ◌+◌, ◌-◌, ◌∙◌, false, ℕ, List, drop, get_or, take, refl, sym, arith, length-drop, length-take}
+use Rattle.std.proofs.Common.{length, ◌≡◌, ◌<◌, ◌+◌, ◌-◌, ◌∙◌, false, ℕ, List, drop, get_or, take, refl, sym, arith, length-drop}
 use Rattle.std.proofs.lemmas.List.{get_or-drop, get_or-take}
 use Rattle.cobs.specs.Internal.Reaches.{Reaches}
 use Rattle.cobs.proofs.encoding.ReachLemmas.{Reaches-at, Reaches-full, Reaches-weaker, Reaches-zero}
@@ -27,7 +27,6 @@ opened c =
 pub by_byte-init : goal.by_byte-init
 by_byte-init c =
     let o = opened (goal.at.by_byte-init c).After-min-len in
-    let long = length-take (c.by_part.read + c.min-len.result - c.by_part.read) (drop c.by_part.read c.args.source.now) in
     record { open' = omega arith; reaches = Reaches-at refl (omega arith) refl refl (λ full p. p) o.1 }
 
 pub by_byte-preserved : goal.by_byte-preserved
@@ -37,9 +36,8 @@ by_byte-preserved c =
     let index : ℕ = c.by_byte.index in
     let next : ℕ = c.by_byte.next in
     let left : List ℕ = drop c.by_part.read source in
-    let count : ℕ = c.by_part.read + c.min-len.result - c.by_part.read in
+    let count : ℕ = length source - c.by_part.read in
     let byte : ℕ = get_or (take count left) c.by_byte.i 0 in
-    let long = length-take count left in
     let rest = length-drop c.by_part.read source in
     let is : get_or source read 0 ≡ byte = sym (get_or-take count left c.by_byte.i 0 (omega arith) ∙ get_or-drop c.by_part.read source c.by_byte.i 0) in
     let fits = whole-fits c.args.dest.now source (omega arith) in

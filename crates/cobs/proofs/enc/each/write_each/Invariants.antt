@@ -12,6 +12,6 @@ decreases-by_part l = length l.source - l.read
 
 abbrev pub invariant-by_byte : goal.invariant-by_byte
 invariant-by_byte l = record {
-  open' : l.next + (length l.part - l.i) ≤ l.index + 255;
+  open' : l.next + (l.len - l.i) ≤ l.index + 255;
   reaches : Reaches (start_with l.fn.dest (place_at 0 1 false) l.source) l.dest (l.read + l.i) l.index l.next (λ full. 0 < l.i → full ≡ false);
 }
