@@ -495,7 +495,7 @@ static int jcobs_fits_each(unsigned char code, const unsigned char *bytes, size_
 
 /* Returns whether room bytes, counted from the code of an open block, are enough for the frame if the block takes
  * these bytes. It reads the bytes only if their number doesn't decide that. */
-static int jcobs_has_room(unsigned char code, const unsigned char *bytes, size_t bytes_len, size_t room)
+static JCOBS_INLINE int jcobs_has_room(unsigned char code, const unsigned char *bytes, size_t bytes_len, size_t room)
 {
     size_t held = (size_t)code - 1;
 
@@ -519,12 +519,11 @@ static size_t jcobs_write_each(const unsigned char *source, size_t source_len, u
             index = next;
             next++;
         }
-        size_t room = JCOBS_FULL_CODE - (next - index);
-        size_t len = room < source_len - read ? room : source_len - read;
-        const unsigned char *part = source + read;
-        size_t part_len = len;
-        for (size_t i = 0; i < part_len; i++) {
-            unsigned char byte = part[i];
+        const unsigned char *rest = source + read;
+        size_t rest_len = source_len - read;
+        size_t len = rest_len < JCOBS_FULL_CODE - (next - index) ? rest_len : JCOBS_FULL_CODE - (next - index);
+        for (size_t i = 0; i < len; i++) {
+            unsigned char byte = rest[i];
             if (byte == 0) {
                 dest[index] = (unsigned char)(next - index);
                 index = next;

@@ -19,11 +19,10 @@ pub(crate) fn write_each(source: &[u8], dest: &mut [u8]) -> usize {
             index = next;
             next += 1;
         }
-        let room = FULL_CODE - (next - index);
-        let len = room.min(source.len() - read);
-        let part = &source[read..read + len];
-        'by_byte: for i in 0..part.len() {
-            let byte = part[i];
+        let rest = &source[read..];
+        let len = rest.len().min(FULL_CODE - (next - index));
+        'by_byte: for i in 0..len {
+            let byte = rest[i];
             if byte == 0 {
                 dest[index] = (next - index) as u8;
                 index = next;

@@ -38,7 +38,8 @@ fn covers_overhead(len: usize, spare: usize) -> bool {
 
 /// Returns whether `room` bytes, counted from the code of an open block, are enough for the frame if the block takes
 /// these bytes. It reads the bytes only if their number doesn't decide that.
-#[inline]
+// Inlined, because the two lengths mostly decide: a call would cost a short message more than the comparisons.
+#[inline(always)]
 pub(crate) fn has_room(code: u8, bytes: &[u8], room: usize) -> bool {
     let held = code as usize - 1;
     if room <= held || room - held <= bytes.len() {
