@@ -149,7 +149,7 @@ if [ -n "$docs" ]; then
         rustc --version | sed 's/^/- Rust: /'
         cc --version | sed 's/^/- C: /; q'
         "$out/driver-0" call
-        sed 's/^\([0-9.]*\).*/- Load of the machine by all that ran on it, as the run ended: \1/' /proc/loadavg
+        sed 's/^\([0-9.]*\).*/- Load average of the machine at the end of the run: \1/' /proc/loadavg
     } >"$out/machine.md"
     put docs/PERFORMANCE.md machine pairs shipped
     put README.md speed
