@@ -58,6 +58,7 @@ REWORDED = {
     " Contracts describe a reader by its decoder, and by the bytes that it has read and not yet fed to the decoder.": "",
     "Contracts describe it by the bytes of its buffer and by its phase. ": "",
     "[`decode_short`](crate::decode_short)": "`decode_short`",
+    "[`len_to_zero`](crate::len_to_zero)": "`len_to_zero`",
     " (A choice of this library.)": "",
     " (The names are this library's own.)": "",
     "(The trait is this library's own.)": "",

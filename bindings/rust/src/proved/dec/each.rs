@@ -30,7 +30,7 @@ fn move_bytes(buffer: &mut [u8], from: usize, to: usize, len: usize) -> usize {
 /// Decodes the blocks in the first `end` bytes of the buffer in their own place, one byte after another, and returns the
 /// message's length. Every byte after the message is as it was. It is small, and uses no vectors.
 ///
-/// Precondition: the buffer has `end` bytes, and none of them is a zero. [`len_to_zero`](crate::len_to_zero) counts such bytes.
+/// Precondition: the buffer has `end` bytes, and none of them is a zero. `len_to_zero` counts such bytes.
 ///
 /// # Errors
 ///
