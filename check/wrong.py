@@ -52,8 +52,8 @@ DECODER = [
      "return jcobs_answered(pushed.status, source_len"),
 ]  # fmt: skip
 ENCODER = [
-    ("jcobs_covers_overhead", "", "<= 254 * more", 0, "<= 255 * more"),
-    ("jcobs_covers_overhead", "", "spare <= rows", 0, "spare < rows"),
+    ("jcobs_covers_overhead", "", "<= 127 * spare", 0, "<= 128 * spare"),
+    ("jcobs_covers_overhead", "", "len - len / 2", 0, "len / 2"),
     ("jcobs_has_room", "", "room - held <= bytes_len", 0, "room - held < bytes_len"),
     ("jcobs_encoder_append_byte", "code", "dest[encoder->index] = code;", 0, "dest[encoder->index] = 255;"),
     ("jcobs_encoder_append_byte", "index", "encoder->index = next;", 0, "encoder->index = next + 1;"),
@@ -75,6 +75,12 @@ ENCODER = [
     ("jcobs_encoder_push_each", "fits", "dest_len - encoder->index))", 0, "dest_len))"),
     ("jcobs_encode_terminated", "ok", "to[length] = 0;", 0, "to[length] = 1;"),
     ("jcobs_finish_terminated", "ok", "returned.length + 1", 0, "returned.length"),
+    ("jcobs_write_each", "open", "index = next;", 0, "index = next + 1;"),
+    ("jcobs_write_each", "inner_fulls", "dest[index] = JCOBS_FULL_CODE;", 0, ";"),
+    ("jcobs_write_each", "byte", "source + read", 0, "source"),
+    ("jcobs_write_each", "last_code", "dest[index] = (unsigned char)(next - index);", 0, "dest[index] = 1;"),
+    ("jcobs_write_each", "byte_bytes", "dest[next] = byte;", 0, "dest[next] = 0;"),
+    ("jcobs_write_each", "encoded", "dest[index] = (unsigned char)(next - index);", 1, ";"),
 ]  # fmt: skip
 # In place, and for a sentinel.
 OTHERS = [
