@@ -7,7 +7,7 @@ pub mod KeptQuiet
 pub mod QuietLemmas
 pub mod SoFar
 pub mod ReadingLemmas
-pub mod StretchLemmas
+pub mod SpanLemmas
 pub mod WalkLemmas
 pub mod BorrowedSlice
 pub mod PushHeadline

@@ -8,9 +8,9 @@ mod heapless;
 mod in_place;
 mod kind;
 mod run;
+mod span;
 mod state;
 mod step;
-mod stretch;
 mod unbuffered;
 mod whole;
 

@@ -9,9 +9,9 @@ pub(crate) mod heapless;
 pub(crate) mod in_place;
 pub(crate) mod kind;
 pub(crate) mod run;
+pub(crate) mod span;
 pub(crate) mod state;
 pub(crate) mod step;
-pub(crate) mod stretch;
 pub(crate) mod unbuffered;
 pub(crate) mod whole;
 

@@ -19,7 +19,7 @@ use Rattle.cobs.proofs.decoding.PieceCuts.{is_whole-of, last_part-last, last_par
 use Rattle.cobs.proofs.decoding.KeptLemmas.{kept_output-empty}
 use Rattle.cobs.proofs.decoding.TailLemmas.{whole-kept}
 use Rattle.cobs.proofs.streaming.QuietLemmas.{Quiet, quiet, quiet-stop, quiet-at, quiet-written}
-use Rattle.cobs.proofs.streaming.StretchLemmas.{FeedsQuietly-append}
+use Rattle.cobs.proofs.streaming.SpanLemmas.{FeedsQuietly-append}
 
 -- the last part of bytes is missing fewer than a full block has
 few_by : (n : ℕ) (p : List ℕ) → length p ≤ n → All (λ b. b < 256) p → missing (last_part p) < 255

@@ -11,7 +11,7 @@ ghost use Rattle.cobs.specs.declared.error.DecodeError.TheVariants.{EmptyFrame, 
 
 use crate::block::FULL_BLOCK_BYTES;
 use crate::dec::decode;
-use crate::dec::stretch::{decode_stretch, kept_len, message_len};
+use crate::dec::span::{decode_span, kept_len, message_len};
 use crate::dec::unbuffered::START;
 use crate::error::{DecodeError, DecodeVecError};
 use crate::find::{len_without_end, position_or_len};
@@ -78,7 +78,7 @@ pub fn decode_with_sentinel(
     let len = len_without_end(source, sentinel);
     // A broken frame must not change bytes after its output, so a short frame is decoded into a buffer of its own.
     let mut short = [0; WIDE_WINDOW];
-    if len <= dest.len() + 1 && decode_stretch(&source[..len], &mut short, sentinel) == Some(0) {
+    if len <= dest.len() + 1 && decode_span(&source[..len], &mut short, sentinel) == Some(0) {
         dest[..len - 1].copy_from_slice(&short[..len - 1]);
         return Ok(len - 1);
     }

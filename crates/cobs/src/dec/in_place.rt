@@ -13,8 +13,8 @@ ghost use Rattle.cobs.specs.declared.error.DecodeError.TheVariants.{TargetBufToo
 
 use crate::block::FULL_BLOCK_BYTES;
 use crate::dec::each::decode_in_place_each;
-use crate::dec::run::STRETCH_MAX;
-use crate::dec::stretch::{kept_len, message_len, write_zeros_at_codes};
+use crate::dec::run::SPAN_MAX;
+use crate::dec::span::{kept_len, message_len, write_zeros_at_codes};
 use crate::dec::unbuffered::{START, UnbufferedDecoder};
 use crate::error::{DecodeError, DecodeReport};
 use crate::find::{len_without_end, zero_or_len};
@@ -62,7 +62,7 @@ impl UnbufferedDecoder {
             return 1 + len;
         }
         let at = self.written;
-        let len = self.stretch_len((end - read).min(STRETCH_MAX));
+        let len = self.span_len((end - read).min(SPAN_MAX));
         if missing == 0 && code == 1 && WINDOW <= len && is_all(buffer, read, 1) {
             write_row(buffer, at, 0);
             self.written = at + WINDOW;
@@ -115,7 +115,7 @@ fn decode_blocks_in_place(buffer: &mut [u8], end: usize) -> Result<usize, Decode
 /// Decodes the first `len` bytes of the buffer, if they are 2 to 65 bytes and a frame, and returns whether it did. Otherwise
 /// no byte changes: the bytes are copied before, and put back if the frame is broken.
 #[inline(always)]
-fn decode_stretch_in_place(buffer: &mut [u8], len: usize) -> bool
+fn decode_span_in_place(buffer: &mut [u8], len: usize) -> bool
     requires within { len ≤ length buffer.old }
     ensures taken { (2 ≤ len) × (len ≤ 65) → HasNoZero (take len buffer.old)
         → missing (last_part (take len buffer.old)) ≡ 0 → IsTrue result }
@@ -214,7 +214,7 @@ pub fn decode_short_in_place(buf: &mut [u8]) -> Option<DecodeReport>
         return None;
     }
     let len = len_without_end(buf, 0);
-    if !decode_stretch_in_place(buf, len) {
+    if !decode_span_in_place(buf, len) {
         return None;
     }
     Some(DecodeReport {

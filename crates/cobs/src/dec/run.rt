@@ -1,5 +1,5 @@
 //! The walk of every decoder over the bytes before a sentinel. A step takes a long block, 32 codes of blocks without bytes,
-//! or a *stretch*: bytes that are copied at once, with the codes among them, before a zero is written over each code.
+//! or a *span*: bytes that are copied at once, with the codes among them, before a zero is written over each code.
 ghost use Rattle.std.specs.Prelude.{IsTrue, ◌++◌, drop, ◌≡◌, ◌≢◌, ◌<◌, ◌≤◌, ◌+◌, ◌-◌, ◌∷◌, [], length, take, slice_index, false, List, ℕ};
 ghost use Rattle.cobs.specs.Feed.{Idle, Overlong};
 ghost use Rattle.cobs.specs.Fields.Decoders.{phase_of};
@@ -9,15 +9,15 @@ ghost use Rattle.cobs.specs.Sentinel.{xor_each};
 ghost use Rattle.cobs.specs.Step.{next_phase};
 
 use crate::block::FULL_BLOCK_BYTES;
+use crate::dec::span::{write_zeros_at_codes, write_zeros_at_copied};
 use crate::dec::step::joint_after;
-use crate::dec::stretch::{write_zeros_at_codes, write_zeros_at_copied};
 use crate::dec::unbuffered::{START, UnbufferedDecoder};
 use crate::find::zero_or_len;
 use cobs_bytes::lanes::{copy_xored, copy_xored_short};
 use cobs_bytes::window::{WIDE_WINDOW, WINDOW, copy_window, has_vectors, is_all, write_row};
 
-/// The most bytes of one stretch: so short that no code in it can be followed by a whole full block.
-pub(crate) const STRETCH_MAX: usize = FULL_BLOCK_BYTES - 1;
+/// The most bytes of one span: so short that no code in it can be followed by a whole full block.
+pub(crate) const SPAN_MAX: usize = FULL_BLOCK_BYTES - 1;
 
 impl UnbufferedDecoder {
     /// Takes the code of the block after a whole one, and writes the zero that joins the two, unless the first is full.
@@ -41,9 +41,9 @@ impl UnbufferedDecoder {
         self.missing = code - 1;
     }
 
-    /// Returns how many of `len` bytes one stretch can have: it ends with the open block, if that is full.
+    /// Returns how many of `len` bytes one span can have: it ends with the open block, if that is full.
     #[inline(always)]
-    pub(crate) fn stretch_len(&self, len: usize) -> usize
+    pub(crate) fn span_len(&self, len: usize) -> usize
         ensures within { result ≤ len }
         ensures full { self.now.joint ≡ 0 → result ≤ self.now.missing }
         ensures some { 0 < len → (self.now.missing ≡ 0 → self.now.joint ≢ 0) → 0 < result }
@@ -148,7 +148,7 @@ impl UnbufferedDecoder {
 
     /// Takes up to 253 bytes, in which no full block ends. Returns how many: 0 if the first has no room.
     #[inline(always)]
-    fn take_stretch(&mut self, dest: &mut [u8], bytes: &[u8], sentinel: u8) -> usize
+    fn take_span(&mut self, dest: &mut [u8], bytes: &[u8], sentinel: u8) -> usize
         requires going { self.old.too_long ≡ 0 }
         requires within { self.old.missing ≡ 0 → self.old.joint ≢ 0 }
         requires some { 0 < length bytes.now }
@@ -161,8 +161,8 @@ impl UnbufferedDecoder {
             (slice_index (xor_each sentinel bytes.now) 0) ≡ Overlong }
     {
         let at = self.written;
-        let most = bytes.len().min(STRETCH_MAX);
-        let len = self.stretch_len(most.min(dest.len().saturating_sub(at)));
+        let most = bytes.len().min(SPAN_MAX);
+        let len = self.span_len(most.min(dest.len().saturating_sub(at)));
         if len == 0 {
             return 0;
         }
@@ -184,7 +184,7 @@ impl UnbufferedDecoder {
         if self.too_long != 0
             || len == 0
             || WINDOW <= len
-            || self.stretch_len(len) < len
+            || self.span_len(len) < len
             || dest.len().saturating_sub(at) < len
             || !copy_xored_short(bytes, &mut dest[at..], 0)
         {
@@ -268,7 +268,7 @@ impl UnbufferedDecoder {
 
     /// Takes the bytes of one step before a sentinel, and returns their number, which is 0 only if the first byte has no
     /// room. A step is a block that has 64 bytes or more or follows a full one, or 32 codes of blocks without bytes, or a
-    /// stretch.
+    /// span.
     #[inline(always)]
     fn take_part(&mut self, dest: &mut [u8], bytes: &[u8], sentinel: u8) -> usize
         requires going { self.old.too_long ≡ 0 }
@@ -293,7 +293,7 @@ impl UnbufferedDecoder {
                 return WINDOW;
             }
         }
-        self.take_stretch(dest, bytes, sentinel)
+        self.take_span(dest, bytes, sentinel)
     }
 
     /// Takes bytes that have no sentinel, up to the room's end, and returns how many.

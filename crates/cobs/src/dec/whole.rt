@@ -6,7 +6,7 @@ ghost use Rattle.cobs.specs.Grammar.{Reads};
 ghost use Rattle.cobs.specs.Headline.{IsPiece, ReportsMessage};
 ghost use Rattle.cobs.specs.Stream.{head};
 
-use crate::dec::stretch::{decode_stretch, message_len};
+use crate::dec::span::{decode_span, message_len};
 use crate::dec::unbuffered::START;
 use crate::error::{DecodeError, DecodeReport};
 use crate::find::len_without_end;
@@ -107,7 +107,7 @@ pub fn decode_short(source: &[u8], dest: &mut [u8]) -> Option<Result<DecodeRepor
         return None;
     }
     let len = len_without_end(source, 0);
-    let left = decode_stretch(&source[..len], dest, 0)?;
+    let left = decode_span(&source[..len], dest, 0)?;
     Some(message_len(len - 1, left == 0).map(|frame_size| DecodeReport {
         parsed_size: source.len(),
         frame_size,

@@ -4,7 +4,7 @@
 use crate::proved::block::FULL_BLOCK_BYTES;
 use crate::proved::cobs_bytes::window::WIDE_WINDOW;
 use crate::proved::dec::decode;
-use crate::proved::dec::stretch::{decode_stretch, kept_len, message_len};
+use crate::proved::dec::span::{decode_span, kept_len, message_len};
 use crate::proved::dec::unbuffered::START;
 use crate::proved::error::{DecodeError, DecodeVecError};
 use crate::proved::find::{len_without_end, position_or_len};
@@ -62,7 +62,7 @@ pub fn decode_with_sentinel(
     let len = len_without_end(source, sentinel);
     // A broken frame must not change bytes after its output, so a short frame is decoded into a buffer of its own.
     let mut short = [0; WIDE_WINDOW];
-    if len <= dest.len() + 1 && decode_stretch(&source[..len], &mut short, sentinel) == Some(0) {
+    if len <= dest.len() + 1 && decode_span(&source[..len], &mut short, sentinel) == Some(0) {
         dest[..len - 1].copy_from_slice(&short[..len - 1]);
         return Ok(len - 1);
     }

@@ -5,8 +5,8 @@ use crate::proved::block::FULL_BLOCK_BYTES;
 use crate::proved::cobs_bytes::lanes::{copy_xored_short, move_to_front, xor_bytes};
 use crate::proved::cobs_bytes::window::{WIDE_WINDOW, WINDOW, has_vectors, is_all, write_row};
 use crate::proved::dec::each::decode_in_place_each;
-use crate::proved::dec::run::STRETCH_MAX;
-use crate::proved::dec::stretch::{kept_len, message_len, write_zeros_at_codes};
+use crate::proved::dec::run::SPAN_MAX;
+use crate::proved::dec::span::{kept_len, message_len, write_zeros_at_codes};
 use crate::proved::dec::unbuffered::{START, UnbufferedDecoder};
 use crate::proved::error::{DecodeError, DecodeReport};
 use crate::proved::find::{len_without_end, zero_or_len};
@@ -34,7 +34,7 @@ impl UnbufferedDecoder {
             return 1 + len;
         }
         let at = self.written;
-        let len = self.stretch_len((end - read).min(STRETCH_MAX));
+        let len = self.span_len((end - read).min(SPAN_MAX));
         if missing == 0 && code == 1 && WINDOW <= len && is_all(buffer, read, 1) {
             write_row(buffer, at, 0);
             self.written = at + WINDOW;
@@ -70,7 +70,7 @@ fn decode_blocks_in_place(buffer: &mut [u8], end: usize) -> Result<usize, Decode
 /// Decodes the first `len` bytes of the buffer, if they are 2 to 65 bytes and a frame, and returns whether it did. Otherwise
 /// no byte changes: the bytes are copied before, and put back if the frame is broken.
 #[inline(always)]
-fn decode_stretch_in_place(buffer: &mut [u8], len: usize) -> bool {
+fn decode_span_in_place(buffer: &mut [u8], len: usize) -> bool {
     let mut coded = [0; WIDE_WINDOW + 1];
     if len < 2 || WIDE_WINDOW + 1 < len || buffer[0] == 0 {
         return false;
@@ -152,7 +152,7 @@ pub fn decode_short_in_place(buf: &mut [u8]) -> Option<DecodeReport> {
         return None;
     }
     let len = len_without_end(buf, 0);
-    if !decode_stretch_in_place(buf, len) {
+    if !decode_span_in_place(buf, len) {
         return None;
     }
     Some(DecodeReport {

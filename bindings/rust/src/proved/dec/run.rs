@@ -1,19 +1,19 @@
 // Made by bindings/rust/translate.py from `crates/cobs/src/dec/run.rt`: change that file, and run it again.
 //! The walk of every decoder over the bytes before a sentinel. A step takes a long block, 32 codes of blocks without bytes,
-//! or a *stretch*: bytes that are copied at once, with the codes among them, before a zero is written over each code.
+//! or a *span*: bytes that are copied at once, with the codes among them, before a zero is written over each code.
 
 use crate::proved::block::FULL_BLOCK_BYTES;
 use crate::proved::cobs_bytes::lanes::{copy_xored, copy_xored_short};
 use crate::proved::cobs_bytes::window::{
     WIDE_WINDOW, WINDOW, copy_window, has_vectors, is_all, write_row,
 };
+use crate::proved::dec::span::{write_zeros_at_codes, write_zeros_at_copied};
 use crate::proved::dec::step::joint_after;
-use crate::proved::dec::stretch::{write_zeros_at_codes, write_zeros_at_copied};
 use crate::proved::dec::unbuffered::{START, UnbufferedDecoder};
 use crate::proved::find::zero_or_len;
 
-/// The most bytes of one stretch: so short that no code in it can be followed by a whole full block.
-pub(crate) const STRETCH_MAX: usize = FULL_BLOCK_BYTES - 1;
+/// The most bytes of one span: so short that no code in it can be followed by a whole full block.
+pub(crate) const SPAN_MAX: usize = FULL_BLOCK_BYTES - 1;
 
 impl UnbufferedDecoder {
     /// Takes the code of the block after a whole one, and writes the zero that joins the two, unless the first is full.
@@ -27,9 +27,9 @@ impl UnbufferedDecoder {
         self.missing = code - 1;
     }
 
-    /// Returns how many of `len` bytes one stretch can have: it ends with the open block, if that is full.
+    /// Returns how many of `len` bytes one span can have: it ends with the open block, if that is full.
     #[inline(always)]
-    pub(crate) fn stretch_len(&self, len: usize) -> usize {
+    pub(crate) fn span_len(&self, len: usize) -> usize {
         if self.joint == 0 {
             len.min(self.missing as usize)
         } else {
@@ -94,10 +94,10 @@ impl UnbufferedDecoder {
 
     /// Takes up to 253 bytes, in which no full block ends. Returns how many: 0 if the first has no room.
     #[inline(always)]
-    fn take_stretch(&mut self, dest: &mut [u8], bytes: &[u8], sentinel: u8) -> usize {
+    fn take_span(&mut self, dest: &mut [u8], bytes: &[u8], sentinel: u8) -> usize {
         let at = self.written;
-        let most = bytes.len().min(STRETCH_MAX);
-        let len = self.stretch_len(most.min(dest.len().saturating_sub(at)));
+        let most = bytes.len().min(SPAN_MAX);
+        let len = self.span_len(most.min(dest.len().saturating_sub(at)));
         if len == 0 {
             return 0;
         }
@@ -116,7 +116,7 @@ impl UnbufferedDecoder {
         if self.too_long != 0
             || len == 0
             || WINDOW <= len
-            || self.stretch_len(len) < len
+            || self.span_len(len) < len
             || dest.len().saturating_sub(at) < len
             || !copy_xored_short(bytes, &mut dest[at..], 0)
         {
@@ -177,7 +177,7 @@ impl UnbufferedDecoder {
 
     /// Takes the bytes of one step before a sentinel, and returns their number, which is 0 only if the first byte has no
     /// room. A step is a block that has 64 bytes or more or follows a full one, or 32 codes of blocks without bytes, or a
-    /// stretch.
+    /// span.
     #[inline(always)]
     fn take_part(&mut self, dest: &mut [u8], bytes: &[u8], sentinel: u8) -> usize {
         if self.missing == 0 {
@@ -192,7 +192,7 @@ impl UnbufferedDecoder {
                 return WINDOW;
             }
         }
-        self.take_stretch(dest, bytes, sentinel)
+        self.take_span(dest, bytes, sentinel)
     }
 
     /// Takes bytes that have no sentinel, up to the room's end, and returns how many.

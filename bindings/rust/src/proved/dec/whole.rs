@@ -2,7 +2,7 @@
 //! Decoding a whole frame into another buffer.
 
 use crate::proved::cobs_bytes::window::has_vectors;
-use crate::proved::dec::stretch::{decode_stretch, message_len};
+use crate::proved::dec::span::{decode_span, message_len};
 use crate::proved::dec::unbuffered::START;
 use crate::proved::error::{DecodeError, DecodeReport};
 use crate::proved::find::len_without_end;
@@ -91,7 +91,7 @@ pub fn decode_short(source: &[u8], dest: &mut [u8]) -> Option<Result<DecodeRepor
         return None;
     }
     let len = len_without_end(source, 0);
-    let left = decode_stretch(&source[..len], dest, 0)?;
+    let left = decode_span(&source[..len], dest, 0)?;
     Some(
         message_len(len - 1, left == 0).map(|frame_size| DecodeReport {
             parsed_size: source.len(),

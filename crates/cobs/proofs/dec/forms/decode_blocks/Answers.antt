@@ -19,7 +19,7 @@ use Rattle.cobs.proofs.decoding.HeadlineLemmas.{xored_below}
 use Rattle.cobs.proofs.decoding.TailLemmas.{kept-cut}
 use Rattle.cobs.proofs.streaming.QuietLemmas.{quiet, quiet-at}
 use Rattle.cobs.proofs.streaming.KeptQuiet.{kept_fits, kept_stop, tail_left}
-use Rattle.cobs.proofs.streaming.StretchLemmas.{FeedsQuietly-append}
+use Rattle.cobs.proofs.streaming.SpanLemmas.{FeedsQuietly-append}
 use Rattle.cobs.proofs.dec.forms.decode_blocks.Goals as goal
 use Rattle.cobs.proofs.dec.forms.decode_blocks.Goals.{After-take_blocks}
 

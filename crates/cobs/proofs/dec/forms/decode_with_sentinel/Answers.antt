@@ -23,13 +23,13 @@ returns-then-eq c =
     let len : ℕ = c.len_without_end-len.result in
     let h : List ℕ = xor_each s (take len source) in
     let e = c.len_without_end-len.ensures in
-    let found : c.decode_stretch.result ≡ Some 0 = grind arith in
-    let d = rw found at c.decode_stretch.ensures in
+    let found : c.decode_span.result ≡ Some 0 = grind arith in
+    let d = rw found at c.decode_span.ensures in
     let long = length-take-le len source e.within in
     let whole : missing (last_part h) ≡ 0 = sym d.left in
     let kept = ap length (whole-kept h whole) in
     let is : h ≡ head f = front-head source len s e.within d.nonzero e.stop in
-    let written : c.copy_from_slice.new.self ≡ output h = c.copy_from_slice.ensures.after ∙ ap (λ (k : ℕ). take (k - 1) c.decode_stretch.new.dest) (sym long) ∙ d.begins in
+    let written : c.copy_from_slice.new.self ≡ output h = c.copy_from_slice.ensures.after ∙ ap (λ (k : ℕ). take (k - 1) c.decode_span.new.dest) (sym long) ∙ d.begins in
     let count = ap length written in
     let some : 0 < length source = omega (arith, d.some) in
     let returned : Ok (len - 1) ≡ result_of_sentinel_decode f n

@@ -19,11 +19,11 @@ returns-then-is_empty-clause-taken c short whole =
     let none = eqb-true _ 0 (sym c.is_empty.ensures ∙ c.if-is_empty.true) in
     absurd (omega (arith, short.0, length-head c.args.buf.now, none))
 
-pub returns-then-not-decode_stretch_in_place-clause-taken : goal.returns-then-not-decode_stretch_in_place-clause-taken
-returns-then-not-decode_stretch_in_place-clause-taken c short whole =
+pub returns-then-not-decode_span_in_place-clause-taken : goal.returns-then-not-decode_span_in_place-clause-taken
+returns-then-not-decode_span_in_place-clause-taken c short whole =
     let buf : List ℕ = c.args.buf.now in
     let len : ℕ = c.len_without_end-len.result in
     let e = c.len_without_end-len.ensures in
     let is = short_head buf len short.2 e.within e.last (omega (arith, short.0, length-head buf)) e.stop e.other in
     let p-is : take len buf ≡ head buf = ap (λ (k : ℕ). take k buf) is ∙ head-front buf in
-    c.if-not-decode_stretch_in_place.ensures.taken (omega (arith, short.0), omega (arith, short.1)) (subst HasNoZero (sym p-is) (head_nonzero buf)) (ap (λ (l : List ℕ). missing (last_part l)) p-is ∙ whole)
+    c.if-not-decode_span_in_place.ensures.taken (omega (arith, short.0), omega (arith, short.1)) (subst HasNoZero (sym p-is) (head_nonzero buf)) (ap (λ (l : List ℕ). missing (last_part l)) p-is ∙ whole)

@@ -35,7 +35,7 @@ returns-in_err-left-clause-taken c short room =
     let is = short_head source len short.2 e.within e.last (omega (arith, short.0, length-head source)) e.stop e.other in
     let p-is : xor_each 0 (take len source) ≡ head source = xor_each-zero (take len source) ∙ ap (λ (k : ℕ). take k source) is ∙ head-front source in
     let long : length (take len source) ≡ len = length-take-le len source e.within in
-    let taken = c.decode_stretch.ensures.taken (omega (arith, short.0), omega (arith, short.1)) (omega arith) (subst HasNoZero (sym p-is) (head_nonzero source)) in
+    let taken = c.decode_span.ensures.taken (omega (arith, short.0), omega (arith, short.1)) (omega arith) (subst HasNoZero (sym p-is) (head_nonzero source)) in
     absurd (let none = rw c.in_err-left.was at taken in cc)
 
 -- a frame that was decoded
@@ -77,5 +77,5 @@ returns-clause-returned c =
 pub returns-clause-buffer : goal.returns-clause-buffer
 returns-clause-buffer c =
     let e = c.in_ok-left.ensures in
-    overwritten-front _ _ (output (p c)) (length (take (len c) (source c)) - 1) c.decode_stretch.auto.dest (omega (arith, e.room)) e.rest e.begins
+    overwritten-front _ _ (output (p c)) (length (take (len c) (source c)) - 1) c.decode_span.auto.dest (omega (arith, e.room)) e.rest e.begins
     ∙ ap (λ (l : List ℕ). overwritten c.args.dest.now (output l)) (is c) ∙ ap (λ (l : _). overwritten c.args.dest.now (output_of l)) (sym (found c))

@@ -5,7 +5,7 @@ use Rattle.cobs.specs.Sentinel.{xor_each}
 use Rattle.cobs.specs.Internal.FeedsQuietly.{FeedsQuietly}
 use Rattle.cobs.specs.Fields.Decoders.{phase_of}
 use Rattle.cobs.proofs.format.SentinelLemmas.{first_xored, slice_xored}
-use Rattle.cobs.proofs.streaming.StretchLemmas.{block_fed, joined, copied_put}
+use Rattle.cobs.proofs.streaming.SpanLemmas.{block_fed, joined, copied_put}
 use Rattle.cobs.proofs.dec.unbuffered.UnbufferedDecoder.take_block.Goals as goal
 
 -- the code, and the bytes of its block that follow

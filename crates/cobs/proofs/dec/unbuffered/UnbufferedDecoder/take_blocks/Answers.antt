@@ -2,7 +2,7 @@ use Rattle.std.proofs.Common.{◌≢◌, ◌-◌, ℕ, List, length, drop, arith
 use Rattle.std.proofs.lemmas.List.Elements.{All-drop}
 use Rattle.cobs.specs.Sentinel.{xor_each}
 use Rattle.cobs.proofs.format.SentinelLemmas.{rest_xored}
-use Rattle.cobs.proofs.streaming.StretchLemmas.{joined}
+use Rattle.cobs.proofs.streaming.SpanLemmas.{joined}
 use Rattle.cobs.proofs.dec.unbuffered.UnbufferedDecoder.take_blocks.Goals as goal
 
 pub take_part-step-requires-clause-nonzero : goal.take_part-step-requires-clause-nonzero

@@ -1,5 +1,5 @@
 use Rattle.std.proofs.Common.{◌≡◌, ◌≢◌, ◌-◌, ◌+◌, ◌∙◌, ℕ, List, ap, sym, subst, arith, length, take, drop}
-use Rattle.cobs.proofs.streaming.StretchLemmas.{joint-is, kept, marked}
+use Rattle.cobs.proofs.streaming.SpanLemmas.{joint-is, kept, marked}
 use Rattle.std.proofs.lemmas.List.Elements.{All-cons}
 use Rattle.cobs.specs.Grammar.{HasNoZero}
 use Rattle.cobs.specs.Sentinel.{xor_each}

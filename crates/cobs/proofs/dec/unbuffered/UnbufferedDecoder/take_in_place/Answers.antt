@@ -3,7 +3,7 @@ use Rattle.cobs.specs.Fields.Decoders.{phase_of}
 use Rattle.cobs.specs.Grammar.{HasNoZero}
 use Rattle.cobs.specs.Internal.FeedsQuietly.{FeedsQuietly}
 use Rattle.cobs.proofs.streaming.RunLemmas.{rest_read}
-use Rattle.cobs.proofs.streaming.StretchLemmas.{joined}
+use Rattle.cobs.proofs.streaming.SpanLemmas.{joined}
 use Rattle.cobs.proofs.dec.unbuffered.UnbufferedDecoder.take_in_place.Goals as goal
 use Rattle.cobs_bytes.proofs.bytes.ListLemmas.{part-nonzero}
 

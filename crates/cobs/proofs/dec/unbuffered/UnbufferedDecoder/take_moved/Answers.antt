@@ -1,5 +1,5 @@
 use Rattle.std.proofs.Common.{arith}
-use Rattle.cobs.proofs.streaming.StretchLemmas.{joint-is, kept, marked}
+use Rattle.cobs.proofs.streaming.SpanLemmas.{joint-is, kept, marked}
 use Rattle.cobs.proofs.dec.unbuffered.UnbufferedDecoder.take_moved.Goals as goal
 
 pub returns-then-len-missing-clause-fed : goal.returns-then-len-missing-clause-fed

@@ -1,7 +1,7 @@
 use Rattle.std.proofs.Common.{arith}
 use Rattle.cobs.specs.Sentinel.{xor_each}
 use Rattle.cobs.proofs.format.SentinelLemmas.{ones_xored}
-use Rattle.cobs.proofs.streaming.StretchLemmas.{row_fed}
+use Rattle.cobs.proofs.streaming.SpanLemmas.{row_fed}
 use Rattle.cobs.proofs.dec.unbuffered.UnbufferedDecoder.take_part.Goals as goal
 
 pub returns-then-is_all-clause-fed : goal.returns-then-is_all-clause-fed

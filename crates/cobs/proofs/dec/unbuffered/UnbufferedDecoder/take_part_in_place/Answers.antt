@@ -3,14 +3,14 @@ use Rattle.std.proofs.lemmas.List.{length-take-le, drop_more, drop-drop}
 use Rattle.cobs.specs.Fields.Decoders.{phase_of}
 use Rattle.cobs.specs.Internal.FeedsQuietly.{FeedsQuietly}
 use Rattle.cobs.proofs.streaming.RunLemmas.{rest_kept}
-use Rattle.cobs.proofs.streaming.StretchLemmas.{block_fed, joined, copied-there, row_fed}
+use Rattle.cobs.proofs.streaming.SpanLemmas.{block_fed, joined, copied-there, row_fed}
 use Rattle.cobs.proofs.dec.unbuffered.UnbufferedDecoder.take_part_in_place.Goals as goal
 use Rattle.cobs.proofs.dec.unbuffered.UnbufferedDecoder.take_part_in_place.Goals.{then-self-eq0, else-self-eq0}
 use Rattle.cobs_bytes.proofs.bytes.ListLemmas.{part-nonzero}
 
 pub take_moved-requires-clause-nonzero : goal.take_moved-requires-clause-nonzero
 take_moved-requires-clause-nonzero c =
-    let n : ℕ = c.stretch_len-len.result in
+    let n : ℕ = c.span_len-len.result in
     let bytes : List ℕ = drop c.args.read c.args.buffer.now in
     let long = length-take-le n bytes (omega (arith, length-drop c.args.read c.args.buffer.now)) in
     rw (sym (copied-there c.args.self.now.written n c.args.buffer.now c.move_back-2.new.buffer (take n bytes) (omega arith) long c.move_back-2.ensures)) at (part-nonzero 0 n _ bytes c.requires.nonzero (omega arith))
@@ -30,7 +30,7 @@ returns-then-code-gt-WIDE_WINDOW-clause-fed c =
     (part-nonzero 1 n _ bytes c.requires.nonzero (omega arith)) moved)
 
 pub returns-then-is_all-clause-fed : goal.returns-then-is_all-clause-fed
-returns-then-is_all-clause-fed c = row_fed 32 c.args.self.now c.args.buffer.now _ _ (omega arith) (omega arith) c.requires.going c.if-missing-eq0-2.true (λ e. absurd (omega (arith, c.stretch_len-len.ensures.full e))) (omega arith) (c.is_all.ensures c.if-is_all.true) c.write_row.ensures
+returns-then-is_all-clause-fed c = row_fed 32 c.args.self.now c.args.buffer.now _ _ (omega arith) (omega arith) c.requires.going c.if-missing-eq0-2.true (λ e. absurd (omega (arith, c.span_len-len.ensures.full e))) (omega arith) (c.is_all.ensures c.if-is_all.true) c.write_row.ensures
 
 pub returns-clause-fed : goal.returns-clause-fed
 returns-clause-fed c = c.take_moved.ensures.fed c.args.buffer.now _ (omega arith) (length-take-le _ _ (omega (arith, length-drop c.args.read c.args.buffer.now))) c.move_back-2.ensures

@@ -1,5 +1,5 @@
 use Rattle.std.proofs.Common.{◌∙◌, arith, length, refl, sym}
-use Rattle.cobs.proofs.streaming.StretchLemmas.{copied-there, part_put}
+use Rattle.cobs.proofs.streaming.SpanLemmas.{copied-there, part_put}
 use Rattle.cobs.proofs.dec.unbuffered.UnbufferedDecoder.take_short.Goals as goal
 use Rattle.cobs_bytes.proofs.bytes.XoredLemmas.{xor_each-zero}
 

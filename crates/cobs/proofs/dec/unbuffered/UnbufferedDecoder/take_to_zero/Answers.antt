@@ -7,7 +7,7 @@ use Rattle.cobs.specs.Fields.Decoders.{phase_of}
 use Rattle.cobs.specs.Internal.FeedsQuietly.{FeedsQuietly}
 use Rattle.cobs.specs.Step.{end_result, error_if_overlong, next_buffer, next_phase}
 use Rattle.cobs.specs.declared.dec.unbuffered.UnbufferedDecoder.{UnbufferedDecoder}
-use Rattle.cobs.proofs.streaming.StretchLemmas.{joined}
+use Rattle.cobs.proofs.streaming.SpanLemmas.{joined}
 use Rattle.cobs.proofs.dec.unbuffered.UnbufferedDecoder.take_to_zero.Goals as goal
 
 -- a byte that has no room isn't written

@@ -11,7 +11,7 @@ use Rattle.cobs.specs.Piece.{kept_output, last_part, missing, output}
 use Rattle.cobs.specs.Sentinel.{xor_each}
 use Rattle.cobs.proofs.streaming.KeptQuiet.{whole_front, whole_result}
 use Rattle.cobs.proofs.streaming.WalkLemmas.{as_piece, length-walked}
-use Rattle.cobs.proofs.dec.in_place.decode_stretch_in_place.Goals as goal
+use Rattle.cobs.proofs.dec.in_place.decode_span_in_place.Goals as goal
 use Rattle.cobs_bytes.proofs.bytes.XoredLemmas.{xor_each-zero}
 use Rattle.cobs_bytes.proofs.bytes.ListLemmas.{drop-later, part-nonzero}
 

@@ -1,5 +1,5 @@
 use Rattle.std.proofs.Common.{length}
-use Rattle.cobs.proofs.dec.stretch.+write_zeros_at_copied.Given as goal
+use Rattle.cobs.proofs.dec.span.+write_zeros_at_copied.Given as goal
 
 abbrev pub decreases-write_zeros_at_copied : goal.decreases-write_zeros_at_copied
 decreases-write_zeros_at_copied l = length l.dest.now

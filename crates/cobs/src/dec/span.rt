@@ -60,7 +60,7 @@ pub(crate) fn write_zeros_at_copied(
 /// Decodes 2 to 65 bytes for a sentinel, if none of them is the sentinel and `dest` has room for one byte fewer. Returns
 /// how many bytes of the last block are missing. The bytes of `dest` after the output stay.
 #[inline(always)]
-pub(crate) fn decode_stretch(source: &[u8], dest: &mut [u8], sentinel: u8) -> Option<u8>
+pub(crate) fn decode_span(source: &[u8], dest: &mut [u8], sentinel: u8) -> Option<u8>
     ensures taken { (2 ≤ length source.now) × (length source.now ≤ 65) → length source.now ≤ length dest.old + 1
         → HasNoZero (xor_each sentinel source.now) → IsSome result }
     ensures some { IfSome result (λ left. 0 < length source.now) }

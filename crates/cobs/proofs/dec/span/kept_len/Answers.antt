@@ -4,7 +4,7 @@ use Rattle.std.proofs.lemmas.List.Elements.{All-get_or}
 use Rattle.cobs.specs.Grammar.{HasNoZero}
 use Rattle.cobs.specs.Sentinel.{xor_each}
 use Rattle.cobs.proofs.decoding.TailLemmas.{ends-start, ends-next, broken-last, broken-kept, whole-kept}
-use Rattle.cobs.proofs.dec.stretch.kept_len.Goals as goal
+use Rattle.cobs.proofs.dec.span.kept_len.Goals as goal
 
 -- the code at a place
 code-is : (bytes : List ℕ) (s at : ℕ) → at < length bytes → bit_xor (get_or bytes at 0) s ≡ get_or (xor_each s bytes) at 0

@@ -1,4 +1,4 @@
-// Made by bindings/rust/translate.py from `crates/cobs/src/dec/stretch.rt`: change that file, and run it again.
+// Made by bindings/rust/translate.py from `crates/cobs/src/dec/span.rt`: change that file, and run it again.
 //! Walks from code to code.
 
 use crate::proved::cobs_bytes::lanes::copy_xored_short;
@@ -46,7 +46,7 @@ pub(crate) fn write_zeros_at_copied(
 /// Decodes 2 to 65 bytes for a sentinel, if none of them is the sentinel and `dest` has room for one byte fewer. Returns
 /// how many bytes of the last block are missing. The bytes of `dest` after the output stay.
 #[inline(always)]
-pub(crate) fn decode_stretch(source: &[u8], dest: &mut [u8], sentinel: u8) -> Option<u8> {
+pub(crate) fn decode_span(source: &[u8], dest: &mut [u8], sentinel: u8) -> Option<u8> {
     let len = source.len();
     if len < 2 || WIDE_WINDOW + 1 < len || dest.len() < len - 1 || source[0] == sentinel {
         return None;

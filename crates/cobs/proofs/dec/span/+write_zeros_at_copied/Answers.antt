@@ -6,7 +6,7 @@ use Rattle.cobs.specs.Grammar.{HasNoZero}
 use Rattle.cobs.specs.Sentinel.{xor_each}
 use Rattle.cobs.proofs.format.SentinelLemmas.{rest_xored}
 use Rattle.cobs.proofs.streaming.WalkLemmas.{behind-code, walked-next, walked-past}
-use Rattle.cobs.proofs.dec.stretch.+write_zeros_at_copied.Goals as goal
+use Rattle.cobs.proofs.dec.span.+write_zeros_at_copied.Goals as goal
 
 -- the copies are as many bytes, and each is its byte, XORed
 module _ (copied dest : List ℕ) (s : ℕ) (is : dest ≡ xor_each s copied) where

@@ -8,7 +8,7 @@ use Rattle.cobs.specs.Piece.{last_part, missing, output}
 use Rattle.cobs.specs.Sentinel.{xor_each}
 use Rattle.cobs.proofs.format.SentinelLemmas.{rest_xored}
 use Rattle.cobs.proofs.streaming.WalkLemmas.{as_piece, length-walked}
-use Rattle.cobs.proofs.dec.stretch.decode_stretch.Goals as goal
+use Rattle.cobs.proofs.dec.span.decode_span.Goals as goal
 use Rattle.cobs_bytes.proofs.bytes.XoredLemmas.{xor_twice}
 
 -- the bytes behind the first one, copied

@@ -1,7 +1,7 @@
 use Rattle.std.proofs.Common.{◌≡◌, ◌≤◌, ◌-◌, ◌++◌, ℕ, List, length, take}
 use Rattle.cobs.specs.Piece.{last_part, missing}
 use Rattle.cobs.specs.Sentinel.{xor_each}
-use Rattle.cobs.proofs.dec.stretch.kept_len.Given as goal
+use Rattle.cobs.proofs.dec.span.kept_len.Given as goal
 
 abbrev pub invariant-by_block : goal.invariant-by_block
 invariant-by_block l =

@@ -5,8 +5,8 @@ use borrow.Rule.Slice.PartMut.{put_mid}
 use Rattle.cobs.specs.Grammar.{HasNoZero}
 use Rattle.cobs.specs.Sentinel.{xor_each}
 use Rattle.cobs.proofs.format.SentinelLemmas.{front_xored}
-use Rattle.cobs.proofs.streaming.StretchLemmas.{copied_put, copied-there}
-use Rattle.cobs.proofs.dec.unbuffered.UnbufferedDecoder.take_stretch.Goals as goal
+use Rattle.cobs.proofs.streaming.SpanLemmas.{copied_put, copied-there}
+use Rattle.cobs.proofs.dec.unbuffered.UnbufferedDecoder.take_span.Goals as goal
 
 -- the first n bytes, copied behind the output
 module _ (bytes dest ys : List ℕ) (s n at : ℕ) (within : n ≤ length bytes) (room : at + n ≤ length dest)
@@ -28,16 +28,16 @@ module _ (bytes dest ys : List ℕ) (s n at : ℕ) (within : n ≤ length bytes)
 
 pub take_copied-requires-clause-copied : goal.take_copied-requires-clause-copied
 take_copied-requires-clause-copied c =
-    there c.args.bytes.now c.args.dest.now _ c.args.sentinel c.stretch_len-len.result c.args.self.now.written (omega arith) (omega arith) c.copy_xored.ensures
+    there c.args.bytes.now c.args.dest.now _ c.args.sentinel c.span_len-len.result c.args.self.now.written (omega arith) (omega arith) c.copy_xored.ensures
 
 pub take_copied-requires-clause-nonzero : goal.take_copied-requires-clause-nonzero
 take_copied-requires-clause-nonzero c =
-    nonzero c.args.bytes.now c.args.dest.now _ c.args.sentinel c.stretch_len-len.result c.args.self.now.written (omega arith) (omega arith) c.copy_xored.ensures c.requires.nonzero
+    nonzero c.args.bytes.now c.args.dest.now _ c.args.sentinel c.span_len-len.result c.args.self.now.written (omega arith) (omega arith) c.copy_xored.ensures c.requires.nonzero
 
 pub returns-clause-fed : goal.returns-clause-fed
 returns-clause-fed c =
     let bytes : List ℕ = c.args.bytes.now in
-    let n : ℕ = c.stretch_len-len.result in
+    let n : ℕ = c.span_len-len.result in
     let within : n ≤ length bytes = omega arith in
     let room : c.args.self.now.written + n ≤ length c.args.dest.now = omega arith in
     let fed = rw (length-take-le n bytes within) at c.take_copied.ensures.fed in

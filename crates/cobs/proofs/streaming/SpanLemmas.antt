@@ -66,8 +66,8 @@ module _ (base : ℕ) (buffer xs : List ℕ) (room : base + length xs ≤ length
   behind = ap (λ (k : ℕ). drop k (over base buffer xs)) (sym front-of) ∙ drop-append_seam (take base buffer) (xs ++ drop (base + length xs) buffer)
 
   -- bytes that were copied behind the output so far
-  over-stretch : take (base + length xs - base) (drop base (over base buffer xs)) ≡ xs
-  over-stretch = ap (take (base + length xs - base)) behind ∙ ap (λ (k : ℕ). take k (xs ++ drop (base + length xs) buffer)) (omega arith) ∙ take-append_seam xs (drop (base + length xs) buffer)
+  over-span : take (base + length xs - base) (drop base (over base buffer xs)) ≡ xs
+  over-span = ap (take (base + length xs - base)) behind ∙ ap (λ (k : ℕ). take k (xs ++ drop (base + length xs) buffer)) (omega arith) ∙ take-append_seam xs (drop (base + length xs) buffer)
 
   -- written over by as many bytes
   over-over : (ys : List ℕ) → length ys ≡ length xs → put_mid base (base + length xs - base) (over base buffer xs) ys ≡ over base buffer ys
@@ -83,7 +83,7 @@ module _ (base : ℕ) (buffer xs : List ℕ) (room : base + length xs ≤ length
 pub copied-there : (at len : ℕ) (before dest xs : List ℕ) → at + len ≤ length before → length xs ≡ len → dest ≡ take at before ++ (xs ++ drop (at + len) before) → take len (drop at dest) ≡ xs
 copied-there at len before dest xs room long is =
     ap (λ (l : List ℕ). take len (drop at l)) (is ∙ ap (λ (k : ℕ). take at before ++ (xs ++ drop (at + k) before)) (sym long))
-    ∙ ap (λ (k : ℕ). take k (drop at (over at before xs))) (omega arith) ∙ over-stretch at before xs (omega arith)
+    ∙ ap (λ (k : ℕ). take k (drop at (over at before xs))) (omega arith) ∙ over-span at before xs (omega arith)
 
 -- a code of the block whose `joint` is this: a full one, or another
 abbrev pub code_by : ℕ → ℕ
