@@ -1,7 +1,7 @@
 -- What is kept of a piece is the output of all its bytes except some of the last 253, since no block has more: by steps from
 -- block to block (`ends-next`), as `kept_len` makes them.
-use Rattle.std.proofs.Common.{◌≡◌, ◌≢◌, ℕ, zero, suc, All, inl, inr, refl, ◌+◌, ◌-◌, ◌<◌, ◌≤◌, List, [], ◌∷◌, ◌++◌, length, take, drop, get_or, sym, ap, ◌∙◌, arith, append_assoc, append-nil, zero-add, length-append, take_at}
-use Rattle.std.proofs.lemmas.List.{take_more, length-take-le, length-drop, take-append-drop}
+use Rattle.std.proofs.Common.{◌≡◌, ◌≢◌, ℕ, zero, suc, All, inl, inr, refl, ◌+◌, ◌-◌, ◌<◌, ◌≤◌, List, [], ◌∷◌, ◌++◌, length, take, drop, replicate, get_or, subst, sym, ap, ◌∙◌, arith, append_assoc, append-nil, zero-add, length-append, take_at}
+use Rattle.std.proofs.lemmas.List.{drop_more, take_more, length-take-le, length-drop, take-append-drop}
 use Rattle.std.proofs.Math.Seq.{take-add}
 use Rattle.std.proofs.lemmas.List.Elements.{All-head, All-drop}
 use Rattle.std.proofs.lemmas.Bool.{cases_lt, eq-eqb, ne_eqb}
@@ -79,6 +79,17 @@ module _ (p q : List ℕ) (at code : ℕ) (here : at < length q) (is : code ≡ 
     pub broken-kept : output (p ++ take (at + 1) q) ≡ kept_output (p ++ q)
     unfolding kept_output
     broken-kept = grind (arith, front-is, all-is, behind.out, behind.last, next_code, is_whole-of, broken-last, ne_eqb, length-append, take_at)
+
+-- a row of n blocks without bytes behind whole blocks
+pub ends-ones : (n : ℕ) (p q : List ℕ) (at : ℕ) → at + n ≤ length q → take n (drop at q) ≡ replicate n 1
+    → missing (last_part (p ++ take at q)) ≡ 0 → missing (last_part (p ++ take (at + n) q)) ≡ 0
+ends-ones zero p q at fits ones ends = subst (λ (k : ℕ). missing (last_part (p ++ take k q)) ≡ 0) {x = at} (omega arith) ends
+ends-ones (suc n) p q at fits ones ends =
+    let row : get_or q at 0 ∷ take n (drop (at + 1) q) ≡ 1 ∷ replicate n 1 = sym (ap (take (suc n)) (drop_more q at 0 (omega arith))) ∙ ones in
+    let one : 1 ≡ get_or q at 0 = grind arith in
+    let others : take n (drop (at + 1) q) ≡ replicate n 1 = grind arith in
+    let next = ends-next p q at 1 (omega arith) one ends (omega arith) (omega arith) in
+    subst (λ (k : ℕ). missing (last_part (p ++ take k q)) ≡ 0) {x = at + 1 + n} (omega arith) (ends-ones n p q (at + 1) (omega arith) others next)
 
 -- whole blocks
 pub whole-kept : (p : List ℕ) → missing (last_part p) ≡ 0 → output p ≡ kept_output p

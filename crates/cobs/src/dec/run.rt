@@ -1,6 +1,6 @@
 //! The walk of every decoder over the bytes before a sentinel. A step takes a long block, 32 codes of blocks without bytes,
 //! or a *span*: bytes that are copied at once, with the codes among them, before a zero is written over each code.
-ghost use Rattle.std.specs.Prelude.{IsTrue, ◌++◌, drop, ◌≡◌, ◌≢◌, ◌<◌, ◌≤◌, ◌+◌, ◌-◌, ◌∷◌, [], length, take, slice_index, false, List, ℕ};
+ghost use Rattle.std.specs.Prelude.{IsTrue, ◌++◌, drop, ◌≡◌, ◌≢◌, ◌<◌, ◌≤◌, ◌+◌, ◌-◌, ◌∷◌, [], length, take, replicate, slice_index, false, List, ℕ};
 ghost use Rattle.cobs.specs.Feed.{Idle, Overlong};
 ghost use Rattle.cobs.specs.Fields.Decoders.{phase_of};
 ghost use Rattle.cobs.specs.Grammar.{HasNoZero};
@@ -18,6 +18,27 @@ use cobs_bytes::window::{WIDE_WINDOW, WINDOW, copy_window, has_vectors, is_all, 
 
 /// The most bytes of one span: so short that no code in it can be followed by a whole full block.
 pub(crate) const SPAN_MAX: usize = FULL_BLOCK_BYTES - 1;
+
+/// Writes a zero for each byte of the rows of 32 such bytes with which `bytes` begins, from `at` on. It stops before a row that
+/// has another byte or no room, and after at most seven rows. Returns how many zeros it wrote.
+// A function of its own, so that the walk keeps its registers.
+#[inline(never)]
+fn write_rows(dest: &mut [u8], at: usize, bytes: &[u8], byte: u8) -> usize
+    ensures within { result ≤ length bytes.now }
+    ensures few { result < 254 }
+    ensures room { 0 < result → at + result ≤ length dest.old }
+    ensures rows { take result bytes.now ≡ replicate result byte }
+    ensures written { dest.new ≡ take at dest.old ++ (replicate result 0 ++ drop (at + result) dest.old) }
+    ensures kept { result ≡ 0 → dest.new ≡ dest.old }
+{
+    let most = bytes.len().min(dest.len().saturating_sub(at)).min(SPAN_MAX);
+    let mut len = 0;
+    'by_row: while WINDOW <= most - len && is_all(bytes, len, byte) {
+        write_row(dest, at + len, 0);
+        len += WINDOW;
+    }
+    len
+}
 
 impl UnbufferedDecoder {
     /// Takes the code of the block after a whole one, and writes the zero that joins the two, unless the first is full.
@@ -267,8 +288,8 @@ impl UnbufferedDecoder {
     }
 
     /// Takes the bytes of one step before a sentinel, and returns their number, which is 0 only if the first byte has no
-    /// room. A step is a block that has 64 bytes or more or follows a full one, or 32 codes of blocks without bytes, or a
-    /// span.
+    /// room. A step is a block that has 64 bytes or more or follows a full one, or rows of 32 codes of blocks without bytes,
+    /// or a span.
     #[inline(always)]
     fn take_part(&mut self, dest: &mut [u8], bytes: &[u8], sentinel: u8) -> usize
         requires going { self.old.too_long ≡ 0 }
@@ -286,11 +307,12 @@ impl UnbufferedDecoder {
             if self.joint == 0 || code as usize > WIDE_WINDOW {
                 return self.take_block(dest, bytes, sentinel);
             }
-            let most = bytes.len().min(dest.len().saturating_sub(self.written));
-            if code == 1 && WINDOW <= most && is_all(bytes, 0, 1 ^ sentinel) {
-                write_row(dest, self.written, 0);
-                self.written += WINDOW;
-                return WINDOW;
+            if code == 1 {
+                let taken = write_rows(dest, self.written, bytes, 1 ^ sentinel);
+                if taken != 0 {
+                    self.written += taken;
+                    return taken;
+                }
             }
         }
         self.take_span(dest, bytes, sentinel)

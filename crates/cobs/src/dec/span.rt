@@ -8,7 +8,7 @@ ghost use Rattle.cobs.specs.declared.error.DecodeError.TheVariants.{InvalidFrame
 
 use crate::error::DecodeError;
 use cobs_bytes::lanes::copy_xored_short;
-use cobs_bytes::window::WIDE_WINDOW;
+use cobs_bytes::window::{WIDE_WINDOW, WINDOW, is_all};
 
 /// Writes a zero over each code in `dest`, which has the moved bytes after the code `first`. The caller ensures that no code
 /// among them follows a full block, since no zero belongs there. Returns the code of the last part, and how many of its
@@ -100,9 +100,15 @@ pub(crate) fn kept_len(bytes: &[u8], left: usize, sentinel: u8) -> (usize, bool)
 {
     let mut at = left;
     'by_block: while at < bytes.len() {
+        let rest = bytes.len() - at;
         let code = (bytes[at] ^ sentinel) as usize;
-        if bytes.len() - at < code {
+        if rest < code {
             return (at + 1, false);
+        }
+        // A row of codes without bytes is passed at once: from code to code each would wait for the one before it.
+        if code == 1 && WINDOW <= rest && is_all(bytes, at, 1 ^ sentinel) {
+            at += WINDOW;
+            continue;
         }
         at += code;
     }

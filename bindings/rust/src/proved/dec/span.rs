@@ -2,7 +2,7 @@
 //! Walks from code to code.
 
 use crate::proved::cobs_bytes::lanes::copy_xored_short;
-use crate::proved::cobs_bytes::window::WIDE_WINDOW;
+use crate::proved::cobs_bytes::window::{WIDE_WINDOW, WINDOW, is_all};
 use crate::proved::error::DecodeError;
 
 /// Writes a zero over each code in `dest`, which has the moved bytes after the code `first`. The caller ensures that no code
@@ -65,9 +65,15 @@ pub(crate) fn decode_span(source: &[u8], dest: &mut [u8], sentinel: u8) -> Optio
 pub(crate) fn kept_len(bytes: &[u8], left: usize, sentinel: u8) -> (usize, bool) {
     let mut at = left;
     'by_block: while at < bytes.len() {
+        let rest = bytes.len() - at;
         let code = (bytes[at] ^ sentinel) as usize;
-        if bytes.len() - at < code {
+        if rest < code {
             return (at + 1, false);
+        }
+        // A row of codes without bytes is passed at once: from code to code each would wait for the one before it.
+        if code == 1 && WINDOW <= rest && is_all(bytes, at, 1 ^ sentinel) {
+            at += WINDOW;
+            continue;
         }
         at += code;
     }

@@ -1,9 +1,10 @@
-use Rattle.std.proofs.Common.{◌≡◌, ◌≢◌, ◌<◌, ℕ, List, length, get_or, bit_xor, sym, arith}
-use Rattle.std.proofs.lemmas.List.{length-map, get_or-map, take_all}
+use Rattle.std.proofs.Common.{◌≡◌, ◌≢◌, ◌<◌, ℕ, List, length, take, drop, replicate, get_or, bit_xor, sym, arith}
+use Rattle.std.proofs.lemmas.List.{drop-map, length-map, get_or-map, take_all}
 use Rattle.std.proofs.lemmas.List.Elements.{All-get_or}
 use Rattle.cobs.specs.Grammar.{HasNoZero}
 use Rattle.cobs.specs.Sentinel.{xor_each}
-use Rattle.cobs.proofs.decoding.TailLemmas.{ends-start, ends-next, broken-last, broken-kept, whole-kept}
+use Rattle.cobs.proofs.format.SentinelLemmas.{ones_xored}
+use Rattle.cobs.proofs.decoding.TailLemmas.{ends-start, ends-next, ends-ones, broken-last, broken-kept, whole-kept}
 use Rattle.cobs.proofs.dec.span.kept_len.Goals as goal
 
 -- the code at a place
@@ -19,14 +20,22 @@ by_block-init c = (c.requires.left, λ p is. grind (arith, ends-start, length-ma
 pub by_block-preserved : goal.by_block-preserved
 by_block-preserved c = (omega arith, λ p is. let ends = c.by_block.invariant.1 p is in grind (arith, ends-next, code-is, some, length-map))
 
+pub by_block-preserved-then-is_all : goal.by_block-preserved-then-is_all
+by_block-preserved-then-is_all c =
+    let s : ℕ = c.args.sentinel in
+    let ones : take 32 (drop c.by_block.at (xor_each s c.args.bytes.now)) ≡ replicate 32 1
+    = rw (drop-map (λ b. bit_xor b s) c.by_block.at c.args.bytes.now) (ones_xored (drop c.by_block.at c.args.bytes.now) s 32 (c.is_all.ensures c.if-is_all.true)) in
+    let same = length-map c.args.bytes.now (λ (b : ℕ). bit_xor b s) in
+    (omega arith, λ p is. ends-ones 32 p (xor_each s c.args.bytes.now) c.by_block.at (omega (arith, same)) ones (c.by_block.invariant.1 p is))
+
 pub by_block-smaller : goal.by_block-smaller
 by_block-smaller c = let s = some _ _ _ c.by_block-test.true c.requires.nonzero in omega arith
 
-pub returns-then-bytes-at-clause-kept : goal.returns-then-bytes-at-clause-kept
-returns-then-bytes-at-clause-kept c p is = let ends = c.by_block.invariant.1 p is in grind (arith, broken-kept, code-is, length-map)
+pub returns-then-rest-code-clause-kept : goal.returns-then-rest-code-clause-kept
+returns-then-rest-code-clause-kept c p is = let ends = c.by_block.invariant.1 p is in grind (arith, broken-kept, code-is, length-map)
 
-pub returns-then-bytes-at-clause-whole : goal.returns-then-bytes-at-clause-whole
-returns-then-bytes-at-clause-whole c p is = let ends = c.by_block.invariant.1 p is in grind (arith, broken-last, code-is, length-map)
+pub returns-then-rest-code-clause-whole : goal.returns-then-rest-code-clause-whole
+returns-then-rest-code-clause-whole c p is = let ends = c.by_block.invariant.1 p is in grind (arith, broken-last, code-is, length-map)
 
 pub returns-clause-kept : goal.returns-clause-kept
 returns-clause-kept c p is = let ends = c.by_block.invariant.1 p is in grind (arith, take_all, length-map, whole-kept)

@@ -1,0 +1,13 @@
+use Rattle.std.proofs.Common.{◌≡◌, ◌≤◌, ◌+◌, ◌-◌, ◌++◌, take, drop, replicate}
+use Rattle.cobs.proofs.dec.run.write_rows.Given as goal
+
+-- the rows before `len` are written
+abbrev pub invariant-by_row : goal.invariant-by_row
+invariant-by_row l = record {
+  within : l.len ≤ l.most;
+  rows : take l.len l.bytes ≡ replicate l.len l.byte;
+  written : l.dest ≡ take l.at l.fn.dest ++ (replicate l.len 0 ++ drop (l.at + l.len) l.fn.dest);
+}
+
+abbrev pub decreases-by_row : goal.decreases-by_row
+decreases-by_row l = l.most - l.len
