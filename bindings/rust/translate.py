@@ -48,13 +48,14 @@ MORE_DERIVES = {
 }
 # What the docs say otherwise here, where the decoders have the signatures of the crate `cobs`, and no reader sees a contract.
 REWORDED = {
-    "It returns what [`CobsDecoder`](crate::CobsDecoder) does": "By the byte it returns what\n[`CobsDecoder`](crate::CobsDecoder) does",
+    "Its results are those of [`CobsDecoder`](crate::CobsDecoder). It has no buffer": "The results of its `feed` are those of\n"
+    "[`CobsDecoder`](crate::CobsDecoder). It has no buffer",
     ", as [`CobsDecoder::push`](crate::CobsDecoder::push) does, with its errors.": ".\nThe error says how many bytes were taken.",
     "CobsDecoder::new(&mut buffer); let rejected = PushError": "UnbufferedDecoder::new();\nlet rejected = PushError",
     "decoder.push(&[3, 7, 0, 2, 9, 0]), Err(rejected)": "decoder.push(&mut buffer, &[3, 7, 0, 2, 9, 0]), Err(rejected)",
-    "Contracts describe a source by a relation, `step`. It says which reads lead from which state of the source to which other"
-    " state. A read is a failure, or the bytes that it returned.": "[`FrameReader::next_frame`] panics if a read returns a"
-    " number above 64.",
+    "Contracts describe a source by a relation, `step`: it holds if a read with this result may lead from the first state of the"
+    " source to the second. The result is a failure, or the bytes that the read returned.": "[`FrameReader::next_frame`] panics"
+    " if a read returns a number above 64.",
     " Contracts describe a reader by its decoder, and by the bytes that it has read and not yet fed to the decoder.": "",
     "Contracts describe it by the bytes of its buffer and by its phase. ": "",
     "[`decode_short`](crate::decode_short)": "`decode_short`",

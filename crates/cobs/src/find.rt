@@ -5,7 +5,7 @@ ghost use Rattle.cobs.specs.Grammar.{HasNoZero};
 use cobs_bytes::window::{WIDE_WINDOW, WINDOW, first_zero, has_vectors, zeros_at};
 use memchr::memchr;
 
-/// Returns the index of the first such byte of a source, or the source's length if there is none.
+/// Returns the index of the first byte of the source that equals `byte`, or the source's length if there is none.
 pub(crate) fn position_or_len(source: &[u8], byte: u8) -> usize
     ensures within { result ≤ length source.now }
     ensures before { All (λ other. other ≢ byte) (take result source.now) }
@@ -77,7 +77,7 @@ pub(crate) fn len_without_end(source: &[u8], sentinel: u8) -> usize
 
 /// Returns the length of the source before a zero among its first 66 bytes, or its whole length if none was found there. In a
 /// source of 32 to 63 bytes only the first 32 are searched, and in one of 64 or 65 bytes the first 64.
-// A second search, of the other bytes, would make a source slower whose zero is at its end, such as a frame in a push of its own.
+// A search of the other bytes too would slow down a source whose zero is its last byte, such as a frame in a push of its own.
 #[inline(always)]
 pub(crate) fn front_len(source: &[u8]) -> usize
     ensures within { result ≤ length source.now }

@@ -66,8 +66,8 @@ pub enum ReadFault {
 
 /// A source of the bytes of a stream.
 ///
-/// Contracts describe a source by a relation, `step`. It says which reads lead from which state of the source to which
-/// other state. A read is a failure, or the bytes that it returned.
+/// Contracts describe a source by a relation, `step`: it holds if a read with this result may lead from the first state of
+/// the source to the second. The result is a failure, or the bytes that the read returned.
 ///
 /// ```
 /// let mut source = Recorded::new([2, 7].as_slice());

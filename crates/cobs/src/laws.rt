@@ -152,11 +152,12 @@ pub fn law_5()
 
 /// No frame contains its sentinel; a second XOR restores the frame.
 ///
-/// No byte of a frame for a sentinel is that sentinel, and a second XOR with the sentinel restores the frame for 0.
+/// A frame for a sentinel is a frame for 0 with each byte XORed with the sentinel. It doesn't contain the sentinel, and
+/// XORing it again restores the frame for 0.
 ///
 /// This is the purpose of COBS: if sentinels are put between frames, a receiver finds the ends of frames by searching
 /// for the sentinel. The clause `free` is about a frame that is sent, `received` about bytes that were received. Bytes
-/// without the sentinel contain no zero after the XOR, and an XOR with 0 changes nothing.
+/// without the sentinel contain no zero after the XOR (`coded`), and an XOR with 0 changes nothing (`zero`).
 ///
 /// ```
 /// fn as_received<'a>(frame: &'a [u8], sentinel: u8) -> &'a [u8]
@@ -388,11 +389,12 @@ pub fn law_12()
 
 /// The open frame of a streaming encoder.
 ///
-/// It says at which index the frame so far ends, and how the open frame of an [`EncoderState`](crate::EncoderState)
-/// differs from the encoded one.
+/// Says at which index the frame so far ends, and how the open frame of an [`EncoderState`](crate::EncoderState) differs
+/// from the encoded one.
 ///
-/// So if a caller carries out each push result, the placeholder is always within the output. The caller's frame is the
-/// encoded one, unless the message ends in a full run: then a 01 follows it.
+/// So if a caller carries out each [`PushResult`](crate::PushResult), the byte reserved for the next code (the
+/// placeholder) is always within the output. The caller's frame is the encoded one, unless the message ends in a full
+/// run: then a 01 follows the encoded one.
 ///
 /// ```
 /// fn as_encoded<'a>(frame: &'a [u8], message: &[u8], index: usize, code: u8) -> &'a [u8]

@@ -80,7 +80,7 @@ pub record HoldsFrames (settings : Settings) (before : Option (List ℕ)) (came 
   pub each : AllZip (λ line bytes. SendsText settings (text_of line) bytes) came sent
   pub written : Appends before after (concat sent)
 
--- a run of `send`, with its result
+-- a run of `send`, with its result. After a failed write nothing is claimed: part of a frame may have been written.
 abbrev pub HasSent : Settings → Result Bool WatchFault → (from to before after : Option (List ℕ)) → Type 0
 HasSent settings (Ok all_sent) from to before after = HasSentAll settings all_sent from to before after
 HasSent settings (Err ReadFailed) from to before after = (rest : List ℕ) × HasSentLines settings rest from to before after

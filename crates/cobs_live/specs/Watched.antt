@@ -96,7 +96,7 @@ pub record HasShownAll (settings : Settings) (tally : Tally) (from to before aft
   pub end : IsAtEnd to
 
 -- a run of `show`, with its result: all that was read is shown, and whether a piece has begun, also if the next read
--- failed
+-- failed. After a failed write nothing is claimed: part of the text may have been written.
 abbrev pub HasShown : Settings → Result Tally WatchFault → (from to before after : Option (List ℕ)) → Type 0
 HasShown settings (Ok tally) from to before after = HasShownAll settings tally from to before after
 HasShown settings (Err ReadFailed) from to before after = HasWritten (shown_ended settings) from to before after

@@ -12,8 +12,8 @@ pub struct Checksum {
     /// Whether the lowest byte comes first. Otherwise the highest comes first.
     pub little: bool,
 
-    /// How each byte changes a register. With this table a byte costs less than half of the instructions of a check bit
-    /// by bit.
+    /// For each byte, the register eight bits later, as `table_of` computes it. The table saves a loop over the bits of each
+    /// byte of a message.
     words: [u32; 256],
 
     ghost sized: { (0 < params.size) × (params.size ≤ 4) },
@@ -78,7 +78,7 @@ impl Checksum {
         bytes
     }
 
-    /// Returns the bytes before the checksum at their end, if that is right.
+    /// Returns the bytes without the checksum at their end, or `None` if it isn't right.
     pub fn checked<'a>(&self, bytes: &'a [u8]) -> Option<&'a [u8]>
         ensures body { IfSome result (λ body. body.now ≡ body_of self.now bytes.now) }
         ensures right { IsSome result ↔ IsTrue (is_checked self.now bytes.now) }

@@ -128,7 +128,7 @@ fn millis_of(duration: Duration) -> u64 {
     u64::try_from(duration.as_millis()).unwrap_or(u64::MAX)
 }
 
-/// The times at which the last piece was read, and the next one is.
+/// The time at which the last piece was read, and the time at which the next one is read.
 #[derive(Clone, Copy)]
 pub struct Times {
     pub last: Moment,
@@ -159,7 +159,7 @@ impl Times {
         self.next = timer.read(self.last);
     }
 
-    /// Continues with the piece after this one.
+    /// Makes the next piece the last one, after it was shown.
     pub fn advance(&mut self)
         ensures last { self.new.last ≡ self.old.next }
         ensures next { self.new.next ≡ self.old.next }

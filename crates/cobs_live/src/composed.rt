@@ -88,7 +88,7 @@ impl Composed {
     }
 
     /// Adds the text of a piece in a view, if the piece is a short message that is shown as digits or raw, without
-    /// colour, number and time, and if there is room. Returns whether it did. So one write can have the text of many
+    /// colour, number and time, and if there is room. Returns whether it did. So one write can contain the text of many
     /// messages.
     #[inline(always)]
     pub fn keep(&mut self, view: &View, piece: &Sight<'_>) -> bool

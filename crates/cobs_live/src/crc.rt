@@ -30,8 +30,8 @@ pub enum Crc {
     Crc32,
 }
 
-/// The parameters of a check, as in the catalogue of parametrised CRC algorithms. The polynomial and the start are in
-/// the high bits.
+/// The parameters of a check, as in the catalogue of parametrised CRC algorithms. If a check has fewer than 32 bits, its
+/// polynomial and its start are in the high bits.
 #[derive(Debug, PartialEq, Eq, Clone, Copy)]
 pub struct Params {
     /// How many bytes the checksum has, from 1 to 4.

@@ -13,7 +13,7 @@ pub enum WatchFault {
     #[error("read failed")]
     ReadFailed,
 
-    /// A write failed, and wasn't only interrupted. Part of it may have been written.
+    /// A write failed, and wasn't only interrupted. Part of its bytes may have been written.
     #[error("write failed")]
     WriteFailed,
 

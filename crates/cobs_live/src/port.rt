@@ -24,7 +24,8 @@ impl<'a, C: Clock + Drop, F: Drop> Port<'a, C, F> {
     ghost use Rattle.std.specs.Prelude.{◌≡◌, false, IsOk};
     ghost use Rattle.cobs_live.specs.Ports.{inner_of};
 
-    /// Makes this reader or writer one that waits, by this clock.
+    /// Makes a port of this reader or writer. It waits by this clock, and stores the system's number for a failure in
+    /// `reason`.
     pub fn new(clock: C, inner: F, reason: &'a Cell<Option<i32>>) -> Self
         ensures inner { inner_of result ≡ inner }
     {

@@ -25,7 +25,7 @@ pub struct Sight<'a> {
     /// How many bytes it decodes to; `usize::MAX` if they are more than the buffer holds.
     pub len: usize,
 
-    /// The bytes of a message, without a right checksum. For a piece that is broken or too long, the decoded bytes, or
-    /// none if they aren't shown.
+    /// The bytes of a message, without its checksum if that is right. For a piece that is broken or too long, the decoded
+    /// bytes, or none if they aren't shown.
     pub bytes: &'a [u8],
 }

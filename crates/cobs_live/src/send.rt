@@ -19,7 +19,7 @@ use std::io::{BufWriter, Write};
 /// How lines are sent.
 #[derive(Debug, PartialEq, Eq, Drop)]
 pub struct Settings {
-    /// Whether a line has the hexadecimal digits of a message instead of the message itself.
+    /// Whether each line has the hexadecimal digits of a message instead of the message itself.
     pub hex: bool,
 
     /// The checksum that follows each message in its frame, if any.
@@ -32,12 +32,12 @@ pub struct Settings {
 /// Sends each line of the input, without its newline, as a frame and its sentinel, and then flushes the output. If a
 /// checksum is set, it follows the line's bytes in the frame.
 ///
-/// Returns whether every line was sent. If lines should be hexadecimal digits, a line that isn't is skipped, and its
+/// Returns whether every line was sent. If `settings.hex` is set, a line that isn't hexadecimal digits is skipped, and its
 /// number, counted from 1, is reported on `errors`. An interrupted read is tried again. Memory is allocated for one
 /// line and its frame.
 ///
 /// - `ReadFailed`: a read failed, or memory ran out while a line was read. All lines before it were sent.
-/// - `WriteFailed`: a write or a flush failed. Part of it may have been written.
+/// - `WriteFailed`: a write or a flush failed. Part of a frame may have been written.
 /// - `OutputClosed`: a write or a flush failed because nobody reads the output any more.
 /// - `OutOfMemory`: memory ran out for a frame. All lines before it were sent.
 pub fn run_send<S: LiveLines<W>, W: Write + Drop, E: Write>(

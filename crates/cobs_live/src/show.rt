@@ -41,8 +41,8 @@ const NEAR: usize = 64;
 pub const CHUNK_LEN: usize = 65_536;
 
 /// Shows each piece of the input when its sentinel arrives, and at the end of the input whether a piece has begun. A
-/// hang-up of the line ends no piece: it is shown whether one has begun, and then that the line hung up. The bytes that
-/// follow are skipped up to the first sentinel.
+/// hang-up of the line doesn't end a piece: if one has begun, this is shown, and then that the line hung up. The bytes
+/// that follow are skipped up to the first sentinel.
 ///
 /// It calls [`Watch::show_next`] repeatedly. Each call reads once, and flushes the output before it reads. So all
 /// pieces that have ended so far have been written before the program waits for more bytes. Memory is allocated only
@@ -54,7 +54,7 @@ pub const CHUNK_LEN: usize = 65_536;
 ///
 /// - `ReadFailed`: a read failed, for example because the line hung up. All pieces that had ended before have been
 ///   shown, and whether another has begun.
-/// - `WriteFailed`: a write or a flush failed. Part of it may have been written.
+/// - `WriteFailed`: a write or a flush failed. Part of the text may have been written.
 /// - `OutputClosed`: a write or a flush failed because nobody reads the output any more.
 /// - `OutOfMemory`: memory ran out. Nothing was read, and nothing written.
 pub fn run_show<C: Clock + Drop, S: LiveInput<W>, W: Write + Drop, E: Write>(

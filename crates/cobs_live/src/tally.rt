@@ -17,7 +17,7 @@ pub struct Tally {
     pub bad_crc: u64,
     pub bytes: u64,
 
-    /// All of these pieces.
+    /// How many pieces were read, of all four kinds.
     pub pieces: u64,
 
     /// Whether messages should end with checksums.
@@ -30,7 +30,8 @@ pub struct Counting {
     /// Whether it is written at the end of the input, or when a fault ends the program.
     pub at_end: bool,
 
-    /// If there is a number, the tally is written when bytes arrive and this many milliseconds have passed.
+    /// If there is a number, the tally is also written when bytes arrive and this many milliseconds have passed since it was
+    /// last written, or since the start.
     pub every: Option<u64>,
 }
 

@@ -148,7 +148,7 @@ static JCOBS_INLINE jcobs_found jcobs_found_of(int kind, size_t count, size_t co
     return found;
 }
 
-/* Makes an idle decoder, for a buffer of any length, also an empty one. */
+/* Makes an idle decoder, for a buffer of any length, even an empty one. */
 static jcobs_decoder jcobs_decoder_new(void)
 {
     return jcobs_decoder_of(0, 0, 0, 0);
@@ -223,8 +223,8 @@ static JCOBS_INLINE jcobs_outcome jcobs_decoder_end(jcobs_decoder *decoder, size
     if (ended.missing != 0) {
         return jcobs_outcome_of(JCOBS_IS_INVALID_FRAME, ended.written);
     }
-    /* This happens only if the caller has changed the buffer, since no more is counted than was written to the
-     * first. */
+    /* This happens only if the caller now passes a shorter buffer, since no more bytes are counted than were
+     * written. */
     if (len < ended.written) {
         return jcobs_outcome_of(JCOBS_IS_TARGET_BUF_TOO_SMALL, 0);
     }
@@ -234,9 +234,9 @@ static JCOBS_INLINE jcobs_outcome jcobs_decoder_end(jcobs_decoder *decoder, size
     return jcobs_outcome_of(JCOBS_IS_SOME, ended.written);
 }
 
-/* Takes bytes of a stream of frames for this sentinel, one step for each byte, through the sentinel that ends the
- * first piece, or all of them, as feed_piece does for the sentinel 0. It has no search and no copy of slices, so
- * it is small, and fast for a few bytes. (A choice of this library.) */
+/* Takes bytes of a stream of frames for this sentinel, one step for each byte. It stops after the sentinel that
+ * ends the first piece, or takes all bytes if no piece ends. For the sentinel 0 it does what feed_piece does. It
+ * has no search and no copy of slices, so it is small, and fast for a few bytes. (A choice of this library.) */
 static JCOBS_INLINE jcobs_found jcobs_decoder_feed_each(jcobs_decoder *decoder, unsigned char *dest, size_t dest_len,
                                                         const unsigned char *bytes, size_t bytes_len,
                                                         unsigned char sentinel)
@@ -352,7 +352,7 @@ static JCOBS_INLINE jcobs_outcome jcobs_decoder_step(jcobs_decoder *decoder, uns
     return jcobs_outcome_of(JCOBS_IS_NONE, 0);
 }
 
-/* Takes the next byte of the stream, over this buffer, as CobsDecoder::feed does, with its errors. */
+/* Takes the next byte of the stream, with this buffer, as CobsDecoder::feed does, with its errors. */
 static JCOBS_INLINE jcobs_outcome jcobs_decoder_feed_inside(jcobs_decoder *decoder, unsigned char *dest,
                                                             size_t dest_len, unsigned char byte)
 {

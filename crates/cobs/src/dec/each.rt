@@ -48,7 +48,8 @@ fn move_bytes(buffer: &mut [u8], from: usize, to: usize, len: usize) -> usize
 ///
 /// # Errors
 ///
-/// `InvalidFrame` if the last block breaks off, as [`decode_in_place`](crate::decode_in_place) returns it: that block is as it was.
+/// `InvalidFrame` if the last block breaks off, with the `decoded_bytes` that [`decode_in_place`](crate::decode_in_place) returns.
+/// The bytes of that block aren't decoded.
 ///
 /// ```
 /// let mut buffer = [3, 10, 11, 2, 12, 0];

@@ -46,10 +46,11 @@ fn decode_blocks(source: &[u8], dest: &mut [u8], sentinel: u8) -> Result<usize, 
 /// # Errors
 ///
 /// - `EmptyFrame` if the source is empty; `dest` is as it was.
-/// - `TargetBufTooSmall` if the message is longer than `dest`, which then holds its first bytes. For a frame that breaks
-///   off inside a block, the message is that of its whole blocks.
-/// - `InvalidFrame` if the frame breaks off inside a block and that message fits: `dest` begins with it, `decoded_bytes`
-///   says how many bytes these are, and every byte after them is as it was.
+/// - `TargetBufTooSmall` if the message is longer than `dest`, which then holds its first bytes.
+/// - `InvalidFrame` if the frame breaks off inside a block and the output of its whole blocks fits: `dest` begins with
+///   that output, `decoded_bytes` is its length, and every byte after it is as it was. If it doesn't fit, the error is
+///   `TargetBufTooSmall`, and `dest` holds its first bytes. This output ends with the zero that joins the whole blocks to
+///   the broken one, unless the last of them is full.
 ///
 /// Frames for another sentinel than 0 are from Cheshire and Baker's paper; the results for broken ones are a choice of
 /// this library.

@@ -90,8 +90,8 @@ pub trait FrameDecoder {
     /// the bytes of the buffer after the output are as they were. A piece that is too long for the buffer ends at its
     /// zero, like every other, so the caller never has to feed single bytes.
     ///
-    /// An implementation doesn't need this method: the provided one feeds one byte after another. The decoders of this
-    /// library copy whole blocks instead.
+    /// An implementation doesn't have to define this method: the provided one feeds one byte after another. The decoders of
+    /// this library copy whole blocks instead.
     ///
     /// ```
     /// let mut decoder = CobsDecoderHeapless::<1>::new();

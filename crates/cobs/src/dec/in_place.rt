@@ -154,8 +154,9 @@ fn decode_span_in_place(buffer: &mut [u8], len: usize) -> bool
 /// # Errors
 ///
 /// - `EmptyFrame` if the buffer is empty.
-/// - `InvalidFrame` if the frame breaks off inside a block: the buffer begins with the message of the whole blocks before
-///   it, `decoded_bytes` says how many bytes these are, and every other byte is as it was.
+/// - `InvalidFrame` if the frame breaks off inside a block: the buffer begins with the output of the whole blocks before
+///   it, which ends with the zero that joins them to the broken block, unless the last of them is full. `decoded_bytes`
+///   is the length of this output, and every other byte is as it was.
 ///
 /// That the bytes after the decoded ones are kept, after an error too, is a choice of this library.
 ///
@@ -195,8 +196,8 @@ pub fn decode_in_place_report(buf: &mut [u8]) -> Result<DecodeReport, DecodeErro
 /// Decodes a short frame as [`decode_in_place_report`] does, or returns `None` and leaves the buffer as it was.
 ///
 /// It decodes a buffer if the 2 to 65 bytes before its first zero are a whole frame, and nothing follows that zero.
-/// If the target has vectors, [`decode_in_place_report`] calls it first. It calls nothing itself, as
-/// [`decode_short`](crate::decode_short). (A choice of this library.)
+/// If the target has vectors, [`decode_in_place_report`] calls it first. Like [`decode_short`](crate::decode_short), it
+/// calls nothing itself. (A choice of this library.)
 ///
 /// ```
 /// let mut buf = [3, 10, 11, 0];
@@ -249,8 +250,8 @@ pub fn decode_in_place(buff: &mut [u8]) -> Result<usize, DecodeError>
 
 /// Decodes the frame at the front of the buffer in place, for a sentinel other than 0.
 ///
-/// First every byte of the buffer is XORed with the sentinel, those after the frame too; then it is decoded as by
-/// [`decode_in_place`], with its errors. So the frame ends at the first sentinel or with the buffer, and a leading
+/// First every byte of the buffer is XORed with the sentinel, even those after the frame. Then [`decode_in_place`]
+/// decodes the buffer, with its errors. So the frame ends at the first sentinel or with the buffer, and a leading
 /// sentinel is read as an empty message. Frames for another sentinel than 0 are from Cheshire and Baker's paper.
 ///
 /// ```

@@ -108,7 +108,7 @@ impl UnbufferedDecoder {
         1 + len
     }
 
-    /// Takes `len` bytes that are moved to the end of the output, none of them a zero, in which no full block ends.
+    /// Takes `len` bytes that were moved to the end of the output. None of them is a zero, and no full block ends in them.
     #[inline(always)]
     pub(crate) fn take_moved(&mut self, dest: &mut [u8], len: usize)
         requires going { self.old.too_long ≡ 0 }
@@ -136,8 +136,8 @@ impl UnbufferedDecoder {
         self.missing = missing;
     }
 
-    /// Takes these bytes, which are copied after the output, each XORed with the sentinel. None of them is the sentinel, and no
-    /// full block ends in them.
+    /// Takes these bytes, which were copied to the end of the output, each XORed with the sentinel. None of them is the
+    /// sentinel, and no full block ends in them.
     #[inline(always)]
     fn take_copied(&mut self, dest: &mut [u8], copied: &[u8], sentinel: u8)
         requires going { self.old.too_long ≡ 0 }
@@ -215,8 +215,8 @@ impl UnbufferedDecoder {
         true
     }
 
-    /// Takes the code at the front of a piece, and the bytes after it, none of them a zero, which are copied to the front of
-    /// `dest`.
+    /// Takes the code at the front of a piece, and the bytes after it, which were copied to the front of `dest`. None of them
+    /// is a zero.
     #[inline(always)]
     fn begin(&mut self, dest: &mut [u8], code: u8, copied: &[u8])
         requires idle { phase_of self.old ≡ Idle }
@@ -318,7 +318,7 @@ impl UnbufferedDecoder {
         self.take_span(dest, bytes, sentinel)
     }
 
-    /// Takes bytes that have no sentinel, up to the room's end, and returns how many.
+    /// Takes bytes that have no sentinel, as long as their output has room, and returns how many it took.
     #[inline(always)]
     pub(crate) fn take_blocks(&mut self, dest: &mut [u8], bytes: &[u8], sentinel: u8) -> usize
         requires going { self.old.too_long ≡ 0 }
@@ -344,7 +344,8 @@ impl UnbufferedDecoder {
         taken
     }
 
-    /// Takes bytes that return `Ok(None)`, up to a zero or the room's end, and returns how many. One search finds the zero.
+    /// Takes the bytes before the first zero, as long as their output has room, and returns how many it took. One search finds
+    /// the zero.
     #[inline(always)]
     pub(crate) fn take_run(&mut self, dest: &mut [u8], bytes: &[u8]) -> usize
         ensures within { result ≤ length bytes.now }
@@ -360,8 +361,8 @@ impl UnbufferedDecoder {
         self.take_blocks(dest, &bytes[..end], 0)
     }
 
-    /// Takes bytes that return `Ok(None)`, by a search and slices, and returns how many. A target without vectors has neither: the
-    /// result is 0 there, and each byte is a step.
+    /// Does what [`take_run`](Self::take_run) does if the target has vectors. Otherwise it takes no byte and returns 0, and the
+    /// caller takes a step for each byte.
     #[inline(always)]
     pub(crate) fn take_at_once(&mut self, dest: &mut [u8], bytes: &[u8]) -> usize
         ensures within { result ≤ length bytes.now }

@@ -21,7 +21,8 @@ use cobs_bytes::window::has_vectors;
 ///
 /// # Errors
 ///
-/// - `EmptyFrame` if the source is empty, and `InvalidFrame` with 0 if it has only zeros; `dest` is as it was.
+/// - `EmptyFrame` if the source is empty, and `InvalidFrame` with `decoded_bytes` 0 if it has only zeros; `dest` is as it
+///   was.
 /// - `TargetBufTooSmall` if `dest` is shorter than the output; it then holds the output's first bytes.
 /// - `InvalidFrame` if the frame breaks off inside a block: `dest` begins with the decoded bytes, those of the broken
 ///   block included, `decoded_bytes` says how many these are, and the others are as they were.

@@ -75,8 +75,9 @@ fn mark_zeros(dest: &mut [u8], index: usize, next: usize, zeros: u64) -> usize
     index
 }
 
-/// Takes the first `len` bytes of a source, which can't fill the open block, one by one. The next code is written at a zero's
-/// place. No branch tests for zeros, since a processor may predict it wrong: the open block's code is written for each byte.
+/// Takes the first `len` bytes of a source, which can't fill the open block, one by one. The code of the next block is written
+/// where a zero was. No branch tests for zeros, since a processor may predict it wrong. So the open block's code is written
+/// after each byte.
 #[inline(always)]
 pub(crate) fn append_few(
     source: &[u8],
@@ -284,7 +285,7 @@ pub(crate) fn append_rest(
     progress
 }
 
-/// Takes `source` into the frame in `dest`, which has come as far as `progress` says, and returns how far it then has come.
+/// Appends `source` to the frame in `dest`, which is as far as `progress` says, and returns the progress after it.
 /// [`close`] writes the code of the open block: the byte in its place before that doesn't matter.
 ///
 /// [`append_windows`] takes most bytes. Those after them are usually few; [`append_rest`] takes them if they are more than a

@@ -9,8 +9,9 @@ use crate::error::DestBufTooSmallError;
 
 /// Does what [`encode`](crate::encode) does, one byte at a time.
 ///
-/// Each turn takes the bytes that can't overfill the open block, so that no test of a single byte asks for that. A full block is
-/// closed when another byte follows, and the last block after the loop, whether it is full or not.
+/// Each iteration takes at most as many bytes as the open block has room for, so no single byte needs a test whether the block
+/// is full. A full block is closed when another byte follows. The last block is closed after the loop, whether it is full or
+/// not.
 pub(crate) fn write_each(source: &[u8], dest: &mut [u8]) -> usize
     requires { encoded_len source.now ≤ length dest.old }
     ensures frame { IsEncodedFrame (take result dest.new) source.now }

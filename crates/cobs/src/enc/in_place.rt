@@ -14,9 +14,9 @@ use crate::max_encoding_overhead;
 ///
 /// The message's `len` bytes lie in `buffer` after the first [`max_encoding_overhead`](crate::max_encoding_overhead) of
 /// `len` bytes, whose contents don't matter. The frame is the one that [`encode`](crate::encode) writes, and `buffer`
-/// begins with it. The bytes of `buffer` after the frame stay as they were, those of the message too.
+/// begins with it. Every byte of `buffer` after the frame stays as it was, even if it belongs to the message.
 ///
-/// Precondition: `buffer` has [`max_encoding_length`](crate::max_encoding_length) of `len` bytes at least, so the message
+/// Precondition: `buffer` has at least [`max_encoding_length`](crate::max_encoding_length) of `len` bytes, so the message
 /// lies within it. (This call is this library's own.)
 ///
 /// ```

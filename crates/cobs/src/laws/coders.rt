@@ -40,10 +40,13 @@ pub fn law_15()
 
 /// An encoder of your own, byte by byte.
 ///
-/// It writes to a slice, and at first it has taken nothing. A nonzero byte is appended to the open block. The 254th
-/// byte fills the block, whose code is then written. A zero ends the block, and its code is written. At the end of the
-/// message the code of the open block is written, unless the last block is full. The length of a longer message's frame
-/// is counted from the open block: in `goes_on`, `a` has as many bytes as that block.
+/// The encoder writes to a slice, and at first it has taken no byte. It appends a nonzero byte to the open block. The
+/// 254th byte fills the block, and the encoder then writes the block's code. A zero ends the block, and the encoder
+/// writes its code too. At the end of the message it writes the code of the open block, unless the last block is full.
+///
+/// If more bytes follow, the length of the whole frame is the index of the open block plus the length of the encoded
+/// frame of the open block's bytes and those that follow. The clause `goes_on` says this, and there `a` is any nonzero
+/// bytes that are as many as the open block has.
 ///
 /// So your own encoder with these steps writes the frames of [`encode`](crate::encode).
 ///
@@ -158,10 +161,10 @@ pub fn law_19()
 
 /// The output of a piece, block by block.
 ///
-/// The output of a block is its bytes, and a block is whole. If other bytes follow it, all of them are whole exactly if
-/// the other bytes are. The kept output is then the block's bytes, a zero unless the block is full, and the kept output
-/// of the other bytes. If bytes are fewer than their first code says, they are broken, and their kept output is empty.
-/// The kept output of a whole piece is its output.
+/// A block is whole, and its output is its bytes without the code. Suppose that other bytes follow a block. Together
+/// they are whole exactly if the other bytes are. Their kept output is the block's output, then a zero unless the block
+/// is full, then the kept output of the other bytes. If there are fewer bytes than the first of them says, they are
+/// broken, and their kept output is empty. The kept output of a whole piece is its output.
 ///
 /// So your own decoder that goes from code to code writes the bytes that [`decode_in_place`](crate::decode_in_place)
 /// writes.

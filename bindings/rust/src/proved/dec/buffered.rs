@@ -14,7 +14,6 @@ use alloc::vec::Vec;
 /// until the next frame begins. A piece of the stream is the bytes between two zeros. Its outcome depends only on these
 /// bytes and on the length of the slice: the decoder is idle after every zero, so a broken frame never affects another.
 /// Ending each frame with a zero is from Cheshire and Baker's paper.
-/// affects another. That a zero ends each frame is Cheshire and Baker's.
 ///
 /// ```
 /// # use jcobs::proved::*;
@@ -34,7 +33,7 @@ pub struct CobsDecoder<'a> {
 }
 
 impl<'a> CobsDecoder<'a> {
-    /// Makes an idle decoder over the slice, which may have any length, also 0. No byte of it is changed.
+    /// Makes an idle decoder over the slice, which may have any length, even 0. No byte of it is changed.
     ///
     /// ```
     /// # use jcobs::proved::*;

@@ -5,11 +5,11 @@ use crate::proved::cobs_bytes::lanes::copy_xored_short;
 use crate::proved::cobs_bytes::window::{WIDE_WINDOW, WINDOW, is_all};
 use crate::proved::error::DecodeError;
 
-/// Writes a zero over each code in `dest`, which has the moved bytes after the code `first`. The caller ensures that no code
+/// Writes a zero over each code in `dest`, which has the bytes that follow the code `first`. The caller ensures that no code
 /// among them follows a full block, since no zero belongs there. Returns the code of the last part, and how many of its
 /// bytes are missing.
-// A recursion, which compilers turn into a loop that keeps the address of the remaining bytes. With an index, which has to be
-// added first, each code would be loaded a cycle later, and each waits for the one before it.
+// A recursion, which compilers turn into a loop that keeps the address of the remaining bytes. An index has to be added to an
+// address first, so each code would be loaded a cycle later, and the load of each waits for the code before it.
 #[inline(always)]
 pub(crate) fn write_zeros_at_codes(dest: &mut [u8], first: usize) -> (u8, u8) {
     if dest.len() < first {
@@ -21,7 +21,7 @@ pub(crate) fn write_zeros_at_codes(dest: &mut [u8], first: usize) -> (u8, u8) {
 }
 
 /// Does what [`write_zeros_at_codes`] does for bytes that were copied to `dest`, each XORed with the sentinel. It reads the codes
-/// from the place that they were copied from: in `dest` each would have to wait until the copy is stored.
+/// from where they were copied, because a load from `dest` would have to wait until the copy is stored.
 #[inline(always)]
 pub(crate) fn write_zeros_at_copied(
     dest: &mut [u8],

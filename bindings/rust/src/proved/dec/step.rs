@@ -29,7 +29,7 @@ impl UnbufferedDecoder {
                 decoded_bytes: ended.written,
             });
         }
-        // This happens only if the caller has changed the buffer, since no more is counted than was written to the first.
+        // This happens only if the caller now passes a shorter buffer, since no more bytes are counted than were written.
         if len < ended.written {
             return Err(DecodeError::TargetBufTooSmall);
         }
@@ -84,9 +84,9 @@ impl UnbufferedDecoder {
         Ok(None)
     }
 
-    /// Takes bytes of a stream of frames for this sentinel, one step for each byte, through the sentinel that ends the first
-    /// piece, or all of them, as [`feed_piece`](Self::feed_piece) does for the sentinel 0. It has no search and no copy of
-    /// slices, so it is small, and fast for a few bytes.
+    /// Takes bytes of a stream of frames for this sentinel, one step for each byte. It stops after the sentinel that ends the
+    /// first piece, or takes all bytes if no piece ends. For the sentinel 0 it does what [`feed_piece`](Self::feed_piece)
+    /// does. It has no search and no copy of slices, so it is small, and fast for a few bytes.
     ///
     /// ```
     /// use jcobs::{PieceEnd, UnbufferedDecoder};

@@ -40,10 +40,10 @@ pub enum DecoderPhase {
 
 /// Decodes a stream of frames, each ended by a zero, into a buffer that the caller passes to each call.
 ///
-/// By the byte it returns what
-/// [`CobsDecoder`](crate::CobsDecoder) does, and has no buffer of its own, only a few words of state.
-/// So a program can use the buffer for other data between two pieces, and a decoder can be in a struct together with
-/// its buffer, or be passed to another language.
+/// The results of its `feed` are those of
+/// [`CobsDecoder`](crate::CobsDecoder). It has no buffer of its own, only a few numbers. So a
+/// program can use the buffer for other data between two pieces, and a decoder can be in a struct together with its
+/// buffer, or be passed to another language.
 ///
 /// While a piece is open, that is from its first byte to the zero that ends it, the caller passes the same buffer to each call
 /// and doesn't change it between two calls. Any other buffer, of any length, is safe too: no call panics, or returns a message
@@ -60,8 +60,8 @@ pub enum DecoderPhase {
 /// # Ok::<(), Box<dyn std::error::Error>>(())
 /// ```
 ///
-/// Its state is plain numbers with the layout of a struct of C, and all are 0 before a piece begins. Every call is safe
-/// for any numbers.
+/// Its state is plain numbers with the layout of a C struct, and all of them are 0 before a piece begins. Every call is
+/// safe for any numbers.
 // No number says whether a piece has begun: a code at the front of a piece is read like one after a full block, with no
 // zero before it. So for a nonzero byte only the number of missing bytes is tested, and for a code whether a zero comes
 // before it.
@@ -93,7 +93,7 @@ pub(crate) const START: UnbufferedDecoder = UnbufferedDecoder {
 };
 
 impl UnbufferedDecoder {
-    /// Makes an idle decoder, for a buffer of any length, also an empty one.
+    /// Makes an idle decoder, for a buffer of any length, even an empty one.
     ///
     /// ```
     /// use jcobs::UnbufferedDecoder;
@@ -107,8 +107,8 @@ impl UnbufferedDecoder {
         START
     }
 
-    /// Makes a decoder in this state, whatever the numbers are. A complete full block, with nothing
-    /// written, is the state of an idle decoder.
+    /// Makes a decoder in this state, for any numbers. A phase within a piece whose block is full and complete, with
+    /// nothing written, is the same state as `Idle`.
     ///
     /// ```
     /// use jcobs::UnbufferedDecoder;
@@ -191,7 +191,7 @@ impl UnbufferedDecoder {
         *self = UnbufferedDecoder::new();
     }
 
-    /// Takes the next byte of the stream, over this buffer, as [`CobsDecoder::feed`](crate::CobsDecoder::feed) does, with its
+    /// Takes the next byte of the stream, with this buffer, as [`CobsDecoder::feed`](crate::CobsDecoder::feed) does, with its
     /// errors.
     ///
     /// ```
@@ -209,7 +209,7 @@ impl UnbufferedDecoder {
         self.step(dest, byte)
     }
 
-    /// Takes bytes of the stream, over this buffer, up to the first one whose result by `feed` isn't `Ok(None)`.
+    /// Takes bytes of the stream, with this buffer, through the first one for which `feed` doesn't return `Ok(None)`.
     /// The error says how many bytes were taken.
     ///
     /// ```
@@ -258,7 +258,7 @@ impl UnbufferedDecoder {
         Ok(None)
     }
 
-    /// Takes bytes of the stream, over this buffer, through the first zero that ends a piece, as
+    /// Takes bytes of the stream, with this buffer, through the first zero that ends a piece, as
     /// [`FrameDecoder::feed_piece`](crate::FrameDecoder::feed_piece) does.
     ///
     /// ```

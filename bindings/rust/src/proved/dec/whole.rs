@@ -16,7 +16,8 @@ use crate::proved::find::len_without_end;
 ///
 /// # Errors
 ///
-/// - `EmptyFrame` if the source is empty, and `InvalidFrame` with 0 if it has only zeros; `dest` is as it was.
+/// - `EmptyFrame` if the source is empty, and `InvalidFrame` with `decoded_bytes` 0 if it has only zeros; `dest` is as it
+///   was.
 /// - `TargetBufTooSmall` if `dest` is shorter than the output; it then holds the output's first bytes.
 /// - `InvalidFrame` if the frame breaks off inside a block: `dest` begins with the decoded bytes, those of the broken
 ///   block included, `decoded_bytes` says how many these are, and the others are as they were.

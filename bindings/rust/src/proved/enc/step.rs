@@ -35,7 +35,7 @@ impl UnbufferedEncoder {
 
     /// Takes the next byte of the message.
     ///
-    /// It does what [`push`](UnbufferedEncoder::push) of this byte does, and fails if that does.
+    /// It does what [`push`](UnbufferedEncoder::push) of this one byte does.
     ///
     /// # Errors
     /// `DestBufTooSmallError` if the byte doesn't fit. Then neither the encoder nor the buffer has changed.

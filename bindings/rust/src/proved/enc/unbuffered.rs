@@ -37,7 +37,8 @@ pub struct UnbufferedEncoder {
     /// How many bytes the open block has, at most 253.
     pub taken: u8,
 
-    /// Not 0 if the frame's last block is full, so that the open block is only the place after it.
+    /// Not 0 if the frame's last block is full. Then the open block is empty, and `index` is the place after the full
+    /// block.
     pub full: u8,
 }
 
@@ -128,13 +129,12 @@ impl UnbufferedEncoder {
 
     /// Takes the next bytes of the message.
     ///
-    /// They don't fit exactly if the encoded frame of the message so far, these bytes included, is longer than the
-    /// buffer, or if the encoder's progress isn't possible in a buffer of this length. Then neither the encoder nor the
-    /// buffer has changed, so the caller may end the frame, or push fewer bytes. An empty push changes nothing. The
-    /// bytes of the buffer after the frame are never written.
+    /// An empty push changes nothing. The bytes of the buffer after the frame are never written.
     ///
     /// # Errors
-    /// `DestBufTooSmallError` if the bytes don't fit.
+    /// `DestBufTooSmallError` exactly if the encoded frame of the message so far, these bytes included, is longer than the
+    /// buffer, or the encoder's progress isn't possible in a buffer of this length. Then neither the encoder nor the
+    /// buffer has changed, so the caller may end the frame, or push fewer bytes.
     ///
     /// ```
     /// use jcobs::{DestBufTooSmallError, UnbufferedEncoder};
