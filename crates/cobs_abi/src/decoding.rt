@@ -59,7 +59,8 @@ pub fn result_of(
     }
 }
 
-/// Takes bytes of a stream of frames for this sentinel, through the sentinel that ends the first piece, or all of them.
+/// Takes bytes of a stream of frames for this sentinel, through the sentinel that ends the first piece, or all of them if no
+/// piece ends.
 #[inline(always)]
 pub fn decode_each(
     decoder: &mut UnbufferedDecoder,

@@ -44,7 +44,7 @@ macro_rules! by_width {
 
 pub(crate) use by_width;
 
-/// Returns which of the `N` bytes from `at` on are zeros.
+/// Returns which of the `N` bytes from `at` on are zeros: bit `i` is set if the byte at `at + i` is a zero.
 #[inline(always)]
 pub fn zeros_at<const N: usize>(bytes: &[u8], at: usize) -> u64
     requires lanes { N ≤ 64 }
@@ -56,7 +56,8 @@ pub fn zeros_at<const N: usize>(bytes: &[u8], at: usize) -> u64
         .to_bitmask()
 }
 
-/// Copies the `N` bytes from `read` on, and returns which of them are zeros.
+/// Copies the `N` bytes of `source` from `read` on to `dest`, from `at` on. Returns which of them are zeros, as [`zeros_at`]
+/// does.
 #[inline(always)]
 pub fn copy_at<const N: usize>(source: &[u8], read: usize, dest: &mut [u8], at: usize) -> u64
     requires lanes { N ≤ 64 }

@@ -6,7 +6,7 @@ ghost use Rattle.cobs_abi.specs.Stream.{DecodesNext, IsFreshDecoder, ReportsIdle
 use cobs::UnbufferedDecoder;
 use cobs_abi::{Answer, decode_byte, decode_each, result_of};
 
-/// Makes the decoder one that has taken nothing, whatever its state was.
+/// Makes the decoder idle, even if its state is corrupt.
 #[unsafe(no_mangle)]
 pub extern "C" fn jcobs_decoder_reset(decoder: &mut UnbufferedDecoder)
     ensures fresh { IsFreshDecoder decoder.new }
@@ -22,8 +22,8 @@ pub extern "C" fn jcobs_decoder_is_idle(decoder: &UnbufferedDecoder) -> u32
     if decoder.is_idle() { 1 } else { 0 }
 }
 
-/// Takes bytes of the stream, through the zero that ends the first piece, or all of them. Even if the state is corrupt,
-/// the buffer keeps its length, and the counts are within the bytes and the buffer.
+/// Takes bytes of the stream, through the zero that ends the first piece, or all of them if no piece ends. Even if the state
+/// is corrupt, the buffer keeps its length, and the counts are within the bytes and the buffer.
 #[unsafe(no_mangle)]
 pub extern "C" fn jcobs_decoder_push(
     decoder: &mut UnbufferedDecoder,
@@ -51,7 +51,7 @@ pub extern "C" fn jcobs_decoder_feed(
     ensures decodes { DecodesNext decoder.old buffer.old (byte ∷ []) result
         decoder.new buffer.new }
 {
-    // Most bytes are inside a block. They are tested for first, so that compilers give them code without the other cases.
+    // Most bytes are inside a block. This case is tested for first, so that compilers put it on a path without the others.
     let is_data = byte != 0 && decoder.missing != 0 && decoder.too_long == 0;
     if is_data && decoder.written < buffer.len() {
         return decode_each(decoder, buffer, &[byte], 0);

@@ -8,7 +8,7 @@ use cobs::laws::{law_2, law_6, law_13};
 use cobs_abi::{Answer, OK, done, encode_byte, end_of, finish, finish_terminated, too_small};
 use cobs_bytes::lanes::xor_bytes;
 
-/// Makes the encoder one that has taken nothing, even if its state is corrupt.
+/// Puts the encoder back to the start, even if its state is corrupt: it has then taken nothing.
 #[unsafe(no_mangle)]
 pub extern "C" fn jcobs_encoder_reset(encoder: &mut UnbufferedEncoder)
     ensures fresh { IsFreshEncoder encoder.new }

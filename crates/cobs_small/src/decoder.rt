@@ -5,7 +5,7 @@ ghost use Rattle.cobs_abi.specs.Stream.{DecodesNext, IsFreshDecoder, ReportsIdle
 use cobs::UnbufferedDecoder;
 use cobs_abi::{Answer, decode_byte, decode_each};
 
-/// Makes the decoder one that has taken nothing, even if its state is corrupt.
+/// Makes the decoder idle, even if its state is corrupt.
 #[unsafe(no_mangle)]
 pub extern "C" fn jcobs_decoder_reset(decoder: &mut UnbufferedDecoder)
     ensures fresh { IsFreshDecoder decoder.new }
@@ -21,8 +21,8 @@ pub extern "C" fn jcobs_decoder_is_idle(decoder: &UnbufferedDecoder) -> u32
     if decoder.is_idle() { 1 } else { 0 }
 }
 
-/// Takes bytes of the stream, through the zero that ends the first piece, or all of them. Even if the state is corrupt,
-/// the buffer keeps its length, and the counts are within the bytes and the buffer.
+/// Takes bytes of the stream, through the zero that ends the first piece, or all of them if no piece ends. Even if the state
+/// is corrupt, the buffer keeps its length, and the counts are within the bytes and the buffer.
 #[unsafe(no_mangle)]
 pub extern "C" fn jcobs_decoder_push(
     decoder: &mut UnbufferedDecoder,

@@ -6,7 +6,7 @@ ghost use Rattle.cobs_abi.specs.Stream.{EncodesNext, Finishes, IsFreshEncoder};
 use cobs::UnbufferedEncoder;
 use cobs_abi::{Answer, encode_byte, encode_each, finish, finish_terminated};
 
-/// Makes the encoder one that has taken nothing, even if its state is corrupt.
+/// Puts the encoder back to the start, even if its state is corrupt: it has then taken nothing.
 #[unsafe(no_mangle)]
 pub extern "C" fn jcobs_encoder_reset(encoder: &mut UnbufferedEncoder)
     ensures fresh { IsFreshEncoder encoder.new }

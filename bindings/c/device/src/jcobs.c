@@ -265,7 +265,7 @@ static JCOBS_INLINE jcobs_found jcobs_decoder_feed_each(jcobs_decoder *decoder, 
             }
         }
     }
-    /* Of a piece that is too long, only the end matters. */
+    /* If a piece is too long, only its end matters. */
     while (taken < bytes_len) {
         unsigned char byte = (unsigned char)(bytes[taken] ^ sentinel);
         taken++;
@@ -319,7 +319,7 @@ static JCOBS_INLINE jcobs_answer jcobs_result_of(const jcobs_decoder *decoder, j
 }
 
 /* Takes bytes of a stream of frames for this sentinel, through the sentinel that ends the first piece, or all of
- * them. */
+ * them if no piece ends. */
 static JCOBS_INLINE jcobs_answer jcobs_decode_each(jcobs_decoder *decoder, unsigned char *buffer, size_t buffer_len,
                                                    const unsigned char *bytes, size_t bytes_len, unsigned char sentinel)
 {
@@ -328,8 +328,8 @@ static JCOBS_INLINE jcobs_answer jcobs_decode_each(jcobs_decoder *decoder, unsig
     return jcobs_result_of(decoder, found, bytes_len, buffer_len);
 }
 
-/* Takes bytes of the stream, through the zero that ends the first piece, or all of them. Even if the state is
- * corrupt, the buffer keeps its length, and the counts are within the bytes and the buffer.
+/* Takes bytes of the stream, through the zero that ends the first piece, or all of them if no piece ends. Even if
+ * the state is corrupt, the buffer keeps its length, and the counts are within the bytes and the buffer.
  * Proved, by the contract in decoder.rt: the result, the state and the buffer are those that the definition of the
  * stream has after these bytes, however it is cut into calls. In every state consumed and length are within bytes
  * and buffer. */
@@ -401,7 +401,7 @@ jcobs_answer jcobs_decode(const void *source, size_t source_len, void *message, 
     return jcobs_result_for_end(source_len, message_len, end);
 }
 
-/* Makes the decoder one that has taken nothing, even if its state is corrupt.
+/* Makes the decoder idle, even if its state is corrupt.
  * Proved, by the contract in decoder.rt: then the decoder has taken nothing, whatever its state was. */
 void jcobs_decoder_reset(jcobs_decoder *decoder)
 {
@@ -691,7 +691,7 @@ jcobs_answer jcobs_encode_in_place(void *buffer, size_t buffer_len, size_t messa
     return jcobs_encode_within((unsigned char *)buffer, buffer_len, message_len);
 }
 
-/* Makes the encoder one that has taken nothing, even if its state is corrupt.
+/* Puts the encoder back to the start, even if its state is corrupt: it has then taken nothing.
  * Proved, by the contract in encoder.rt: then the encoder has taken nothing, whatever its state was. */
 void jcobs_encoder_reset(jcobs_encoder *encoder)
 {

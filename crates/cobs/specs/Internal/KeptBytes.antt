@@ -32,6 +32,6 @@ pub record ReportsFirst (next : Next) (p bytes buffer rest : List ℕ) : Type 0 
   pub first : EndsFirstIn p bytes (length buffer) outcome rest
   pub decoded : HasDecoded outcome buffer (unended (p ++ first.front))
 
--- the reader, if these were the bytes that it has read but not fed
+-- the reader, with these bytes as those that it has read but not fed
 abbrev pub with_kept : List ℕ → ReaderState → ReaderState
 with_kept kept reader = record reader { kept = kept }

@@ -3,9 +3,9 @@ use Rattle.std.specs.Prelude.{◌≡◌, ◌<◌, ◌≤◌, ℕ, List, ◌++◌
 use Rattle.cobs.specs.Grammar.{HasNoZero}
 use Rattle.cobs.specs.OpenBlock.{Reached, CobsEncoderAfter, IsPlaceIn, end_after}
 
--- From a slice and the progress of the frame in it, a step took n bytes of a source, and left this slice and this
--- progress. The frame of the whole source ends at the same index as before, and the bytes of the slice after that end
--- are as they were.
+-- A step took n bytes of a source. It began with a slice and the progress of the frame in it, and it has changed these to
+-- `slice'` and `reached'`. The frame of the whole source ends at the same index as before, and the bytes of the slice after
+-- that end are as they were.
 pub record TakesFront (slice : List ℕ) (reached : Reached) (source : List ℕ) (n : ℕ) (slice' : List ℕ) (reached' : Reached) : Type 0 where
   pub place : IsPlaceIn (length slice') reached'
   pub after : (m : List ℕ) → CobsEncoderAfter slice reached m → CobsEncoderAfter slice' reached' (m ++ take n source)

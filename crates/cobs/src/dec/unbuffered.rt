@@ -273,7 +273,7 @@ impl UnbufferedDecoder {
         }
         if VERY_FEW < bytes.len() {
             if self.is_idle() {
-                // One piece with its end, as a line or a datagram gives it.
+                // One piece and its zero, as a read of a line or a datagram often returns them.
                 let len = len_without_end(bytes, 0);
                 if len < bytes.len() && self.take_begun(dest, &bytes[..len], 1) {
                     let end = PieceEnd::reported(self.feed(dest, 0))?;

@@ -124,7 +124,7 @@ impl UnbufferedDecoder {
                 }
             }
         }
-        // Of a piece that is too long, only the end matters.
+        // If a piece is too long, only its end matters.
         'to_end: while taken < bytes.len() {
             let byte = bytes[taken] ^ sentinel;
             taken += 1;

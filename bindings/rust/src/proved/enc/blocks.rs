@@ -55,7 +55,7 @@ fn mark_zeros(dest: &mut [u8], index: usize, next: usize, zeros: u64) -> usize {
 }
 
 /// Takes the first `len` bytes of a source, which can't fill the open block, one by one. The code of the next block is written
-/// where a zero was. No branch tests for zeros, since a processor may predict it wrong. So the open block's code is written
+/// over each zero. No branch tests for zeros, since a processor may predict it wrong. So the open block's code is written
 /// after each byte.
 #[inline(always)]
 pub(crate) fn append_few(

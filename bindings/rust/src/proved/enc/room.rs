@@ -55,7 +55,7 @@ pub(crate) fn has_room(code: u8, bytes: &[u8], room: usize) -> bool {
 /// It counts all full blocks except a last one. A block can't become full if one of its next 254 bytes is a zero, so the
 /// count continues after the last such zero. If there is none, the run fills the block, and has a full block for each 254
 /// of its bytes: its end is searched for, as the encoder does. Returns `None` if the frame doesn't fit; otherwise the
-/// length of the first run, if that was searched, so that the encoder needn't search it again, and else 0.
+/// length of the first run, if that was searched, so that the encoder needn't search it again, and otherwise 0.
 #[inline(never)]
 fn fits(code: usize, source: &[u8], room: usize) -> Option<usize> {
     if room < source.len() {
