@@ -1,7 +1,7 @@
 //! The laws of messages, frames, pieces and streams. These functions do nothing when they run: their contracts are the
 //! laws, and a caller that calls one may use it in its own proof. Each law has such a caller as its example. Some of
-//! these call `reads_as`, the caller of CALLING.md. Each example is proved as it is, or with the lines below it. These
-//! are the caller's `Answers.antt` without the line `use Rattle.CRATE.proofs.CALLER.Goals as goal`.
+//! these call `reads_as`, the caller of CALLING.md. An example is proved as it is or, if more lines follow it, with
+//! these lines: they are the caller's `Answers.antt`, without the line `use Rattle.CRATE.proofs.CALLER.Goals as goal`.
 //!
 //! ```
 //! fn encode_by_longest(source: &[u8], dest: &mut [u8]) -> usize

@@ -32,9 +32,10 @@ use std::alloc::{AllocError, Global};
 use std::io::{BufWriter, ErrorKind, Write};
 use std::rt::Clock;
 
-/// The end of a short frame is first searched for among this many bytes, which are one vector, and then among [`NEAR`].
+/// The zero after a short frame is searched for first in this many bytes, which are one vector, and then in [`NEAR`] bytes.
 const NEAREST: usize = 16;
 
+/// The most bytes in which a zero is searched for before all bytes are passed to the decoder.
 const NEAR: usize = 64;
 
 /// The most bytes of a read, 64 KiB. If a read returns fewer, they are shown without waiting for more.

@@ -77,7 +77,7 @@ pub struct View {
     /// `Hexdump` may have one.
     pub color: bool,
 
-    /// Whether the number of each piece is before it. Pieces that a filter holds back are counted too.
+    /// Whether each piece has its number before it. Pieces that a filter holds back are counted too.
     pub number: bool,
 
     /// Which time is before the line of each piece, or in its object.

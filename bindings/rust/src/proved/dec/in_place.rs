@@ -18,8 +18,9 @@ fn move_back(buffer: &mut [u8], at: usize, read: usize, len: usize) {
 }
 
 impl UnbufferedDecoder {
-    /// Takes the bytes of one step, from `read` on and before `end`, of the buffer to which it also writes, and returns
-    /// how many. It does what `take_part` does, except that it may take only the first bytes of a long block.
+    /// Takes the bytes of one step from the buffer to which it also writes. They begin at `read` and end before `end`.
+    /// Returns how many it took. It does what `take_part` does, except that it may take only the first bytes of a long
+    /// block.
     #[inline(always)]
     fn take_part_in_place(&mut self, buffer: &mut [u8], read: usize, end: usize) -> usize {
         let code = buffer[read];
@@ -45,7 +46,7 @@ impl UnbufferedDecoder {
         len
     }
 
-    /// Takes the bytes from `read` on and before `end` of the buffer to which it also writes.
+    /// Takes the bytes from `read` to `end`, without the one at `end`, from the buffer to which it also writes.
     #[inline]
     fn take_in_place(&mut self, buffer: &mut [u8], read: usize, end: usize) {
         let mut at = read;
