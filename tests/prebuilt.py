@@ -3,12 +3,12 @@
 
 usage: tests/prebuilt.py [--write NAME..]
 
-prebuilt.sums has, for each of BUILDS, the toolchain that built it, and the sums of its crates (their .rt and .antt files
-without comments, and their lines of crates.txt, for the crate and all below it), of the files that build it, and of
-what was built. So who mends a comment needs no toolchain: no comment comes into what is built. --write is for the
-commands that build, which call it at their end. Here the sums are compared, which takes a second: it prints what
-differs and the command that builds it again, and the status is then 1. tests/release.sh builds all again and
-compares the bytes.
+prebuilt.sums has, for each of BUILDS, the toolchain that built it, and the sums of its crates (their .rt and .antt files,
+and their lines of crates.txt, for the crate and all below it), of the files that build it, and of what was built. All
+sources of Rattle and of C are summed without their comments: no comment gets into what is built, so who mends one needs
+no toolchain. --write is for the commands that build, which call it at their end. Here the sums are compared, which takes
+a second: it prints what differs and the command that builds it again, and the status is then 1. tests/release.sh builds
+all again and compares the bytes.
 """
 import re
 import subprocess
@@ -62,15 +62,17 @@ def with_those_below(crates, lines):
     return list(found)
 
 
-# A literal, which is kept, or a comment. A lifetime ('a) is no literal, and has no second quote a character later.
+# A literal, which is kept, or a comment. A lifetime ('a) is no literal, and has no second quote a character later. No string
+# of an .antt file has two hyphens between spaces.
 RT_COMMENT = re.compile(r"""("(?:\\.|[^"\\])*"|'(?:\\.|[^'\\])')|//.*?(?=\n|\Z)""", re.DOTALL)
-ANTT_COMMENT = re.compile(r"(?:^|(?<=\s))--(?=\s|$).*$", re.MULTILINE)
+ANTT_COMMENT = re.compile(r"()(?:^|(?<=\s))--(?=\s|$).*$", re.MULTILINE)
+C_COMMENT = re.compile(r"""("(?:\\.|[^"\\])*"|'(?:\\.|[^'\\])+')|/\*.*?\*/|//.*?(?=\n|\Z)""", re.DOTALL)
+COMMENTS = {".rt": RT_COMMENT, ".antt": ANTT_COMMENT, ".c": C_COMMENT, ".h": C_COMMENT}
 
 
 def without_comments(path):
     """The text of a source without its comments, empty lines, and spaces at the ends of lines."""
-    text = path.read_text()
-    text = RT_COMMENT.sub(lambda found: found[1] or "", text) if path.suffix == ".rt" else ANTT_COMMENT.sub("", text)
+    text = COMMENTS[path.suffix].sub(lambda found: found[1] or "", path.read_text())
     return "\n".join(line.rstrip() for line in text.splitlines() if line.strip())
 
 
@@ -83,8 +85,12 @@ def sum_of_crate(crate, line):
 
 
 def sums_of_files(patterns):
-    paths = sorted(path for pattern in patterns for path in TOP.glob(pattern))
-    return {str(path.relative_to(TOP)): sha256(path.read_bytes()).hexdigest() for path in paths}
+    """The sums of files: of a source without its comments, of any other file as it is."""
+    found = {}
+    for path in sorted(path for pattern in patterns for path in TOP.glob(pattern)):
+        contents = without_comments(path).encode() if path.suffix in COMMENTS else path.read_bytes()
+        found[str(path.relative_to(TOP))] = sha256(contents).hexdigest()
+    return found
 
 
 def sums(name, toolchain):

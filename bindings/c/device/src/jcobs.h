@@ -202,12 +202,12 @@ typedef struct jcobs_encoder {
 #define JCOBS_CHANGES(pointer, length)
 #endif
 
-/* Returns the length of the longest frame of a message of this length, without a terminator: the length, and 1 for
- * each 254 bytes begun, and 1 for the empty message.
+/* Returns the length of the longest frame of a message of this length, without a terminator: the message's length and
+ * one byte for each 254 bytes or part of them, or 1 for the empty message.
  *
- * The macro is the same as a constant expression, as for the length of an array, but wraps round where the function
- * returns 0. Its type is size_t, whatever unsigned type the argument has that isn't wider; it evaluates its argument
- * more than once, and doesn't serve in #if. */
+ * The macro has the same value, as a constant expression, so an array can have this length. If the value doesn't fit a
+ * size_t, the macro wraps round, and the function returns 0. The macro's type is size_t if the argument's type is
+ * unsigned and not wider. It evaluates its argument more than once, and can't be used in #if. */
 #define JCOBS_MAX_LENGTH(message_len)                                                                                  \
     (sizeof(char) * (message_len) + sizeof(char) * (message_len) / 254 +                                               \
      (sizeof(char) * (message_len) % 254 != 0 || (message_len) == 0 ? 1 : 0))
@@ -237,9 +237,9 @@ JCOBS_API jcobs_answer jcobs_encode_terminated_with_sentinel(const void *message
     JCOBS_WRITES(3, 4) JCOBS_CHECKED;
 /* returns: as jcobs_encode_terminated */
 
-/* Encodes a message in its own buffer, where there is no second one. Its message_len bytes lie in the buffer from
- * JCOBS_MAX_OVERHEAD(message_len) on; what is before them doesn't matter. Then the buffer begins with the frame that
- * jcobs_encode writes. */
+/* Encodes a message in its own buffer, if there is no second one. The message_len bytes of the message lie in the
+ * buffer from JCOBS_MAX_OVERHEAD(message_len) on; the bytes before them don't matter. Afterwards the buffer begins with
+ * the frame that jcobs_encode writes. */
 #define JCOBS_MAX_OVERHEAD(message_len) (JCOBS_MAX_LENGTH(message_len) - sizeof(char) * (message_len))
 JCOBS_API jcobs_answer jcobs_encode_in_place(void *buffer, size_t buffer_len, size_t message_len)
     JCOBS_CHANGES(1, 2) JCOBS_CHECKED;
@@ -247,8 +247,8 @@ JCOBS_API jcobs_answer jcobs_encode_in_place(void *buffer, size_t buffer_len, si
  *          status TOO_SMALL, consumed 0, length 0, exactly if the buffer is shorter than jcobs_max_length(message_len):
  *              it is as it was */
 
-/* Decodes the first frame of the source to the front of `message`. Zeros in front of the frame are skipped, and it
- * ends at the next zero or with the source. A buffer as long as the source always suffices. */
+/* Decodes the first frame of the source to the front of `message`. Leading zeros are skipped, and the frame ends at the
+ * next zero or with the source. A buffer as long as the source always suffices. */
 JCOBS_API jcobs_answer jcobs_decode(const void *source, size_t source_len, void *message, size_t message_len)
     JCOBS_READS(1, 2) JCOBS_WRITES(3, 4) JCOBS_CHECKED;
 /* returns: status OK, consumed zeros in front, the frame and the zero after it, length of the message
