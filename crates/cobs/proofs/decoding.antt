@@ -1,4 +1,4 @@
--- Whole frames: pieces and what they come to, and each way to decode them.
+-- Whole frames: pieces and their outcomes, and each way to decode them.
 pub mod OutcomeLemmas
 pub mod PieceLemmas
 pub mod PieceCuts

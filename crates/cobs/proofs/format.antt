@@ -1,4 +1,4 @@
--- The format: frames, blocks, lengths, what encoders give, and that it is unique.
+-- The format: frames, blocks, lengths, the frames that encoders write, and that they are unique.
 pub mod FrameLemmas
 pub mod JoinLemmas
 pub mod GrammarLemmas

@@ -1,4 +1,4 @@
--- What it means that a message doesn't fit.
+-- The status TOO_SMALL: only an output that is longer than the buffer has it.
 use Rattle.std.proofs.Common.{◌≡◌, ◌<◌, ℕ, List, length, Err, refl, arith}
 use Rattle.std.proofs.lemmas.Bool.{leb-false, cases_Bool}
 use Rattle.cobs.specs.Decode.{outcome_result}
@@ -9,7 +9,7 @@ use Rattle.cobs.specs.declared.DecodeError.TheVariants.{EmptyFrame, InvalidFrame
 use Rattle.cobs_abi.specs.Answer.{result_by}
 use Rattle.cobs_abi.specs.declared.answer.TheConstants.{TOO_SMALL}
 
--- an outcome is too long where the output is
+-- an outcome is too long if the output is
 pub too_long-output : (p : List ℕ) (n : ℕ) → Err TargetBufTooSmall ≡ outcome_result (outcome_of p n) → n < length (output p)
 unfolding outcome_of
 too_long-output p n e = grind (arith, cases_Bool, leb-false)

@@ -20,7 +20,7 @@ module _ {size taken : ℕ} {IsWanted : List ℕ → Type 0} {buffer : List ℕ}
       (λ (long : nat_le size (length buffer) ≡ false). leb-false size (length buffer) long)
       (cases_Bool (nat_le size (length buffer)))
 
--- behind a frame and its terminator a buffer is as it was, where its part in front of the last byte is behind the frame
+-- after a frame and its terminator a buffer is as it was, if its part before the last byte is so after the frame
 pub behind_terminator : (buffer part : List ℕ) (last end s : ℕ) → length part ≡ last → last < length buffer → end ≤ last → drop end part ≡ drop end (take last buffer)
     → drop (end + 1) (set (part ++ drop last buffer) end s) ≡ drop (end + 1) buffer
 behind_terminator buffer part last end s len within short behind =
@@ -39,7 +39,7 @@ terminated part rest end s within some =
     take_more_set (part ++ rest) end s (omega arith) ∙ ap (λ (xs : List ℕ). xs ++ s ∷ []) (take-append-le end part rest within)
 
 module _ {size taken : ℕ} {IsWanted IsEnded : List ℕ → Type 0} {buffer part : List ℕ} {result : Answer} where
-  -- a call that wrote to all but the last byte of a buffer, and a byte after what it wrote
+  -- a call that was passed a buffer without its last byte, and a byte after the bytes that it wrote
   pub Writes-terminated : (last s : ℕ) → last + 1 ≡ length buffer → length part ≡ last → Writes size taken IsWanted (take last buffer) result part → result.status ≡ OK
       → ((f : List ℕ) → IsWanted f → IsEnded (f ++ s ∷ []))
       → Writes (size + 1) taken IsEnded buffer (record { status = OK; consumed = result.consumed; length = result.length + 1 }) (set (part ++ drop last buffer) result.length s)

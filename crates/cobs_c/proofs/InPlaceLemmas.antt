@@ -11,7 +11,7 @@ use Rattle.cobs.specs.Stream.{head}
 use Rattle.cobs_abi.specs.Answer.{result_by, head_end}
 use Rattle.cobs_abi.specs.declared.answer.TheConstants.{OK}
 
--- the result for a list is the one for what is in front of its first zero
+-- the result for a list is that for the bytes before its first zero
 same_result : (g t : List ℕ) → g ≡ head t → head g ≡ g → (length t ≡ 0) ⊎ (length g ≢ 0) → result_in_place g ≡ result_in_place t
 unfolding head
 same_result [] [] e h some = refl

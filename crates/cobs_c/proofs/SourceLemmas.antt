@@ -5,7 +5,7 @@ use Rattle.cobs.specs.Decode.{result_by_piece, leading_zeros, len_through_piece,
 use Rattle.cobs.specs.Stream.{first_piece, outcome_of}
 use Rattle.cobs.specs.declared.DecodeError.{DecodeError}
 
--- the first piece by its end, in what is behind the zeros of a source: by `none` and `found` of `law_12`
+-- the first piece by its end, in the bytes after the leading zeros of a source: by `none` and `found` of `law_12`
 module _ (source rest : List ℕ) (n : ℕ) (is : rest ≡ drop (leading_zeros source) source) (stop : n < length rest → get_or rest n 0 ≡ 0) where
   pub first_none : ((t : List ℕ) → let r = drop (leading_zeros t) t in (0 < length r → get_or r 0 0 ≡ 0) → first_piece t ≡ None) → n ≡ 0 → first_piece source ≡ None
   first_none law none = law source (subst (λ (r : List ℕ). 0 < length r → get_or r 0 0 ≡ 0) is (subst (λ (k : ℕ). k < length rest → get_or rest k 0 ≡ 0) none stop))
@@ -16,7 +16,7 @@ module _ (source rest : List ℕ) (n : ℕ) (is : rest ≡ drop (leading_zeros s
       subst (λ (r : List ℕ). n ≤ length r → HasNoZero (take n r) → (n < length r → get_or r n 0 ≡ 0) → first_piece source ≡ Some (take n r)) (sym is)
       (λ within' before' stop'. law source n some within' before' stop') within before stop
 
--- the result of `decode` where there is a piece
+-- the result of `decode` if there is a piece
 pub result-some : (source p : List ℕ) (n : ℕ) → first_piece source ≡ Some p → result_of_decode source n ≡ report_result (len_through_piece source p) (outcome_result (outcome_of p n))
 unfolding first_piece
 result-some [] p n is = absurd cc

@@ -49,7 +49,7 @@ TakesChunk-read (Err e) left chunk chunk' left' long count copied rest = absurd 
 abbrev pub MemoryStep : InMemory → Read → InMemory → Type 0
 MemoryStep from read to = TakesChunk (bytes_left from) read (bytes_left to)
 
--- what a source had is what the reads gave and what it has left
+-- the bytes of a source are those that the reads returned and those that it has left
 pub bytes_left-Runs : (from : InMemory) (reads : List Read) (to : InMemory) → Runs MemoryStep from reads to
     → bytes_left from ≡ all_given reads ++ bytes_left to
 bytes_left-Runs from [] to same = ap bytes_left same
@@ -64,7 +64,7 @@ pub never_fails : (from : InMemory) (earlier : List Read) (to : InMemory) → Ru
 never_fails from [] to (next, step, more) = let given = step.gives in cc
 never_fails from (read ∷ earlier) to (next, step, more) = never_fails next earlier to more
 
--- behind a read that gave no bytes none are left
+-- after a read that returned no bytes none are left
 pub bytes_left-at_end : (from : InMemory) (earlier : List Read) (to : InMemory) → Runs MemoryStep from (earlier ++ Some [] ∷ []) to → bytes_left to ≡ []
 bytes_left-at_end from [] to (next, step, more) =
     let none : length (take 64 (bytes_left from)) ≡ 0 = ap length (sym (ap bytes_given step.gives)) in

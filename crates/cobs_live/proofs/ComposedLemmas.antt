@@ -23,6 +23,6 @@ untimed-front Json times = refl
 untimed-front Bytes times = refl
 untimed-front Pcap times = refl
 
--- without colour, number and time a piece that is shown is what its style makes of it
+-- without colour, number and time the text of a piece that is shown is that of its style
 pub bare-view : (view : View) (number : ℕ) (times : Times) (seen : Seen) → passes view.filter seen ≡ true → view.color ≡ false → view.number ≡ false → view.stamp ≡ Untimed → in_view view number times seen ≡ styled view.style false number Untimed times seen
 bare-view view number times seen shown plain alone untimed = rw (shown, plain, alone, untimed, untimed-front view.style times) refl

@@ -70,7 +70,7 @@ char_run text rest c u split same =
     let before : take (len_utf8 c) text ≡ encode_utf8 c = ap (take (len_utf8 c)) split ∙ ap (λ (n : ℕ). take n (encode_utf8 c ++ rest)) (sym (length-encode c)) ∙ take-append_seam (encode_utf8 c) rest in
     rw (before, after) (char_escaped text rest c u split ∙ ap (λ (l : List ℕ). l ++ text_escaped rest) same)
 
--- behind a run and such a character
+-- after a run and such a character
 pub past_char : (text rest : List ℕ) (run c n : ℕ) → IsUtf8 text → IsCharBoundary text run → drop run text ≡ encode_utf8 c ++ rest → n ≡ len_utf8 c → IsCharBoundary text (run + n)
 past_char text rest run c n u b split is = subst (λ (k : ℕ). IsCharBoundary text (run + k)) (sym is) (IsCharBoundary-past_char text rest run c b.0 (IsUtf8-drop text run u b) split)
 

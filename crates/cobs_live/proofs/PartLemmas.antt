@@ -1,4 +1,4 @@
--- Lemmas on the pieces that have ended in a stream, and on what a buffer holds of the last one.
+-- Lemmas on the pieces that have ended in a stream, and on the bytes of the last one in a buffer.
 use Rattle.std.proofs.Common.{◌≡◌, ◌≤◌, ◌<◌, nat_le, ℕ, Bool, true, false, List, [], ◌∷◌, ◌++◌, length, take, drop, map, min, refl, sym, ap, ◌∙◌, arith, append_assoc, append-nil, length-append, length-take, Option, Some, None}
 use Rattle.std.specs.Prelude.{if◌then◌else◌}
 use Rattle.std.proofs.Math.ListN.{drop_of_length-le}
@@ -92,7 +92,7 @@ seen-held checksum true q buffer buffer' ends.TooLong holds same seen is =
     ∙ ap (λ (l : List ℕ). with_part true (seen_of checksum OfTooLong) l) bytes
     ∙ ap (λ (o : Outcome). with_part true (seen_of checksum o) (take (length buffer) (output q))) same
 
--- the piece that a decoder has come to the end of, and what is seen of it
+-- the piece whose end a decoder has taken, and how it is seen
 pub record IsLastPiece (checksum : Option Checksum) (partial : Bool) (stream : List ℕ) (n : ℕ) (seen : Seen) : Type 0 where
   pub piece : Ended
   pub ended : all_ended stream n ≡ piece ∷ []

@@ -3,7 +3,7 @@ use Rattle.std.proofs.Common.{◌≡◌, ℕ, List, [], ◌∷◌, ◌++◌, ref
 use Rattle.std.proofs.lemmas.List.{map-append}
 use Rattle.cobs_live.specs.Reads.{HeldWhileNothing, Read, IsLive, IsLiveAfter, ReadsOnce, Runs, came, joined}
 
--- reads behind others
+-- reads after others
 pub Runs-append : {S A : Type 0} (step : S → Read A → S → Type 0) (a b c : S) (xs ys : List (Read A)) → Runs step a xs b → Runs step b ys c → Runs step a (xs ++ ys) c
 Runs-append step a b c [] ys r s = subst (λ from. Runs step from ys c) (sym r) s
 Runs-append step a b c (x ∷ xs) ys r s = (r.0, r.1, Runs-append step r.0 b c xs ys r.2 s)
@@ -12,7 +12,7 @@ pub live-append : {A : Type 0} (IsRight : List (List A) → Option (List ℕ) �
 live-append {A} IsRight gone [] ys l m = subst (λ (g : List (List A)). IsLiveAfter IsRight g ys) (append-nil gone) m
 live-append {A} IsRight gone (x ∷ xs) ys l m = (l.0, l.1, live-append IsRight (gone ++ x.came ∷ []) xs ys l.2 (subst (λ (g : List (List A)). IsLiveAfter IsRight g ys) (sym (append_assoc gone (x.came ∷ []) (came xs))) m))
 
--- what is right beside some bytes is right behind others
+-- a text that is right with some bytes is right after others
 pub live-behind : {A : Type 0} (P Q : List (List A) → Option (List ℕ) → Type 0) (front gone : List (List A)) (reads : List (Read A))
     → ((given : List (List A)) (held : Option (List ℕ)) → P given held → Q (front ++ given) held) → IsLiveAfter P gone reads → IsLiveAfter Q (front ++ gone) reads
 live-behind P Q front gone [] h l = tt
@@ -27,7 +27,7 @@ pub came-more : {S A : Type 0} {step : S → Read A → S → Type 0} {mid sourc
 came-more {A = A} a b = ap joined (map-append (λ (r : Read A). r.came) a b.live.reads) ∙ joined-append (came a) (came b.live.reads) ∙ ap (λ (x : List A). joined (came a) ++ x) b.given
 
 module _ {S A : Type 0} {step : S → Read A → S → Type 0} {source mid source' : S} {written : Option (List ℕ)} {bytes : List A} where
-  -- the same behind reads of a run
+  -- the same after reads of a run
   abbrev pub live-more : {P : List (List A) → Option (List ℕ) → Type 0} (a : IsLive step source mid P) → ReadsOnce step mid source' written bytes
       → ((nothing : List (List A)) → joined nothing ≡ [] → P (came a.reads ++ nothing) written) → IsLive step source source' P
   live-more {P} a b right = record {

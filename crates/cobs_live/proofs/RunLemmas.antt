@@ -98,7 +98,7 @@ HasShownSoFar-live step source from s =
     }
 
 module _ {S : Type 0} {step : S → Read (Option ℕ) → S → Type 0} {source mid source' : S} {settings : Settings} {from to before after : Option (List ℕ)} {watch : Watch} {letters : List (Option ℕ)} where
-  -- a run is live behind its next read
+  -- a run is live after its next read
   abbrev pub live-next : IsLiveSoFar step source mid settings from to before after watch → ReadsOnce step mid source' after letters → IsLive step source source' (HoldsText settings before)
   live-next s r = live-more s.live r (λ nothing none. HoldsText-so_far s.so_far (came s.live.reads ++ nothing) (joined-append (came s.live.reads) nothing ∙ ap (λ (x : List (Option ℕ)). joined (came s.live.reads) ++ x) none ∙ append-nil _ ∙ s.given))
 
@@ -139,11 +139,11 @@ module _ (law : StreamLaw) {settings : Settings} {from to before after : Option 
   abbrev pub opened : List ℕ
   opened = open_stream settings s.ended.gone s.ended.bytes
 
-  -- the stream that more bytes are, behind those before them
+  -- the stream with more bytes, after those before them
   abbrev pub newly : List ℕ → List ℕ
   newly more = begun watch.skipping (xor_each watch.settings.now.sentinel more)
 
-  -- with more bytes, a stream leaves what the decoder leaves of them, and has the outcomes that it reports
+  -- with more bytes, the unended bytes of a stream are those of the decoder, and its outcomes those that the decoder reports
   pub more-stream : (more : List ℕ) → open_stream settings s.ended.gone (s.ended.bytes ++ more) ≡ opened ++ newly more
   more-stream more =
       ap (begun skip) (map-append (λ b. bit_xor b settings.sentinel) s.ended.bytes more)
@@ -203,7 +203,7 @@ module _ (law : StreamLaw) {settings : Settings} {from to before after : Option 
       → clock.last ≡ more-times now (length (all_outcomes settings s.ended.gone (s.ended.bytes ++ more)))
   more-timed clock now more r = r.last ∙ ap (λ (os : List Outcome). more-times now (length os)) (sym (more-outcomes more))
 
-  -- the text of the pieces that end in more bytes, behind that of all others
+  -- the text of the pieces that end in more bytes, after that of all others
   abbrev pub new_text : View → Moment → List ℕ → List ℕ
   new_text view now more = shown_from view (more-times now) known (all_ended (unended opened ++ newly more) (length watch.message.items))
 
@@ -260,7 +260,7 @@ module _ (law : StreamLaw) {settings : Settings} {from to before after : Option 
   pub next-failed : (to' after' : Option (List ℕ)) (fault : WatchFault) → fault ≡ ReadFailed → HasWritten (shown_ended settings) from to' before after' → ShowsNext settings (Err fault) from to' before after' watch
   next-failed to' after' fault is w = subst (λ (f : WatchFault). HasShown settings (Err f) from to' before after') (sym is) w
 
-  -- the input has come to its end
+  -- the input is at its end
   pub shown-all : {to' after' : Option (List ℕ)} → Consumes to to' [] → IsAtEnd to' → ShowsEnd (phase_of watch.decoder) watch.settings.now.view after after' → HasShownAll settings watch.tally from to' before after'
   unfolding shown-ended
   shown-all r at_end end = record { all = shown-ended r end; tallied = s.tallied; end = at_end }

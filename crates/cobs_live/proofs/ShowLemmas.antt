@@ -19,7 +19,7 @@ use Rattle.cobs_live.specs.declared.composed.Composed.{Composed}
 use Rattle.cobs_live.specs.declared.shown.View.{View}
 use Rattle.cobs_live.specs.declared.tally.Tally.{Tally}
 
--- what is shown of outcomes, and of others behind them
+-- the text of outcomes, and of others after them
 pub shown_from-append : (view : View) (times : ℕ → Moment) (index : ℕ) (xs ys : List Ended) → shown_from view times index (xs ++ ys) ≡ shown_from view times index xs ++ shown_from view times (index + length xs) ys
 unfolding shown_from
 shown_from-append view times index [] ys = ap (λ (k : ℕ). shown_from view times k ys) (omega arith)
@@ -36,7 +36,7 @@ pub shown_from-one : (view : View) (times : ℕ → Moment) (index : ℕ) (piece
 unfolding shown_from
 shown_from-one view times index piece = append-nil (shown view times index piece)
 
--- what is shown of a piece, given the tally that counts it too, and the clock before it
+-- the text of a piece, given the tally that counts it too, and the clock before it
 pub shown_now : (view : View) (times : ℕ → Moment) (tally : Tally) (clock : Times) (gone : List Outcome) (outcome : Outcome) (read : ℕ) (before after : Option (List ℕ)) (seen : Seen) (piece : Ended) → seen ≡ seen_piece view.checksum view.partial piece
     → IsTallyOf view.checksum tally (gone ++ outcome ∷ []) read → IsReadAt times (length gone) clock
     → Appends before after (in_view view tally.pieces clock seen) → Appends before after (shown view times (length gone) piece)
@@ -49,7 +49,7 @@ shown_now view times tally clock gone outcome read before after seen piece same 
     (subst (λ (k : Moment). Appends before after (in_view view (counted (length gone + 1)) (record { last = k; next = clock.next }) seen)) r.last
     (subst (λ (k : ℕ). Appends before after (in_view view k clock seen)) is written)))
 
--- a writer to which nothing is still to be written holds what it held
+-- a writer to which nothing is still to be written holds the same bytes as before
 pub with_text-empty : (held : Option (List ℕ)) (text : Composed) → text.len ≡ 0 → with_text held text ≡ held
 with_text-empty None text none = refl
 with_text-empty (Some xs) text none = rw none (ap (λ (l : List ℕ). Some l) (append-nil xs))
@@ -129,11 +129,11 @@ module _ (law : StreamLaw) {view : View} {times : ℕ → Moment} {n : ℕ} {p b
         len = len ∙ s.len;
       }
 
--- the bytes behind some of them, as a slice has them
+-- the bytes after some of them, as a slice has them
 rest-of : (at : ℕ) (bytes : List ℕ) → take (length bytes - at) (drop at bytes) ≡ drop at bytes
 rest-of at bytes = take_all (length bytes - at) (drop at bytes) (omega (arith, length-drop at bytes))
 
--- the first bytes of a part of those behind some
+-- the first bytes of a part of those after some
 pub take-part : (at count : ℕ) (bytes part : List ℕ) → part ≡ take (length part) (take (length bytes - at) (drop at bytes)) → count ≤ length part → take (at + count) bytes ≡ take at bytes ++ take count part
 take-part at count bytes part is within =
     let front : part ≡ take (length part) (drop at bytes) = is ∙ ap (take (length part)) (rest-of at bytes) in

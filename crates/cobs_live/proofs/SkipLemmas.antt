@@ -1,8 +1,8 @@
--- Lemmas on the bytes behind the first zero.
+-- Lemmas on the bytes after the first zero.
 use Rattle.std.proofs.Common.{◌≡◌, ◌==◌, ℕ, Bool, true, false, cond, List, [], ◌∷◌, ◌++◌, refl}
 use Rattle.cobs_live.specs.Watched.{begun, skips_on}
 
--- what is begun of bytes and of others behind them
+-- the bytes that aren't skipped, of some bytes and of others after them
 pub begun-append : (skipping : Bool) (t u : List ℕ) → begun skipping (t ++ u) ≡ begun skipping t ++ begun (skips_on skipping t) u
 begun-append false t u = refl
 begun-append true [] u = refl

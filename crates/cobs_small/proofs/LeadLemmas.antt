@@ -16,7 +16,7 @@ pub record LeadLaw : Type 0 where
   pub piece : (byte : ℕ) (bytes : List ℕ) → byte ≢ 0 → first_piece (byte ∷ bytes) ≡ Some (head (byte ∷ bytes))
   pub head : (t : List ℕ) (n : ℕ) → n ≤ length t → HasNoZero (take n t) → (n < length t → slice_index t n ≡ 0) → take n t ≡ head t
 
--- behind the front of a piece in which none has ended there is no zero
+-- after the front of a piece there is no zero in bytes in which no piece has ended
 no_zero_behind : (law : LeadLaw) (n : ℕ) (p t : List ℕ) → p ≢ [] → HasNoZero p → stream_outcomes (p ++ t) n ≡ [] → HasNoZero (p ++ t)
 no_zero_behind law n p [] some h none = subst HasNoZero (sym (append-nil p)) h
 no_zero_behind law n p (zero ∷ t) some h none =
@@ -35,7 +35,7 @@ behind : (law : LeadLaw) (n : ℕ) (t : List ℕ) → (stream_outcomes (0 ∷ t)
 unfolding stream_outcomes ended_pieces unended but_last
 behind law n t = (law.stream.cut (0 ∷ []) t n, law.stream.left (0 ∷ []) t)
 
--- what is unended is the first piece, and the zeros in front of it are all else
+-- the unended bytes are the first piece, and all other bytes are zeros before it
 pub record Leads (t more : List ℕ) : Type 0 where
   pub first : first_piece (t ++ more) ≡ Some (unended t)
   pub long : leading_zeros (t ++ more) + length (unended t) ≡ length t

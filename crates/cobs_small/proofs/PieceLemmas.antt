@@ -1,4 +1,4 @@
--- What a decoder returns for a piece.
+-- The result of a decoder for a piece.
 use Rattle.std.proofs.Common.{◌≡◌, ◌≢◌, ◌≤◌, ℕ, zero, suc, List, length, Some, None, Result, Ok, Err, refl, sym, ap, arith, length-take-le}
 use Rattle.cobs.specs.Decode.{outcome_result}
 use Rattle.cobs.specs.Feed.{fed_result}
@@ -25,7 +25,7 @@ pub small_error : (consumed n : ℕ) (size : Result ℕ DecodeError) → (result
 small_error consumed n (Ok size) e = absurd (omega (arith, e))
 small_error consumed n (Err error) e = sym (ap Err (too_small-only consumed n error e))
 
--- what a push says of a piece that has ended
+-- the result of a push for a piece that has ended
 pub record Ended (returned : Answer) (n : ℕ) (buffer : List ℕ) : Type 0 where
   pub end : PieceEnd
   pub is : results.piece_end_of returned ≡ Some (end, returned.consumed)

@@ -1,4 +1,4 @@
--- Lemmas on what a call has read.
+-- Lemmas on the bytes that a call has read.
 use Rattle.std.proofs.Common.{◌≡◌, ◌+◌, ◌<◌, ◌≤◌, ℕ, List, ◌++◌, length, Option, Some, None, Result, Ok, Err, ap, sym, ◌∙◌, append_assoc, arith, refl}
 use Rattle.std.specs.Prelude.{IsErrAnd}
 use Rattle.std.specs.Io.KnownBytes.{Consumes}
@@ -26,7 +26,7 @@ HasRead-too_long old new xs read long stopped = record {
   whole_at_write = λ e. absurd cc;
 }
 
--- memory runs out while the input is read, or behind that
+-- memory runs out while the input is read, or after that
 pub HasRead-no_memory : {A : Type 0} (old new : Option (List ℕ)) (xs : List ℕ) (result : Result A ToolFault) → Consumes old new xs → length xs ≤ max_input
     → IsErrAnd result (λ fault. fault ≡ OutOfMemory) → HasRead {A = A} old new result
 HasRead-no_memory old new xs (Err OutOfMemory) read within e = record {

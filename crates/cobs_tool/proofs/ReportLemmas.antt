@@ -20,7 +20,7 @@ pub outcome_line-empty : (message : List ℕ) → length message ≡ 0 → codes
 outcome_line-empty [] e = sym (rw (decimal_digit 0 (omega arith)) refl)
 outcome_line-empty (byte ∷ bytes) e = absurd (omega arith)
 
--- what is behind a text where it was pushed
+-- the bytes after a text that was pushed
 pub pushed_line : {E : Type 0} (r : Result (Unit {0}) E) (old new line line' : List ℕ) → line ≡ line'
     → new ≡ cond (is_ok r) (old ++ line) old → OnOk r (new ≡ old ++ line')
 pushed_line (Ok v) old new line line' e pushed = pushed ∙ ap (λ l. old ++ l) e
@@ -37,7 +37,7 @@ unended-behind : (law : StreamLaw) (front behind : List ℕ) → unended (front 
 unended-behind law front behind =
     ap unended (sym (append_assoc front (0 ∷ []) behind)) ∙ law.left (front ++ 0 ∷ []) behind ∙ ap (λ l. unended (l ++ behind)) (law.ended front)
 
--- what is behind the first piece that ends in the stream t, and then more, decides the rest of the report
+-- the bytes after the first piece that ends in the stream t, and then more, decide the rest of the report
 report-first : (law : StreamLaw) (t behind more : List ℕ) (n : ℕ) (outcome : Outcome) → n ≡ longest_message → EndsFirst t n outcome behind
     → report (t ++ more) ≡ outcome_line outcome ++ report (behind ++ more)
 report-first law t behind more n outcome e first =
@@ -60,11 +60,11 @@ report-none t n e none = report_is t n e ∙ ap (λ l. flat_map outcome_line l +
 
 -- AFTER A CALL OF `next_frame`
 
--- what is still to be reported: what the reader has kept, and what it has not read yet
+-- the bytes that are still to be reported: those that the reader has kept, and those that it hasn't read yet
 abbrev pub left_of : ReaderState → InMemory → List ℕ
 left_of reader source = reader.kept ++ bytes_left source
 
--- a call has come to the end of a piece: its line is the first of what was still to be reported
+-- a call has reached the end of a piece: its line is the first of those that were still to be reported
 pub record PieceReported (reader : ReaderState) (source : InMemory) (reader' : ReaderState) (source' : InMemory) (outcome : Outcome) : Type 0 where
   pub stated : report (left_of reader source) ≡ outcome_line outcome ++ report (left_of reader' source')
   pub fewer : length reader'.kept + length (bytes_left source') < length reader.kept + length (bytes_left source)
@@ -90,7 +90,7 @@ PieceReported-from law reader source reader' source' reads outcome len runs end 
       idle = end.idle;
     }
 
--- what each result of a call reports, where the reader was idle
+-- the report of each result of a call, if the reader was idle
 
 pub message_reported : (law : StreamLaw) (reader : ReaderState) (source : InMemory) (reader' : ReaderState) (source' : InMemory) (n : ℕ)
     → ReadsNext MemoryStep source source' reader (Ok (nexts.Message n)) reader' → ReaderAfter reader [] → length reader'.buffer ≡ longest_message
@@ -115,7 +115,7 @@ too_long_reported law reader source reader' source' next idle len =
 abbrev pub unfinished_text : Bool → List ℕ
 unfinished_text unfinished = if unfinished then codes "unfinished\n" else []
 
--- nothing is left behind the end
+-- nothing is left after the end
 pub stream_end_reported : (reader : ReaderState) (source : InMemory) (reader' : ReaderState) (source' : InMemory) (unfinished : Bool)
     → ReadsNext MemoryStep source source' reader (Ok (nexts.End unfinished)) reader' → ReaderAfter reader [] → length reader'.buffer ≡ longest_message
     → report (left_of reader source) ≡ unfinished_text unfinished
@@ -153,7 +153,7 @@ report-start text kept left stream none nothing all = ap (λ l. l ++ report (kep
 pub text_all : (text text' line rest whole : List ℕ) → text ++ rest ≡ whole → rest ≡ line → text' ≡ text ++ line → text' ≡ whole
 text_all text text' line rest whole before last pushed = pushed ∙ ap (λ l. text ++ l) (sym last) ∙ before
 
--- what is still to be reported gets shorter
+-- the bytes that are still to be reported get fewer
 pub still_few : (reader : ReaderState) (source : InMemory) (reader' : ReaderState) (source' : InMemory) (outcome : Outcome) (most : ℕ)
     → PieceReported reader source reader' source' outcome → length (left_of reader source) ≤ most → length (left_of reader' source') ≤ most
 still_few reader source reader' source' outcome most piece few =

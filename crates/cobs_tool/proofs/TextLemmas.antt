@@ -25,7 +25,7 @@ unfolding encode_with
 hex_of_is byte small =
     hex_byte false byte small ∙ rw (digit_glyph_is (byte / 16) (omega arith), digit_glyph_is (byte % 16) (omega arith)) refl
 
--- one more piece behind some pieces
+-- one more piece after some pieces
 join_with_byte-push : (c : ℕ) (pieces : List (List ℕ)) (last : List ℕ) → 0 < length pieces
     → join_with_byte c (pieces ++ last ∷ []) ≡ join_with_byte c pieces ++ (c ∷ last)
 join_with_byte-push c [] last some = absurd (omega arith)

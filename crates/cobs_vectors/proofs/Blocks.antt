@@ -32,14 +32,14 @@ module _ (list : List ℕ) (read : ℕ) (nonzero : HasNoZero list) (within : rea
       let some = code_some in
       (omega arith, below, All-take (λ b. b ≢ 0) (code - 1) more (All-drop (λ b. b ≢ 0) (read + 1) list nonzero))
 
-  -- it and what is behind it
+  -- it and the bytes after it
   pub split : drop read list ≡ block_at list read ++ drop (read + get_or list read 0) list
   split =
       let some = code_some in
       let next : drop (code - 1) more ≡ drop (read + code) list = drop-drop (code - 1) (read + 1) list ∙ ap (λ (n : ℕ). drop n list) (omega arith) in
       cons ∙ ap (λ (x : List ℕ). code ∷ x) (sym (take-append-drop (code - 1) more)) ∙ ap (λ (x : List ℕ). block_at list read ++ x) next
 
-  -- nothing is behind it
+  -- nothing is after it
   pub last : length list - read ≡ get_or list read 0 → drop read list ≡ block_at list read
   last end =
       let none = drop_all (read + code) list (omega arith) in

@@ -1,4 +1,4 @@
--- What is between two sentinels, and the message at the front of a buffer.
+-- The bytes between two sentinels, and the message at the front of a buffer.
 use Rattle.std.proofs.Common.{◌≢◌, ◌≤◌, ℕ, List, [], ◌∷◌, length, take, refl, ap, subst, arith, length-take}
 use Rattle.cobs.specs.Grammar.{HasNoZero, Reads}
 use Rattle.cobs.specs.Headline.{BeginsWith, IsPiece}

@@ -7,7 +7,7 @@ use Rattle.cobs.specs.Grammar.{HasNoZero, IsBlock}
 abbrev pub block_at : List ℕ → ℕ → ℕ → List ℕ
 block_at bytes read code = code ∷ take (code - 1) (drop (read + 1) bytes)
 
--- what is behind the first `read` bytes, none of which is a zero, begins with this code
+-- the bytes after the first `read` ones, none of which is a zero, begin with this code
 pub record IsCodeAt (bytes : List ℕ) (read code : ℕ) : Type 0 where
   pub nonzero : HasNoZero bytes
   pub here : read < length bytes

@@ -1,4 +1,4 @@
--- What is before the first zero of a list, and the first piece after its leading zeros: by induction on the zeros, and by
+-- The bytes of a list before its first zero, and the first piece after its leading zeros: by induction on the zeros, and by
 -- `first_piece_head` for a list that begins with a code.
 use Rattle.std.proofs.Common.{◌≡◌, ◌≢◌, ℕ, zero, suc, ◌+◌, ◌-◌, ◌<◌, ◌≤◌, Bool, cond, List, [], ◌∷◌, length, take, drop, get_or, Some, None, refl, sym, ap, ◌∙◌, arith, inl, inr, length-drop}
 use Rattle.std.proofs.lemmas.Bool.{cases_eq, cases_lt, ne_eqb}
@@ -18,7 +18,7 @@ front_is_head (byte ∷ t) (suc n) within none stop =
     ap (λ (x : List ℕ). byte ∷ x) (front_is_head t n (omega arith) (All-tail (λ b. b ≢ 0) byte (take n t) none) (λ more. stop (omega arith)))
     ∙ sym (head-cons byte t (All-head (λ b. b ≢ 0) byte (take n t) none))
 
--- what is before the first zero, by its length
+-- the bytes before the first zero, by their number
 pub head-front : (t : List ℕ) → take (length (head t)) t ≡ head t
 unfolding head
 head-front [] = refl
@@ -54,7 +54,7 @@ short_head t n few within last some stop other = elim (cases_lt n (length t)) [
   ]
 ]
 
--- a list that begins with a code has one in front of its first zero
+-- a list that begins with a code has a byte before its first zero
 pub head_some : (t : List ℕ) → 0 < length t → get_or t 0 0 ≢ 0 → 0 < length (head t)
 head_some [] some other = absurd (omega arith)
 head_some (byte ∷ t) some other = omega (arith, ap length (head-cons byte t other))
@@ -62,14 +62,14 @@ head_some (byte ∷ t) some other = omega (arith, ap length (head-cons byte t ot
 leading_zeros-none : (b : ℕ) (t : List ℕ) → b ≢ 0 → leading_zeros (b ∷ t) ≡ 0
 leading_zeros-none b t some = ap (λ (v : Bool). cond v (1 + leading_zeros t) 0) (ne_eqb b 0 some)
 
--- the first piece is what is before the first zero behind the leading ones
+-- the first piece is the bytes before the first zero after the leading ones
 pub first_piece_behind : (t : List ℕ) → first_piece t ≡ first_piece (drop (leading_zeros t) t)
 unfolding first_piece
 first_piece_behind [] = refl
 first_piece_behind (zero ∷ t) = grind (arith, first_piece_behind t)
 first_piece_behind (suc b ∷ t) = ap (λ (k : ℕ). first_piece (drop k (suc b ∷ t))) (sym (leading_zeros-none (suc b) t (λ e. omega arith)))
 
--- and behind them is no zero
+-- and no zero is after them
 pub leading_zeros-stop : (t : List ℕ) → leading_zeros t < length t → get_or (drop (leading_zeros t) t) 0 0 ≢ 0
 leading_zeros-stop [] some = absurd (omega arith)
 leading_zeros-stop (zero ∷ t) some = grind (arith, (leading_zeros-stop t (omega arith)))
@@ -86,7 +86,7 @@ pub first_piece_nonzero : (t : List ℕ) → 0 < length t → get_or t 0 0 ≢ 0
 first_piece_nonzero [] some other = absurd (omega arith)
 first_piece_nonzero (byte ∷ t) some other = first_piece_head byte t other
 
--- a source behind its leading zeros
+-- a source after its leading zeros
 module _ (source : List ℕ) where
   abbrev rest : List ℕ
   rest = drop (leading_zeros source) source

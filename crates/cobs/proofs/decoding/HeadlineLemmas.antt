@@ -21,7 +21,7 @@ use Rattle.cobs.proofs.decoding.ReadsLemmas.{frame_piece}
 use Rattle.cobs.proofs.decoding.SourceSteps.{result-fits, result-too_long}
 use Rattle.cobs.proofs.decoding.VectorSteps.{kept_within, overwritten-begins}
 
--- what a slice of bytes holds is below 256
+-- the elements of a slice of bytes are below 256
 pub bytes_below : (bytes : List ℕ) → ((i : ℕ) → Fits w8 (get_or bytes i 0)) → All (λ b. b < 256) bytes
 bytes_below bytes fits = All-from_get_or (λ b. b < 256) bytes 0 (λ i within. (fits i).fits)
 

@@ -13,7 +13,7 @@ use Rattle.cobs.proofs.decoding.KeptLemmas.{all-kept, block-whole, broken-part, 
 use Rattle.cobs.proofs.decoding.PieceCuts.{output-last}
 use Rattle.cobs.proofs.decoding.BlockLemmas.{IsCodeAt, block-is, block_at, bytes-long, code-some, left-is, short, split}
 
--- whether what is left is whole, or nothing is left
+-- whether the remaining bytes are whole, or there are none
 abbrev pub whole_left : List ℕ → Bool
 whole_left [] = true
 whole_left (byte ∷ bytes) = is_whole (byte ∷ bytes)
@@ -25,7 +25,7 @@ result-equals (b ∷ h) true w =
     ap (λ (v : Bool). result_map_both length (λ (e : DecodeError). e) (cond v (Ok (output (b ∷ h))) (Err (InvalidFrame (length (kept_output (b ∷ h))))))) w ∙ ap (λ (x : List ℕ). Ok (length x)) (sym (all-kept (b ∷ h) w))
 result-equals (b ∷ h) false w = ap (λ (v : Bool). result_map_both length (λ (e : DecodeError). e) (cond v (Ok (output (b ∷ h))) (Err (InvalidFrame (length (kept_output (b ∷ h))))))) w
 
--- a block and what is behind it: what is kept, with the zero that is due between them, and whether it is whole
+-- a block and the bytes after it: their kept output, with the zero between them, and whether they are whole
 module _ (code : ℕ) (bytes : List ℕ) (block : IsBlock (code ∷ bytes)) where
   kept-step : (p due : List ℕ) → (p ≢ [] → joint (code ∷ bytes) ≡ due) → (p ≡ [] → due ≡ []) → kept_output ((code ∷ bytes) ++ p) ≡ (bytes ++ due) ++ kept_output p
   kept-step [] due more last =
@@ -70,7 +70,7 @@ module _ (old : List ℕ) (end : ℕ) (buffer : List ℕ) (read written : ℕ) (
   pub all-read : end ≤ read → (Ok written ≡ head_result h) × (buffer ≡ overwritten old (kept_output h))
   all-read past = ended [] true (drop_all read h (let l = long in omega arith)) kept_output-empty refl
 
-  -- behind the front it is as it was
+  -- after the front it is as it was
   behind : (k : ℕ) → written ≤ k → drop k buffer ≡ drop k old
   behind k le =
       let sum : written + (k - written) ≡ k = omega arith in
@@ -119,7 +119,7 @@ module _ (old : List ℕ) (end : ℕ) (buffer : List ℕ) (read written : ℕ) (
           (begins ∙ ap (λ (x : List ℕ). take written buffer ++ x) bytes-are ∙ ap (λ (x : List ℕ). x ++ bytes) (ap (take written) s.holds ∙ take_at s.done (drop written old) written s.count))
           ∙ ap (λ (x : List ℕ). front ++ x) (rest ∙ behind (written + (code - 1)) (omega arith) ∙ ap (λ (n : ℕ). drop n old) (sym w-is))
 
-      -- with what is due behind them
+      -- with the zero that is due after them
       stepped : (due next : List ℕ) (e : ℕ) → (drop (read + code) h ≢ [] → joint (block_at h read code) ≡ due) → (drop (read + code) h ≡ [] → due ≡ [])
           → e ≤ read + code → length (front ++ due) ≡ e → next ≡ (front ++ due) ++ drop e old → DecodedInPlace old end next (read + code) e
       stepped due next e more last order count holds =

@@ -38,7 +38,7 @@ broken-part code bytes short = grind (arith, is_whole-of, last_part-last, ne_eqb
 pub kept-broken : (code : ℕ) (bytes : List ℕ) → length bytes + 1 < code → kept_output (code ∷ bytes) ≡ []
 kept-broken code bytes short = grind (arith, output-last, last_part-last, kept-is, broken-part)
 
--- a block in front of other bytes
+-- a block before other bytes
 module _ (code : ℕ) (bytes : List ℕ) (x : ℕ) (p : List ℕ) (is : IsBlock (code ∷ bytes)) where
   last-same : last_part (code ∷ (bytes ++ x ∷ p)) ≡ last_part (x ∷ p)
   last-same = grind (arith, last_part-more, drop_at, length-append)

@@ -1,5 +1,5 @@
 -- A piece that fits has the outcome `Message m` exactly if it is a frame of m (`outcome_reads`), by `frame_output`; and the
--- first piece of a stream is what is before its first zero, by std's lemmas on `slice_split`.
+-- first piece of a stream is the bytes before its first zero, by std's lemmas on `slice_split`.
 use Rattle.std.proofs.Common.{◌≡◌, ◌≢◌, ℕ, zero, suc, ◌-◌, ◌<◌, ◌≤◌, ◌↔◌, true, false, List, [], ◌∷◌, ◌++◌, length, filter, All, Some, if◌then◌else◌, refl, sym, ap, ◌∙◌, subst, arith, length-append}
 use Rattle.std.specs.List.{concat}
 use Rattle.std.proofs.lemmas.Bool.{cases_Bool, cases_eq, ne_eqb, le-leb}
@@ -54,14 +54,14 @@ pub outcome_of_whole : (p : List ℕ) (n : ℕ) → length (output p) ≤ n → 
 unfolding outcome_of
 outcome_of_whole p n fits whole = grind (arith, le-leb)
 
--- where there is room for its output
+-- if there is room for its output
 pub outcome_reads : (f m : List ℕ) (n : ℕ) → f ≢ [] → HasNoZero f → All (λ b. b < 256) f → length (output f) ≤ n → (outcome_of f n ≡ Message m) ↔ Reads f m
 outcome_reads f m n some nonzero below fits = (
   λ e. let w = outcome_whole f m n fits e in subst (λ (x : List ℕ). Reads f x) (sym w.1) (reads_output f some nonzero below w.0),
   λ r. outcome_of_whole f n fits (frame_whole f m r) ∙ ap Message (sym (frame_output f m r)),
 )
 
--- a frame comes to its message in each buffer that holds it
+-- the outcome of a frame is its message, in each buffer that holds it
 pub outcome_frame : (f m : List ℕ) (n : ℕ) → Reads f m → length m ≤ n → outcome_of f n ≡ Message m
 outcome_frame f m n r fits =
     let is = frame_output f m r in

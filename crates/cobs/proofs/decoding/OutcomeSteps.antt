@@ -57,7 +57,7 @@ result-by p n k left r some fits count is whole broken = grind (arith, cases_eq,
 pub always : {P : Type 0} (r : Result ℕ DecodeError) → P → IfOk r (λ size. P)
 always r p = grind arith
 
--- what is parsed counts only if the message is returned
+-- the number of parsed bytes counts only if the message is returned
 pub answer-by : (source p : List ℕ) (n parsed len : ℕ) (r : Result ℕ DecodeError) → 0 < length source → first_piece source ≡ Some p → parsed ≡ min (length source) (leading_zeros source + len + 1) → r ≡ outcome_result (outcome_of p n) → IfOk r (λ size. len ≡ length p)
     → report_result parsed r ≡ result_of_decode source n
 answer-by [] p n parsed len r some found parsed-is returned count = absurd (omega arith)

@@ -7,14 +7,14 @@ use Rattle.cobs.specs.Grammar.{joint, is_full}
 use Rattle.cobs.specs.Piece.{parts, parts_after, missing, output, last_part}
 use Rattle.cobs.proofs.decoding.PieceCuts.{joint_of, output-last, output-more, last_part-last, last_part-more}
 
--- the first byte of a piece is a code, and gives nothing
+-- the first byte of a piece is a code, and adds nothing to the output
 pub output-one : (b : ℕ) → output (b ∷ []) ≡ []
 output-one b = output-last b [] (omega arith)
 
 pub last_part-one : (b : ℕ) → last_part (b ∷ []) ≡ b ∷ []
 last_part-one b = last_part-last b [] (omega arith)
 
--- a last part of which bytes are missing takes the byte, and behind another one it is the code of the next
+-- if bytes of the last part are missing, the byte is added to it; otherwise the byte is the code of the next part
 record Grown (p : List ℕ) (b : ℕ) : Type 0 where
   more_output : 0 < missing (last_part p) → output (p ++ b ∷ []) ≡ output p ++ b ∷ []
   more_last : 0 < missing (last_part p) → last_part (p ++ b ∷ []) ≡ last_part p ++ b ∷ []
@@ -30,7 +30,7 @@ grown-last code bytes b short = record {
   next_last = λ h. grind (arith, last_part-last, last_part-more, length_push, drop_at, last_part-one);
 }
 
--- a part in front of others
+-- a part before others
 grown-more : (code : ℕ) (bytes : List ℕ) (b : ℕ) → code - 1 < length bytes → Grown (drop (code - 1) bytes) b → Grown (code ∷ bytes) b
 grown-more code bytes b more rest = record {
   more_output = λ h. grind (arith, last_part-more, output-more, length_push, take-append-le, drop-append-le, append_assoc, rest.more_output);

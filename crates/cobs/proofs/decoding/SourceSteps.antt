@@ -1,4 +1,4 @@
--- A source for any sentinel is a source for 0 once each byte is XORed with it: what is before its first sentinel, and the
+-- A source for any sentinel is a source for 0 once each byte is XORed with it: the bytes before its first sentinel, and the
 -- result for that, by `xor_twice`.
 use Rattle.std.proofs.Common.{◌≡◌, ◌≢◌, ℕ, ◌<◌, ◌≤◌, Bool, cond, All, List, [], ◌∷◌, length, take, get_or, bit_xor, Err, sym, ap, ◌∙◌, subst, arith}
 use Rattle.std.specs.Int.Bits.{xor_self}
@@ -20,11 +20,11 @@ use Rattle.cobs_bytes.proofs.bytes.XoredLemmas.{xor_twice}
 -- RESULTS BY THE KEPT OUTPUT
 
 module _ (h : List ℕ) (n : ℕ) where
-  -- where it fits
+  -- if it fits
   pub result-fits : length (kept_output h) ≤ n → head_result h ≡ head_result_within h n
   result-fits fits = sym (ap (λ (t : Bool). cond t (head_result h) (Err TargetBufTooSmall)) (le-leb (length (kept_output h)) n fits))
 
-  -- where it is too long
+  -- if it is too long
   pub result-too_long : n < length (kept_output h) → Err TargetBufTooSmall ≡ head_result_within h n
   result-too_long long = sym (ap (λ (t : Bool). cond t (head_result h) (Err TargetBufTooSmall)) (lt-leb (length (kept_output h)) n long))
 
@@ -48,7 +48,7 @@ module _ (source : List ℕ) (end s : ℕ) (within : end ≤ length source) (bef
   pub xor_head : xor_each s (take end source) ≡ head (xor_each s source)
   xor_head = front-head source end s within xor_no_zero stop
 
--- the result for a source that isn't empty, by what is before its first sentinel
+-- the result for a source that isn't empty, by the bytes before its first sentinel
 pub result_of_sentinel_decode-head : (source : List ℕ) (s n : ℕ) → 0 < length source → head_result_within (head (xor_each s source)) n ≡ result_of_sentinel_decode (xor_each s source) n
 result_of_sentinel_decode-head source s n some = grind (arith, length-map)
 

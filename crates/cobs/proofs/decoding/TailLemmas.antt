@@ -1,4 +1,4 @@
--- What is kept of a piece is the output of all its bytes except some of the last 253, since no block has more: by steps from
+-- The kept output of a piece is the output of all its bytes except some of the last 253, since no block has more: by steps from
 -- block to block (`ends-next`), as `kept_len` makes them.
 use Rattle.std.proofs.Common.{◌≡◌, ◌≢◌, ℕ, zero, suc, All, inl, inr, refl, ◌+◌, ◌-◌, ◌<◌, ◌≤◌, List, [], ◌∷◌, ◌++◌, length, take, drop, replicate, get_or, subst, sym, ap, ◌∙◌, arith, append_assoc, append-nil, zero-add, length-append, take_at}
 use Rattle.std.proofs.lemmas.List.{drop_more, take_more, length-take-le, length-drop, take-append-drop}
@@ -28,7 +28,7 @@ into_last p (x ∷ xs) h =
       left = ap (λ (l : List ℕ). missing (last_part l) + length (x ∷ xs)) (sym same) ∙ omega arith;
     }
 
--- the code behind whole blocks
+-- the code after whole blocks
 next_code : (p : List ℕ) (code : ℕ) → missing (last_part p) ≡ 0 → last_part (p ++ code ∷ []) ≡ code ∷ []
 next_code [] code h = last_part-one code
 next_code (c ∷ p) code h = last_part-push_next c p code h
@@ -46,9 +46,9 @@ in_front p q n k = append_assoc p (take n q) (take k (drop n q)) ∙ ap (λ (l :
 pub ends-start : (p q : List ℕ) (left : ℕ) → left ≤ length q → missing (last_part p) ≡ left → missing (last_part (p ++ take left q)) ≡ 0
 ends-start p q left fits is = let l = length-take-le left q fits in let i = into_last p (take left q) (omega arith) in omega (arith, i.left)
 
--- a code behind whole blocks, at a place in the bytes q behind p
+-- a code after whole blocks, at a place in the bytes q after p
 module _ (p q : List ℕ) (at code : ℕ) (here : at < length q) (is : code ≡ get_or q at 0) (ends : missing (last_part (p ++ take at q)) ≡ 0) where
-  -- that code and the bytes behind it
+  -- that code and the bytes after it
   abbrev front : List ℕ
   front = (p ++ take at q) ++ code ∷ []
 
@@ -97,7 +97,7 @@ unfolding kept_output
 whole-kept [] h = grind (arith, output-empty)
 whole-kept (c ∷ p) h = grind (arith, is_whole-of, eq-eqb)
 
--- what is kept is what all bytes but some of the last 253 give
+-- the kept output is the output of all bytes except some of the last 253
 abbrev KeptBy : List ℕ → List ℕ → ℕ → Type 0
 KeptBy p q k = (length q ≤ k + 253) × (output (p ++ take k q) ≡ kept_output (p ++ q))
 

@@ -39,7 +39,7 @@ module _ (f : List ℕ) (below : All (λ b. b < 256) f) (m : List ℕ) where
   pub decoded_head_reads : IsPiece f → (decoded_head f ≡ Ok m) ↔ Reads f m
   decoded_head_reads piece = message_reads f m (length (kept_output f)) below piece (decoded_head f) (decoded_head_alone f piece)
 
--- what is left of a vector that is overwritten, and then cut off
+-- a vector that is overwritten, and then cut off
 pub truncated : (new items : List ℕ) (k len : ℕ) → length new ≡ len → take k (take len (new ++ drop (length new) items)) ≡ take k new
 truncated new items k len same = ap (take k) (take_at new (drop (length new) items) len same)
 

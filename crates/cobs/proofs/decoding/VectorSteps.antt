@@ -1,4 +1,4 @@
--- A buffer as long as the source has room for each output of it, so it holds what is decoded into it: by `output_within`.
+-- A buffer as long as the source has room for each output of it, so it holds all decoded bytes: by `output_within`.
 use Rattle.std.proofs.Common.{◌≡◌, ◌≢◌, ℕ, zero, suc, ◌<◌, ◌≤◌, List, [], ◌∷◌, length, take, Option, Some, None, Result, Ok, Err, if◌then◌else◌, arith, take_at, take_all, length-take}
 use Rattle.std.proofs.lemmas.Bool.{le-leb}
 use Rattle.cobs.specs.Overwritten.{overwritten}
@@ -12,7 +12,7 @@ use Rattle.cobs.specs.declared.error.DecodeError.TheVariants.{InvalidFrame, Targ
 use Rattle.cobs.proofs.decoding.OutcomeLemmas.{output_within, first_piece_head, length-head}
 use Rattle.cobs.proofs.decoding.SourceSteps.{result-fits}
 
--- a buffer that has room begins with what is written
+-- a buffer that has room begins with the bytes that are written
 pub overwritten-begins : (buffer bytes : List ℕ) → length bytes ≤ length buffer → take (length bytes) (overwritten buffer bytes) ≡ bytes
 overwritten-begins buffer bytes fits = grind (arith, take_at, take_all)
 

@@ -1,4 +1,4 @@
--- What a `CobsEncoder` says of its slice (`CobsEncoderAfter`) and what the core of the encoder knows of it (`Opened`) are the
+-- What a `CobsEncoder` says about its slice (`CobsEncoderAfter`) and what the core of the encoder knows about it (`Opened`) are the
 -- same, since a message has one encoded frame (`one_encoded`).
 use Rattle.std.proofs.Common.{◌≡◌, ◌≢◌, ℕ, ◌+◌, ◌<◌, ◌≤◌, Bool, true, false, if◌then◌else◌, List, [], ◌∷◌, ◌++◌, length, drop, take, get_or, All, refl, sym, ap, ◌∙◌, subst, arith, inl, inr, ◌⊎◌, append-nil, append_assoc, take_at, drop_at, length-append, length-take-le, length-take}
 use Rattle.std.specs.List.{concat}
@@ -17,7 +17,7 @@ use Rattle.cobs.specs.Internal.Reaches.{Opened, ends_in_full}
 full-some : (front : List (List ℕ)) → is_full (last_of front) ≡ true → front ≢ []
 full-some front full none = true≢false (sym full ∙ ap (λ (l : List (List ℕ)). is_full (last_of l)) none)
 
--- behind a full block the lone block says nothing
+-- after a full block the lone block adds nothing
 message_of-lone : (front : List (List ℕ)) → is_full (last_of front) ≡ true → message_of (front ++ lone_block ∷ []) ≡ message_of front
 message_of-lone front full =
     message_of-close front (full-some front full) ∙ ap (λ (t : Bool). message_of front ++ (if t then [] else 0 ∷ [])) full ∙ append-nil (message_of front)
@@ -28,7 +28,7 @@ at index code full = record { block = record { index = index; code = code }; ful
 no_bytes : (front : List (List ℕ)) (bytes : List ℕ) → true ≡ ends_in_full front bytes → (bytes ≡ []) × (is_full (last_of front) ≡ true)
 no_bytes front bytes h = grind (arith, true≢false)
 
--- blocks whose last isn't lone behind a full one are an encoded frame
+-- blocks are an encoded frame unless they end in a full block and the lone block
 encoded-open : (f m : List ℕ) (front : List (List ℕ)) (code : ℕ) (bytes : List ℕ) → IsFrameOf f (front ++ (code ∷ bytes) ∷ []) → m ≡ message_of (front ++ (code ∷ bytes) ∷ []) → false ≡ ends_in_full front bytes → IsEncodedFrame f m
 encoded-open f m front code bytes frame message noted = record {
   reads = record { blocks = front ++ (code ∷ bytes) ∷ []; frame = frame; message = message };
@@ -41,7 +41,7 @@ encoded-open f m front code bytes frame message noted = record {
         let s = same_from_push front (fr ++ c ∷ []) (code ∷ []) lone_block (e ∙ sym (append_assoc fr (c ∷ []) (lone_block ∷ []))) in
         true≢false (sym full ∙ ap is_full (sym (last_of-push fr c)) ∙ ap (λ (l : List (List ℕ)). is_full (last_of l)) (sym s.0) ∙ sym noted)
 
--- and so are the blocks in front of a lone one behind a full one
+-- and so are the blocks before a lone one that follows a full one
 full-frame : (front : List (List ℕ)) → All IsBlock front → is_full (last_of front) ≡ true → IsFrameOf (concat front) front
 full-frame front each full = record { some = full-some front full; each = each; whole = refl }
 
@@ -105,7 +105,7 @@ to_after slice m index next code true is short fits o =
       begins = (0, ap (λ (k : ℕ). take k slice) (sym b) ∙ o.written ∙ sym (set_past (concat o.front) index 0 (omega arith)));
     }
 
--- The encoded frame of a message, by the blocks of its open frame: a lone block behind a full one is no part of it.
+-- The encoded frame of a message, by the blocks of its open frame: a lone block after a full one is no part of it.
 pub frame-is : (f m o : List ℕ) (index code : ℕ) (e : IsEncodedFrame f m) (r : IsOpenFrame o m index code)
     → (is_full (last_of e.reads.blocks) ≡ ends_in_full r.front r.bytes) × (f ≡ concat r.front ++ (if ends_in_full r.front r.bytes then [] else code ∷ r.bytes))
 frame-is f m o index code e r = go (cases_Bool (ends_in_full r.front r.bytes))
@@ -144,7 +144,7 @@ module _ (slice m : List ℕ) (r : Reached) (h : CobsEncoderAfter slice r m) whe
   pub whole-is : h.frame ≡ concat o.front ++ (if r.full then [] else r.block.code ∷ o.bytes)
   whole-is = (frame-is h.frame m h.follows.0 r.block.index r.block.code h.encoded o).1 ∙ ap (λ (t : Bool). concat o.front ++ (if t then [] else r.block.code ∷ o.bytes)) (sym noted-is)
 
-  -- what is in an encoder's slice, where the open block is a placeholder behind the frame or part of it
+  -- the contents of an encoder's slice: the open block is a placeholder after the frame, or part of it
   bytes_there-there : (r.full ≡ true) ⊎ (r.full ≡ false) → (take r.block.index slice ≡ concat o.front) × (drop (r.block.index + 1) (take (next_of r) slice) ≡ o.bytes)
   bytes_there-there (inl full) =
       let none = no_bytes o.front o.bytes (sym full ∙ noted-is) in
@@ -186,7 +186,7 @@ module _ (slice m : List ℕ) (r : Reached) (h : CobsEncoderAfter slice r m) whe
         noted = noted-is;
       }
 
-  -- where the frame ends
+  -- the end of the frame
   pub end-is : encoded_len m ≡ end_of r
   end-is =
       let l = sym (length-encoded h.frame m h.encoded) in

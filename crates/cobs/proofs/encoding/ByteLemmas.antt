@@ -1,4 +1,4 @@
--- What an encoder over a slice has taken after one byte more: the byte closes, joins or fills the open block, by
+-- The bytes that an encoder over a slice has taken after one byte more: the byte closes, joins or fills the open block, by
 -- `Reaches-zero`, `Reaches-join` and `Reaches-full`.
 use Rattle.std.proofs.Common.{◌≡◌, ◌≢◌, ℕ, ◌+◌, ◌-◌, ◌<◌, ◌≤◌, true, false, List, [], ◌∷◌, ◌++◌, length, get_or, replicate, refl, ap, ◌∙◌, arith}
 use Rattle.std.proofs.Math.ListN.{set}
@@ -54,7 +54,7 @@ module _ (source slice : List ℕ) (r : Reached) (some : 0 < length source) (pla
 pub fits-byte : (slice : List ℕ) (r : Reached) (byte : ℕ) → 0 < r.block.code → r.block.code < 255 → next_of r < length slice → end_after r (byte ∷ []) ≤ length slice
 fits-byte slice r byte some short room = grind (arith, short_room)
 
--- the same of what it has taken
+-- the same for the bytes that it has taken
 module _ (slice m : List ℕ) (r : Reached) where
   pub after-byte : (byte : ℕ) → CobsEncoderAfter slice r m → byte ≢ 0 → r.block.code < 254 → next_of r < length slice
       → CobsEncoderAfter (set slice (next_of r) byte) (place_at r.block.index (r.block.code + 1) false) (m ++ byte ∷ [])

@@ -1,4 +1,4 @@
--- A window of a source that was copied after the open block, and whose zeros give way to codes one by one: each is marked by
+-- A window of a source that was copied after the open block, and whose zeros are replaced by codes one by one: each is marked by
 -- `Reaches-join` over the bytes before it and `Reaches-zero`, and a window without a zero is taken only by `Reaches-join`.
 use Rattle.std.proofs.Common.{◌≡◌, ◌≢◌, ℕ, ◌+◌, ◌-◌, ◌%◌, ◌<◌, ◌≤◌, Bool, false, true, List, ◌++◌, length, drop, take, get_or, replicate, min, suc, refl, sym, ap, ◌∙◌, subst, inl, inr, arith, length-append, length-take-le, length-drop, take_all}
 use Rattle.std.proofs.Math.ListN.{set}
@@ -21,7 +21,7 @@ use Rattle.cobs.proofs.encoding.AfterLemmas.{at}
 use Rattle.cobs.proofs.encoding.ReachLemmas.{Reaches-at, Reaches-same, Reaches-full, Reaches-join, Reaches-zero, Reaches-zeros, IsNotFull, least}
 use Rattle.cobs.proofs.encoding.TakingLemmas.{front-taken, reaches-start}
 
--- A window of len bytes at `read` was copied behind the open block, where `slice` became `after`; the bits say where its
+-- A window of len bytes at `read` was copied after the open block, and so `slice` became `after`; the bits say where its
 -- zeros are.
 pub record Copied (s : Start) (slice after : List ℕ) (read len index next zeros : ℕ) : Type 0 where
   pub some : 0 < len
@@ -109,7 +109,7 @@ module _ {s : Start} {slice : List ℕ} {read len index next zeros d : ℕ} (m :
   masked-code : (byte : ℕ) → IsMaskedAt s read len next zeros index (set slice index byte) d
   masked-code byte = grind (arith, drop-set-lt, take-set, take-set-lt, length-set)
 
-  -- the next one gives way to a code
+  -- the next one is replaced by a code
   module _ (some : zeros ≢ 0) where
     small : d + length left ≤ 64
     small = grind (arith, length-take-le, length-drop)
@@ -158,7 +158,7 @@ module _ {s : Start} {slice : List ℕ} {read len index next zeros d : ℕ} (m :
           reaches = Reaches-at (ap (set slice index) code) (omega arith) (omega arith) (omega arith) (λ full p. p) closed;
         })
 
-  -- where the next code belongs is no later than the next zero
+  -- the place of the next code is no later than the next zero
   pub masked-ordered : index ≤ next + count_trailing_zeros 64 zeros
   masked-ordered = elim (cases_eq zeros 0) [
     | inl none ↦ (let n = m.seen in let f = m.few in let o = m.reaches.ordered in let all : count_trailing_zeros 64 zeros ≡ 64 = ap (count_trailing_zeros 64) none ∙ trailing_of_zero 64 in omega arith)

@@ -1,4 +1,4 @@
--- What each byte makes of an open frame: a zero closes its last block, the 254th nonzero byte fills it, any other joins it.
+-- The change of an open frame by each byte: a zero closes its last block, the 254th nonzero byte fills it, any other joins it.
 -- By `message_of-close` and `message_of-more`.
 use Rattle.std.proofs.Common.{◌≡◌, ◌≢◌, ℕ, ◌+◌, ◌<◌, Bool, if◌then◌else◌, List, [], ◌∷◌, ◌++◌, length, set, All, refl, sym, ap, ◌∙◌, subst, arith, append-nil, append_assoc, length-append}
 use Rattle.std.specs.List.{concat}
@@ -12,17 +12,17 @@ use Rattle.std.proofs.lemmas.List.Folds.{concat-append}
 use Rattle.cobs.proofs.format.FrameLemmas.{last_of-push}
 use Rattle.cobs.proofs.format.JoinLemmas.{message_of-append}
 
--- what blocks stand for with a lone block behind them
+-- the message of blocks with a lone block after them
 pub message_of-close : (front : List (List ℕ)) → front ≢ [] → message_of (front ++ lone_block ∷ []) ≡ message_of front ++ joint (last_of front)
 message_of-close front some = message_of-append front (lone_block ∷ []) some (λ e. cc) ∙ append-nil (message_of front ++ joint (last_of front))
 
--- bytes behind the last block's are bytes behind the message's, whatever the code
+-- bytes added to the last block are added to the message, whatever the code
 pub message_of-more : (bs : List (List ℕ)) (c d : ℕ) (bytes more : List ℕ) → message_of (bs ++ (c ∷ bytes ++ more) ∷ []) ≡ message_of (bs ++ (d ∷ bytes) ∷ []) ++ more
 message_of-more [] c d bytes more = refl
 message_of-more (x ∷ []) c d bytes more = sym (append_assoc (bytes_of x ++ joint x) bytes more)
 message_of-more (x ∷ y ∷ bs) c d bytes more = grind (arith, append_assoc, (message_of-more (y ∷ bs) c d bytes more))
 
--- a block behind others
+-- a block after others
 pub concat-push : (front : List (List ℕ)) (block : List ℕ) → concat (front ++ block ∷ []) ≡ concat front ++ block
 concat-push front block = concat-append front (block ∷ []) ∙ ap (λ (x : List ℕ). concat front ++ x) (append-nil block)
 
@@ -31,7 +31,7 @@ pub append-some : (bs : List (List ℕ)) (b : List ℕ) (cs : List (List ℕ)) �
 append-some [] b cs e = cc
 append-some (x ∷ bs) b cs e = cc
 
--- the blocks in front of the last, and the last
+-- the blocks before the last, and the last
 pub All-front : (bs : List (List ℕ)) (b : List ℕ) → All IsBlock (bs ++ b ∷ []) → All IsBlock bs × IsBlock b
 All-front [] b h = (All-nil IsBlock, All-head IsBlock b [] h)
 All-front (x ∷ bs) b h = let r = All-front bs b (All-tail IsBlock x (bs ++ b ∷ []) h) in (All-cons IsBlock x bs (All-head IsBlock x (bs ++ b ∷ []) h) r.0, r.1)
@@ -44,7 +44,7 @@ frame_push bs b h i = record { some = append-some bs b []; each = All-push IsBlo
 pub IsOpenFrame-start : IsOpenFrame lone_block [] 0 1
 IsOpenFrame-start = grind (arith, frame_push, All-nil, lone_block-is_block)
 
--- what a byte makes of an open frame f, and of a list g that is f but for the code of the open block
+-- the change by a byte of an open frame f, and of a list g that is f except for the code of the open block
 module _ (m f g : List ℕ) (index code : ℕ) (o : IsOpenFrame f m index code) (same : AgreeOutside index f g) where
   -- the blocks of f
   pub blocks-of : All IsBlock o.front × IsBlock (code ∷ o.bytes)
@@ -64,7 +64,7 @@ module _ (m f g : List ℕ) (index code : ℕ) (o : IsOpenFrame f m index code) 
   pub completed : set g index code ≡ f
   completed = set-g code ∙ sym f-is
 
-  -- behind a block that is closed a new one is open
+  -- after a block that is closed a new one is open
   closed : (block : List ℕ) (next : ℕ) → IsBlock block → length (concat o.front ++ block) ≡ next
       → IsOpenFrame ((concat o.front ++ block) ++ lone_block) (message_of (o.front ++ block ∷ []) ++ joint block) next 1
   closed block next is at = record {
@@ -130,7 +130,7 @@ module _ (m f g : List ℕ) (index code : ℕ) (o : IsOpenFrame f m index code) 
         (x, out ∙ sym (set_at (concat o.front ++ block) 1 [] x (index + 255) len)),
       )
 
--- what a caller has who carried out the results ends with the open block
+-- the output of a caller that carried out the results ends with the open block
 module _ (g : List ℕ) (state : OpenBlock) (m : List ℕ) (o : IsOpenOutput g state m) where
   pub length-IsOpenOutput : length g ≡ state.index + state.code
   length-IsOpenOutput =

@@ -37,7 +37,7 @@ open_len-least code t some = let l = length-append (replicate (code - 1) 1) t in
 pub open_len-most : (code : ℕ) (t : List ℕ) → 0 < code → open_len code t ≤ max_encoded_len (code - 1 + length t)
 open_len-most code t some = grind (arith, length-append, length-ones, encoded_len-le)
 
--- a block in front of what goes on
+-- a block before more bytes
 len-block : (block m t : List ℕ) → IsBlock block → (is_full block ≡ true → m ++ t ≢ []) → encoded_len ((bytes_of block ++ joint block ++ m) ++ t) ≡ length block + encoded_len (m ++ t)
 len-block [] m t is some = absurd is
 len-block (code ∷ bytes) m t is some = grind (arith, eqb-true, append-nil, append_assoc, encoded_len-full, eqb-false, encoded_len-zero, cases_Bool)
@@ -48,7 +48,7 @@ some_message [] blocks is more e = absurd is
 some_message (code ∷ bytes) [] is more e = more refl
 some_message (code ∷ bytes) (next ∷ blocks) is more e = let z = ap length e in grind (arith, cases_Bool, eqb-true, length-append)
 
--- the frame of what goes on behind some blocks
+-- the frame of the bytes that follow some blocks
 pub len-blocks : (front : List (List ℕ)) (code : ℕ) (bytes t : List ℕ) → All IsBlock front → (is_full (last_of front) ≡ true → bytes ++ t ≢ [])
     → encoded_len (message_of (front ++ (code ∷ bytes) ∷ []) ++ t) ≡ length (concat front) + encoded_len (bytes ++ t)
 len-blocks [] code bytes t each some = let n : ℕ = encoded_len (bytes ++ t) in omega arith
@@ -62,7 +62,7 @@ len-blocks (b ∷ c ∷ front) code bytes t each some =
     let l = length-append b (concat (c ∷ front)) in
     len-block b m t (All-head IsBlock b (c ∷ front) each) (λ full. not_none) ∙ omega arith
 
--- the frame of a message that goes on
+-- the frame of a message that continues
 pub Opened-len : (slice m : List ℕ) (index next : ℕ) (full : Bool) (t : List ℕ) → (full ≡ true → t ≢ []) → Opened slice m index next full → encoded_len (m ++ t) ≡ index + open_len (next - index) t
 Opened-len slice m index next full t more o = grind (arith, length-ones, len-blocks, same_start, ones-nonzero, ends_in_full)
 

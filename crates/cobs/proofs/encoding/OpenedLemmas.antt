@@ -1,4 +1,4 @@
--- A slice that holds the open frame of a message except the open block's code, and how it goes on: by lemmas on parts of
+-- A slice that holds the open frame of a message except the open block's code, and how it is continued: by lemmas on parts of
 -- the slice, and by `message_of-more` and `message_of-close` for the message.
 use Rattle.std.proofs.Common.{◌≡◌, ◌≢◌, ℕ, ◌+◌, ◌≤◌, ◌==◌, Bool, false, if◌then◌else◌, List, [], ◌∷◌, ◌++◌, length, drop, take, suc, refl, sym, ap, ◌∙◌, arith, length-append, length-take-le, length-take}
 use Rattle.std.specs.List.{concat}
@@ -28,13 +28,13 @@ Opened-in slice slice' m index next full front behind o = record {
   noted = o.noted;
 }
 
--- what is behind is no matter
+-- the bytes after it don't matter
 pub Opened-same : (slice slice' m : List ℕ) (index next : ℕ) (full : Bool) → take next slice' ≡ take next slice → Opened slice m index next full → Opened slice' m index next full
 Opened-same slice slice' m index next full same o =
     let le : index ≤ next = omega arith in
     Opened-in slice slice' m index next full (sym (take-take index next slice' le) ∙ ap (take index) same ∙ take-take index next slice le) (ap (drop (index + 1)) same) o
 
--- where the open block has no bytes, the byte in its code's place is no matter either
+-- if the open block has no bytes, the byte in its code's place doesn't matter either
 pub Opened-same-empty : (slice slice' m : List ℕ) (index next : ℕ) (full : Bool) → next ≡ index + 1 → take index slice' ≡ take index slice → Opened slice m index next full → Opened slice' m index next full
 Opened-same-empty slice slice' m index next full empty same o = Opened-in slice slice' m index next full same (none slice' ∙ sym (none slice)) o
   where
@@ -73,7 +73,7 @@ Opened-join slice m more index next full some nonzero short fits here o =
       noted = sym (not_full-more o.front o.bytes more some);
     }
 
--- the code of the open block is written, and the block behind it is open
+-- the code of the open block is written, and the block after it is open
 pub Opened-close : (slice m : List ℕ) (index next code : ℕ) (full : Bool) → next ≤ length slice → index + code ≡ next → Opened slice m index next full
     → Opened (set slice index code) (m ++ joint (code ∷ [])) next (next + 1) (code == 255)
 Opened-close slice m index next code full fits is o =

@@ -1,5 +1,5 @@
--- How far the core of the encoder has come with a source, and how it goes on: nonzero bytes join the open block, a zero or
--- the 254th byte closes it. By `OpenedLemmas` for the slice, and `OpenLenLemmas` for where the frame ends.
+-- How far the core of the encoder has come with a source, and how it continues: nonzero bytes join the open block, a zero or
+-- the 254th byte closes it. By `OpenedLemmas` for the slice, and `OpenLenLemmas` for the end of the frame.
 use Rattle.std.proofs.Common.{◌≡◌, ◌≢◌, ℕ, ◌+◌, ◌-◌, ◌<◌, ◌≤◌, ◌==◌, Bool, true, false, List, ◌∷◌, ◌++◌, length, drop, take, get_or, replicate, zero, suc, refl, sym, ap, ◌∙◌, arith, inl, inr, ◌⊎◌, append-nil, append_assoc, length-take-le, length-drop, take-append-drop, take_all}
 use Rattle.std.proofs.Math.ListN.{set}
 use Rattle.std.proofs.Math.Seq.{take-add}
@@ -13,7 +13,7 @@ use Rattle.cobs.proofs.format.LengthLemmas.{encoded_len-full, encoded_len-last}
 use Rattle.cobs_bytes.proofs.bytes.ListLemmas.{length-ones, ones-nonzero}
 use Rattle.cobs.specs.Internal.Reaches.{HadTaken, Opened, Reaches, Start, whole_end}
 
--- what is left of the source needs as many bytes at the least
+-- the rest of the source needs at least as many bytes
 pub least : (s : Start) (pos index next : ℕ) → index < next → pos ≤ length s.source → index + open_len (next - index) (drop pos s.source) ≡ whole_end s → next + (length s.source - pos) ≤ whole_end s
 least s pos index next ordered within room = grind (arith, length-drop, open_len-least)
 
@@ -28,7 +28,7 @@ pub Reaches-weaker : {s : Start} {slice : List ℕ} {pos index next : ℕ} {P Q 
 Reaches-weaker weaker r = Reaches-at refl refl refl refl weaker r
 
 module _ (s : Start) (slice : List ℕ) (pos index next : ℕ) (P Q : Bool → Type 0) where
-  -- other bytes behind
+  -- other bytes after it
   pub Reaches-same : (slice' : List ℕ) → take next slice' ≡ take next slice → drop (whole_end s) slice' ≡ drop (whole_end s) slice → Reaches s slice pos index next P → Reaches s slice' pos index next P
   Reaches-same slice' front back r = grind (arith, Opened-same)
 
@@ -91,7 +91,7 @@ module _ (s : Start) (slice : List ℕ) (pos index next : ℕ) (P Q : Bool → T
             (false, not_full, grind (arith, append_assoc, take_more));
       }
 
-  -- what a full block leaves, once its code is written
+  -- the state after a full block, once its code is written
   full-taken : next ≡ index + 255 → next ≤ length slice → Reaches s slice pos index next P → (m : List ℕ) → HadTaken s m → Opened (set slice index 255) (m ++ take pos s.source) next (next + 1) true
   full-taken full fits r m h =
       let t = r.taken m h in
@@ -113,11 +113,11 @@ module _ (s : Start) (slice : List ℕ) (pos index next : ℕ) (P Q : Bool → T
   pub ends-open : pos ≡ length s.source → Reaches s slice pos index next P → whole_end s ≡ next
   ends-open last r = grind (arith, drop_all, length-ones, append-nil, encoded_len-last, ones-nonzero)
 
--- what is known of the last block behind a step: it isn't full
+-- after a step it is known that the last block isn't full
 abbrev pub IsNotFull : Bool → Type 0
 IsNotFull full = full ≡ false
 
--- n blocks of no bytes behind a closed one
+-- n blocks without bytes after a closed one
 pub Reaches-ones : (n : ℕ) (s : Start) (slice after : List ℕ) (pos index : ℕ) → pos + n ≤ length s.source → take n (drop pos s.source) ≡ replicate n 0 → whole_end s ≤ length slice
     → take (index + n) after ≡ take index slice ++ replicate n 1 → drop (whole_end s) after ≡ drop (whole_end s) s.slice → Reaches s slice pos index (index + 1) IsNotFull
     → Reaches s after (pos + n) (index + n) (index + n + 1) IsNotFull
@@ -136,7 +136,7 @@ Reaches-ones (suc n) s slice after pos index within zeros fits front back r =
     let ih = Reaches-ones n s (set slice index 1) after (pos + 1) (index + 1) (omega arith) others (omega arith) front' back (grind arith) in
     Reaches-at refl (omega arith) (omega arith) (omega arith) (λ full p. p) ih
 
--- zeros close the open block, and the ones behind it
+-- zeros close the open block, and those after it
 pub Reaches-zeros : (n : ℕ) (s : Start) (slice after : List ℕ) (pos index next : ℕ) (P : Bool → Type 0) → pos + suc n ≤ length s.source → take (suc n) (drop pos s.source) ≡ replicate (suc n) 0 → whole_end s ≤ length slice
     → next < index + 255 → take (next + n) after ≡ take next (set slice index (next - index)) ++ replicate n 1 → drop (whole_end s) after ≡ drop (whole_end s) s.slice → Reaches s slice pos index next P
     → Reaches s after (pos + suc n) (next + n) (next + n + 1) IsNotFull

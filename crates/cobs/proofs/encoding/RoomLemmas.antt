@@ -51,7 +51,7 @@ blocks-zero run t = grind (arith, length-ones, slice_split_at, no_zero, ones-non
 pub blocks-end : (run : ℕ) → blocks_in (behind run []) ≡ (run - 1) / 254
 blocks-end run = grind (arith, length-ones, blocks_in, append-nil, slice_split_none, no_zero, ones-nonzero)
 
--- bytes among which no run fills a block, and the zero behind them
+-- bytes among which no run fills a block, and the zero after them
 blocks-skip : (n : ℕ) (bytes t : List ℕ) → n + length bytes < 254 → blocks_in (behind n (bytes ++ 0 ∷ t)) ≡ blocks_in t
 blocks-skip n [] t few = let z = blocks-zero n t in let none : n / 254 ≡ 0 = omega arith in z ∙ omega arith
 blocks-skip n (b ∷ bytes) t few = grind (arith, cases_eq, blocks-zero, blocks-nonzero, (blocks-skip 0 bytes t), (blocks-skip (n + 1) bytes t))

@@ -12,7 +12,7 @@ use Rattle.cobs.proofs.encoding.ByteLemmas.{byte-fills, byte-joins, byte-zero, f
 use Rattle.cobs.proofs.encoding.OpenLenLemmas.{open_len-least}
 use Rattle.cobs.proofs.encoding.TakingLemmas.{after-some}
 
--- where an encoder is whose open block isn't full
+-- the state of an encoder whose open block isn't full
 abbrev pub place_of : UnbufferedEncoder → Reached
 place_of e = place_at e.index (e.taken + 1) (not (e.full == 0))
 
@@ -22,7 +22,7 @@ reached-is e le = ap (λ (n : ℕ). place_at e.index n (not (e.full == 0))) (ome
 pub is-place : (e : UnbufferedEncoder) (n : ℕ) → e.taken ≤ 253 → e.index + e.taken + 1 < n → IsPlaceIn n (place_of e)
 is-place e n short room = record { some = omega arith; not_full = omega arith; fits = grind (arith, cases_Bool) }
 
--- there is room for a byte exactly if the place behind the open block's bytes isn't the last
+-- there is room for a byte exactly if the place after the open block's bytes isn't the last
 pub has-room : (e : UnbufferedEncoder) (slice : List ℕ) (byte : ℕ) → e.taken ≤ 253 → e.index + e.taken + 1 < length slice → HasRoomFor (length slice) (reached_by e) (byte ∷ [])
 has-room e slice byte short room = subst (λ (r : Reached). HasRoomFor (length slice) r (byte ∷ [])) (sym (reached-is e short))
     (record { place = is-place e (length slice) short room; fits = fits-byte slice (place_of e) byte (omega arith) (omega arith) (omega arith) })
@@ -37,7 +37,7 @@ room-only e n byte h =
     let fits = h.fits in
     (short, omega arith)
 
--- where the frame ends with some bytes more
+-- the end of the frame with some bytes more
 pub end-with : (e : UnbufferedEncoder) (bytes : List ℕ) → e.taken ≤ 253 → 0 < length bytes → end_after (reached_by e) bytes ≡ e.index + open_len (e.taken + 1) bytes
 end-with e bytes short some = ap (λ (r : Reached). end_after r bytes) (reached-is e short) ∙ after-some (place_of e) bytes some
 

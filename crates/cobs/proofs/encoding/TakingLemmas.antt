@@ -1,4 +1,4 @@
--- What the core of the encoder makes of a source, step by step: `front-taken` turns what was reached into `TakesFront`, and
+-- How the core of the encoder takes a source, step by step: `front-taken` turns what was reached into `TakesFront`, and
 -- `front-next` joins two steps.
 use Rattle.std.proofs.Common.{◌≡◌, ◌≢◌, get_or, ℕ, ◌+◌, ◌-◌, ◌<◌, ◌≤◌, Bool, true, false, if◌then◌else◌, List, [], ◌∷◌, ◌++◌, length, drop, take, refl, sym, ap, ◌∙◌, subst, inl, inr, arith, append-nil, append_assoc, length-drop, take_all}
 use Rattle.std.proofs.Math.ListN.{set}
@@ -60,7 +60,7 @@ reaches-start source old r some code short =
       taken = λ m h. (r.full, tt, subst (λ (x : List ℕ). Opened old x r.block.index (next_of r) r.full) (sym (append-nil m)) (from_after old m r h));
     }
 
--- a byte is written behind the open block's
+-- a byte is written after the open block's bytes
 module _ (s : Start) (slice : List ℕ) (read index next byte : ℕ) (P : Bool → Type 0) (more : read < length s.source) (r : Reaches s slice read index next P) where
   pub written : Reaches s (set slice next byte) read index next P
   written =
@@ -78,9 +78,9 @@ module _ (s : Start) (slice : List ℕ) (read index next byte : ℕ) (P : Bool �
       let nonzero : HasNoZero (take 1 (drop read s.source)) = subst HasNoZero (sym one) (All-cons (λ byte. byte ≢ 0) byte [] other (All-nil (λ byte. byte ≢ 0))) in
       Reaches-join s after read index next P (λ full. 0 < read + 1 → full ≡ false) 1 (omega arith) (omega arith) (omega arith) nonzero here (λ full z p. absurd (omega arith)) (λ z lt. refl) written
 
--- where a step ends
+-- the end of a step
 module _ {source old slice : List ℕ} {r r' : Reached} (fits : end_after r source ≤ length slice) where
-  -- so far, which is not the whole source behind a full block
+  -- so far, which isn't the whole source after a full block
   pub front-taken : {pos index next : ℕ} {full : Bool} → Reaches (start_with old r source) slice pos index next (λ noted. noted ≡ full) → next < index + 255
       → (pos ≡ length source → full ≡ false) → r' ≡ at index (next - index) full → TakesFront old r source pos slice r'
   unfolding HadTaken
@@ -141,7 +141,7 @@ pub front-same : {slice slice' source source' : List ℕ} {n : ℕ} {r r' s s' :
 front-same {slice} {slice'} {source} {source'} {n} {r} {r'} {s} {s'} from is to t =
     subst (λ (q : Reached). TakesFront slice q source n slice' r') (sym from) (subst (λ (xs : List ℕ). TakesFront slice s xs n slice' r') (sym is) (subst (TakesFront slice s source' n slice') (sym to) t))
 
--- one step and then another, on what is left
+-- one step and then another, on the rest of the source
 pub front-next : {slice slice' slice'' source left : List ℕ} {r r' r'' : Reached} (n k : ℕ) → left ≡ drop n source → TakesFront slice r source n slice' r' → TakesFront slice' r' left k slice'' r''
     → TakesFront slice r source (n + k) slice'' r''
 front-next {slice} {slice'} {slice''} {source} {left} {r} {r'} {r''} n k is a b = record {
@@ -154,7 +154,7 @@ front-next {slice} {slice'} {slice''} {source} {left} {r} {r'} {r''} n k is a b 
     left-end : end_after r' left ≡ end_after r source
     left-end = ap (end_after r') is ∙ a.end
 
--- what is left fits, and with it the whole source is taken
+-- the rest fits, and with it the whole source is taken
 pub left-end : {slice slice' source left : List ℕ} {r r' : Reached} (n : ℕ) → left ≡ drop n source → TakesFront slice r source n slice' r' → end_after r' left ≡ end_after r source
 left-end {r' = r'} n is t = ap (end_after r') is ∙ t.end
 

@@ -16,7 +16,7 @@ module _ (old source : List ℕ) (some : 0 < length old) where
   abbrev pub start : Start
   start = start_with old (at 0 1 false) source
 
-  -- where its frame ends
+  -- the end of its frame
   pub whole-fits : whole_end start ≡ encoded_len source
   whole-fits = start-fits old (at 0 1 false) refl some source
 

@@ -13,7 +13,7 @@ use Rattle.cobs.proofs.format.UniqueLemmas.{one_encoded}
 use Rattle.cobs.proofs.format.EnumerationLemmas.{all_frames}
 use Rattle.cobs.proofs.format.JoinLemmas.{front_frame}
 
--- runs: the empty ones before, between and behind zeros count
+-- runs: the empty ones before, between and after zeros count
 runs_of_each : map runs ((10 ∷ 11 ∷ 0 ∷ 12 ∷ []) ∷ [] ∷ (0 ∷ 0 ∷ []) ∷ []) ≡ (2 ∷ 1 ∷ []) ∷ (0 ∷ []) ∷ (0 ∷ 0 ∷ 0 ∷ []) ∷ []
 runs_of_each = refl
 
@@ -47,7 +47,7 @@ ones_block = (refl, omega arith, All-replicate (λ byte. byte ≢ 0) 254 1 (λ e
 longer_blocks : IsFrameOf (block_of_ones ++ lone_block) (block_of_ones ∷ lone_block ∷ [])
 longer_blocks = frame-cons block_of_ones lone_block (lone_block ∷ []) ones_block (block-frame lone_block lone_block-is_block)
 
--- with the lone block behind it, it reads as the 254 ones too
+-- with the lone block after it, it reads as the 254 ones too
 longer_reads : Reads (block_of_ones ++ lone_block) (replicate 254 1)
 longer_reads = record { blocks = block_of_ones ∷ lone_block ∷ []; frame = longer_blocks; message = refl }
 
@@ -57,17 +57,17 @@ longer_not_canonical c = c.shorter [] block_of_ones refl (one_frame (block_of_on
 
 -- A FRAME READS AS ITS OUTPUT
 
--- a piece that breaks off: its parts, its output, and what is kept of it
+-- a piece that breaks off: its parts, its output, and its kept output
 broken_piece : (parts (2 ∷ 5 ∷ 3 ∷ 1 ∷ []) ≡ (2 ∷ 5 ∷ []) ∷ (3 ∷ 1 ∷ []) ∷ []) × (output (2 ∷ 5 ∷ 3 ∷ 1 ∷ []) ≡ 5 ∷ 0 ∷ 1 ∷ []) × (kept_output (2 ∷ 5 ∷ 3 ∷ 1 ∷ []) ≡ 5 ∷ 0 ∷ [])
 unfolding parts parts_after output kept_output is_whole last_part
 broken_piece = (refl, refl, refl)
 
--- it comes to no message, and a whole one to a message exactly if there is room
+-- its outcome is no message; that of a whole piece is a message exactly if there is room
 outcomes : (map (outcome_of (2 ∷ 5 ∷ 3 ∷ 1 ∷ [])) (3 ∷ 2 ∷ []) ≡ Broken 3 ∷ TooLong ∷ []) × (map (outcome_of (2 ∷ 12 ∷ [])) (1 ∷ 0 ∷ []) ≡ Message (12 ∷ []) ∷ TooLong ∷ [])
 unfolding parts parts_after output is_whole last_part outcome_of
 outcomes = (refl, refl)
 
--- 255 bytes behind the number 256 would be whole, but 256 is no code
+-- 255 bytes after the number 256 would be whole, but 256 is no code
 abbrev beyond_bytes : List ℕ
 beyond_bytes = 256 ∷ replicate 255 1
 
@@ -83,7 +83,7 @@ beyond_no_frame (m, r) =
 
 -- ALL FRAMES OF A MESSAGE
 
--- the empty message, one that ends in a zero, 253 and 255 ones, and 254 behind a zero: only the last ends in a full run
+-- the empty message, one that ends in a zero, 253 and 255 ones, and 254 after a zero: only the last ends in a full run
 last_runs : map last_run ([] ∷ (replicate 254 1 ++ 0 ∷ []) ∷ replicate 253 1 ∷ replicate 255 1 ∷ (0 ∷ replicate 254 1) ∷ []) ≡ 0 ∷ 0 ∷ 253 ∷ 255 ∷ 254 ∷ []
 last_runs = refl
 
@@ -116,7 +116,7 @@ fronts_no_frames = (λ (m, r). true≢false (sym (frame_whole (3 ∷ 10 ∷ []) 
 
 -- THE FIRST PIECE
 
--- what is before the first zero; behind zeros, where a piece follows them, the two differ
+-- the bytes before the first zero, and the first piece: they differ if a piece follows leading zeros
 first_pieces : (first_piece (2 ∷ 5 ∷ 0 ∷ 9 ∷ []) ≡ Some (2 ∷ 5 ∷ [])) × (head (2 ∷ 5 ∷ 0 ∷ 9 ∷ []) ≡ 2 ∷ 5 ∷ [])
 unfolding first_piece head
 first_pieces = (refl, refl)

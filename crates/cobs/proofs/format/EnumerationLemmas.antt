@@ -32,7 +32,7 @@ last_run-all bytes h = grind (arith, slice_split_none, no_zero)
 last_run-zero : (bytes m : List ℕ) → HasNoZero bytes → last_run (bytes ++ 0 ∷ m) ≡ last_run m
 last_run-zero bytes m h = grind (arith, slice_split_at, no_zero, some_stretch, last_number-cons)
 
--- nonzero bytes in front of a message lengthen its last run, or leave it
+-- nonzero bytes before a message lengthen its last run, or don't change it
 last-onto_parts : (bytes : List ℕ) (ps : List (List ℕ)) → ps ≢ [] → (last_number (map length (onto_parts bytes ps)) ≡ last_number (map length ps)) ⊎ ((last_number (map length (onto_parts bytes ps)) ≡ length bytes + last_number (map length ps)) × (length (join_with_byte 0 ps) ≡ last_number (map length ps)))
 last-onto_parts bytes ps h = grind (arith, length-append)
 
@@ -143,7 +143,7 @@ open_longer f m index code o x = ⊎_elim
 
 -- EACH MESSAGE HAS AN ENCODED FRAME
 
--- a byte behind a message that an encoder has taken
+-- a byte after a message that an encoder has taken
 pub EncoderAfter-push : (state : OpenBlock) (m : List ℕ) (b : ℕ) → EncoderAfter state m → EncoderAfter (next_open state b) (m ++ b ∷ [])
 EncoderAfter-push state m zero (f, o) = let r = open-zero m f (set f state.index 0) state.index state.code o (0, refl) 0 in (r.0, r.1)
 EncoderAfter-push state m (suc b) (f, o) = ⊎_elim

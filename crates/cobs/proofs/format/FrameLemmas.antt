@@ -9,14 +9,14 @@ use Rattle.cobs.specs.Piece.{parts_after, parts, last_part, missing, is_whole, I
 
 -- THE PARTS OF A LIST
 
--- those behind n bytes are those of what is left
+-- those after n bytes are those of the rest
 pub parts_after-drop : (n : ℕ) (p : List ℕ) → parts_after n p ≡ parts_after 0 (drop n p)
 unfolding parts_after
 parts_after-drop zero p = refl
 parts_after-drop (suc n) [] = refl
 parts_after-drop (suc n) (x ∷ p) = parts_after-drop n p
 
--- nothing is left behind all the bytes, and something behind fewer
+-- after all the bytes nothing is left, and after fewer something is
 pub parts_after-past : (n : ℕ) (p : List ℕ) → length p ≤ n → parts_after n p ≡ []
 unfolding parts_after
 parts_after-past n p h = grind (arith, parts_after-drop, drop_all)

@@ -1,4 +1,4 @@
--- Which frame a block makes of the bytes after it, and that a frame is cut into blocks in one way (`one_frame`): by the
+-- The frame that a block and the bytes after it are, and that a frame is cut into blocks in one way (`one_frame`): by the
 -- block's code, which says where the next one begins.
 use Rattle.std.proofs.Common.{◌≡◌, ◌≢◌, ◌↔◌, ℕ, ◌+◌, ◌<◌, List, [], ◌∷◌, ◌++◌, length, All, refl, sym, ap, ◌∙◌, subst, arith, append-nil, length-append, length-take}
 use Rattle.std.specs.List.{concat}
@@ -30,14 +30,14 @@ IsShorter-cons b bs apart s (x ∷ front) block full e = let rest : bs ≡ front
 pub IsShorter-single : (b : List ℕ) → IsShorter (b ∷ [])
 IsShorter-single b front block full e = (let n = ap length e in let l = length-append front (block ∷ lone_block ∷ []) in omega arith)
 
--- a block in front of a frame
+-- a block before a frame
 pub frame-cons : (b f : List ℕ) (bs : List (List ℕ)) → IsBlock b → IsFrameOf f bs → IsFrameOf (b ++ f) (b ∷ bs)
 frame-cons b f bs h frame = record { some = λ e. cc; each = All-cons IsBlock b bs h frame.each; whole = ap (λ x. b ++ x) frame.whole }
 
 pub Reads-cons : (b f m : List ℕ) → IsBlock b → Reads f m → Reads (b ++ f) (bytes_of b ++ joint b ++ m)
 Reads-cons b f m h r = grind (arith, frame-cons)
 
--- a block in front of a canonical frame, which isn't the lone block where the block is full
+-- a block before a canonical frame, which isn't the lone block if the block is full
 pub IsCanonical-cons : (b f : List ℕ) → IsBlock b → (IsFull b → f ≢ lone_block) → IsCanonical f → IsCanonical (b ++ f)
 IsCanonical-cons b f h apart r = record {
   blocks = b ∷ r.blocks;

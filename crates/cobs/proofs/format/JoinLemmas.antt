@@ -1,4 +1,4 @@
--- Frames joined are a frame, and the fronts of a frame that are frames end where a block ends: by `one_frame`.
+-- Frames joined are a frame, and a front of a frame that is a frame ends at the end of a block: by `one_frame`.
 use Rattle.std.proofs.Common.{◌≡◌, ◌≢◌, ℕ, ◌↔◌, List, [], ◌∷◌, ◌++◌, All, refl, sym, ap, ◌∙◌, length, subst, arith, append-nil, length-append, append_assoc}
 use Rattle.std.specs.List.{concat}
 use Rattle.std.proofs.lemmas.List.{nil_from_length}
@@ -37,7 +37,7 @@ first_blocks : (p q : List ℕ) (blocks first : List (List ℕ)) → IsFrameOf (
 first_blocks p q blocks first frame front =
     sym (parts-frame (p ++ q) blocks frame) ∙ ap (λ (l : List ℕ). parts (l ++ q)) front.whole ∙ parts-append first q front.each
 
--- what the first blocks stand for is a front of what all do
+-- the message of the first blocks is a front of the message of all
 message_of-front : (first rest : List (List ℕ)) → first ≢ [] → (more : List ℕ) × (message_of (first ++ rest) ≡ message_of first ++ more)
 message_of-front first [] some = ([], ap message_of (append-nil first) ∙ sym (append-nil (message_of first)))
 message_of-front first (b ∷ rest) some = (

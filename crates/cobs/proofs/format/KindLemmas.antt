@@ -1,4 +1,4 @@
--- Which frame bytes are is decided by what is left after their first blocks: by `IsCanonical-block`, block by block.
+-- The bytes after the first blocks decide which frame all bytes are: by `IsCanonical-block`, block by block.
 use Rattle.std.proofs.Common.{◌≡◌, ◌≢◌, ◌↔◌, ℕ, zero, suc, ◌<◌, Bool, true, false, eqb, List, [], ◌∷◌, length, take, drop, get_or, All, refl, ap, subst, arith, length-drop, length-take-le, take-append-drop}
 use Rattle.std.proofs.lemmas.List.Elements.{All-head, All-tail, All-take, All-drop}
 use Rattle.cobs.specs.Grammar.{HasNoZero, IsBlock, IsFull, IsFrame, IsCanonical, lone_block, message_of}
@@ -29,7 +29,7 @@ says f kind h = record { not_a_frame = grind (arith, frame_of); canonical = grin
 
 -- BLOCK BY BLOCK
 
--- blocks are in front of `rest`, of which the last is full or not
+-- blocks are before `rest`, and the last of them is full or not
 pub record BlocksBehind (f rest : List ℕ) (after_full : Bool) : Type 0 where
   pub nonzero : HasNoZero rest
   pub below : All (λ b. b < 256) rest
@@ -39,7 +39,7 @@ pub record BlocksBehind (f rest : List ℕ) (after_full : Bool) : Type 0 where
 pub behind-start : (f : List ℕ) → HasNoZero f → All (λ b. b < 256) f → BlocksBehind f f false
 behind-start f nonzero below = record { nonzero = nonzero; below = below; frame = (λ h. h, λ h. h); canonical = (λ h. (h, λ full. absurd (cc)), λ h. h.0) }
 
--- nothing is behind them, or a broken block
+-- nothing is after them, or a broken block
 pub broken-kind : (f rest : List ℕ) (t : Bool) → BlocksBehind f rest t → (0 < length rest → length rest < get_or rest 0 0) → IsKindOf NotAFrame f
 broken-kind f [] t i broken = λ frame. (let h = i.frame.0 frame in frame_some [] h.0 h.1 refl)
 broken-kind f (code ∷ bytes) t i broken = λ frame. short-frame code bytes (let b = broken (omega arith) in omega arith) (i.frame.0 frame)
@@ -66,7 +66,7 @@ one-more f (suc n ∷ bytes) t i more =
       canonical = (λ h. k.0 (i.canonical.0 h).0, λ h. i.canonical.1 (k.1 h, λ _ e. omega (arith, ap length e)));
     }
 
--- the last block is behind them
+-- the last block is after them
 last-block : (rest : List ℕ) → HasNoZero rest → All (λ b. b < 256) rest → 0 < length rest → length rest ≡ get_or rest 0 0 → IsBlock rest
 last-block [] nonzero below some last = absurd (omega arith)
 last-block (code ∷ bytes) nonzero below some last = (omega arith, All-head (λ b. b < 256) code bytes below, All-tail (λ b. b ≢ 0) code bytes nonzero)
@@ -80,10 +80,10 @@ module _ (f rest : List ℕ) (t : Bool) (i : BlocksBehind f rest t) (some : 0 < 
   canonical : IsCanonical rest
   canonical = IsCanonical-block rest (last-block rest i.nonzero i.below some last)
 
-  -- the lone block behind a full one
+  -- the lone block after a full one
   pub longer-kind : t ≡ true → length rest ≡ 1 → IsKindOf Longer f
   longer-kind full one = (i.frame.1 (frame_of rest canonical), λ c. (i.canonical.0 c).1 full (lone-is rest last one))
 
-  -- another block, or not behind a full one
+  -- another block, or not after a full one
   pub canonical-kind : (t ≡ true → length rest ≢ 1) → IsKindOf Canonical f
   canonical-kind other = i.canonical.1 (canonical, λ full lone. other full (ap length lone))

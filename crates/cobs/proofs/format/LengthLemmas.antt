@@ -42,7 +42,7 @@ full_more bytes ([] ∷ []) l some more = absurd (more refl)
 full_more bytes ((x ∷ p) ∷ []) l some more = let n = length-append bytes (x ∷ p) in omega arith
 full_more bytes (p ∷ q ∷ ps) l some more = let n = length-append bytes p in omega arith
 
--- 254 bytes of a run that goes on take one block
+-- 254 bytes of a run that continues are one block
 pub encoded_len-full : (bytes m : List ℕ) → length bytes ≡ 254 → HasNoZero bytes → m ≢ [] → encoded_len (bytes ++ m) ≡ 255 + encoded_len m
 encoded_len-full bytes m l h more =
     let joined = join_with_byte-slice_split 0 m in

@@ -37,14 +37,14 @@ messages_in-more vectors i d within = ap messages_in (take_more vectors i d with
 pub room-some : (vectors : List (Vec ℕ)) (i : ℕ) → room_for_frames (messages_in (take i vectors)) ≤ room_for_frames (messages_in vectors)
 room-some vectors i = subst (λ (x : List (List ℕ)). room_for_frames x ≤ room_for_frames (messages_in vectors)) (take-map (λ v. v.items) i vectors) (sum_by-take-le (λ m. max_encoded_len (length m) + 1) (messages_in vectors) i)
 
--- the room behind one of the vectors: its longest frame and a zero more
+-- the room after one of the vectors: its longest frame and a zero more
 pub room-step : (vectors : List (Vec ℕ)) (i : ℕ) (vector : Vec ℕ) → i < length vectors → vector ≡ get_or vectors i vector
     → room_for_frames (messages_in (take (i + 1) vectors)) ≡ room_for_frames (messages_in (take i vectors)) + (max_encoded_len (length vector.items) + 1)
 room-step vectors i vector within is = grind (arith, common_steps, messages_in-more, sum_by-append)
 
 -- WHERE THE FRAMES ARE WRITTEN
 
--- a frame that was written at the front of what follows the first bytes of a list, and a zero behind it
+-- a frame that was written after the first bytes of a list, and a zero after it
 pub written : (dest new behind : List ℕ) (end len : ℕ) → end ≤ length dest → len < length new
     → take (end + (len + 1)) (set (take end dest ++ (new ++ behind)) (end + len) 0) ≡ take end dest ++ take len new ++ 0 ∷ []
 written dest new behind end len within room =
@@ -56,7 +56,7 @@ length-written dest new end part within = omega (arith, length-append (take end 
 
 -- WHAT COMES BACK
 
--- a frame and its zero in front of a stream come to the frame's message
+-- the first outcome of a stream that begins with a frame and its zero is the frame's message
 outcomes_behind : (frame message bytes : List ℕ) (n : ℕ) → Reads frame message → length message ≤ n → stream_outcomes ((frame ++ 0 ∷ []) ++ bytes) n ≡ Message message ∷ stream_outcomes bytes n
 outcomes_behind frame message bytes n r fits =
     stream_outcomes-append (frame ++ 0 ∷ []) bytes n

@@ -41,7 +41,7 @@ pub first_xored : (bytes : List ℕ) (s : ℕ) → 0 < length bytes → take 1 (
 first_xored [] s some = absurd (omega arith)
 first_xored (b ∷ bytes) s some = refl
 
--- behind a frame and two sentinels a slice is as it was, where the part between its ends is behind the frame
+-- after a frame and two sentinels a slice is as it was, if the part between its ends is so after the frame
 pub behind_sentinels : (dest part : List ℕ) (k n : ℕ) → n ≤ k → length part ≡ k → k < length dest → drop n part ≡ drop n (take k (drop 1 dest))
     → drop (n + 2) (set (set (put_mid 1 k dest part) 0 0) (n + 1) 0) ≡ drop (n + 2) dest
 behind_sentinels dest part k n short len within behind =

@@ -1,4 +1,4 @@
--- A stream in two parts, and one more byte of it: what has ended, and what is left. By std's lemmas on `slice_split`.
+-- A stream in two parts, and one more byte of it: the ended pieces, and the unended bytes. By std's lemmas on `slice_split`.
 use Rattle.std.proofs.Common.{◌≡◌, ◌≢◌, ℕ, zero, suc, ◌+◌, ◌-◌, ◌<◌, ◌==◌, Bool, true, cond, eqb, List, [], ◌∷◌, ◌++◌, length, take, map, refl, sym, ap, ◌∙◌, arith, append_assoc, length-append, filter, not, get_or, inl, inr}
 use Rattle.std.proofs.lemmas.List.{map-append, take_all, take_more}
 use Rattle.std.proofs.lemmas.List.Elements.{All-push, All-nil, All-cons, filter-append}
@@ -26,7 +26,7 @@ stretches-nonzero b t h = slice_split-cons_no (λ byte. byte == 0) b t (ne_eqb b
 pub length-stretches : (t : List ℕ) → 0 < length (stretches t)
 length-stretches t = omega (arith, length-slice_split (λ byte. byte == 0) t)
 
--- the stretches of a stream in two parts: the last stretch of the first goes on in the second
+-- the stretches of a stream in two parts: the last stretch of the first continues in the second
 pub stretches-append : (t u : List ℕ) → stretches (t ++ u) ≡ but_last (stretches t) ++ stretches (last_of (stretches t) ++ u)
 unfolding but_last
 stretches-append [] u = refl
@@ -52,14 +52,14 @@ pub unended-append : (t u : List ℕ) → unended (t ++ u) ≡ unended (unended 
 unfolding unended
 unended-append t u = grind (arith, stretches-append, last_of-append, length-stretches)
 
--- a stream cut in two: the outcomes of the first part, then those of the second behind what the first left unended
+-- a stream cut in two: the outcomes of the first part, then those of the second after the unended bytes of the first
 pub stream_outcomes-append : (t u : List ℕ) (n : ℕ) → stream_outcomes (t ++ u) n ≡ stream_outcomes t n ++ stream_outcomes (unended t ++ u) n
 unfolding stream_outcomes
 stream_outcomes-append t u n = ap (map (λ p. outcome_of p n)) (ended_pieces-append t u) ∙ map-append (λ p. outcome_of p n) (ended_pieces t) (ended_pieces (unended t ++ u))
 
 -- A PIECE AT THE FRONT OF A STREAM
 
--- the zero behind a piece ends its stretch
+-- the zero after a piece ends its stretch
 pub stretches-piece : (p u : List ℕ) → HasNoZero p → stretches (p ++ 0 ∷ u) ≡ p ∷ stretches u
 stretches-piece p u h = slice_split_at (λ byte. byte == 0) p 0 u (no_zero p h) refl
 
@@ -80,7 +80,7 @@ pub stream_outcomes-no_zero : (p : List ℕ) (n : ℕ) → HasNoZero p → strea
 unfolding stream_outcomes
 stream_outcomes-no_zero p n h = ap (map (λ p. outcome_of p n)) (ended_pieces-no_zero p h)
 
--- the outcome that a byte behind a front of a piece brings
+-- the outcome for a byte after a front of a piece
 abbrev pub outcomes_at : List ℕ → ℕ → ℕ → List Outcome
 outcomes_at [] b n = []
 outcomes_at (c ∷ p) b n = cond (eqb b 0) (outcome_of (c ∷ p) n ∷ []) []
@@ -123,11 +123,11 @@ unended_no_zero (suc b ∷ t) = rw (stretches-nonzero (suc b) t (λ e. omega ari
 pub stream_outcomes-push : (t : List ℕ) (b n : ℕ) → stream_outcomes (t ++ b ∷ []) n ≡ stream_outcomes t n ++ outcomes_at (unended t) b n
 stream_outcomes-push t b n = stream_outcomes-append t (b ∷ []) n ∙ ap (λ (x : List Outcome). stream_outcomes t n ++ x) (push_outcomes (unended t) b n (unended_no_zero t))
 
--- what is unended
+-- the unended bytes
 pub unended-push : (t : List ℕ) (b : ℕ) → unended (t ++ b ∷ []) ≡ fed (unended t) b
 unended-push t b = unended-append t (b ∷ []) ∙ push_unended (unended t) b (unended_no_zero t)
 
--- behind a zero nothing is unended
+-- after a zero nothing is unended
 pub unended-zero : (t : List ℕ) → unended (t ++ 0 ∷ []) ≡ []
 unended-zero t = unended-push t 0
 
@@ -135,11 +135,11 @@ nonempty-push : (p : List ℕ) (b : ℕ) → is_nonempty (p ++ b ∷ []) ≡ tru
 nonempty-push [] b = refl
 nonempty-push (c ∷ p) b = refl
 
--- something is unended behind a byte exactly if the byte is no zero
+-- something is unended after a byte exactly if the byte is no zero
 pub nonempty-unended_push : (t : List ℕ) (b : ℕ) → not (eqb b 0) ≡ is_nonempty (unended (t ++ b ∷ []))
 nonempty-unended_push t b = grind (arith, unended-push, ne_eqb, fed-nonzero, nonempty-push)
 
--- the same, by the last of some bytes behind p
+-- the same, by the last of some bytes after p
 pub nonempty-unended_last : (p bytes : List ℕ) → 0 < length bytes → not (eqb (get_or bytes (length bytes - 1) 0) 0) ≡ is_nonempty (unended (p ++ bytes))
 nonempty-unended_last p bytes h =
     let same : bytes ≡ take (length bytes - 1) bytes ++ get_or bytes (length bytes - 1) 0 ∷ []
@@ -154,7 +154,7 @@ unended-at_sentinel : (t : List ℕ) → IsAtSentinel t → unended t ≡ []
 unended-at_sentinel t (inl none) = ap unended none ∙ unended-no_zero [] (All-nil (λ x. x ≢ 0))
 unended-at_sentinel t (inr (front, ends)) = ap unended ends ∙ unended-zero front
 
--- what is in front of a sentinel, up to the next one, and behind that one has its outcomes by itself
+-- the bytes before a sentinel, up to the next one, and after that one have their own outcomes
 pub stream_outcomes-apart : (a d z : List ℕ) (n : ℕ) → IsAtSentinel a → stream_outcomes (a ++ d ++ 0 ∷ z) n ≡ stream_outcomes a n ++ stream_outcomes (d ++ 0 ∷ []) n ++ stream_outcomes z n
 stream_outcomes-apart a d z n h =
     let cut = stream_outcomes-append (a ++ d ++ 0 ∷ []) z n in

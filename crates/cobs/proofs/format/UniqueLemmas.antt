@@ -25,15 +25,15 @@ message-first : (c : ℕ) (a : List ℕ) (bs : List (List ℕ)) → (more : List
 message-first c a [] = ([], sym (append-nil a))
 message-first c a (b ∷ bs) = (joint (c ∷ a) ++ message_of (b ∷ bs), append_assoc a (joint (c ∷ a)) (message_of (b ∷ bs)))
 
--- and what follows them, where there are more blocks, is the joint and the rest
+-- and if there are more blocks, the joint and the rest follow them
 pub message-rest : (b : List ℕ) (d : List ℕ) (ds : List (List ℕ)) (t : Bool) → is_full b ≡ t → message_of (b ∷ d ∷ ds) ≡ bytes_of b ++ ((if t then [] else 0 ∷ []) ++ message_of (d ∷ ds))
 message-rest b d ds t e = append_assoc (bytes_of b) (joint b) (message_of (d ∷ ds)) ∙ ap (λ (t : Bool). bytes_of b ++ ((if t then [] else 0 ∷ []) ++ message_of (d ∷ ds))) e
 
--- behind a full block of canonical blocks something is left
+-- after a full block of canonical blocks something is left
 pub full-more : (b d : List ℕ) (ds : List (List ℕ)) → All IsBlock (b ∷ d ∷ ds) → IsShorter (b ∷ d ∷ ds) → is_full b ≡ true → message_of (d ∷ ds) ≢ []
 full-more b d ds h s full none = s [] b full (ap (λ (l : List (List ℕ)). b ∷ l) (no_message d ds (All-tail IsBlock b (d ∷ ds) h) none))
 
--- between a block and canonical ones behind it is a zero, or the block is full and something is left
+-- between a block and canonical ones after it is a zero, or the block is full and something is left
 pub first-block : (c : ℕ) (a d : List ℕ) (ds : List (List ℕ)) → All IsBlock ((c ∷ a) ∷ d ∷ ds) → IsShorter ((c ∷ a) ∷ d ∷ ds) → let k = message_of (d ∷ ds) in
     ((length a < 254) × (message_of ((c ∷ a) ∷ d ∷ ds) ≡ a ++ 0 ∷ k)) ⊎ ((length a ≡ 254) × (message_of ((c ∷ a) ∷ d ∷ ds) ≡ a ++ k) × (k ≢ []))
 first-block c a d ds h s =
@@ -81,7 +81,7 @@ same_first (x ∷ b) (y ∷ c) bs cs h i e =
     let front : take (length b) _ ≡ b = ap (take (length b)) more_b.1 ∙ take_at b more_b.0 (length b) refl in
     grind (arith, take_at, All-head)
 
--- where the first block is the last, canonical blocks have no more
+-- if the first block is the last, there are no more canonical blocks
 no_more : (b d : List ℕ) (ds : List (List ℕ)) → All IsBlock (b ∷ d ∷ ds) → IsShorter (b ∷ d ∷ ds) → message_of (b ∷ []) ≡ message_of (b ∷ d ∷ ds) → ⊥
 no_more b d ds h short e =
     let rest : [] ≡ joint b ++ message_of (d ∷ ds) = append_cancel_left (bytes_of b) [] _ (append-nil (bytes_of b) ∙ e ∙ append_assoc (bytes_of b) (joint b) (message_of (d ∷ ds))) in

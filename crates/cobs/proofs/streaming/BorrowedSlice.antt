@@ -46,7 +46,7 @@ use denote.Triple.Spec.{Meets}
 abbrev at : Lft → NamedLft
 at κ = record { mir = named 1; lft = κ }
 
--- the field is handed on, and the whole is what the field ends as
+-- the field is passed on, and the whole ends as the field does
 module _ {M : Type 1} {𝓤 : Ura M} (𝓛 : Logic 𝓤) (κ' : Lft) where
   hands : (x : CobsDecoder) → HandsTo 𝓛 (S.the_row (at κ')) (MutSlice (named 1) κ' u8) (λ o. o + 0) x x.dest (λ w. record x { dest = w })
   hands x = hands_on 𝓛 (S.the_row (at κ')) (MutSlice (named 1) κ' u8) 0
@@ -86,7 +86,7 @@ module _ {M : Type 1} (𝓤 : Ura M) (𝓛 : Logic 𝓤) (𝓜 : Model 𝓤 𝓛
   abbrev 𝓣 : MachineTables 𝓤 𝓛.H 𝓜
   𝓣 = tables 𝓤 𝓛.H 𝓜 𝓡 𝓡.env
 
-  -- what a function of this body meets
+  -- the contract that a function with this body meets
   pub lends : (k : Callee) → Closed 𝓤 𝓛.H 𝓣.C 𝓣.Λ k lending → Meets 𝓛 f.ended.signature (𝓣.C k) (closing 𝓛 f.ended (f.clauses 𝓛 𝓜.mem 𝓡.returns))
   lends k closed =
       let c = f.clauses 𝓛 𝓜.mem 𝓡.returns in let W = walk_of 𝓛 f.ended stayed c in

@@ -1,4 +1,4 @@
--- A piece that is taken byte by byte: each byte goes on or ends the piece, by `SoFar-more` and `TakesBytes-byte`.
+-- A piece that is taken byte by byte: each byte continues or ends the piece, by `SoFar-more` and `TakesBytes-byte`.
 use Rattle.std.proofs.Common.{◌≡◌, ◌≢◌, ℕ, ◌+◌, ◌<◌, ◌≤◌, List, [], ◌∷◌, ◌++◌, length, take, drop, get_or, Option, Some, None, Result, refl, sym, ap, ◌∙◌, subst, arith, append_assoc, inl, inr, IfOk, IfSome}
 use Rattle.std.proofs.lemmas.Bool.{cases_eq, eq-eqb, ne_eqb}
 use Rattle.std.proofs.lemmas.List.{append-nil, take_more}
@@ -58,7 +58,7 @@ module _ {buffer₀ buffer buffer' : List ℕ} {phase₀ phase phase' : Phase} {
       let t = p ++ take i bytes in
       ap last_piece (stream_on p) ∙ last_piece-unended (t ++ get_or bytes i 0 ∷ []) (ended_pieces-nonzero t _ nz ∙ no_outcomes _ _ (none_before p h)) ∙ unended-push t _ ∙ fed-nonzero _ _ nz
 
-  -- the bytes behind its output stay
+  -- the bytes after its output stay
   left_so_far : (p : List ℕ) → PhaseAfter (length buffer₀) phase₀ p → drop (length (output (unended (p ++ take i bytes)))) buffer ≡ drop (length (output (unended (p ++ take i bytes)))) buffer₀
   left_so_far p h = rw (last_piece-unended (p ++ take i bytes) (no_outcomes _ _ (none_before p h))) at (t.untouched p h)
 

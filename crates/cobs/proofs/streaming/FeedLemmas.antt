@@ -24,7 +24,7 @@ use Rattle.cobs.proofs.decoding.PieceLemmas.{output-one, last_part-one, output-p
 pub over_is : (decoder : UnbufferedDecoder) → decoder.too_long ≢ 0 → phase_of decoder ≡ Overlong
 over_is decoder nz = rw (ne_eqb decoder.too_long 0 nz) refl
 
--- the phase behind a piece, from what is known of the piece
+-- the phase after a piece, from what is known about the piece
 phase_after-is : (c : ℕ) (q : List ℕ) (n : ℕ) (full : Bool) (left count : ℕ) → is_full (last_part (c ∷ q)) ≡ full → missing (last_part (c ∷ q)) ≡ left → length (output (c ∷ q)) ≡ count
     → phase_after (c ∷ q) n ≡ cond (leb count n) (Within full left count) Overlong
 unfolding phase_after
@@ -56,7 +56,7 @@ fits_phase c q n h = grind (arith, phase_after-is, cond-true, le-leb)
 over_phase : (c : ℕ) (q : List ℕ) (n : ℕ) → n < length (output (c ∷ q)) → phase_after (c ∷ q) n ≡ Overlong
 over_phase c q n h = grind (arith, phase_after-is, cond-false, lt-leb)
 
--- the phase behind one more byte
+-- the phase after one more byte
 nonzero_step : (n : ℕ) (p : List ℕ) (b : ℕ) → 0 < b → next_phase n (phase_after p n) b ≡ phase_after (p ++ b ∷ []) n
 unfolding phase_after
 nonzero_step n [] b h = grind (arith, nonzero, phase_after-is, last_part-one, output-one, cond-true, le-leb)
@@ -153,7 +153,7 @@ untouched-step : (buffer p : List ℕ) (b : ℕ) → 0 < b
 unfolding phase_after
 untouched-step buffer p b h = grind (arith, cases_lt, over_phase, fits_phase, untouched_within)
 
--- the bytes behind the output stay
+-- the bytes after the output stay
 pub PhaseAfter-untouched : (buffer : List ℕ) (phase : Phase) (p : List ℕ) (b : ℕ) → PhaseAfter (length buffer) phase p → b ≢ 0
     → drop (length (output (p ++ b ∷ []))) (next_buffer buffer phase b) ≡ drop (length (output (p ++ b ∷ []))) buffer
 PhaseAfter-untouched buffer phase p b h nz = rw h.phase_is (untouched-step buffer p b (omega (arith, nz)))
@@ -182,7 +182,7 @@ Feeds-step buffer phase b = record {
   len = length-next_buffer buffer phase b;
 }
 
--- whatever does what the machine does feeds the byte
+-- a function that does the machine's step feeds the byte
 pub Feeds-as : {buffer buffer' : List ℕ} {phase phase' : Phase} {b : ℕ} {result : Result (Option ℕ) DecodeError} → result ≡ next_result (length buffer) phase b → phase' ≡ next_phase (length buffer) phase b
     → buffer' ≡ next_buffer buffer phase b → Feeds buffer phase b result buffer' phase'
 Feeds-as {buffer} {buffer'} {phase} {phase'} {b} returned phase_is buffer_is = rw (returned, phase_is, buffer_is) (Feeds-step buffer phase b)

@@ -1,4 +1,4 @@
--- What the streaming decoders make of a frame and its zero: the piece that ends there is the frame, and its outcome the
+-- The results of the streaming decoders for a frame and its zero: the piece that ends there is the frame, and its outcome the
 -- message (`outcome_frame`).
 use Rattle.std.proofs.Common.{◌≡◌, ◌≢◌, ℕ, ◌+◌, ◌<◌, ◌≤◌, List, [], ◌∷◌, ◌++◌, length, take, drop, All, Option, Some, None, Result, Ok, refl, sym, ap, ◌∙◌, arith, append_assoc, length-append, length-take-le, take-append-drop, take_all, take_at, ⊎_elim}
 use Rattle.std.proofs.lemmas.Bool.{cases_lt}
@@ -19,7 +19,7 @@ use Rattle.cobs.proofs.decoding.ReadsLemmas.{frame_piece}
 use Rattle.cobs.proofs.streaming.FeedLemmas.{DecoderAfter-idle}
 use Rattle.cobs.proofs.format.StreamLemmas.{stream_outcomes-append, stream_outcomes-one, unended-no_zero, unended-zero}
 
--- a piece that comes to a message reads as it
+-- a piece whose outcome is a message reads as it
 pub message_reads : (f m : List ℕ) (n : ℕ) → IsPiece f → All (λ b. b < 256) f → outcome_of f n ≡ Message m → Reads f m
 message_reads f m n piece below e = grind (arith, outcome_of_long, outcome_reads, cases_lt)
 
@@ -64,7 +64,7 @@ module _ (buffer buffer' f more : List ℕ) (phase phase' : Phase) (idle : phase
   one : (n : ℕ) (u : List ℕ) → stream_outcomes ((f ++ 0 ∷ []) ++ u) n ≡ outcome_of f n ∷ stream_outcomes (unended (f ++ 0 ∷ []) ++ u) n
   one n u = stream_outcomes-append (f ++ 0 ∷ []) u n ∙ ap (λ (x : List Outcome). x ++ stream_outcomes (unended (f ++ 0 ∷ []) ++ u) n) (stream_outcomes-one f n piece.0 piece.1)
 
-  -- it ends with the zero behind f
+  -- it ends with the zero after f
   count_is : (end : PieceEnd) (count : ℕ) → TakesPiece buffer phase (f ++ 0 ∷ more) (Some (end, count)) buffer' phase' → count ≡ length f + 1
   count_is end count t =
       let front = t.ends.front in

@@ -1,4 +1,4 @@
--- What is before a zero, decoded by the last bytes that decide what is kept of it: the result, and what the buffer holds. By
+-- The bytes before a zero, decoded up to the last ones that are kept: the result, and the contents of the buffer. By
 -- `quiet` for the bytes that are fed, and `TailLemmas` for those that aren't.
 use Rattle.std.proofs.Common.{◌≡◌, ◌≢◌, ℕ, zero, suc, ◌-◌, ◌<◌, ◌≤◌, ◌↔◌, IsTrue, Bool, true, false, cond, get_or, List, [], ◌∷◌, ◌++◌, length, take, drop, refl, sym, ap, ◌∙◌, subst, arith, inl, inr, length-drop, take_all, Result, Ok, Err}
 use Rattle.std.specs.List.{All}
@@ -37,7 +37,7 @@ unfolding last_part parts parts_after
 tail_left [] end is small = omega arith
 tail_left (code ∷ bytes) end is small = omega (arith, few_by (length (code ∷ bytes)) (code ∷ bytes) (omega arith) small)
 
--- the result for what is before a zero
+-- the result for the bytes before a zero
 head_by : (h : List ℕ) (n : ℕ) (whole : Bool) (result : Result ℕ DecodeError) → (IsTrue whole → result ≡ Ok n) → (whole ≡ false → result ≡ Err (InvalidFrame n)) → n ≡ length (kept_output h)
     → (IsTrue whole ↔ (missing (last_part h) ≡ 0)) → result ≡ head_result h
 unfolding last_part parts parts_after
@@ -51,7 +51,7 @@ whole_result h whole = sym (head_by h (length (output h)) true (Ok (length (outp
 pub whole_front : (h old front : List ℕ) (n : ℕ) → missing (last_part h) ≡ 0 → front ≡ output h → length front ≤ length old → n ≡ length front → front ++ drop n old ≡ overwritten old (kept_output h)
 whole_front h old front n whole is fits count = subst (λ (l : List ℕ). front ++ drop n old ≡ overwritten old l) (is ∙ whole-kept h whole) (grind (arith, take_all))
 
--- the bytes p are fed, and of the bytes q behind them the first ones, which give what is kept of all
+-- the bytes p are fed, and the first of the bytes q after them: their output is the kept output of all
 module _ (p q old b1 b2 : List ℕ) (phase : Phase) (inner : UnbufferedDecoder) (len : ℕ) (whole : Bool) (result : Result ℕ DecodeError) (nz : HasNoZero p) (nz' : HasNoZero q)
     (f : FeedsQuietly old Idle p b1 phase) (g : FeedsQuietly b1 phase (take len q) b2 (phase_of inner)) (kept : output (p ++ take len q) ≡ kept_output (p ++ q)) (is : IsTrue whole ↔ (missing (last_part (p ++ q)) ≡ 0))
     (ok : IsTrue whole → result ≡ Ok inner.written) (broken : whole ≡ false → result ≡ Err (InvalidFrame inner.written)) where
@@ -64,14 +64,14 @@ module _ (p q old b1 b2 : List ℕ) (phase : Phase) (inner : UnbufferedDecoder) 
     quiet-written old b2 (p ++ take len q) (phase_of inner) run ∙ ap (overwritten old) kept,
   )
 
-  -- where the buffer is another one than the source, it has room
+  -- if the buffer isn't the source, it has room
   pub kept_fits : (result ≡ head_result_within (p ++ q) (length old)) × (b2 ≡ overwritten old (kept_output (p ++ q)))
   kept_fits = (
     kept_fed.0 ∙ sym (ap (λ (t : Bool). cond t (head_result (p ++ q)) (Err TargetBufTooSmall)) (le-leb (length (kept_output (p ++ q))) (length old) (omega (arith, run.fits, ap length kept)))),
     kept_fed.1,
   )
 
--- or what gives it, of which a byte has no room
+-- or one of these bytes has no room
 pub kept_stop : (h p old new : List ℕ) (phase : Phase) (run : ℕ) → output p ≡ kept_output h → HasNoZero p → run < length p → FeedsQuietly old Idle (take run p) new phase → next_phase (length new) phase (get_or p run 0) ≡ Overlong
     → (Err TargetBufTooSmall ≡ head_result_within h (length old)) × (new ≡ overwritten old (kept_output h))
 kept_stop h p old new phase run kept none more f over =

@@ -19,12 +19,12 @@ all_but_last [] h = absurd (omega arith)
 all_but_last (x ∷ []) h = refl
 all_but_last (x ∷ y ∷ xs) h = ap (λ (z : List (List ℕ)). x ∷ z) (all_but_last (y ∷ xs) (omega arith))
 
--- the pieces of a stream are those that have ended, and what is unended where that is some
+-- the pieces of a stream are those that have ended, and the unended bytes if there are any
 pieces : (t : List ℕ) → filter is_nonempty (stretches t) ≡ ended_pieces t ++ filter is_nonempty (unended t ∷ [])
 unfolding ended_pieces unended
 pieces t = ap (filter is_nonempty) (all_but_last (stretches t) (length-stretches t)) ∙ filter-append is_nonempty (but_last (stretches t)) (last_of (stretches t) ∷ [])
 
--- where no piece has ended, the last one is what is unended
+-- if no piece has ended, the last one is the unended bytes
 pub last_piece-unended : (t : List ℕ) → ended_pieces t ≡ [] → last_piece t ≡ unended t
 unfolding last_piece
 last_piece-unended t none = grind (arith, pieces, filter)
@@ -33,7 +33,7 @@ ended_at : (q : List ℕ) → HasNoZero q → ended_pieces (q ++ 0 ∷ []) ≡ f
 unfolding ended_pieces but_last
 ended_at q h = ap (λ (z : List (List ℕ)). filter is_nonempty (but_last z)) (stretches-piece q [] h)
 
--- the pieces that have ended behind one more byte
+-- the pieces that have ended after one more byte
 ended_pieces-zero : (t : List ℕ) → ended_pieces (t ++ 0 ∷ []) ≡ ended_pieces t ++ filter is_nonempty (unended t ∷ [])
 ended_pieces-zero t = ended_pieces-append t (0 ∷ []) ∙ ap (λ (z : List (List ℕ)). ended_pieces t ++ z) (ended_at (unended t) (unended_no_zero t))
 

@@ -30,7 +30,7 @@ unfolding result_for
 result_for-quiet q b n some fits = cc (ne_eqb b 0 some, le-leb (length (output (q ++ b ∷ []))) n fits)
 
 module _ (f : List ℕ) (n : ℕ) (piece : IsPiece f) where
-  -- the bytes in front of the zero are quiet, where the output fits
+  -- the bytes before the zero are quiet if the output fits
   quiet_inside : length (output f) ≤ n → (place : ℕ) → place < length f → result_at [] (f ++ 0 ∷ []) n place ≡ Ok None
   quiet_inside fits place within =
       let front : take place (f ++ 0 ∷ []) ≡ take place f = take-append-le place f (0 ∷ []) (omega arith) in
@@ -49,7 +49,7 @@ pushed-no_message : (bytes : List ℕ) (failure : PushError) (buffer m : List �
 pushed-no_message bytes failure buffer m e = grind (arith, cases_Bool)
 
 module _ (buffer bytes buffer' f : List ℕ) (phase phase' : Phase) (idle : phase ≡ Idle) (is : bytes ≡ f ++ 0 ∷ []) (below : All (λ b. b < 256) f) (piece : IsPiece f) (m : List ℕ) where
-  -- a result reports a message only behind the zero
+  -- a result reports a message only after the zero
   stated : (report : DecodeReport) → PushesBytes buffer phase bytes (Ok (Some report)) buffer' phase' → Message (take (frame_size_of report) buffer') ≡ outcome_of f (length buffer)
   stated report w =
       let k = parsed_size_of report in
@@ -60,7 +60,7 @@ module _ (buffer bytes buffer' f : List ℕ) (phase phase' : Phase) (idle : phas
   pushes_from : length (output f) ≤ length buffer → (result : Result (Option DecodeReport) PushError) → PushesBytes buffer phase bytes result buffer' phase' → PushesMessage result buffer' m → Reads f m
   pushes_from h result e p = grind (arith, outcome_reads, stated)
 
-  -- where the output doesn't fit, no message is returned
+  -- if the output doesn't fit, no message is returned
   pushes_long : length buffer < length (output f) → (result : Result (Option DecodeReport) PushError) → PushesBytes buffer phase bytes result buffer' phase' → PushesMessage result buffer' m → ⊥
   pushes_long h result e p = grind (arith, stated, outcome_of_long)
 
@@ -109,7 +109,7 @@ push_reads {buffer} {bytes} {buffer'} {phase} {phase'} {result} w below f m idle
     ))
     (λ more. pushes_long buffer bytes buffer' f phase phase' idle is front piece m more result w)
 
--- what a push of bytes as a program has them reports
+-- the report of a push of bytes that are below 256
 pub push_message : {buffer bytes buffer' : List ℕ} {phase phase' : Phase} {result : Result (Option DecodeReport) PushError} → PushesBytes buffer phase bytes result buffer' phase' → ((i : ℕ) → Fits w8 (get_or bytes i 0))
     → (f m : List ℕ) → phase ≡ Idle → bytes ≡ f ++ 0 ∷ [] → Reads f m → length m ≤ length buffer → PushesMessage result buffer' m
 push_message {bytes = bytes} w fits f m idle is r room = (push_reads w (bytes_below bytes fits) f m idle is (frame_piece r)).1 (r, room)

@@ -1,4 +1,4 @@
--- A push so far, and where it ends: each byte that returns `Ok(None)` goes on, any other ends the push. By `ByByteLemmas`.
+-- A push so far, and its end: a byte that returns `Ok(None)` continues the push, any other ends it. By `ByByteLemmas`.
 use Rattle.std.proofs.Common.{Err, IfOk, IfSome, List, None, Ok, Option, Result, Some, [], ap, arith, cond, drop, eqb, get_or, length, refl, sym, take, ℕ, ◌++◌, ◌+◌, ◌<◌, ◌∙◌, ◌∷◌, ◌≡◌, ◌≤◌}
 use Rattle.std.proofs.lemmas.List.{take_more, length_push, same_from_push}
 use Rattle.std.proofs.lemmas.Bool.{ne_eqb, eq-eqb}
@@ -50,7 +50,7 @@ module _ {buffer₀ buffer buffer' : List ℕ} {phase₀ phase phase' : Phase} {
   feeds_behind : FeedsInTurn buffer₀ phase₀ (take (i + 1) bytes) result buffer' phase'
   feeds_behind = rw (take_more bytes i 0 within) (FeedsInTurn-push (take i bytes) buffer₀ phase₀ s.feeds f)
 
-  -- the push goes on
+  -- the push continues
   pub Pushed-more : result ≡ Ok None → Pushed buffer₀ phase₀ buffer' phase' bytes (i + 1)
   Pushed-more e = record {
     piece = piece-more bytes i within s.piece f (λ z. ap end_reported e);

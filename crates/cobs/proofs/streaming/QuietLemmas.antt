@@ -88,7 +88,7 @@ unfolding phase_after
 full-by [] n x nz fits e = absurd (grind (arith, ne_eqb))
 full-by (c ∷ p) n x nz fits e = grind (arith, ne_eqb, le-leb, cases_Bool, leb-false)
 
--- where a decoder is, by its fields
+-- the phase of a decoder, by its fields
 at-by : (p : List ℕ) (n : ℕ) (going full : Bool) (left count : ℕ) → cond going (phase_with full left count) Overlong ≡ phase_after p n → length (output p) ≤ n → (count ≡ length (output p)) × (left ≡ missing (last_part p))
 unfolding phase_after last_part output parts parts_after
 at-by [] n going full left count e fits = grind arith
@@ -114,11 +114,11 @@ module _ (old new p : List ℕ) (phase : Phase) (s : Quiet old new phase p) wher
         let long = quiet-long in
         grind (arith, quiet-written, output-begins, take_all, drop_all, append-nil)
 
-  -- where the decoder is
+  -- the phase of the decoder
   pub quiet-at : (inner : UnbufferedDecoder) → phase_of inner ≡ phase → (inner.written ≡ length (output p)) × (inner.missing ≡ missing (last_part p))
   quiet-at inner is = at-by p (length new) (eqb inner.too_long 0) (eqb inner.joint 0) inner.missing inner.written (is ∙ s.after.phased.phase_is) (omega (arith, s.len, s.fits))
 
--- the same of a place in a piece, where the bytes before it were fed
+-- the same for a place in a piece, if the bytes before it were fed
 pub quiet-stop : (p old new : List ℕ) (phase : Phase) (run : ℕ) → HasNoZero p → run < length p → FeedsQuietly old Idle (take run p) new phase → next_phase (length new) phase (get_or p run 0) ≡ Overlong
     → (length old < length (output p)) × (new ≡ overwritten old (output p))
 quiet-stop p old new phase run none more f over =

@@ -35,7 +35,7 @@ EndsFirstIn-taken {buffer} {buffer'} {phase} {phase'} {end} {count} bytes t p h 
   here = ap (stream_outcomes (p ++ (t.ends.front ++ 0 ∷ []))) t.takes.len ∙ ap (λ (x : List ℕ). stream_outcomes (p ++ x) (length buffer)) (sym t.ends.taken) ∙ sym (t.takes.outcomes p h);
 }
 
--- what the buffer has of a piece that a zero ends, once the piece's output is written over its front
+-- the contents of the buffer after a piece that a zero ends, once the piece's output is written over its front
 broken-fits : (p : List ℕ) (count n : ℕ) → outcome_of p n ≡ Broken count → (length (output p) ≤ n) × (count ≡ length (output p))
 unfolding outcome_of
 broken-fits p count n e = grind (arith, leb-true, cases_Bool)
@@ -62,7 +62,7 @@ HasDecoded-written (Message message) (byte ∷ bytes) buffer e = tt
 HasDecoded-written (Broken count) (byte ∷ bytes) buffer e = let fits = broken-fits (byte ∷ bytes) count (length buffer) cc in written-fits (output (byte ∷ bytes)) buffer count fits.0 fits.1
 HasDecoded-written TooLong (byte ∷ bytes) buffer e = written-long (output (byte ∷ bytes)) buffer (long-exceeds (byte ∷ bytes) (length buffer) cc)
 
--- what the buffer has of a piece that a decoder has taken
+-- the contents of the buffer after a piece that a decoder has taken
 pub HasDecoded-taken : {buffer buffer' : List ℕ} {phase phase' : Phase} {end : PieceEnd} {count : ℕ} (bytes : List ℕ) → (t : TakesPiece buffer phase bytes (Some (end, count)) buffer' phase')
     → (p : List ℕ) → DecoderAfter buffer phase p → HasDecoded (outcome_at end buffer') buffer' (unended (p ++ t.ends.front))
 HasDecoded-taken {buffer} {buffer'} {phase} {phase'} {end} {count} bytes t p h =
@@ -74,7 +74,7 @@ HasDecoded-taken {buffer} {buffer'} {phase} {phase'} {end} {count} bytes t p h =
     let written : buffer' ≡ overwritten buffer (output (unended front)) = t.holds p h ∙ ap (λ (x : List ℕ). overwritten buffer (output x)) (ap last_piece cut ∙ last_piece-zero front (no_outcomes front (length buffer) none)) in
     subst (λ (b : List ℕ). HasDecoded (outcome_at end buffer') b (unended front)) (sym written) (HasDecoded-written _ (unended front) buffer outcome)
 
--- bytes behind a stream t in which no piece has ended
+-- bytes after a stream t in which no piece has ended
 abbrev pub EndsFirst-behind : (t : List ℕ) {bytes behind : List ℕ} {n : ℕ} {outcome : Outcome} → stream_outcomes t n ≡ [] → EndsFirstIn (unended t) bytes n outcome behind → EndsFirst (t ++ bytes) n outcome behind
 EndsFirst-behind t {bytes} {behind} {n} {outcome} none w = record {
   front = t ++ w.front;
@@ -96,7 +96,7 @@ nonempty_phase : (p : List ℕ) (n : ℕ) → is_nonempty p ≡ not_idle (phase_
 unfolding phase_after not_idle
 nonempty_phase p n = grind (arith, leb, not_idle)
 
--- a flag that is right behind some front is right behind each front that the decoder has taken
+-- a flag that is right after some front is right after each front that the decoder has taken
 pub HasTaken-any : (buffer : List ℕ) (phase : Phase) (flag : Bool) (q : List ℕ) → ∥ ((p : List ℕ) × DecoderHasTaken buffer phase flag p) ∥₁ → DecoderAfter buffer phase q → DecoderHasTaken buffer phase flag q
 HasTaken-any buffer phase flag q some h = record {
   after = h;
@@ -117,7 +117,7 @@ given-push front reads read = sym (flat_map_more bytes_given front reads read)
 last_read : (reads : List Read) (read last : Read) → EndsIn (reads ++ read ∷ []) last → read ≡ last
 last_read reads read last e = (same_from_push reads e.0 read last e.1).1
 
--- the reads in front of one of some reads and one more
+-- the reads before one of some reads and one more
 earlier_reads : (reads earlier later : List Read) (last read : Read) → reads ++ last ∷ [] ≡ earlier ++ read ∷ later → reads ≡ earlier ++ drop (length earlier) reads
 earlier_reads reads earlier later last read e =
     let within : length earlier ≤ length reads = omega (arith, ap length e, length_push reads last, length-append earlier (read ∷ later)) in
@@ -125,7 +125,7 @@ earlier_reads reads earlier later last read e =
     ∙ ap (λ (x : List Read). x ++ drop (length earlier) reads)
     (sym (take-append-le (length earlier) reads (last ∷ []) within) ∙ ap (take (length earlier)) e ∙ take-append-le (length earlier) earlier (read ∷ later) (omega arith) ∙ take_all (length earlier) earlier (omega arith))
 
--- what calls for a read behind some reads called for those as well
+-- if a read after some reads was called for, those were called for as well
 called_earlier : (front : List ℕ) (n : ℕ) (reads earlier later : List Read) → reads ≡ earlier ++ later → length earlier < 65536 → All GaveBytes reads → stream_outcomes (front ++ all_given reads) n ≡ []
     → CallsForMore front n earlier
 called_earlier front n reads earlier later e few gave none = record {
@@ -135,7 +135,7 @@ called_earlier front n reads earlier later e few gave none = record {
       ∙ ap (λ (x : List ℕ). stream_outcomes x n) (append_assoc front (all_given earlier) (all_given later) ∙ ap (λ (x : List ℕ). front ++ x) (sym (flat_map-append bytes_given earlier later) ∙ ap all_given (sym e))) ∙ none);
 }
 
--- each of some reads was called for, where another is called for behind them
+-- each of some reads was called for, if another is called for after them
 EachCalledFor-push : (front : List ℕ) (n : ℕ) (reads : List Read) (last : Read) → CallsForMore front n reads → EachCalledFor front n (reads ++ last ∷ [])
 EachCalledFor-push front n reads last more = λ earlier later read e.
     called_earlier front n reads earlier (drop (length earlier) reads) (earlier_reads reads earlier later last read e)
@@ -152,7 +152,7 @@ EachCalledFor-nil front n = λ earlier later read e. absurd (omega (arith, ap le
 
 -- A CALL THAT GOES ON
 
--- reads that all gave bytes and ended no piece: where the source and the reader are behind them, and the reader's note
+-- reads that all returned bytes and ended no piece: the states of the source and the reader after them, and the reader's note
 -- of a begun piece
 pub record Going {S : Type 0} (step : S → Read → S → Type 0) (from to : S) (reader₀ reader : ReaderState) (unfinished : Bool) (count : ℕ) : Type 0 where
   pub reads : List Read
@@ -180,7 +180,7 @@ module _ {S : Type 0} {step : S → Read → S → Type 0} {from to : S} {reader
   nothing_more : (g : Going step from to reader₀ reader unfinished count) (read : Read) → bytes_given read ≡ [] → (p : List ℕ) → p ++ reader₀.kept ++ all_given (g.reads ++ read ∷ []) ≡ p ++ reader₀.kept ++ all_given g.reads
   nothing_more g read none p = given-push (p ++ reader₀.kept) g.reads read ∙ ap (λ (x : List ℕ). p ++ reader₀.kept ++ all_given g.reads ++ x) none ∙ append-nil _
 
-  -- the stream has come to its end, and the chunk is empty
+  -- the stream is at its end, and the chunk is empty
   emptied : (kept : List ℕ) → kept ≡ [] → (g : Going step from to reader₀ reader unfinished count) → (p : List ℕ) → ReaderAfter reader₀ p → AtStreamEnd (p ++ reader₀.kept ++ all_given g.reads) (record reader { kept = kept })
   emptied kept e g p b = let end = g.at_end p b in record { none_ended = end.none_ended; after = end.after; nothing_kept = e }
 
@@ -211,7 +211,7 @@ module _ {S : Type 0} {step : S → Read → S → Type 0} {from to : S} {reader
 -- WHERE A PIECE ENDS
 
 -- an outcome is reported
--- the first piece that ends in some bytes is reported, behind a stream in which none has ended
+-- the first piece that ends in some bytes is reported, after a stream in which none has ended
 Reports-first : (next : Next) (reads : List Read) (t bytes : List ℕ) (reader : ReaderState) → stream_outcomes t (length reader.buffer) ≡ []
     → ReportsFirst next (unended t) bytes reader.buffer reader.kept → ReaderAfter reader [] → Reports (Ok next) reads (t ++ bytes) reader
 Reports-first next reads t bytes reader none w b =
@@ -258,7 +258,7 @@ module _ {S : Type 0} {step : S → Read → S → Type 0} {from to to' : S} {re
         rw (given-push (p ++ reader₀.kept) g.reads (Some bytes)) (Reports-first next _ t bytes reader' (ap (stream_outcomes t) len ∙ end.none_ended) (h _ end.after) idle);
   }
 
-  -- they end none, and the call goes on
+  -- they end none, and the call continues
   pub Going-push : (bytes : List ℕ) (unfinished' : Bool) → bytes ≢ [] → Going step from to reader₀ reader unfinished count → step to (Some bytes) to' → length reader'.buffer ≡ length reader.buffer
       → ((q : List ℕ) → ReaderAfter reader q → AtStreamEnd (q ++ bytes) reader' × (unfinished' ≡ is_nonempty (unended (q ++ bytes))))
       → Going step from to' reader₀ reader' unfinished' (count + 1)
@@ -295,16 +295,16 @@ ReadsNext-too_many {reader₀} {reader} all g = record {
 pub front_nonempty : (xs : List ℕ) (n : ℕ) → n ≤ length xs → n ≢ 0 → take n xs ≢ []
 front_nonempty xs n within some = λ e. some (omega (arith, ap length e, length-take n xs, within))
 
--- what is left of them after the first of them
+-- the rest of them after the first
 pub front_rest : (xs : List ℕ) (n count : ℕ) → count ≤ n → drop count (take n xs) ≡ take (n - count) (drop count xs)
 front_rest xs n count h =
     let e : n ≡ count + (n - count) = omega arith in
     ap (λ (k : ℕ). drop count (take k xs)) e ∙ drop-take count (n - count) xs
 
--- a range that ends where it starts is empty
+-- a range that ends at its start is empty
 pub empty_range : (xs : List ℕ) (from to : ℕ) → from ≡ to → take (to - from) (drop from xs) ≡ []
 empty_range xs from to e = let none : to - from ≡ 0 = omega (arith, e) in ap (λ (k : ℕ). take k (drop from xs)) none
 
--- what is left of a range after its first n bytes
+-- the rest of a range after its first n bytes
 pub left_of_range : (xs : List ℕ) (from to n : ℕ) → n + from ≤ to → drop n (take (to - from) (drop from xs)) ≡ take (to - (from + n)) (drop (from + n) xs)
 left_of_range xs from to n h = front_rest (drop from xs) (to - from) n (omega arith) ∙ ap (λ (k : ℕ). take k (drop n (drop from xs))) (omega arith) ∙ ap (take (to - (from + n))) (drop-drop n from xs)

@@ -25,11 +25,11 @@ over-nil count buffer = ap (λ (k : ℕ). take count buffer ++ drop k buffer) (o
 pub over-cons : (count x : ℕ) (xs buffer : List ℕ) → count < length buffer → over (count + 1) (set buffer count x) xs ≡ over count buffer (x ∷ xs)
 over-cons count x xs buffer room = grind (arith, take_more_set, append_assoc, drop-set-lt)
 
--- the first of the bytes behind a place
+-- the first of the bytes after a place
 from_here : (bytes : List ℕ) (i r : ℕ) → i < length bytes → take (suc r) (drop i bytes) ≡ get_or bytes i 0 ∷ take r (drop (i + 1) bytes)
 from_here bytes i r within = ap (take (suc r)) (drop_more bytes i 0 within)
 
--- what goes on by each byte that returns `Ok(None)` goes on by the r bytes behind the place i, fed in turn
+-- a fact that stays with each byte that returns `Ok(None)` stays with the r bytes after the place i, fed in turn
 pub ran-on : (P : List ℕ → Phase → ℕ → Type 0) (bytes : List ℕ)
     → ((buffer : List ℕ) (phase : Phase) (i : ℕ) → i < length bytes → P buffer phase i → let byte = get_or bytes i 0 in next_result (length buffer) phase byte ≡ Ok None
     → P (next_buffer buffer phase byte) (next_phase (length buffer) phase byte) (i + 1))
@@ -39,14 +39,14 @@ ran-on P bytes more buffer buffer' phase phase' i (suc r) within s f =
     let fed = subst (λ (l : List ℕ). FeedsQuietly buffer phase l buffer' phase') (from_here bytes i r (omega arith)) f in
     subst (P buffer' phase') (omega arith) (ran-on P bytes more (next_buffer buffer phase (get_or bytes i 0)) buffer' (next_phase (length buffer) phase (get_or bytes i 0)) phase' (i + 1) r (omega arith) (more buffer phase i (omega arith) s fed.0) fed.1)
 
--- a piece that has not ended goes on so
+-- so a piece that hasn't ended continues
 pub piece-run : {buffer₀ buffer buffer' : List ℕ} {phase₀ phase phase' : Phase} (bytes : List ℕ) (i r : ℕ) → i + r ≤ length bytes → TakesPiece buffer₀ phase₀ (take i bytes) None buffer phase
     → FeedsQuietly buffer phase (take r (drop i bytes)) buffer' phase' → TakesPiece buffer₀ phase₀ (take (i + r) bytes) None buffer' phase'
 piece-run {buffer₀} {phase₀ = phase₀} bytes i r within t f =
     ran-on (λ buffer phase i. TakesPiece buffer₀ phase₀ (take i bytes) None buffer phase) bytes
     (λ buffer phase i within t quiet. piece-more bytes i within t (Feeds-step buffer phase (get_or bytes i 0)) (λ _. ap end_reported quiet)) _ _ _ _ i r within t f
 
--- a piece that is too long goes on by bytes that are no zeros
+-- a piece that is too long continues with bytes that aren't zeros
 pub piece-over : {buffer₀ buffer : List ℕ} {phase₀ : Phase} (bytes : List ℕ) (i r : ℕ) → i + r ≤ length bytes → HasNoZero (take r (drop i bytes))
     → TakesPiece buffer₀ phase₀ (take i bytes) None buffer Overlong → TakesPiece buffer₀ phase₀ (take (i + r) bytes) None buffer Overlong
 piece-over bytes i zero within some t = grind arith
@@ -63,7 +63,7 @@ piece-over {buffer₀} {buffer} {phase₀} bytes i (suc r) within some t =
 pub begun : (full : Bool) (left count : ℕ) → 0 < left + count → phase_with full left count ≡ Within full left count
 begun full left count h = grind arith
 
--- the bytes behind what was written stay
+-- the bytes after the written ones stay
 quiet_step : (buffer : List ℕ) (phase : Phase) (x : ℕ) → x ≢ 0 → next_result (length buffer) phase x ≡ Ok None → let n = written_in (next_phase (length buffer) phase x) in
     (written_in phase ≤ n) × ((k : ℕ) → n ≤ k → drop k (next_buffer buffer phase x) ≡ drop k buffer)
 quiet_step buffer phase x nz quiet = grind (arith, ne_eqb, cases_lt, drop-set-lt)

@@ -1,4 +1,4 @@
--- A stream so far: what a loop that feeds one byte after another keeps (`TakesBytes`), for one byte by `Feeds` and for more
+-- A stream so far: the invariant of a loop that feeds one byte after another (`TakesBytes`), for one byte by `Feeds` and for more
 -- by `SoFar-more`.
 use Rattle.std.proofs.Common.{◌≡◌, ◌≢◌, ℕ, zero, suc, ◌+◌, ◌-◌, ◌<◌, ◌≤◌, List, [], ◌∷◌, ◌++◌, length, take, drop, refl, sym, ap, ◌∙◌, subst, arith, append_assoc, length-append, length-take, length-drop, map, inl, inr, ◌⊎◌, Option, Some, None, Result, Ok, Err, nat_le, cond, eqb}
 use Rattle.std.specs.List.{Contains}
@@ -32,7 +32,7 @@ outcome_reported (Err error) buffer = error_outcomes error
 abbrev pub reported_by : ℕ → Result (Option ℕ) DecodeError → List ℕ → List Outcome
 reported_by byte result buffer = cond (eqb byte 0) (outcome_reported result buffer) []
 
--- the result for the zero behind a piece reports its outcome, over a buffer that begins with the output
+-- the result for the zero after a piece reports its outcome, over a buffer that begins with the output
 stated-after : (buffer : List ℕ) (phase : Phase) (p : List ℕ) → DecoderAfter buffer phase p → outcome_reported (result_for p 0 (length buffer)) buffer ≡ outcomes_at p 0 (length buffer)
 unfolding result_for result_at_end outcome_of
 stated-after buffer phase p h = grind (arith, take_all, leb-true)
@@ -77,7 +77,7 @@ fits-stream : (t : List ℕ) (count n : ℕ) → Broken count ∷ [] ≡ stream_
 unfolding stream_outcomes
 fits-stream t count n e = fits-map (ended_pieces t) count n e
 
--- so what a result counts is within it
+-- so the count of a result is within it
 pub count-within : (end : PieceEnd) (buffer t : List ℕ) (n : ℕ) → AreAlikeAtFirst (outcome_at end buffer ∷ []) (stream_outcomes t n) → IsWithin n end → IsCountWithin n end
 count-within end buffer t n h e = grind (arith, fits-stream)
 
@@ -121,7 +121,7 @@ module _ {buffer buffer' : List ℕ} {phase phase' : Phase} {byte : ℕ} {result
         rw (unended_byte p h.piece, is) (DecoderAfter-idle buffer' phase' (f.zero_idle is));
   }
 
--- the front behind which the decoder is, over its own buffer
+-- the front that the decoder has taken, over its own buffer
 pub here : {buffer₀ buffer : List ℕ} {phase₀ phase : Phase} {done : List ℕ} {found : List Outcome} → SoFar buffer₀ phase₀ buffer phase done found
     → (p : List ℕ) → PhaseAfter (length buffer₀) phase₀ p → PhaseAfter (length buffer) phase (unended (p ++ done))
 here {buffer₀} {buffer} {phase₀} {phase} {done} s p h = subst (λ n. PhaseAfter n phase (unended (p ++ done))) (sym s.len) (s.phased p h)
@@ -139,7 +139,7 @@ module _ {buffer₀ buffer buffer' : List ℕ} {phase₀ phase phase' : Phase} {
       → stated ≡ stream_outcomes (unended (p ++ done) ++ more) (length buffer₀)
   reported_more s t p w = t.outcomes _ w ∙ ap (stream_outcomes (unended (p ++ done) ++ more)) s.len
 
-  -- bytes taken behind those so far
+  -- bytes taken after those so far
   pub SoFar-more : SoFar buffer₀ phase₀ buffer phase done found → TakesBytes buffer phase more stated buffer' phase' → SoFar buffer₀ phase₀ buffer' phase' (done ++ more) (found ++ stated)
   SoFar-more s t = record {
     len = t.len ∙ s.len;
@@ -178,7 +178,7 @@ module _ {buffer₀ buffer buffer' : List ℕ} {phase₀ phase phase' : Phase} {
   pub SoFar-all : SoFar buffer₀ phase₀ buffer phase (take i bytes) found → TakesPiece buffer phase (take (length bytes - i) (drop i bytes)) None buffer' phase' → SoFar buffer₀ phase₀ buffer' phase' bytes found
   SoFar-all s t = rw (append-nil found, take-append-drop i bytes) at (SoFar-more s (rw (take_rest bytes i) at t.takes))
 
-  -- a piece ends in them behind that many
+  -- a piece ends in them after that many
   pub SoFar-piece : (end : PieceEnd) (count : ℕ) → SoFar buffer₀ phase₀ buffer phase (take i bytes) found → TakesPiece buffer phase (take (length bytes - i) (drop i bytes)) (Some (end, count)) buffer' phase'
       → SoFar buffer₀ phase₀ buffer' phase' (take (i + count) bytes) (found ++ outcome_at end buffer' ∷ [])
   SoFar-piece end count s t = rw (take-add i count bytes) (SoFar-more s (rw (take_rest bytes i) at t.takes))

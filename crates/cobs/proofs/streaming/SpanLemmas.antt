@@ -1,4 +1,4 @@
--- Bytes after an open block in which no full block ends, fed as a whole: what is written is what they are from code to code
+-- Bytes after an open block in which no full block ends, fed as a whole: they are written with a zero over each code
 -- (`walked`). By the machine's step, byte by byte.
 use Rattle.std.proofs.Common.{◌≡◌, ◌≢◌, ℕ, zero, suc, ◌+◌, ◌-◌, ◌<◌, ◌≤◌, Bool, eqb, List, [], ◌∷◌, ◌++◌, length, set, take, drop, refl, sym, ap, ◌∙◌, subst, arith, inl, inr, length-take-le, length-drop, length-set, replicate, take-append-drop}
 use Rattle.std.proofs.lemmas.List.{append-nil, drop_all, drop-drop, length-replicate, take_rest}
@@ -25,12 +25,12 @@ FeedsQuietly-append [] ys buffer buffer' buffer'' phase phase' phase'' f g = gri
 FeedsQuietly-append (x ∷ xs) ys buffer buffer' buffer'' phase phase' phase'' f g =
     (f.0, FeedsQuietly-append xs ys (next_buffer buffer phase x) buffer' buffer'' (next_phase (length buffer) phase x) phase' phase'' f.1 g)
 
--- the bytes behind those that were fed
+-- the bytes after those that were fed
 pub joined : (bytes buffer buffer' buffer'' : List ℕ) (phase phase' phase'' : Phase) (run more : ℕ) → FeedsQuietly buffer phase (take run bytes) buffer' phase'
     → FeedsQuietly buffer' phase' (take more (drop run bytes)) buffer'' phase'' → FeedsQuietly buffer phase (take (run + more) bytes) buffer'' phase''
 joined bytes buffer buffer' buffer'' phase phase' phase'' run more f g = grind (arith, take-add, FeedsQuietly-append)
 
--- behind an open block
+-- after an open block
 fed_walked : (bytes buffer : List ℕ) (code left count : ℕ) → HasNoZero bytes → (code ≡ 255 → length bytes ≤ left) → (left < length bytes → length bytes < 254) → count + length bytes ≤ length buffer
     → let w = walked code left bytes in FeedsQuietly buffer (Within (eqb code 255) left count) bytes (over count buffer w.0) (Within (eqb w.1 255) w.2 (count + length bytes))
 fed_walked [] buffer code left count nz full few room = grind (arith, over-nil)
@@ -65,7 +65,7 @@ module _ (base : ℕ) (buffer xs : List ℕ) (room : base + length xs ≤ length
   behind : drop base (over base buffer xs) ≡ xs ++ drop (base + length xs) buffer
   behind = ap (λ (k : ℕ). drop k (over base buffer xs)) (sym front-of) ∙ drop-append_seam (take base buffer) (xs ++ drop (base + length xs) buffer)
 
-  -- bytes that were copied behind the output so far
+  -- bytes that were copied to the end of the output so far
   over-span : take (base + length xs - base) (drop base (over base buffer xs)) ≡ xs
   over-span = ap (take (base + length xs - base)) behind ∙ ap (λ (k : ℕ). take k (xs ++ drop (base + length xs) buffer)) (omega arith) ∙ take-append_seam xs (drop (base + length xs) buffer)
 
@@ -154,7 +154,7 @@ row_fed n inner dest bytes new some few going none due room ones is =
 pub joint-is : (code joint : ℕ) → (code ≡ 255 → joint ≡ 0) → (code ≢ 255 → joint ≡ 1) → eqb joint 0 ≡ eqb code 255
 joint-is code joint full other = elim (cases_eq code 255) [ inl e ↦ rw (full e, e) refl | inr o ↦ rw (other o, ne_eqb code 255 o) refl ]
 
--- bytes that were copied or moved behind the output
+-- bytes that were copied or moved to the end of the output
 module _ (inner : UnbufferedDecoder) (len : ℕ) (dest : List ℕ) (nz : HasNoZero (take len (drop inner.written dest))) (before xs : List ℕ) (room : inner.written + len ≤ length before) (long : length xs ≡ len)
     (is : dest ≡ take inner.written before ++ (xs ++ drop (inner.written + len) before)) (going : inner.too_long ≡ 0) (full : inner.joint ≡ 0 → len ≤ inner.missing) (few : (0 < len) × (len < 254)) where
   abbrev part : List ℕ
@@ -169,7 +169,7 @@ module _ (inner : UnbufferedDecoder) (len : ℕ) (dest : List ℕ) (nz : HasNoZe
   nonzero : HasNoZero xs
   nonzero = subst HasNoZero (copied-there inner.written len before dest xs room long is) nz
 
-  -- a code of one more than it misses is as good as its own, with a code behind
+  -- with a code after it, a code of one more than its missing bytes is as good as its own
   own : inner.missing < len → walked (inner.missing + 1) (inner.missing + 1 - 1) part ≡ walked code inner.missing xs
   own more = ap (λ (k : ℕ). walked (inner.missing + 1) k part) (omega arith) ∙ ap (walked (inner.missing + 1) inner.missing) part-is ∙ walked-any (inner.missing + 1) code inner.missing xs (omega arith)
 

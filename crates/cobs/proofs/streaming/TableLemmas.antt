@@ -41,7 +41,7 @@ module _ (c : ℕ) (q : List ℕ) (b : ℕ) (some : b ≢ 0) where
   data_step true zero f l = grind (arith, ne_eqb, output-push_next)
   data_step false zero f l = grind (arith, ne_eqb, output-push_next)
 
--- the state behind a byte that is no zero, and the data with what the table has for it
+-- the state after a byte that is no zero, and the data with the table's data for it
 next_state : (p : List ℕ) (b : ℕ) → b ≢ 0 → table_state (state_after p) b ≡ state_after (p ++ b ∷ [])
 next_state p b h = grind (arith, ne_eqb, opened_after, last_part-one, state_step)
 
@@ -68,7 +68,7 @@ at_end : (c : ℕ) (q : List ℕ) → table_result (state_after (c ∷ q)) 0 ≡
 unfolding is_whole
 at_end c q = grind (arith, ne_eqb)
 
--- the zero behind p returns `DataComplete` exactly if p is a frame, and the data is then its message
+-- the zero after p returns `DataComplete` exactly if p is a frame, and the data is then its message
 complete : (p m : List ℕ) → HasNoZero p → All (λ b. b < 256) p → ((table_result (state_after p) 0 ≡ Ok DataComplete) × (output p ≡ m)) ↔ Reads p m
 complete [] m nonzero below = (λ (e, is). absurd cc, λ r. absurd (((reads_iff [] m below).0 r).0 refl))
 complete (c ∷ q) m nonzero below = (

@@ -1,4 +1,4 @@
--- Facts about bytes and lists for every crate above: ones, what is the same from one index on, parts without a zero, and the
+-- Facts about bytes and lists for every crate above: ones, lists that are the same from one index on, parts without a zero, and the
 -- three parts of a list that was overwritten in its middle. Each follows from std's lemmas on `take`, `drop` and `++`.
 use Rattle.std.proofs.Common.{◌≡◌, ◌≢◌, ℕ, ◌+◌, ◌-◌, ◌≤◌, List, ◌++◌, length, drop, take, replicate, sym, ap, ◌∙◌, subst, arith, append_assoc, take_at, drop_at, length-append, length-take-le}
 use Rattle.std.proofs.lemmas.List.{drop-drop, drop-take, take-take, length-replicate}
@@ -24,7 +24,7 @@ part-nonzero i n m bytes nonzero within =
     let front = subst HasNoZero (take-take (i + n) m bytes within) (All-take (λ b. b ≢ 0) (i + n) (take m bytes) nonzero) in
     subst HasNoZero (drop-take i n bytes) (All-drop (λ b. b ≢ 0) i (take (i + n) bytes) front)
 
--- what is in a list whose n elements from `at` on were overwritten with a part
+-- the contents of a list whose n elements from `at` on were overwritten with a part
 module _ (dest part : List ℕ) (at n : ℕ) (long : length part ≡ n) (fits : at ≤ length dest) where
   length-front : length (take at dest) ≡ at
   length-front = length-take-le at dest fits
@@ -41,7 +41,7 @@ module _ (dest part : List ℕ) (at n : ℕ) (long : length part ≡ n) (fits : 
       ap (drop r) (sym (append_assoc (take at dest) part (drop (at + n) dest)))
       ∙ drop-append-drop (at + n) dest (take at dest ++ part) r le (length-append (take at dest) part ∙ omega arith)
 
-  -- and what it is with more after the part
+  -- and the same with more after the part
   pub three-next : (more : List ℕ) (k : ℕ) → let three = take at dest ++ (part ++ drop (at + n) dest) in take (at + n) three ++ (more ++ drop (at + n + k) three) ≡ take at dest ++ ((part ++ more) ++ drop (at + (n + k)) dest)
   three-next more k =
       let b = behind-three (at + n + k) (omega arith) in

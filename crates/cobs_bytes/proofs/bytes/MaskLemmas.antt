@@ -24,11 +24,11 @@ pub zero_mask-lanes : (bytes : List ℕ) → mask_l (map (λ b. eqb b 0) bytes) 
 zero_mask-lanes [] = refl
 zero_mask-lanes (b ∷ bytes) = ap (λ m. cond (eqb b 0) 1 0 + 2 * m) (zero_mask-lanes bytes)
 
--- what a store of n bytes leaves
+-- the list after a store of n bytes
 pub put_is : (dest bytes : List ℕ) (at n : ℕ) → length bytes ≡ n → at + n ≤ length dest → put_chunk at dest bytes ≡ take at dest ++ (bytes ++ drop (at + n) dest)
 put_is dest bytes at n l room = grind (arith, put_chunk_is, drop-drop)
 
--- the bits that a comparison with 0 gives
+-- the bits of a comparison with 0
 pub zeros_by_lanes : (source : List ℕ) (at n : ℕ) → at + n ≤ length source → n ≤ 64
     → mask_l (map (top 7) (zip2 (λ a b. cond (eqb a b) (2 ^ 8 - 1) 0) (take n (drop at source)) (replicate n 0))) % 2 ^ 64 ≡ zero_mask (take n (drop at source))
 zeros_by_lanes source at n room few =
@@ -42,7 +42,7 @@ set_if b is = ap (λ t. if t then 1 else 0) (eq-eqb b 0 is)
 pub clear_if : (b : ℕ) → b ≢ 0 → ◌≡◌ {A = ℕ} (if b == 0 then 1 else 0) 0
 clear_if b other = ap (λ t. if t then 1 else 0) (ne_eqb b 0 other)
 
--- no bit is set where no byte is 0
+-- no bit is set if no byte is 0
 pub zero_mask-none : (bytes : List ℕ) → zero_mask bytes ≡ 0 → All (λ b. b ≢ 0) bytes
 zero_mask-none [] e = All-nil (λ b. b ≢ 0)
 zero_mask-none (b ∷ bytes) e = grind (arith, cases_eq, set_if, All-cons, (zero_mask-none bytes (omega arith)))
@@ -62,20 +62,20 @@ pub nonzero_len-lt : (bytes : List ℕ) → zero_mask bytes ≢ 0 → nonzero_le
 nonzero_len-lt [] some = absurd (some refl)
 nonzero_len-lt (b ∷ bytes) some = grind (arith, cases_eq, eq-eqb, ne_eqb, nonzero_len-lt bytes)
 
--- the bytes in front of the first zero
+-- the bytes before the first zero
 pub nonzero_len-before : (bytes : List ℕ) → zero_mask bytes ≢ 0 → HasNoZero (take (nonzero_len bytes) bytes)
 nonzero_len-before bytes some = grind (arith, nonzero_len, nonzero_len-lt, length-take-le, All-from_get_or, eq-eqb, get_or-take, not-true, prefix_len_passes)
 
 pub nonzero_len-at : (bytes : List ℕ) → zero_mask bytes ≢ 0 → get_or bytes (nonzero_len bytes) 0 ≡ 0
 nonzero_len-at bytes some = eqb-true _ 0 (not-false _ (prefix_len_stops (λ b. not (eqb b 0)) bytes 0 (nonzero_len-lt bytes some)))
 
--- the lowest bit that is set says where the first zero is
+-- the lowest bit that is set says which byte is the first zero
 pub lowest_bit : (bytes : List ℕ) → length bytes ≤ 64 → zero_mask bytes ≢ 0 → count_trailing_zeros 64 (zero_mask bytes) ≡ nonzero_len bytes
 lowest_bit bytes few some =
     let e = zero_mask-lanes bytes in
     ap (count_trailing_zeros 64) (sym e) ∙ trailing_mask_l (λ b. eqb b 0) 64 bytes few (omega arith)
 
--- the zeros of some bytes behind d other ones, which aren't zeros
+-- the zeros of some bytes after d other ones, which aren't zeros
 abbrev pub mask_behind : ℕ → List ℕ → ℕ
 mask_behind d bytes = zero_mask (replicate d 1 ++ bytes)
 
@@ -150,7 +150,7 @@ module _ (d : ℕ) (bytes : List ℕ) (few : d + length bytes ≤ 64) (some : ma
   pub mask_behind-and : bit_and (mask_behind d bytes) (mask_behind d bytes - 1) ≡ mask_behind (d + nonzero_len bytes + 1) (drop (nonzero_len bytes + 1) bytes)
   mask_behind-and = grind (arith, nonzero_len-behind, left, mask-and)
 
--- where the lowest bit is no lower than k, the first k bytes aren't zeros
+-- if the lowest bit is no lower than k, the first k bytes aren't zeros
 pub clear_front : (bytes : List ℕ) (k : ℕ) → length bytes ≤ 64 → k ≤ count_trailing_zeros 64 (zero_mask bytes) → HasNoZero (take k bytes)
 clear_front bytes k few le =
     elim (cases_eq (zero_mask bytes) 0) [
@@ -162,7 +162,7 @@ clear_front bytes k few le =
 pub zero_mask-lt : (bytes : List ℕ) → zero_mask bytes < 2 ^ length bytes
 zero_mask-lt bytes = rw (← zero_mask-lanes bytes) (subst (λ (n : ℕ). mask_l (map (λ b. eqb b 0) bytes) < 2 ^ n) (length-map bytes (λ b. eqb b 0)) (mask_l-lt (map (λ b. eqb b 0) bytes)))
 
--- the first zero of a mask is within its bits, and in front of those that are left without it
+-- the first zero of a mask is within its bits, and before the others
 module _ (zeros : ℕ) (some : zeros ≢ 0) (few : zeros < 2 ^ 64) where
   pub lowest-within : (k : ℕ) → zeros < 2 ^ k → count_trailing_zeros 64 zeros < k
   lowest-within k lt = let one = bit_at-trailing_zeros w64 zeros (omega arith) few in let none = bit_at_above zeros k (count_trailing_zeros 64 zeros) lt in grind arith

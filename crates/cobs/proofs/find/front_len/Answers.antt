@@ -8,7 +8,7 @@ use Rattle.cobs_bytes.specs.Mask.{zero_mask}
 use Rattle.cobs_bytes.proofs.bytes.MaskLemmas.{lowest_bit, nonzero_len, nonzero_len-at, nonzero_len-before, nonzero_len-lt, zero_mask-none}
 use Rattle.cobs.proofs.find.front_len.Goals as goal
 
--- the lowest bit of a mask says where the first zero of its 32 bytes is
+-- the lowest bit of a mask says which of its 32 bytes is the first zero
 module _ (bytes : List ℕ) (zeros : ℕ) (long : 32 ≤ length bytes) (is : zeros ≡ zero_mask (take 32 bytes)) (some : zeros ≢ 0) where
   abbrev window : List ℕ
   window = take 32 bytes

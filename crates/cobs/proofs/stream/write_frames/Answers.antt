@@ -14,7 +14,7 @@ room c = grind (arith, room-step, room-some, encoded_len-le)
 pub encode-len-requires : goal.encode-len-requires
 encode-len-requires c = grind (arith, room, length-take, length-drop)
 
--- the frame and a zero fit behind those that are written
+-- the frame and a zero fit after those that are written
 fits : (c : After-encode-len) → (c.by_message.end + (c.encode-len.result + 1) ≤ length c.by_message.dest) × (c.by_message.end + length c.encode-len.new.dest ≡ length c.by_message.dest)
 fits c = grind (arith, room-step, room-some, encoded_len-le, length-take, length-drop)
 

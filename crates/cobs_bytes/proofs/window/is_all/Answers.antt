@@ -8,7 +8,7 @@ use Rattle.cobs_bytes.proofs.window.is_all.Goals as goal
 bit-other : (byte b : ℕ) → b ≢ byte → ◌≡◌ {A = ℕ} (cond (not (eqb b byte)) 1 0) 1
 bit-other byte b other = ap (λ t. cond (not t) 1 0) (ne_eqb b byte other)
 
--- where the mask has no bit each lane is the byte
+-- if no bit of the mask is set, each lane is the byte
 all_alike : (byte : ℕ) (xs : List ℕ) → mask_l (map (λ x. not (eqb x byte)) xs) ≡ 0 → xs ≡ replicate (length xs) byte
 all_alike byte [] e = refl
 all_alike byte (x ∷ xs) e = elim (cases_eq x byte) [

@@ -18,7 +18,7 @@ by_byte-preserved c =
     ] in
     rw (take_more frame i 0 c.by_byte-test.true, items) next
 
--- the state behind all of the frame
+-- the state after all of the frame
 pub returns-then-is_complete : goal.returns-then-is_complete
 returns-then-is_complete c =
     let frame : List ℕ = c.args.frame.now in

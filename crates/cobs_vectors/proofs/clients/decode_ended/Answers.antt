@@ -5,7 +5,7 @@ use Rattle.cobs.specs.Headline.{BeginsWith, PushesMessage}
 use Rattle.cobs_vectors.proofs.clients.decode_ended.Goals as goal
 use Rattle.cobs_vectors.proofs.clients.decode_ended.Goals.{After-push}
 
--- both halves of what the push reports
+-- both halves of the push's report
 reported : (c : After-push) (m : List ℕ) → PushesMessage c.push.result (borrowed_buffer c.push.new.self) m ↔ (Reads c.args.piece.now m × (length m ≤ length (borrowed_buffer c.new-decoder.result)))
 reported c m =
     let idle = c.new-decoder.ensures.phase in (

@@ -4,7 +4,7 @@ use Rattle.cobs.specs.Grammar.{IsEncodedFrame}
 use Rattle.cobs.specs.Length.{encoded_len}
 use Rattle.cobs_vectors.proofs.clients.encode_two.Goals as goal
 
--- what is the same from one place on is so from a later one
+-- lists that are the same from one place on are so from a later one
 drop_later : (a b : ℕ) (xs ys : List ℕ) → a ≤ b → drop a xs ≡ drop a ys → drop b xs ≡ drop b ys
 drop_later a b xs ys h e =
     let k : b ≡ a + (b - a) = omega arith in

@@ -2,7 +2,7 @@ use Rattle.std.proofs.Common.{◌≡◌, ◌++◌, ◌-◌, ◌<◌, drop, lengt
 use Rattle.cobs.specs.Piece.{is_whole, kept_output}
 use Rattle.cobs_vectors.proofs.own_coders.decode_by_code.Given as goal
 
--- what the blocks so far gave
+-- the output of the blocks so far
 abbrev pub invariant-by_block : goal.invariant-by_block
 invariant-by_block l = record {
   within : l.read < length l.piece;

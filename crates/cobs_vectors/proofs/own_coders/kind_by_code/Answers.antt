@@ -11,14 +11,14 @@ frame_of : (f : List ℕ) → IsCanonical f → IsFrame f
 frame_of f is = (message_of is.blocks, record { blocks = is.blocks; frame = is.frame; message = refl })
 
 module _ (list : List ℕ) (read : ℕ) (nonzero : HasNoZero list) (within : read < length list) (below : get_or list read 0 < 256) where
-  -- what is left is a block
+  -- the rest is a block
   one_left : ((block : List ℕ) → IsBlock block → IsCanonical block) → length list - read ≡ get_or list read 0 → IsCanonical (drop read list)
   one_left one end = subst IsCanonical (sym (last list read nonzero within end)) (one (block_at list read) (is_block list read nonzero within (omega arith) below))
 
   lone_left : drop read list ≡ lone_block → get_or list read 0 ≡ 1
   lone_left lone = ap (λ (x : List ℕ). get_or x 0 0) (sym (drop_more list read 0 within) ∙ lone)
 
-  -- what is left is a block and more
+  -- the rest is a block and more
   module _ (far : get_or list read 0 < length list - read) where
     more_some : drop (read + get_or list read 0) list ≢ []
     more_some none = let l = length-drop (read + get_or list read 0) list in let e = ap length none in omega arith

@@ -5,7 +5,7 @@ use Rattle.cobs.specs.Headline.{PushesMessage}
 use Rattle.cobs_vectors.proofs.receivers.push_reads_unbuffered.Goals as goal
 use Rattle.cobs_vectors.proofs.receivers.push_reads_unbuffered.Goals.{After-push}
 
--- both halves of what the push reports
+-- both halves of the push's report
 reported : (c : After-push) (m : List ℕ) → PushesMessage c.push.result c.push.new.dest m ↔ (Reads c.args.piece.now m × (length m ≤ length c.args.dest.now))
 reported c m =
     let below = All-from_get_or (λ b. b < 256) c.args.ended.now 0 (λ i within. (c.type_inv.ended i).fits) in

@@ -57,7 +57,7 @@ module _ (h old b1 : List ℕ) (tail run : ℕ) (inner : UnbufferedDecoder) (tai
         let l = length-take-le tail h (omega arith) in
         omega (arith, left-is, tail_left p (length h) (omega arith) (All-take (λ b. b < 256) tail h below), length-drop tail h)
 
-    -- some of those behind them
+    -- some of the bytes after them
     module _ (b2 : List ℕ) (inner' : UnbufferedDecoder) (len more : ℕ) (kept : output (p ++ take len q) ≡ kept_output (p ++ q)) (fed' : FeedsQuietly b1 (phase_of inner) (take more (take len q)) b2 (phase_of inner')) where
       second_stop : more < len → len ≤ length q → next_phase (length b2) (phase_of inner') (get_or (take len q) more 0) ≡ Overlong → Stopped h old b2
       second_stop short fits over =

@@ -15,7 +15,7 @@ use Rattle.cobs.proofs.dec.in_place.decode_span_in_place.Goals as goal
 use Rattle.cobs_bytes.proofs.bytes.XoredLemmas.{xor_each-zero}
 use Rattle.cobs_bytes.proofs.bytes.ListLemmas.{drop-later, part-nonzero}
 
--- the bytes of a buffer that were copied beside, behind its first one
+-- the bytes of a buffer after its first one, which were copied elsewhere
 module _ (old copied rest : List ℕ) (len : ℕ) (some : 1 < len) (most : len ≤ 65) (within : len ≤ length old) (is : copied ≡ xor_each 0 (take (len - 1) (drop 1 old)) ++ rest) where
   abbrev coded : List ℕ
   coded = set (put_mid 1 64 (replicate 65 0) copied) 0 (get_or old 0 0)
@@ -33,12 +33,12 @@ module _ (old copied rest : List ℕ) (len : ℕ) (some : 1 < len) (most : len �
       let head-is : h ≡ code ∷ take (len - 1) (drop 1 old) = ap (take len) (drop_more old 0 0 (omega arith)) ∙ ap (λ (k : ℕ). take k (code ∷ drop 1 old)) one in
       ap (λ (k : ℕ). take k coded) one ∙ ap (λ (l : List ℕ). code ∷ take (len - 1) l) (append-nil copied) ∙ ap (λ (l : List ℕ). code ∷ l) behind ∙ sym head-is
 
--- the bytes behind the first one have no zero either
+-- the bytes after the first one have no zero either
 behind-nonzero : (old : List ℕ) (len : ℕ) → 1 < len → HasNoZero (take len old) → HasNoZero (xor_each 0 (take (len - 1) (drop 1 old)))
 behind-nonzero old len some nz =
     subst HasNoZero (sym (xor_each-zero (take (len - 1) (drop 1 old)))) (part-nonzero 1 (len - 1) len old nz (omega arith))
 
--- the bytes behind the first one, moved to the front
+-- the bytes after the first one, moved to the front
 module _ (old moved : List ℕ) (len : ℕ) (some : 1 < len) (most : len ≤ 65) (within : len ≤ length old) (is : moved ≡ take (len - 1) (drop 1 old) ++ drop (len - 1) old)
     (first : get_or old 0 0 ≢ 0) (others : HasNoZero (xor_each 0 (take (len - 1) (drop 1 old)))) where
   abbrev code : ℕ

@@ -11,7 +11,7 @@ use Rattle.cobs.proofs.streaming.WalkLemmas.{as_piece, length-walked}
 use Rattle.cobs.proofs.dec.span.decode_span.Goals as goal
 use Rattle.cobs_bytes.proofs.bytes.XoredLemmas.{xor_twice}
 
--- the bytes behind the first one, copied
+-- the bytes after the first one, copied
 module _ (source dest rest : List ℕ) (s : ℕ) (some : 0 < length source) (copied : dest ≡ xor_each s (take (length source - 1) (drop 1 source)) ++ rest) where
   abbrev behind : List ℕ
   behind = take (length source - 1) dest

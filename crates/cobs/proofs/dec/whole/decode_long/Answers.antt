@@ -17,7 +17,7 @@ use Rattle.cobs.proofs.decoding.OutcomeLemmas.{head-cons, head-zero}
 use Rattle.cobs.proofs.streaming.QuietLemmas.{Quiet, quiet, quiet-piece, quiet-at, quiet-full, quiet-long, quiet-written}
 use Rattle.cobs.proofs.dec.whole.decode_long.Goals as goal
 
--- what is before the first zero begins with bytes that are none
+-- the bytes before the first zero begin with bytes that aren't zeros
 head-front : (source : List ℕ) (n : ℕ) → HasNoZero (take n source) → head source ≡ take n source ++ head (drop n source)
 head-front source zero none = refl
 head-front [] (suc n) none = refl
@@ -60,7 +60,7 @@ module _ (source old new : List ℕ) (phase : Phase) (run : ℕ) (begins : 0 < l
     count : run ≡ length (head source)
     count = sym (length-take-le run source within) ∙ ap length all
 
--- what is behind the leading zeros
+-- the bytes after the leading zeros
 module _ (source : List ℕ) (start : ℕ) (is : start ≡ leading_zeros source) (more : start < length source) where
   abbrev rest : List ℕ
   rest = take (length source - start) (drop start source)

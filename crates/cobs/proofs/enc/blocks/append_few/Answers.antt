@@ -1,4 +1,4 @@
--- Each byte is written behind the open block's bytes (`written`), and then joins them or, if it is a zero, closes the block.
+-- Each byte is written after the open block's bytes (`written`), and then joins them or, if it is a zero, closes the block.
 use Rattle.std.proofs.Common.{◌≡◌, ◌<◌, ◌+◌, ◌-◌, false, ℕ, List, get_or, refl, sym, arith}
 use Rattle.std.proofs.Math.ListN.{set}
 use Rattle.std.proofs.lemmas.List.{length-set}

@@ -16,7 +16,7 @@ use Rattle.cobs_bytes.proofs.bytes.ListLemmas.{part-nonzero}
 pub by_block-init : goal.by_block-init
 by_block-init c = record { within = omega arith; taken = front-none c.args.dest.now (reached_at c.args.progress) c.args.source.now c.requires.place }
 
--- what is left fits
+-- the remaining bytes fit
 left-fits : (c : After-min-len) → end_after (reached_at c.by_block.progress) (drop c.by_block.read c.args.source.now) ≤ length c.by_block.dest
 left-fits c = let e = c.by_block.invariant.taken.end in omega arith
 

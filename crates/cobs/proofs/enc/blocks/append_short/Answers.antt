@@ -1,4 +1,4 @@
--- The source is one window (`short-copied`), of which each call of `mark_first` and `mark_zeros` keeps what the mask describes.
+-- The source is one window (`short-copied`). After each call of `mark_first` and `mark_zeros` the mask still describes it.
 use Rattle.std.proofs.Common.{length, refl, arith}
 use Rattle.cobs.specs.OpenBlock.{next_of}
 use Rattle.cobs.specs.Fields.Progress.{reached_at}

@@ -1,4 +1,4 @@
--- Each turn keeps what the mask describes, by `marks` of `mark_first`.
+-- After each iteration the mask still describes the window, by `marks` of `mark_first`.
 use Rattle.cobs.proofs.enc.blocks.mark_zeros.Goals as goal
 
 pub mark_first-requires-then-zeros-ne0 : goal.mark_first-requires-then-zeros-ne0

@@ -2,7 +2,7 @@ use Rattle.std.proofs.Common.{◌≡◌, ◌+◌, ◌<◌, drop}
 use Rattle.cobs.specs.Length.{open_len}
 use Rattle.cobs.proofs.enc.room.fits_each.Given as goal
 
--- what the bytes that are left need is what all of them need, less what is used up
+-- the frame fits exactly if it does with the remaining bytes and the spare bytes that are left for them
 abbrev pub invariant-by_byte : goal.invariant-by_byte
 invariant-by_byte l = record {
   some : 0 < l.code;

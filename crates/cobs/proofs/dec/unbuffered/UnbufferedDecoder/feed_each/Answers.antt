@@ -20,7 +20,7 @@ module _ (bytes : List ℕ) (s i : ℕ) (within : i < length bytes) where
   inside : i < length (xor_each s bytes)
   inside = omega (arith, length-map bytes (λ b. bit_xor b s))
 
-  -- what is fed is that byte
+  -- the byte that is fed
   feeds : {buffer buffer' : List ℕ} {phase phase' : Phase} {result : Result (Option ℕ) DecodeError} (byte : ℕ) → bit_xor (get_or bytes i 0) s ≡ byte → Feeds buffer phase byte result buffer' phase'
       → Feeds buffer phase (get_or (xor_each s bytes) i 0) result buffer' phase'
   feeds byte is fed = rw (coded, is) fed

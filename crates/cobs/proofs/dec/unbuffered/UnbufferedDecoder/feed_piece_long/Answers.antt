@@ -18,7 +18,7 @@ passed c =
     piece-over c.args.bytes.now c.by_run.taken _ (omega (arith, e.within, length-take (length c.args.bytes.now - c.by_run.taken) (drop c.by_run.taken c.args.bytes.now), length-drop c.by_run.taken c.args.bytes.now))
     (rw (take_rest c.args.bytes.now c.by_run.taken) at e.before) (rw (over_is c.by_run.self c.if-self-ne0.true) at c.by_run.invariant.none_ended)
 
--- behind the run
+-- after the run
 ran : (c : After-take_run-taken)
     → TakesPiece c.args.dest.now (phase_of c.args.self.now) (take (c.by_run.taken + c.take_run-taken.result) c.args.bytes.now) None c.take_run-taken.new.dest (phase_of c.take_run-taken.new.self)
 ran c = piece-run c.args.bytes.now _ _ (grind (arith, length-drop, length-take)) c.by_run.invariant.none_ended (rw take_rest at c.take_run-taken.ensures.fed)

@@ -8,7 +8,7 @@ use Rattle.cobs.proofs.dec.unbuffered.UnbufferedDecoder.push_long.Goals.{After-t
 pub by_run-init : goal.by_run-init
 by_run-init c = record { within = omega arith; pushed = Pushed-start _ _ _ }
 
--- behind the run
+-- after the run
 ran : (c : After-take_at_once-at) → Pushed c.args.dest.now (phase_of c.args.self.now) c.take_at_once-at.new.dest (phase_of c.take_at_once-at.new.self) c.args.bytes.now (c.by_run.at + c.take_at_once-at.result)
 ran c = pushed_fed c.args.bytes.now _ _ (grind (arith, length-drop, length-take)) c.by_run.invariant.pushed (rw take_rest at c.take_at_once-at.ensures.fed)
 

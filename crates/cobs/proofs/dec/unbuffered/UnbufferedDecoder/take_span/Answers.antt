@@ -8,7 +8,7 @@ use Rattle.cobs.proofs.format.SentinelLemmas.{front_xored}
 use Rattle.cobs.proofs.streaming.SpanLemmas.{copied_put, copied-there}
 use Rattle.cobs.proofs.dec.unbuffered.UnbufferedDecoder.take_span.Goals as goal
 
--- the first n bytes, copied behind the output
+-- the first n bytes, copied to the end of the output
 module _ (bytes dest ys : List ℕ) (s n at : ℕ) (within : n ≤ length bytes) (room : at + n ≤ length dest)
     (copied : ys ≡ xor_each s (take n bytes) ++ drop (length (take n bytes)) (take (length dest - at) (drop at dest))) where
   abbrev xs : List ℕ
