@@ -56,9 +56,7 @@ pub(crate) fn len_without_end(source: &[u8], sentinel: u8) -> usize {
     }
 }
 
-/// Returns the length of the source before a zero among its first 66 bytes, or its whole length if none was found there. In a
-/// source of 32 to 63 bytes only the first 32 are searched, and in one of 64 or 65 bytes the first 64.
-// A search of the other bytes too would slow down a source whose zero is its last byte, such as a frame in a push of its own.
+/// Returns the index of the first zero, if it is among the first 66 bytes, or else the source's length.
 #[inline(always)]
 pub(crate) fn front_len(source: &[u8]) -> usize {
     if source.len() < WINDOW {
@@ -68,21 +66,18 @@ pub(crate) fn front_len(source: &[u8]) -> usize {
     if zeros != 0 {
         return zeros.trailing_zeros() as usize;
     }
-    if source.len() < WIDE_WINDOW {
-        return source.len();
-    }
-    let later = zeros_at::<32>(source, WINDOW);
+    // The two windows overlap if the source is shorter than both.
+    let at = WINDOW.min(source.len() - WINDOW);
+    let later = zeros_at::<32>(source, at);
     if later != 0 {
-        return WINDOW + later.trailing_zeros() as usize;
+        return at + later.trailing_zeros() as usize;
     }
     // The frames of messages of 63 and 64 bytes end here.
-    if WIDE_WINDOW + 1 < source.len() {
-        if source[WIDE_WINDOW] == 0 {
-            return WIDE_WINDOW;
-        }
-        if source[WIDE_WINDOW + 1] == 0 {
-            return WIDE_WINDOW + 1;
-        }
+    if WIDE_WINDOW < source.len() && source[WIDE_WINDOW] == 0 {
+        return WIDE_WINDOW;
+    }
+    if WIDE_WINDOW + 1 < source.len() && source[WIDE_WINDOW + 1] == 0 {
+        return WIDE_WINDOW + 1;
     }
     source.len()
 }

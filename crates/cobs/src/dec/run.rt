@@ -238,36 +238,7 @@ impl UnbufferedDecoder {
         *self = begun;
     }
 
-    /// Takes the code at the front of a piece and the bytes after it at once, and returns whether it did. It takes 2 to
-    /// 65 bytes if they end the piece, and otherwise 2 to 31, if none of them is a zero and they have room. With more
-    /// bytes a search is faster. `zeros` is 0 only if no zero follows these bytes.
-    #[inline(always)]
-    pub(crate) fn take_begun(&mut self, dest: &mut [u8], bytes: &[u8], zeros: usize) -> bool
-        requires idle { phase_of self.old ≡ Idle }
-        ensures fed { IsTrue result → FeedsQuietly dest.old (phase_of self.old) bytes.now dest.new (phase_of self.new) }
-        ensures begun { IsTrue result → (self.new.too_long ≡ 0) × (0 < self.new.written) }
-        ensures kept { result ≡ false → (dest.new ≡ dest.old) × (self.new ≡ self.old) }
-    {
-        let len = bytes.len();
-        if len < 2 || WIDE_WINDOW + 1 < len || dest.len() < len - 1 {
-            return false;
-        }
-        if zeros == 0 && WINDOW <= len {
-            return false;
-        }
-        let code = bytes[0];
-        // Rows of codes without bytes are written at once, by `take_part`.
-        if code == 1 && WINDOW <= len && is_all(bytes, 0, 1) {
-            return false;
-        }
-        if code == 0 || !copy_xored_short(&bytes[1..], dest, 0) {
-            return false;
-        }
-        self.begin(dest, code, &bytes[1..]);
-        true
-    }
-
-    /// Takes all bytes of a piece before the zero that ends it at once, if they are 2 or more and have room. Returns whether it did.
+    /// Takes the first bytes of a piece at once, none of them a zero, if they are 2 or more and have room. Returns whether it did.
     #[inline(always)]
     pub(crate) fn take_front(&mut self, dest: &mut [u8], bytes: &[u8]) -> bool
         requires idle { phase_of self.old ≡ Idle }

@@ -1,10 +1,10 @@
 // Made by bindings/rust/translate.py from `crates/cobs/src/dec/unbuffered.rt`: change that file, and run it again.
 //! The streaming decoder whose buffer is passed to each call. The three others are built on it.
 
-use crate::proved::cobs_bytes::window::has_vectors;
+use crate::proved::cobs_bytes::window::{WINDOW, has_vectors};
 use crate::proved::dec::frame_decoder::PieceEnd;
 use crate::proved::error::{DecodeError, DecodeReport, PushError};
-use crate::proved::find::{front_len, len_without_end, position_or_len};
+use crate::proved::find::{front_len, position_or_len};
 
 /// The state of an [`UnbufferedDecoder`].
 ///
@@ -277,21 +277,16 @@ impl UnbufferedDecoder {
         }
         if VERY_FEW < bytes.len() {
             if self.is_idle() {
-                // One piece and its zero, as a read of a line or a datagram often returns them.
-                let len = len_without_end(bytes, 0);
-                if len < bytes.len() && self.take_begun(dest, &bytes[..len], 1) {
-                    let end = PieceEnd::reported(self.feed(dest, 0))?;
-                    return Some((end, bytes.len()));
-                }
-                // A short piece, and more bytes after it.
+                // A short piece is taken with its end, and of a longer one the first bytes, if they are fewer than 32.
+                // If there are more, a search by memchr is faster.
                 let front = front_len(bytes);
-                if front < bytes.len() {
-                    if self.take_front(dest, &bytes[..front]) {
-                        let end = PieceEnd::reported(self.feed(dest, 0))?;
-                        return Some((end, front + 1));
+                let is_all = front == bytes.len();
+                if (!is_all || front < WINDOW) && self.take_front(dest, &bytes[..front]) {
+                    if is_all {
+                        return None;
                     }
-                } else if self.take_begun(dest, bytes, 0) {
-                    return None;
+                    let end = PieceEnd::reported(self.feed(dest, 0))?;
+                    return Some((end, front + 1));
                 }
             } else if self.take_short(dest, bytes) {
                 return None;

@@ -11,7 +11,7 @@ use Rattle.cobs.proofs.streaming.ByByteLemmas.{piece-nothing, piece-ended}
 use Rattle.cobs.proofs.streaming.RunLemmas.{piece-run}
 use Rattle.cobs.proofs.dec.unbuffered.UnbufferedDecoder.feed_piece.Goals as goal
 use Rattle.cobs_bytes.proofs.bytes.XoredLemmas.{xor_each-zero}
-use Rattle.cobs.proofs.dec.unbuffered.UnbufferedDecoder.feed_piece.Goals.{then-bytes-gt-VERY_FEW+then-is_idle+else-len-bytes+then-front-bytes+else-take_front, then-bytes-gt-VERY_FEW+then-is_idle+else-len-bytes+else-front-bytes+else-take_begun-2, else-len-bytes-via-then-len-bytes+else-take_begun, else-len-bytes-via-else-len-bytes, then-bytes-gt-VERY_FEW+else-is_idle+else-take_short, else-bytes-gt-VERY_FEW}
+use Rattle.cobs.proofs.dec.unbuffered.UnbufferedDecoder.feed_piece.Goals.{then-bytes-gt-VERY_FEW+then-is_idle+else-front-lt-WINDOW, else-front-lt-WINDOW-via-then-front-lt-WINDOW+else-take_front, else-front-lt-WINDOW-via-else-front-lt-WINDOW, then-bytes-gt-VERY_FEW+else-is_idle+else-take_short, else-bytes-gt-VERY_FEW}
 
 -- bytes were fed of which none ends a piece
 quietly : (bytes buffer buffer' : List ℕ) (phase phase' : Phase) → FeedsQuietly buffer phase bytes buffer' phase' → TakesPiece buffer phase bytes None buffer' phase'
@@ -60,47 +60,22 @@ module _ (bytes buffer between buffer' : List ℕ) (phase phase_between phase' :
 pub returns-then-not-has_vectors : goal.returns-then-not-has_vectors
 returns-then-not-has_vectors c = record { takes = rw (xor_each-zero c.args.bytes.now) at c.feed_each.ensures.takes }
 
+pub returns-then-is_all : goal.returns-then-is_all
+returns-then-is_all c =
+    let all = take_all c.front_len-front.result c.args.bytes.now (omega (arith, c.if-is_all.true)) in
+    record { takes = quietly _ _ _ _ _ (rw all at c.take_front.ensures.fed c.if-take_front.true) }
+
 pub returns-in_err-end : goal.returns-in_err-end
 returns-in_err-end c =
-    let n = c.take_begun.new.self in
-    let begun = c.take_begun.ensures.begun c.if-take_begun.true in
-    absurd (ended_by n.written n.missing n.joint n.too_long _ _ _ _ begun.0 begun.1 c.feed.ensures.feeds (sym c.in_err-end.ensures.end))
-
-pub returns-then-take_begun : goal.returns-then-take_begun
-returns-then-take_begun c =
-    let e = c.len_without_end-len.ensures in
-    let within : c.len_without_end-len.result < length c.args.bytes.now = omega (arith, c.if-len-bytes.true) in
-    let whole : c.len_without_end-len.result + 1 ≡ length c.args.bytes.now = omega (arith, e.last, within) in
-    let taken = ended _ _ _ _ _ _ _ _ _ within (e.stop within) (c.take_begun.ensures.fed c.if-take_begun.true) c.feed.ensures.feeds _ (sym c.in_ok-end.ensures.end) in
-    record { takes = rw whole at taken }
-
-pub returns-in_err-end-2 : goal.returns-in_err-end-2
-returns-in_err-end-2 c =
     let n = c.take_front.new.self in
     let begun = c.take_front.ensures.begun c.if-take_front.true in
-    absurd (ended_by n.written n.missing n.joint n.too_long _ _ _ _ begun.0 begun.1 c.feed-then-take_front.ensures.feeds (sym c.in_err-end-2.ensures.end))
+    absurd (ended_by n.written n.missing n.joint n.too_long _ _ _ _ begun.0 begun.1 c.feed.ensures.feeds (sym c.in_err-end.ensures.end))
 
 pub returns-then-take_front : goal.returns-then-take_front
 returns-then-take_front c =
-    let within : c.front_len-front.result < length c.args.bytes.now = omega (arith, c.if-front-bytes.true) in
     let e = c.front_len-front.ensures in
-    let taken = ended _ _ _ _ _ _ _ _ _ within (e.stop within) (c.take_front.ensures.fed c.if-take_front.true) c.feed-then-take_front.ensures.feeds _ (sym c.in_ok-end-2.ensures.end) in
-    elim c.else-len-bytes.branch [
-      | else-len-bytes-via-then-len-bytes+else-take_begun w ↦
-          let kept = w.take_begun.ensures.kept w.if-take_begun.false in
-          record { takes = rw (w.dest-is, w.self-is, kept.0, kept.1) at taken }
-      | else-len-bytes-via-else-len-bytes w ↦ record { takes = rw (w.dest-is, w.self-is) at taken }
-    ]
-
-pub returns-then-take_begun-2 : goal.returns-then-take_begun-2
-returns-then-take_begun-2 c =
-    let taken = quietly _ _ _ _ _ (c.take_begun-else-front-bytes.ensures.fed c.if-take_begun-2.true) in
-    elim c.else-len-bytes.branch [
-      | else-len-bytes-via-then-len-bytes+else-take_begun w ↦
-          let kept = w.take_begun.ensures.kept w.if-take_begun.false in
-          record { takes = rw (w.dest-is, w.self-is, kept.0, kept.1) at taken }
-      | else-len-bytes-via-else-len-bytes w ↦ record { takes = rw (w.dest-is, w.self-is) at taken }
-    ]
+    let within : c.front_len-front.result < length c.args.bytes.now = omega (arith, c.if-is_all.false, e.within) in
+    record { takes = ended _ _ _ _ _ _ _ _ _ within (e.stop within) (c.take_front.ensures.fed c.if-take_front.true) c.feed.ensures.feeds _ (sym c.in_ok-end.ensures.end) }
 
 pub returns-then-take_short : goal.returns-then-take_short
 returns-then-take_short c = record { takes = quietly _ _ _ _ _ (c.take_short.ensures.fed c.if-take_short.true) }
@@ -109,23 +84,13 @@ pub returns-then-bytes-le-FEW : goal.returns-then-bytes-le-FEW
 returns-then-bytes-le-FEW c =
     let taken = rw (xor_each-zero c.args.bytes.now) at c.feed_each-then-bytes-le-FEW.ensures.takes in
     elim c.if-bytes-gt-VERY_FEW.branch [
-      | then-bytes-gt-VERY_FEW+then-is_idle+else-len-bytes+then-front-bytes+else-take_front w ↦
-          let kept = w.take_front.ensures.kept w.if-take_front.false in
-          let rest = rw (w.dest-is, w.self-is, kept.0, kept.1) at taken in
-          elim w.else-len-bytes.branch [
-            | else-len-bytes-via-then-len-bytes+else-take_begun v ↦
-                let before = v.take_begun.ensures.kept v.if-take_begun.false in
-                record { takes = rw (v.dest-is, v.self-is, before.0, before.1) at rest }
-            | else-len-bytes-via-else-len-bytes v ↦ record { takes = rw (v.dest-is, v.self-is) at rest }
-          ]
-      | then-bytes-gt-VERY_FEW+then-is_idle+else-len-bytes+else-front-bytes+else-take_begun-2 w ↦
-          let kept = w.take_begun-else-front-bytes.ensures.kept w.if-take_begun-2.false in
-          let rest = rw (w.dest-is, w.self-is, kept.0, kept.1) at taken in
-          elim w.else-len-bytes.branch [
-            | else-len-bytes-via-then-len-bytes+else-take_begun v ↦
-                let before = v.take_begun.ensures.kept v.if-take_begun.false in
-                record { takes = rw (v.dest-is, v.self-is, before.0, before.1) at rest }
-            | else-len-bytes-via-else-len-bytes v ↦ record { takes = rw (v.dest-is, v.self-is) at rest }
+      | then-bytes-gt-VERY_FEW+then-is_idle+else-front-lt-WINDOW w ↦
+          let rest = rw (w.dest-is, w.self-is) at taken in
+          elim w.else-front-lt-WINDOW.branch [
+            | else-front-lt-WINDOW-via-then-front-lt-WINDOW+else-take_front v ↦
+                let kept = v.take_front.ensures.kept v.if-take_front.false in
+                record { takes = rw (v.dest-is, v.self-is, kept.0, kept.1) at rest }
+            | else-front-lt-WINDOW-via-else-front-lt-WINDOW v ↦ record { takes = rw (v.dest-is, v.self-is) at rest }
           ]
       | then-bytes-gt-VERY_FEW+else-is_idle+else-take_short w ↦
           let kept = w.take_short.ensures.kept w.if-take_short.false in
@@ -137,23 +102,13 @@ pub returns : goal.returns
 returns c =
     let taken = c.feed_piece_long.ensures.takes in
     elim c.if-bytes-gt-VERY_FEW.branch [
-      | then-bytes-gt-VERY_FEW+then-is_idle+else-len-bytes+then-front-bytes+else-take_front w ↦
-          let kept = w.take_front.ensures.kept w.if-take_front.false in
-          let rest = rw (w.dest-is, w.self-is, kept.0, kept.1) at taken in
-          elim w.else-len-bytes.branch [
-            | else-len-bytes-via-then-len-bytes+else-take_begun v ↦
-                let before = v.take_begun.ensures.kept v.if-take_begun.false in
-                record { takes = rw (v.dest-is, v.self-is, before.0, before.1) at rest }
-            | else-len-bytes-via-else-len-bytes v ↦ record { takes = rw (v.dest-is, v.self-is) at rest }
-          ]
-      | then-bytes-gt-VERY_FEW+then-is_idle+else-len-bytes+else-front-bytes+else-take_begun-2 w ↦
-          let kept = w.take_begun-else-front-bytes.ensures.kept w.if-take_begun-2.false in
-          let rest = rw (w.dest-is, w.self-is, kept.0, kept.1) at taken in
-          elim w.else-len-bytes.branch [
-            | else-len-bytes-via-then-len-bytes+else-take_begun v ↦
-                let before = v.take_begun.ensures.kept v.if-take_begun.false in
-                record { takes = rw (v.dest-is, v.self-is, before.0, before.1) at rest }
-            | else-len-bytes-via-else-len-bytes v ↦ record { takes = rw (v.dest-is, v.self-is) at rest }
+      | then-bytes-gt-VERY_FEW+then-is_idle+else-front-lt-WINDOW w ↦
+          let rest = rw (w.dest-is, w.self-is) at taken in
+          elim w.else-front-lt-WINDOW.branch [
+            | else-front-lt-WINDOW-via-then-front-lt-WINDOW+else-take_front v ↦
+                let kept = v.take_front.ensures.kept v.if-take_front.false in
+                record { takes = rw (v.dest-is, v.self-is, kept.0, kept.1) at rest }
+            | else-front-lt-WINDOW-via-else-front-lt-WINDOW v ↦ record { takes = rw (v.dest-is, v.self-is) at rest }
           ]
       | then-bytes-gt-VERY_FEW+else-is_idle+else-take_short w ↦
           let kept = w.take_short.ensures.kept w.if-take_short.false in
