@@ -10,64 +10,76 @@ use lib.Count.{count_trailing_zeros}
 use Rattle.std.specs.Int.Bits.{bit_and}
 use Rattle.std.specs.Int.Count.{trailing_of_zero}
 use Rattle.cobs.specs.Grammar.{HasNoZero}
-use Rattle.cobs.specs.OpenBlock.{Reached, end_after, next_of}
+use Rattle.cobs.specs.OpenBlock.{Reached, end_after, next_of, place_at}
 use Rattle.cobs.specs.Internal.Marks.{IsMasked, IsMaskedAt}
 use Rattle.cobs.specs.Internal.Reaches.{Reaches, Start, start_with, whole_end}
 use Rattle.cobs.specs.Internal.Taking.{TakesFront}
 use Rattle.cobs_bytes.specs.Mask.{zero_mask}
 use Rattle.cobs_bytes.proofs.bytes.ListLemmas.{behind-three, front-three, mid-three}
 use Rattle.cobs_bytes.proofs.bytes.MaskLemmas.{mask_behind, mask_behind-none, mask_behind-and, some_left, lowest_bit, lowest_left, nonzero_len, nonzero_len-lt, nonzero_len-before, nonzero_len-at, clear_front}
-use Rattle.cobs.proofs.encoding.AfterLemmas.{at}
-use Rattle.cobs.proofs.encoding.ReachLemmas.{Reaches-at, Reaches-same, Reaches-full, Reaches-join, Reaches-zero, Reaches-zeros, IsNotFull, least}
+use Rattle.cobs.proofs.encoding.ReachLemmas.{Reaches-at, Reaches-weaker, Reaches-same, Reaches-full, Reaches-join, Reaches-zero, Reaches-zeros, IsNotFull, least}
 use Rattle.cobs.proofs.encoding.TakingLemmas.{front-taken, reaches-start}
 
--- A window of len bytes at `read` was copied after the open block, and so `slice` became `after`; the bits say where its
--- zeros are.
-pub record Copied (s : Start) (slice after : List ℕ) (read len index next zeros : ℕ) : Type 0 where
-  pub some : 0 < len
-  pub few : len ≤ 32
+-- len bytes of a source at `read` were copied behind the open block, where `slice` became `after`
+pub record Copied (s : Start) (slice after : List ℕ) (read len index next : ℕ) : Type 0 where
   pub inside : read + len ≤ length s.source
   pub fits : whole_end s ≤ length slice
-  pub short : next < index + 255
   pub reaches : Reaches s slice read index next (λ _. Unit {0})
   pub is : after ≡ take next slice ++ (take len (drop read s.source) ++ drop (next + len) slice)
-  pub bits : zeros ≡ zero_mask (take len (drop read s.source))
 
-module _ {s : Start} {slice after : List ℕ} {read len index next zeros : ℕ} (w : Copied s slice after read len index next zeros) where
-  least' : next + (length s.source - read) ≤ whole_end s
-  least' = least s read index next w.reaches.ordered w.reaches.within w.reaches.room
+module _ {s : Start} {slice after : List ℕ} {read len index next : ℕ} (c : Copied s slice after read len index next) where
+  abbrev row : List ℕ
+  row = take len (drop read s.source)
 
-  pub length-window : length (take len (drop read s.source)) ≡ len
-  length-window = length-take-le len (drop read s.source) (let l = length-drop read s.source in omega arith)
+  pub length-row : length row ≡ len
+  length-row = length-take-le len (drop read s.source) (let l = length-drop read s.source in omega arith)
+
+  pub length-after : whole_end s ≤ length after
+  length-after = let l = least c.reaches in grind (arith, length-row, length-append, length-take-le, length-drop)
 
   pub copied-reaches : Reaches s after read index next (λ _. Unit {0})
   copied-reaches =
-      let l = least' in
-      Reaches-same s slice read index next (λ _. Unit {0}) (λ _. Unit {0}) after
-      (ap (take next) w.is ∙ front-three slice (take len (drop read s.source)) next len length-window (omega arith))
-      (ap (drop (whole_end s)) w.is ∙ behind-three slice (take len (drop read s.source)) next len length-window (omega arith) (whole_end s) (omega arith)) w.reaches
+      let l = least c.reaches in
+      Reaches-same c.reaches after (rw c.is (front-three slice row next len length-row (omega arith)))
+      (rw c.is (behind-three slice row next len length-row (omega arith) (whole_end s) (omega arith)))
 
-  copied-here : take len (drop next after) ≡ take len (drop read s.source)
-  copied-here = let l = least' in ap (λ (x : List ℕ). take len (drop next x)) w.is ∙ mid-three slice (take len (drop read s.source)) next len length-window (omega arith)
+  copied-here : take len (drop next after) ≡ row
+  copied-here = let l = least c.reaches in rw c.is (mid-three slice row next len length-row (omega arith))
 
-  pub length-after : whole_end s ≤ length after
-  length-after = grind (arith, least', length-window, length-append, length-take-le, length-drop)
+  -- the first k of them, which aren't zeros, join the open block
+  copied-joins : (k : ℕ) → 0 < k → k ≤ len → next + k ≤ index + 255 → HasNoZero (take k (drop read s.source)) → Reaches s after (read + k) index (next + k) IsNotFull
+  copied-joins k some le short nonzero =
+      let here = sym (take-take k len (drop next after) le) ∙ ap (take k) copied-here ∙ take-take k len (drop read s.source) le in
+      Reaches-join copied-reaches length-after k (let i = c.inside in omega arith) short nonzero here (λ full z p. absurd (omega arith)) (λ z. refl)
+
+-- such bytes are a window, whose bits say where its zeros are
+pub record CopiedWindow (s : Start) (slice after : List ℕ) (read len index next zeros : ℕ) : Type 0 where
+  pub some : 0 < len
+  pub few : len ≤ 32
+  pub short : next < index + 255
+  pub copied : Copied s slice after read len index next
+  pub bits : zeros ≡ zero_mask (take len (drop read s.source))
+
+module _ {s : Start} {slice after : List ℕ} {read len index next zeros : ℕ} (w : CopiedWindow s slice after read len index next zeros) where
+  abbrev window : List ℕ
+  window = take len (drop read s.source)
 
   -- a zero is within the window
   pub first-within : zeros ≢ 0 → count_trailing_zeros 64 zeros < len
   first-within some =
-      let row : List ℕ = take len (drop read s.source) in
-      let l = length-window in
-      let some' : zero_mask row ≢ 0 = λ none. some (w.bits ∙ none) in
-      let first = ap (count_trailing_zeros 64) w.bits ∙ lowest_bit row (omega arith) some' in
-      let lt = nonzero_len-lt row some' in
+      let l = length-row w.copied in
+      let some' : zero_mask window ≢ 0 = λ none. some (w.bits ∙ none) in
+      let first = ap (count_trailing_zeros 64) w.bits ∙ lowest_bit window (omega arith) some' in
+      let lt = nonzero_len-lt window some' in
       omega arith
 
   pub masked-start : min (count_trailing_zeros 64 zeros) len < index + 255 - next → IsMasked s read len next zeros index after
   masked-start near =
-      let l = least' in
-      let room = length-after in
-      grind (arith, copied-here, mask_behind, Reaches-at, copied-reaches)
+      let l = least w.copied.reaches in
+      let room = length-after w.copied in
+      let here = copied-here w.copied in
+      let reaches = copied-reaches w.copied in
+      grind (arith, mask_behind, Reaches-at)
 
   -- no zero is near enough to keep the block from being full
   pub filled : index + 255 - next ≤ min (count_trailing_zeros 64 zeros) len → read + (index + 255 - next) < length s.source
@@ -75,14 +87,11 @@ module _ {s : Start} {slice after : List ℕ} {read len index next zeros : ℕ} 
   filled none more =
       let until_full : ℕ = index + 255 - next in
       let sum : next + until_full ≡ index + 255 = omega arith in
-      let l = length-window in
+      let l = length-row w.copied in
       let near = ap (λ (n : ℕ). min (count_trailing_zeros 64 n) len) w.bits in
-      let row : List ℕ = take len (drop read s.source) in
-      let nonzero = subst HasNoZero (take-take until_full len (drop read s.source) (omega arith)) (clear_front row until_full (omega arith) (omega arith)) in
-      let here = sym (take-take until_full len (drop next after) (omega arith)) ∙ ap (take until_full) copied-here ∙ take-take until_full len (drop read s.source) (omega arith) in
-      let joined = Reaches-join s after read index next (λ _. Unit {0}) IsNotFull until_full (omega arith) (omega arith) length-after nonzero here (λ full z p. absurd (omega arith)) (λ z. refl) copied-reaches in
-      Reaches-full s after (read + until_full) index (index + 255) IsNotFull (λ noted. noted ≡ true) more refl length-after refl
-      (subst (λ (n : ℕ). Reaches s after (read + until_full) index n IsNotFull) sum joined)
+      let nonzero = rw (take-take until_full len (drop read s.source) (omega arith)) at (clear_front window until_full (omega arith) (omega arith)) in
+      let joined = copied-joins w.copied until_full (omega arith) (omega arith) (omega arith) nonzero in
+      Reaches-full (rw sum at joined) more refl (length-after w.copied) refl
 
 -- a window that is taken whole, and leaves its block open
 pub record WindowTaken (s : Start) (slice : List ℕ) (read len index next : ℕ) : Type 0 where
@@ -102,7 +111,7 @@ module _ {s : Start} {slice : List ℕ} {read len index next zeros d : ℕ} (m :
   masked-end none =
       let all : count_trailing_zeros 64 zeros ≡ 64 = ap (count_trailing_zeros 64) none ∙ trailing_of_zero 64 in
       let nonzero = mask_behind-none d left (sym m.bits ∙ none) in
-      let joined = Reaches-join s slice (read + d) index (next + d) (λ full. 0 < d → full ≡ false) IsNotFull (len - d) (omega arith) (omega arith) m.room nonzero m.here (λ full z p. p (omega arith)) (λ z. refl) m.reaches in
+      let joined = Reaches-join m.reaches {Q = IsNotFull} m.room (len - d) (omega arith) (omega arith) nonzero m.here (λ full z p. p (omega arith)) (λ z. refl) in
       grind (arith, Reaches-at, joined)
 
   -- another byte is in the place of the open block's code
@@ -140,8 +149,8 @@ module _ {s : Start} {slice : List ℕ} {read len index next zeros d : ℕ} (m :
         let here = sym (take-take j (len - d) (drop (next + d) slice) (omega arith)) ∙ ap (take j) m.here ∙ front in
         let zero_at : get_or s.source (read + d + j) 0 ≡ 0 =
         sym (get_or-drop (read + d) s.source j 0) ∙ sym (get_or-take (len - d) (drop (read + d) s.source) j 0 lt) ∙ nonzero_len-at left there in
-        let joined = Reaches-join s slice (read + d) index (next + d) (λ full. 0 < d → full ≡ false) (λ _. Unit {0}) j (omega arith) (omega arith) m.room nonzero here (λ full z p. tt) (λ z. tt) m.reaches in
-        let closed = Reaches-zero s slice (read + d + j) index (next + d + j) (λ _. Unit {0}) (λ full. 0 < k + 1 → full ≡ false) (omega arith) zero_at (omega arith) m.room (λ lt. refl) joined in
+        let joined = Reaches-join m.reaches {Q = λ _. Unit {0}} m.room j (omega arith) (omega arith) nonzero here (λ full z p. tt) (λ z. tt) in
+        let closed = Reaches-zero joined {Q = λ full. 0 < k + 1 → full ≡ false} m.room (omega arith) zero_at (omega arith) (λ lt. refl) in
         let code : next + d + j - index ≡ next + k - index = omega arith in
         let long = length-set slice index (next + k - index) in
         let rest : bit_and zeros (zeros - 1) ≡ mask_behind (d + j + 1) (drop (j + 1) left) = ap (λ (n : ℕ). bit_and n (n - 1)) m.bits ∙ mask_behind-and d left small some_bits in
@@ -183,28 +192,25 @@ masked-first {s} {slice} {read} {len} {index} {next} {zeros} m after r is none s
 ]
 
 -- a source that can't fill the open block, copied
-pub short-copied : (source old slice : List ℕ) (r : Reached) (mask : ℕ) → 0 < r.block.code → 0 < length source → length source ≤ 32 → r.block.code + length source < 255
+pub short-copied : {source old slice : List ℕ} {r : Reached} {mask : ℕ} → 0 < r.block.code → 0 < length source → length source ≤ 32 → r.block.code + length source < 255
     → end_after r source ≤ length old → slice ≡ take (next_of r) old ++ (source ++ drop (next_of r + length source) old) → mask ≡ zero_mask source
     → IsMasked (start_with old r source) 0 (length source) (next_of r) mask r.block.index slice
-short-copied source old slice r mask code some few short fits is bits =
-    let all : source ≡ take (length source) source = sym (take_all (length source) source (omega arith)) in
-    let copied : Copied (start_with old r source) old slice 0 (length source) r.block.index (next_of r) mask = record {
+short-copied {source} {old} {slice} {r} {mask} code some few short fits is bits =
+    let all = take_all (length source) source (omega arith) in
+    let window : CopiedWindow (start_with old r source) old slice 0 (length source) r.block.index (next_of r) mask = record {
       some = some;
       few = few;
-      inside = omega arith;
-      fits = fits;
       short = omega arith;
-      reaches = reaches-start source old r some code (omega arith);
-      is = is ∙ ap (λ (x : List ℕ). take (next_of r) old ++ (x ++ drop (next_of r + length source) old)) all;
-      bits = bits ∙ ap zero_mask all;
+      copied = record { inside = omega arith; fits = fits; reaches = reaches-start some code (omega arith); is = rw all is };
+      bits = rw all bits;
     } in
-    masked-start copied (omega arith)
+    masked-start window (omega arith)
 
 -- with its last window the whole source is taken
 pub window-front : {source old slice : List ℕ} {r r' : Reached} {read len index next : ℕ} → WindowTaken (start_with old r source) slice read len index next
-    → read + len ≡ length source → r' ≡ at index (next + len - index) false → TakesFront old r source (length source) slice r'
+    → read + len ≡ length source → r' ≡ place_at index (next + len - index) false → TakesFront old r source (length source) slice r'
 window-front {source} {old} {slice} {r} {r'} w last is =
-    subst (λ (n : ℕ). TakesFront old r source n slice r') last (front-taken w.room w.reaches w.open' (λ e. refl) is)
+    subst (λ (n : ℕ). TakesFront old r source n slice r') last (front-taken w.room w.reaches w.open' (λ e. refl) (let o = w.ordered in omega arith) is)
 
 -- WITHOUT A MASK
 
@@ -214,7 +220,7 @@ pub row-taken : {s : Start} {slice after : List ℕ} {read index next : ℕ} {P 
     → take n (drop read s.source) ≡ replicate n 0 → after ≡ take next (set slice index (next - index)) ++ (replicate n 1 ++ drop (next + n) (set slice index (next - index)))
     → WindowTaken s after read n (next + n - 1) next
 row-taken {s} {slice} {after} {read} {index} {next} {P} r short fits n some inside zeros is =
-    let room = least s read index next r.ordered r.within r.room in
+    let room = least r in
     let m : ℕ = n - 1 in
     let coded : List ℕ = set slice index (next - index) in
     let l = length-set slice index (next - index) in
@@ -224,22 +230,12 @@ row-taken {s} {slice} {after} {read} {index} {next} {P} r short fits n some insi
     let back : drop (whole_end s) after ≡ drop (whole_end s) s.slice = grind (arith, behind-three, drop-set-lt) in
     let sum : suc m ≡ n = omega arith in
     let w : take (suc m) (drop read s.source) ≡ replicate (suc m) 0 = grind arith in
-    let z = Reaches-zeros m s slice after read index next P (omega arith) w fits short front back r in
+    let z = Reaches-zeros m after r (omega arith) w fits short front back in
     record { ordered = omega arith; open' = omega arith; room = grind (arith, length-append, length-drop); reaches = grind (arith, Reaches-at) }
 
 -- the first k bytes, which aren't zeros and are copied as one slice, join the open block
-pub slice-joined : (s : Start) (slice : List ℕ) (index next k n m : ℕ) (P : Bool → Type 0) → Reaches s slice 0 index next P
-    → HasNoZero (take k s.source) → k ≤ length s.source → whole_end s ≤ length slice → 0 < k → next + k ≤ index + 255 → n ≡ k → m ≡ k
-    → (part : List ℕ) → part ≡ take m s.source → Reaches s (put_mid next n slice part) k index (next + k) IsNotFull
-slice-joined s slice index next k n m P r nonzero within fits some short n-is m-is part part-is =
-    let l = least s 0 index next r.ordered r.within r.room in
-    let is : part ≡ take k s.source = cc in
-    let long : length part ≡ k = ap length is ∙ length-take-le k s.source within in
-    let after : List ℕ = put_mid next n slice part in
-    let three : after ≡ take next slice ++ (part ++ drop (next + k) slice) = grind (arith, drop-drop) in
-    let same = Reaches-same s slice 0 index next P P after
-    (ap (take next) three ∙ front-three slice part next k long (omega arith))
-    (ap (drop (whole_end s)) three ∙ behind-three slice part next k long (omega arith) (whole_end s) (omega arith)) r in
-    let here : take k (drop next after) ≡ take k s.source = ap (λ (x : List ℕ). take k (drop next x)) three ∙ mid-three slice part next k long (omega arith) ∙ is in
-    let long' : whole_end s ≤ length after = grind (arith, length-append, length-take-le, length-drop) in
-    Reaches-at refl (omega arith) refl refl (λ full p. p) (Reaches-join s after 0 index next P IsNotFull k (omega arith) short long' nonzero here (λ full z p. absurd (omega arith)) (λ z. refl) same)
+pub slice-joined : {s : Start} {slice part : List ℕ} {index next k n m : ℕ} {P : Bool → Type 0} → Reaches s slice 0 index next P → HasNoZero (take k s.source) → k ≤ length s.source → whole_end s ≤ length slice
+    → 0 < k → next + k ≤ index + 255 → n ≡ k → m ≡ k → part ≡ take m s.source → Reaches s (put_mid next n slice part) k index (next + k) IsNotFull
+slice-joined {s} {slice} {part} {index} {next} {k} {n} r nonzero within fits some short n-is m-is part-is =
+    let copied : Copied s slice (put_mid next n slice part) 0 k index next = record { inside = omega arith; fits = fits; reaches = Reaches-weaker r (λ full p. tt); is = grind (arith, drop-drop) } in
+    Reaches-at refl (omega arith) refl refl (λ full p. p) (copied-joins copied k some (omega arith) short nonzero)

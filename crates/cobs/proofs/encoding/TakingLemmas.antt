@@ -1,6 +1,6 @@
 -- How the core of the encoder takes a source, step by step: `front-taken` turns what was reached into `TakesFront`, and
 -- `front-next` joins two steps.
-use Rattle.std.proofs.Common.{◌≡◌, ◌≢◌, get_or, ℕ, ◌+◌, ◌-◌, ◌<◌, ◌≤◌, Bool, true, false, if◌then◌else◌, List, [], ◌∷◌, ◌++◌, length, drop, take, refl, sym, ap, ◌∙◌, subst, inl, inr, arith, append-nil, append_assoc, length-drop, take_all}
+use Rattle.std.proofs.Common.{◌≡◌, ◌≢◌, get_or, ℕ, ◌+◌, ◌-◌, ◌<◌, ◌≤◌, Bool, true, false, List, [], ◌∷◌, ◌++◌, length, drop, take, refl, sym, ap, ◌∙◌, subst, inl, inr, arith, append-nil, append_assoc, length-drop, take_all}
 use Rattle.std.proofs.Math.ListN.{set}
 use Rattle.std.proofs.Math.Seq.{take-add}
 use Rattle.std.proofs.lemmas.Bool.{cases_Bool, cases_lt}
@@ -9,14 +9,14 @@ use Rattle.std.proofs.lemmas.List.Elements.{All-cons, All-nil}
 use Rattle.std.proofs.lemmas.Grind.{common_steps}
 use Rattle.cobs.specs.Grammar.{HasNoZero}
 use Rattle.cobs.specs.Length.{encoded_len, open_len}
-use Rattle.cobs.specs.OpenBlock.{Reached, CobsEncoderAfter, IsPlaceIn, end_after, end_of, next_of}
+use Rattle.cobs.specs.OpenBlock.{Reached, CobsEncoderAfter, IsPlaceIn, end_after, end_of, next_of, place_at}
 use Rattle.cobs.specs.Internal.Taking.{TakesFront}
-use Rattle.cobs.proofs.encoding.AfterLemmas.{at, end-is, from_after}
+use Rattle.cobs.proofs.encoding.AfterLemmas.{end-is, from_after, to_after}
 use Rattle.cobs.proofs.encoding.OpenLemmas.{All-front}
-use Rattle.cobs.proofs.encoding.CoreLemmas.{after-fits, after-nothing, after-len, after-so-far, full-after, full-end, full-rest}
+use Rattle.cobs.proofs.encoding.CoreLemmas.{after-fits, after-nothing, after-len}
 use Rattle.cobs.proofs.encoding.OpenLenLemmas.{open_len-least, open_len-most}
-use Rattle.cobs.proofs.encoding.ReachLemmas.{Reaches-at, Reaches-full, Reaches-join, Reaches-same, ends-open, least}
-use Rattle.cobs.specs.Internal.Reaches.{HadTaken, Opened, Reaches, Start, start_with, whole_end}
+use Rattle.cobs.proofs.encoding.ReachLemmas.{Reaches-at, Reaches-full, Reaches-join, Reaches-same, ends, full-taken, least}
+use Rattle.cobs.specs.Internal.Reaches.{HadTaken, Reaches, Start, start_with, whole_end}
 
 pub after-some : (r : Reached) (bytes : List ℕ) → 0 < length bytes → end_after r bytes ≡ r.block.index + open_len r.block.code bytes
 after-some r bytes h = grind arith
@@ -47,101 +47,85 @@ none-fits n r (b ∷ bytes) e p = absurd (omega arith)
 pub next-least : (r : Reached) (source : List ℕ) → 0 < r.block.code → 0 < length source → next_of r + length source ≤ end_after r source
 next-least r source code some = let e = after-some r source some in let l = open_len-least r.block.code source code in omega arith
 
-pub reaches-start : (source old : List ℕ) (r : Reached) → 0 < length source → 0 < r.block.code → r.block.code < 255 → Reaches (start_with old r source) old 0 r.block.index (next_of r) (λ _. Unit {0})
+pub reaches-start : {source old : List ℕ} {r : Reached} → 0 < length source → 0 < r.block.code → r.block.code < 255 → Reaches (start_with old r source) old 0 r.block.index (next_of r) (λ _. Unit {0})
 unfolding HadTaken
-reaches-start source old r some code short =
+reaches-start {source} {old} {r} some code short =
     let coded : next_of r - r.block.index ≡ r.block.code = omega arith in
     record {
       ordered = omega arith;
       short = omega arith;
       within = omega arith;
-      room = ap (λ (n : ℕ). r.block.index + open_len n source) coded ∙ sym (after-some r source some);
+      room = grind (arith, after-some);
       rest = refl;
-      taken = λ m h. (r.full, tt, subst (λ (x : List ℕ). Opened old x r.block.index (next_of r) r.full) (sym (append-nil m)) (from_after old m r h));
+      taken = λ m h. (r.full, tt, rw append-nil (from_after old m r h));
     }
 
--- a byte is written after the open block's bytes
-module _ (s : Start) (slice : List ℕ) (read index next byte : ℕ) (P : Bool → Type 0) (more : read < length s.source) (r : Reaches s slice read index next P) where
+-- a byte is written behind the open block's
+module _ {s : Start} {slice : List ℕ} {read index next : ℕ} {P : Bool → Type 0} (byte : ℕ) (more : read < length s.source) (r : Reaches s slice read index next P) where
   pub written : Reaches s (set slice next byte) read index next P
-  written =
-      let l = least s read index next r.ordered r.within r.room in
-      Reaches-same s slice read index next P P (set slice next byte) (take-set-le next slice next byte (omega arith)) (drop-set-lt (whole_end s) slice next byte (omega arith)) r
+  written = let l = least r in Reaches-same r (set slice next byte) (take-set-le next slice next byte (omega arith)) (drop-set-lt (whole_end s) slice next byte (omega arith))
 
   -- and joins them, unless it is a zero
   pub joined : get_or s.source read 0 ≡ byte → byte ≢ 0 → next < index + 255 → whole_end s ≤ length slice → Reaches s (set slice next byte) (read + 1) index (next + 1) (λ full. 0 < read + 1 → full ≡ false)
   joined is other short fits =
-      let l = least s read index next r.ordered r.within r.room in
-      let after : List ℕ = set slice next byte in
+      let l = least r in
       let k = length-set slice next byte in
       let one : take 1 (drop read s.source) ≡ byte ∷ [] = grind (arith, drop_more) in
-      let here : take 1 (drop next after) ≡ take 1 (drop read s.source) = grind (arith, drop-set) in
-      let nonzero : HasNoZero (take 1 (drop read s.source)) = subst HasNoZero (sym one) (All-cons (λ byte. byte ≢ 0) byte [] other (All-nil (λ byte. byte ≢ 0))) in
-      Reaches-join s after read index next P (λ full. 0 < read + 1 → full ≡ false) 1 (omega arith) (omega arith) (omega arith) nonzero here (λ full z p. absurd (omega arith)) (λ z lt. refl) written
+      let here : take 1 (drop next (set slice next byte)) ≡ take 1 (drop read s.source) = grind (arith, drop-set) in
+      let nonzero : HasNoZero (take 1 (drop read s.source)) = rw one (All-cons (λ byte. byte ≢ 0) byte [] other (All-nil (λ byte. byte ≢ 0))) in
+      Reaches-join written (omega arith) 1 (omega arith) (omega arith) nonzero here (λ full z p. absurd (omega arith)) (λ z lt. refl)
 
 -- the end of a step
 module _ {source old slice : List ℕ} {r r' : Reached} (fits : end_after r source ≤ length slice) where
   -- so far, which isn't the whole source after a full block
-  pub front-taken : {pos index next : ℕ} {full : Bool} → Reaches (start_with old r source) slice pos index next (λ noted. noted ≡ full) → next < index + 255
-      → (pos ≡ length source → full ≡ false) → r' ≡ at index (next - index) full → TakesFront old r source pos slice r'
+  pub front-taken : {pos index next code : ℕ} {full : Bool} → Reaches (start_with old r source) slice pos index next (λ noted. noted ≡ full) → next < index + 255
+      → (pos ≡ length source → full ≡ false) → index + code ≡ next → r' ≡ place_at index code full → TakesFront old r source pos slice r'
   unfolding HadTaken
-  front-taken {pos} {index} {next} {full} s short last is =
-      let l = least (start_with old r source) pos index next s.ordered s.within s.room in
-      let d = length-drop pos source in
-      let sum : index + (next - index) ≡ next = omega arith in
-      let ends : end_of (at index (next - index) full) ≤ next = elim (cases_Bool full) [
-        | inl e ↦ (let f : end_of (at index (next - index) full) ≡ index = ap (λ (b : Bool). if b then index else index + (next - index)) e in omega arith)
-        | inr e ↦ (let f : end_of (at index (next - index) full) ≡ index + (next - index) = ap (λ (b : Bool). if b then index else index + (next - index)) e in omega arith)
+  front-taken {pos} {index} {next} {code} {full} s short last coded is =
+      let l = least s in
+      let place : Reached = place_at index code full in
+      let code-is : next - index ≡ code = omega arith in
+      let within : end_of place ≤ next = grind (arith, cases_Bool) in
+      let end : end_after place (drop pos source) ≡ end_after r source = elim (cases_lt pos (length source)) [
+        | inl more ↦ after-some place (drop pos source) (omega (arith, length-drop pos source)) ∙ (rw code-is at s.room)
+        | inr none ↦ (let all : pos ≡ length source = omega arith in rw (drop_all pos source (omega arith), last all, ends s all) (omega arith))
       ] in
-      let end : end_after (at index (next - index) full) (drop pos source) ≡ end_after r source = elim (cases_lt pos (length source)) [
-        | inl more ↦ after-some (at index (next - index) full) (drop pos source) (omega arith) ∙ s.room
-        | inr none ↦ (let all : pos ≡ length source = omega arith in
-            let e = ends-open (start_with old r source) slice pos index next (λ noted. noted ≡ full) (λ noted. noted ≡ full) all s in
-            ap (end_after (at index (next - index) full)) (drop_all pos source (omega arith)) ∙ ap (λ (b : Bool). if b then index else index + (next - index)) (last all) ∙ sum ∙ sym e)
-      ] in
-      subst (TakesFront old r source pos slice) (sym is) (record {
+      rw is (record {
         place = record { some = omega arith; not_full = omega arith; fits = omega arith };
-        after = λ m h. after-so-far (start_with old r source) slice pos index next full s short fits m h;
+        after = λ m h. grind (arith, to_after);
         end = end;
         rest = s.rest;
       })
 
   -- the last byte filled its block
-  front-full : {pos index : ℕ} → Reaches (start_with old r source) slice pos index (index + 255) (λ _. Unit {0}) → pos ≡ length source
-      → r' ≡ at (index + 255) 1 true → TakesFront old r source pos (set slice index 255) r'
+  front-full : {pos index : ℕ} {P : Bool → Type 0} → Reaches (start_with old r source) slice pos index (index + 255) P → pos ≡ length source
+      → r' ≡ place_at (index + 255) 1 true → TakesFront old r source pos (set slice index 255) r'
   unfolding HadTaken
   front-full {pos} {index} s last is =
       let l = length-set slice index 255 in
-      let e = full-end (start_with old r source) slice pos index s fits last in
-      let one : index + 255 + 1 - (index + 255) ≡ 1 = omega arith in
-      subst (TakesFront old r source pos (set slice index 255)) (sym is) (record {
+      let e = ends s last in
+      rw is (record {
         place = record { some = omega arith; not_full = omega arith; fits = omega arith };
-        after = λ m h. subst (λ (x : List ℕ). CobsEncoderAfter (set slice index 255) (at (index + 255) 1 true) (m ++ x)) (sym (take_all pos source (omega arith)))
-            (subst (λ (k : ℕ). CobsEncoderAfter (set slice index 255) (at (index + 255) k true) (m ++ source)) one (full-after (start_with old r source) slice pos index s fits last m h));
-        end = ap (end_after (at (index + 255) 1 true)) (drop_all pos source (omega arith)) ∙ sym e;
-        rest = subst (λ (n : ℕ). drop n (set slice index 255) ≡ drop n old) (sym e) (full-rest (start_with old r source) slice pos index s fits last);
+        after = λ m h. to_after (set slice index 255) (m ++ take pos source) (index + 255) (index + 255 + 1) 1 true refl (omega arith) (omega arith) (full-taken s refl (omega arith) m h);
+        end = rw (drop_all pos source (omega arith)) (sym e);
+        rest = rw (drop-set-lt (end_after r source) slice index 255 (omega arith)) s.rest;
       })
 
 -- a byte filled the open block
-pub front-filled : {source old slice : List ℕ} {r r' : Reached} {pos index next : ℕ} → end_after r source ≤ length slice → next ≡ index + 255 → Reaches (start_with old r source) slice pos index next (λ _. Unit {0})
-    → r' ≡ at next (next + 1 - next) true → TakesFront old r source pos (set slice index 255) r'
-front-filled {source} {old} {slice} {r} {r'} {pos} {index} {next} fits full s is =
+pub front-filled : {source old slice : List ℕ} {r r' : Reached} {pos index next code : ℕ} {P : Bool → Type 0} → end_after r source ≤ length slice → next ≡ index + 255 → Reaches (start_with old r source) slice pos index next P
+    → code ≡ 1 → r' ≡ place_at next code true → TakesFront old r source pos (set slice index 255) r'
+front-filled {source} {old} {slice} {r} {r'} {pos} {index} {next} fits full s one is =
     let n = length-set slice index 255 in
-    let place : at next (next + 1 - next) true ≡ at (index + 255) 1 true = grind arith in
     elim (cases_lt pos (length source)) [
-      | inl more ↦ front-taken (omega arith) (Reaches-full _ _ _ index next _ (λ noted. noted ≡ true) more full fits refl s) (omega arith) (λ all. absurd (omega arith)) is
-      | inr none ↦ (let w = s.within in front-full fits (Reaches-at refl refl refl full (λ full p. p) s) (omega arith) (is ∙ place))
+      | inl more ↦ front-taken (omega arith) (Reaches-full s {Q = λ noted. noted ≡ true} more full fits refl) (omega arith) (λ all. absurd (omega arith)) (omega arith) is
+      | inr none ↦ (let w = s.within in front-full fits (Reaches-at refl refl refl full (λ full p. p) s) (omega arith) (rw (full, one) at is))
     ]
 
 -- nothing is taken
 pub front-none : (slice : List ℕ) (r : Reached) (source : List ℕ) → IsPlaceIn (length slice) r → TakesFront slice r source 0 slice r
 front-none slice r source p = record { place = p; after = λ m h. subst (CobsEncoderAfter slice r) (sym (append-nil m)) h; end = refl; rest = refl }
 
--- the same step, by other words
-pub front-same : {slice slice' source source' : List ℕ} {n : ℕ} {r r' s s' : Reached} → r ≡ s → source ≡ source' → r' ≡ s' → TakesFront slice s source' n slice' s' → TakesFront slice r source n slice' r'
-front-same {slice} {slice'} {source} {source'} {n} {r} {r'} {s} {s'} from is to t =
-    subst (λ (q : Reached). TakesFront slice q source n slice' r') (sym from) (subst (λ (xs : List ℕ). TakesFront slice s xs n slice' r') (sym is) (subst (TakesFront slice s source' n slice') (sym to) t))
-
--- one step and then another, on the rest of the source
+-- one step and then another, on what is left
 pub front-next : {slice slice' slice'' source left : List ℕ} {r r' r'' : Reached} (n k : ℕ) → left ≡ drop n source → TakesFront slice r source n slice' r' → TakesFront slice' r' left k slice'' r''
     → TakesFront slice r source (n + k) slice'' r''
 front-next {slice} {slice'} {slice''} {source} {left} {r} {r'} {r''} n k is a b = record {
@@ -175,7 +159,7 @@ module _ {slice slice' source : List ℕ} {r r' : Reached} (t : TakesFront slice
   all-rest = subst (λ (n : ℕ). drop n slice' ≡ drop n slice) (sym all-end) t.rest
 
 -- an encoder that has taken nothing
-module _ (slice : List ℕ) (r : Reached) (is : r ≡ at 0 1 false) (some : 0 < length slice) where
+module _ (slice : List ℕ) (r : Reached) (is : r ≡ place_at 0 1 false) (some : 0 < length slice) where
   pub start-fits : (source : List ℕ) → end_after r source ≡ encoded_len source
   start-fits source = grind arith
 

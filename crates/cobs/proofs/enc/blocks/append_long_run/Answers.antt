@@ -1,12 +1,12 @@
 -- Each turn takes a part of the run (`slice-joined`), which may fill its block; the zero after the run closes the last one.
-use Rattle.std.proofs.Common.{◌≡◌, ◌≤◌, ◌+◌, ◌-◌, ◌∙◌, false, ℕ, List, ap, drop, get_or, length, refl, arith, length-drop}
+use Rattle.std.proofs.Common.{◌≡◌, ◌≤◌, ◌+◌, ◌-◌, false, ℕ, List, drop, get_or, length, refl, arith, length-drop}
 use borrow.Rule.Slice.PartMut.{put_mid}
 use Rattle.std.proofs.lemmas.List.{drop_more}
 use Rattle.cobs.specs.OpenBlock.{end_after, next_of}
 use Rattle.cobs.specs.Internal.Reaches.{Reaches, start_with}
 use Rattle.cobs.specs.Fields.Progress.{reached_at}
 use Rattle.cobs.proofs.encoding.ByteLemmas.{byte-zero}
-use Rattle.cobs.proofs.encoding.ReachLemmas.{IsNotFull, Reaches-weaker}
+use Rattle.cobs.proofs.encoding.ReachLemmas.{IsNotFull}
 use Rattle.cobs.proofs.encoding.MarkLemmas.{slice-joined}
 use Rattle.cobs.proofs.encoding.TakingLemmas.{front-filled, front-next, front-none, front-taken, next-least, reaches-start}
 use Rattle.cobs.proofs.enc.blocks.append_long_run.Goals.{After-min-len, After-copy_from_slice}
@@ -34,27 +34,28 @@ joined : (c : After-copy_from_slice)
     (put_mid (next_of (reached_at c.by_block.progress)) (next_of (reached_at c.by_block.progress) + c.min-len.result - next_of (reached_at c.by_block.progress)) c.by_block.dest c.copy_from_slice.new.self)
     c.min-len.result c.by_block.progress.index (next_of (reached_at c.by_block.progress) + c.min-len.result) IsNotFull
 joined c =
-    let left : List ℕ = drop c.by_block.read c.args.source.now in
     let place = c.by_block.invariant.taken.place in
     let e = c.by_block.invariant.taken.end in
     let within = c.requires.run.within in
     let long = length-drop c.by_block.read c.args.source.now in
-    let start = reaches-start left c.by_block.dest (reached_at c.by_block.progress) (omega arith) place.some place.not_full in
     let nonzero = part-nonzero c.by_block.read c.min-len.result c.args.run c.args.source.now c.requires.run.nonzero (omega arith) in
-    slice-joined _ _ _ _ c.min-len.result (_ + _ - _) (_ + _ - _) _ start nonzero (omega arith) (omega arith) (omega arith) (omega arith) (omega arith) (omega arith) _ c.copy_from_slice.ensures.after
+    slice-joined (reaches-start (omega arith) place.some place.not_full) nonzero (omega arith) (omega arith) (omega arith) (omega arith) (omega arith) (omega arith) c.copy_from_slice.ensures.after
 
 pub by_block-preserved : goal.by_block-preserved
 by_block-preserved c =
     let s = joined (goal.at.by_block-preserved c).After-copy_from_slice in
     let e = c.by_block.invariant.taken.end in
-    record { within = omega arith; taken = front-next c.by_block.read c.min-len.result refl c.by_block.invariant.taken (front-taken (omega arith) {full = false} s (omega arith) (λ all. refl) c.progress_at-progress-else-next-len.ensures) }
+    let o = s.ordered in
+    let taken = front-taken (omega arith) {full = false} s (omega arith) (λ all. refl) (omega arith) c.progress_at-progress-else-next-len.ensures in
+    record { within = omega arith; taken = front-next c.by_block.read c.min-len.result refl c.by_block.invariant.taken taken }
 
 -- and may fill it
 pub by_block-preserved-then-next-len : goal.by_block-preserved-then-next-len
 by_block-preserved-then-next-len c =
     let s = joined (goal.at.by_block-preserved-then-next-len c).After-copy_from_slice in
     let e = c.by_block.invariant.taken.end in
-    record { within = omega arith; taken = front-next c.by_block.read c.min-len.result refl c.by_block.invariant.taken (front-filled (omega arith) c.if-next-len.true (Reaches-weaker (λ full p. tt) s) c.progress_at-progress.ensures) }
+    let taken = front-filled (omega arith) c.if-next-len.true s (omega arith) c.progress_at-progress.ensures in
+    record { within = omega arith; taken = front-next c.by_block.read c.min-len.result refl c.by_block.invariant.taken taken }
 
 pub returns-clause-taken : goal.returns-clause-taken
 returns-clause-taken c =
@@ -63,6 +64,8 @@ returns-clause-taken c =
     let end = t.end in
     let within = c.requires.run.within in
     let at_end : c.by_block.read ≡ c.args.run = omega arith in
-    let zero : get_or left 0 0 ≡ 0 = ap (λ (xs : List ℕ). get_or xs 0 0) (drop_more c.args.source.now c.by_block.read 0 (omega arith)) ∙ ap (λ (i : ℕ). get_or c.args.source.now i 0) at_end ∙ c.requires.run.stop (omega arith) in
+    let stop = c.requires.run.stop (omega arith) in
+    let zero : get_or left 0 0 ≡ 0 = grind (arith, drop_more) in
     let long = length-drop c.by_block.read c.args.source.now in
-    front-next c.by_block.read 1 refl t (byte-zero left c.by_block.dest (reached_at c.by_block.progress) (omega arith) t.place (omega arith) zero c.progress_at.ensures)
+    let one : next_of (reached_at c.by_block.progress) + 1 - next_of (reached_at c.by_block.progress) ≡ 1 = omega arith in
+    front-next c.by_block.read 1 refl t (byte-zero t.place (omega arith) (omega arith) refl zero refl (rw one at c.progress_at.ensures))

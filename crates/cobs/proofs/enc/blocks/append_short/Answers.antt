@@ -12,9 +12,7 @@ use Rattle.cobs.proofs.enc.blocks.append_short.Goals as goal
 copied : (c : After-copy_window-mask)
     → IsMasked (start_with c.args.dest.now (reached_at c.args.progress) c.args.source.now) 0 (length c.args.source.now) (next_of (reached_at c.args.progress))
     c.copy_window-mask.result c.args.progress.index c.copy_window-mask.new.dest
-copied c = short-copied c.args.source.now c.args.dest.now c.copy_window-mask.new.dest
-    (reached_at c.args.progress) c.copy_window-mask.result c.requires.code c.requires.some c.requires.few c.requires.open_block c.requires.fits
-    c.copy_window-mask.ensures.copied c.copy_window-mask.ensures.zeros
+copied c = short-copied c.requires.code c.requires.some c.requires.few c.requires.open_block c.requires.fits c.copy_window-mask.ensures.copied c.copy_window-mask.ensures.zeros
 
 pub mark_first-first-requires : goal.mark_first-first-requires
 mark_first-first-requires c = (_, _, _, copied (goal.at.mark_first-first-requires c).After-copy_window-mask)

@@ -9,7 +9,7 @@ use Rattle.std.proofs.Math.ListN.{set}
 use Rattle.std.specs.Int.Bits.{bit_and}
 use Rattle.cobs.specs.Fields.Progress.{reached_at}
 use Rattle.cobs.proofs.encoding.ReachLemmas.{Reaches-weaker}
-use Rattle.cobs.proofs.encoding.MarkLemmas.{Copied, WindowTaken, copied-reaches, filled, first-within, length-after, length-window, masked-end, masked-start, masked-step, row-taken}
+use Rattle.cobs.proofs.encoding.MarkLemmas.{CopiedWindow, WindowTaken, copied-reaches, filled, first-within, length-after, length-row, masked-end, masked-start, masked-step, row-taken}
 use Rattle.cobs_bytes.proofs.bytes.MaskLemmas.{window_all}
 use Rattle.cobs.proofs.encoding.TakingLemmas.{front-none, front-taken, reaches-start}
 use Rattle.cobs.proofs.enc.blocks.append_windows.Goals.{After-copy_at-window, Joined-window-eq0, After-write_codes_of_zeros-zeros, then-window-eq0+else-next-index, else-window-eq0+else-place-index-lt-FULL_CODE}
@@ -18,15 +18,12 @@ use Rattle.cobs.proofs.enc.blocks.append_windows.Goals as goal
 
 -- the window as it was copied
 copied : (c : After-copy_at-window)
-    → Copied (start_with c.args.dest.now (reached_at c.args.start) c.args.source.now) c.by_window.dest c.copy_at-window.new.dest c.by_window.read 32 c.by_window.index c.by_window.next c.copy_at-window.result
+    → CopiedWindow (start_with c.args.dest.now (reached_at c.args.start) c.args.source.now) c.by_window.dest c.copy_at-window.new.dest c.by_window.read 32 c.by_window.index c.by_window.next c.copy_at-window.result
 copied c = record {
   some = omega arith;
   few = omega arith;
-  inside = omega arith;
-  fits = omega arith;
   short = c.by_window.invariant.open';
-  reaches = Reaches-weaker (λ noted p. tt) c.by_window.invariant.reaches;
-  is = c.copy_at-window.ensures.copied;
+  copied = record { inside = omega arith; fits = omega arith; reaches = Reaches-weaker c.by_window.invariant.reaches (λ noted p. tt); is = c.copy_at-window.ensures.copied };
   bits = c.copy_at-window.ensures.zeros;
 }
 
@@ -36,14 +33,14 @@ returns-then-source-le-WINDOW-clause-taken c = front-none c.args.dest.now (reach
 pub by_window-init : goal.by_window-init
 by_window-init c =
     let short = c.requires.place.not_full in
-    record { more = omega arith; open' = omega arith; reaches = Reaches-weaker (λ full u le. absurd (omega arith)) (reaches-start c.args.source.now c.args.dest.now (reached_at c.args.start) c.requires.some c.requires.place.some short) }
+    record { more = omega arith; open' = omega arith; reaches = Reaches-weaker (reaches-start c.requires.some c.requires.place.some short) (λ full u le. absurd (omega arith)) }
 
 pub by_window-preserved-then-next-index : goal.by_window-preserved-then-next-index
 by_window-preserved-then-next-index c =
     let w = copied (goal.at.by_window-preserved-then-next-index c).After-copy_at-window in
     let o = c.by_window.invariant.reaches.ordered in
     let taken = masked-end (masked-start w (omega arith)) c.if-window-eq0.true in
-    record { more = omega arith; open' = taken.open'; reaches = Reaches-weaker (λ full e le. e) taken.reaches }
+    record { more = omega arith; open' = taken.open'; reaches = Reaches-weaker taken.reaches (λ full e le. e) }
 
 -- its first zero has given way to a code
 coded : (c : After-copy_at-window) → c.copy_at-window.result ≢ 0 → c.by_window.next + count_trailing_zeros 64 c.copy_at-window.result - c.by_window.index < 255
@@ -57,28 +54,28 @@ mark_zeros-index-requires c = (_, _, _, coded (goal.at.mark_zeros-index-requires
 
 -- a row of zeros is taken
 row : (c : After-write_codes_of_zeros-zeros)
-    → Copied (start_with c.args.dest.now (reached_at c.args.start) c.args.source.now) c.by_window.dest c.copy_at-window.new.dest c.by_window.read 32 c.by_window.index c.by_window.next c.copy_at-window.result
+    → CopiedWindow (start_with c.args.dest.now (reached_at c.args.start) c.args.source.now) c.by_window.dest c.copy_at-window.new.dest c.by_window.read 32 c.by_window.index c.by_window.next c.copy_at-window.result
     → WindowTaken (start_with c.args.dest.now (reached_at c.args.start) c.args.source.now) c.write_codes_of_zeros-zeros.new.dest
     c.by_window.read c.write_codes_of_zeros-zeros.result (c.by_window.next + c.write_codes_of_zeros-zeros.result - 1) c.by_window.next
     × (0 < c.write_codes_of_zeros-zeros.result) × (c.by_window.read + c.write_codes_of_zeros-zeros.result < length c.args.source.now)
 unfolding count_trailing_zeros
 row c w =
-    let fits = length-after w in
+    let fits = length-after w.copied in
     let l = length-drop c.by_window.read c.args.source.now in
-    let n = length-window w in
+    let n = length-row w.copied in
     let zeros = (window_all (take 32 (drop c.by_window.read c.args.source.now)) (omega arith) (sym w.bits ∙ c.if-window-eq-ALL_ZEROS.true)).1 in
-    let written = rw (take_rest c.args.source.now c.by_window.read) at c.write_codes_of_zeros-zeros.ensures in
-    let some = written.some (omega arith) zeros in
-    let within = written.within in
     let first : count_trailing_zeros 64 c.copy_at-window.result ≡ 0 = ap (count_trailing_zeros 64) c.if-window-eq-ALL_ZEROS.true in
     let code : c.by_window.next + count_trailing_zeros 64 c.copy_at-window.result - c.by_window.index ≡ c.by_window.next - c.by_window.index = omega arith in
-    (row-taken (copied-reaches w) w.short fits c.write_codes_of_zeros-zeros.result some (omega arith) written.zeros (rw code at written.written), some, omega arith)
+    let written = rw (take_rest c.args.source.now c.by_window.read, code) at c.write_codes_of_zeros-zeros.ensures in
+    let some = written.some (omega arith) zeros in
+    let within = written.within in
+    (row-taken (copied-reaches w.copied) w.short fits c.write_codes_of_zeros-zeros.result some (omega arith) written.zeros written.written, some, omega arith)
 
 pub by_window-preserved-then-window-eq-ALL_ZEROS : goal.by_window-preserved-then-window-eq-ALL_ZEROS
 by_window-preserved-then-window-eq-ALL_ZEROS c =
     let at = goal.at.by_window-preserved-then-window-eq-ALL_ZEROS c in
     let t = row at.After-write_codes_of_zeros-zeros (copied at.After-copy_at-window) in
-    record { more = t.2; open' = t.0.open'; reaches = Reaches-weaker (λ full e le. e) t.0.reaches }
+    record { more = t.2; open' = t.0.open'; reaches = Reaches-weaker t.0.reaches (λ full e le. e) }
 
 pub by_window-smaller-then-window-eq-ALL_ZEROS : goal.by_window-smaller-then-window-eq-ALL_ZEROS
 by_window-smaller-then-window-eq-ALL_ZEROS c =
@@ -89,7 +86,7 @@ by_window-smaller-then-window-eq-ALL_ZEROS c =
 pub by_window-preserved : goal.by_window-preserved
 by_window-preserved c =
     let taken = masked-end (c.mark_zeros-index.ensures _ _ _ (coded (goal.at.by_window-preserved c).After-copy_at-window c.if-window-eq0.false (omega arith))) refl in
-    record { more = omega arith; open' = taken.open'; reaches = Reaches-weaker (λ full e le. e) taken.reaches }
+    record { more = omega arith; open' = taken.open'; reaches = Reaches-weaker taken.reaches (λ full e le. e) }
 
 -- no zero is near enough to keep the block from being full
 none-near : (c : Joined-window-eq0) → (c.copy_at-window.result ≢ 0 → count_trailing_zeros 64 c.copy_at-window.result < 32)
@@ -108,12 +105,13 @@ returns-in-by_window-clause-within c =
 pub returns-in-by_window-clause-taken : goal.returns-in-by_window-clause-taken
 returns-in-by_window-clause-taken c =
     let w = copied (goal.at.returns-in-by_window-clause-taken c).After-copy_at-window in
-    let fits = length-after w in
+    let fits = length-after w.copied in
     let none = none-near (goal.at.returns-in-by_window-clause-taken c).Joined-window-eq0 (first-within w) in
     let l = length-set c.copy_at-window.new.dest c.by_window.index 255 in
-    front-taken (omega arith) (filled w none (omega arith)) (omega arith) (λ all. absurd (omega arith)) c.progress_at.ensures
+    front-taken (omega arith) (filled w none (omega arith)) (omega arith) (λ all. absurd (omega arith)) (omega arith) c.progress_at.ensures
 
 pub returns-clause-taken : goal.returns-clause-taken
 returns-clause-taken c =
     let i = c.by_window.invariant in
-    front-taken (omega arith) {full = false} (Reaches-weaker (λ full p. p (omega arith)) i.reaches) i.open' (λ all. refl) c.progress_at-2.ensures
+    let o = i.reaches.ordered in
+    front-taken (omega arith) {full = false} (Reaches-weaker i.reaches (λ full p. p (omega arith))) i.open' (λ all. refl) (omega arith) c.progress_at-2.ensures

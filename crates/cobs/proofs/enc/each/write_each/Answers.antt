@@ -2,26 +2,26 @@
 use Rattle.std.proofs.Common.{length, ◌≡◌, ◌<◌, ◌+◌, ◌-◌, ◌∙◌, false, ℕ, List, drop, get_or, take, refl, sym, arith, length-drop}
 use Rattle.std.proofs.lemmas.List.{get_or-drop, get_or-take}
 use Rattle.cobs.specs.Internal.Reaches.{Reaches}
-use Rattle.cobs.proofs.encoding.ReachLemmas.{Reaches-at, Reaches-full, Reaches-weaker, Reaches-zero}
+use Rattle.cobs.proofs.encoding.ReachLemmas.{IsNotFull, Reaches-at, Reaches-full, Reaches-weaker, Reaches-zero}
 use Rattle.cobs.proofs.encoding.TakingLemmas.{joined}
 use Rattle.cobs.proofs.encoding.WholeLemmas.{start, whole-fits, whole-frame, whole-len, whole-rest, whole-start}
 use Rattle.cobs.proofs.enc.each.write_each.Goals.{After-min-len, then-next-index-eq-FULL_CODE, else-next-index-eq-FULL_CODE, then-byte-eq0, else-byte-eq0}
 use Rattle.cobs.proofs.enc.each.write_each.Goals as goal
 
 pub by_part-init : goal.by_part-init
-by_part-init c = whole-start c.args.dest.now c.args.source.now (omega arith)
+by_part-init c = whole-start (omega arith)
 
 -- a full block is closed
 opened : (c : After-min-len) → (c.if-next-index-eq-FULL_CODE.next < c.if-next-index-eq-FULL_CODE.index + 255)
-    × Reaches (start c.args.dest.now c.args.source.now (omega arith)) c.if-next-index-eq-FULL_CODE.dest c.by_part.read c.if-next-index-eq-FULL_CODE.index c.if-next-index-eq-FULL_CODE.next (λ full. 0 < 0 → full ≡ false)
+    × Reaches (start c.args.dest.now c.args.source.now) c.if-next-index-eq-FULL_CODE.dest c.by_part.read c.if-next-index-eq-FULL_CODE.index c.if-next-index-eq-FULL_CODE.next (λ full. 0 < 0 → full ≡ false)
 opened c =
     let r = c.by_part.invariant in
     let short = r.short in
     let fits = whole-fits c.args.dest.now c.args.source.now (omega arith) in
     elim c.if-next-index-eq-FULL_CODE.branch [
       | then-next-index-eq-FULL_CODE w ↦ rw (w.dest-is, w.index-is, w.next-is)
-          (omega arith, Reaches-full _ c.by_part.dest c.by_part.read c.by_part.index c.by_part.next _ (λ full. 0 < 0 → full ≡ false) (omega arith) (omega arith) (omega arith) (λ none. absurd (omega arith)) r)
-      | else-next-index-eq-FULL_CODE w ↦ rw (w.dest-is, w.index-is, w.next-is) (let open' = w.if-next-index-eq-FULL_CODE.false in omega arith, Reaches-weaker (λ full p none. p) r)
+          (omega arith, Reaches-full r (omega arith) (omega arith) (omega arith) (λ none. absurd (omega arith)))
+      | else-next-index-eq-FULL_CODE w ↦ rw (w.dest-is, w.index-is, w.next-is) (let open' = w.if-next-index-eq-FULL_CODE.false in omega arith, Reaches-weaker r (λ full p none. p))
     ]
 
 pub by_byte-init : goal.by_byte-init
@@ -32,36 +32,31 @@ by_byte-init c =
 pub by_byte-preserved : goal.by_byte-preserved
 by_byte-preserved c =
     let source : List ℕ = c.args.source.now in
-    let read : ℕ = c.by_part.read + c.by_byte.i in
-    let index : ℕ = c.by_byte.index in
-    let next : ℕ = c.by_byte.next in
     let left : List ℕ = drop c.by_part.read source in
     let count : ℕ = length source - c.by_part.read in
     let byte : ℕ = get_or (take count left) c.by_byte.i 0 in
     let rest = length-drop c.by_part.read source in
-    let is : get_or source read 0 ≡ byte = sym (get_or-take count left c.by_byte.i 0 (omega arith) ∙ get_or-drop c.by_part.read source c.by_byte.i 0) in
+    let is : get_or source (c.by_part.read + c.by_byte.i) 0 ≡ byte = sym (get_or-take count left c.by_byte.i 0 (omega arith) ∙ get_or-drop c.by_part.read source c.by_byte.i 0) in
     let fits = whole-fits c.args.dest.now source (omega arith) in
     let i = c.by_byte.invariant in
     let open' = i.open' in
-    let r = i.reaches in
+    let o = i.reaches.ordered in
     elim c.if-byte-eq0.branch [
       | then-byte-eq0 w ↦ rw (w.dest-is, w.index-is) (record {
-        open' = let o = r.ordered in omega arith;
-        reaches = Reaches-at refl (omega arith) refl refl (λ full p. p)
-            (Reaches-zero _ c.by_byte.dest read index next _ (λ full. 0 < c.by_byte.i + 1 → full ≡ false) (omega arith) (is ∙ w.if-byte-eq0.true) (omega arith) (omega arith) (λ lt. refl) r);
+        open' = omega arith;
+        reaches = Reaches-at refl (omega arith) refl refl (λ full p lt. p) (Reaches-zero i.reaches {Q = IsNotFull} (omega arith) (omega arith) (is ∙ w.if-byte-eq0.true) (omega arith) refl);
       })
       | else-byte-eq0 w ↦ rw (w.dest-is, w.index-is) (record {
         open' = omega arith;
-        reaches = Reaches-at refl (omega arith) refl refl (λ full p lt. p (omega arith))
-            (joined _ c.by_byte.dest read index next byte _ (omega arith) r is w.if-byte-eq0.false (omega arith) (omega arith));
+        reaches = Reaches-at refl (omega arith) refl refl (λ full p lt. p (omega arith)) (joined byte (omega arith) i.reaches is w.if-byte-eq0.false (omega arith) (omega arith));
       })
     ]
 
 pub returns-clause-frame : goal.returns-clause-frame
-returns-clause-frame c = whole-frame c.args.dest.now c.args.source.now (omega arith) c.by_part.dest c.by_part.read c.by_part.index c.by_part.next (let w = c.by_part.invariant.within in omega arith) (omega arith) c.by_part.invariant
+returns-clause-frame c = let w = c.by_part.invariant.within in whole-frame (omega arith) (omega arith) (omega arith) c.by_part.invariant
 
 pub returns-clause-len : goal.returns-clause-len
-returns-clause-len c = whole-len c.args.dest.now c.args.source.now (omega arith) c.by_part.dest c.by_part.read c.by_part.index c.by_part.next (let w = c.by_part.invariant.within in omega arith) (omega arith) c.by_part.invariant
+returns-clause-len c = let w = c.by_part.invariant.within in whole-len (omega arith) (omega arith) (omega arith) c.by_part.invariant
 
 pub returns-clause-rest : goal.returns-clause-rest
-returns-clause-rest c = whole-rest c.args.dest.now c.args.source.now (omega arith) c.by_part.dest c.by_part.read c.by_part.index c.by_part.next (let w = c.by_part.invariant.within in omega arith) (omega arith) c.by_part.invariant
+returns-clause-rest c = let w = c.by_part.invariant.within in whole-rest (omega arith) (omega arith) (omega arith) c.by_part.invariant

@@ -1,16 +1,14 @@
-use Rattle.std.proofs.Common.{ℕ, false, refl, ap, arith}
-use Rattle.cobs.specs.OpenBlock.{place_at}
-use Rattle.cobs.proofs.encoding.StepLemmas.{takes-last, takes-other, takes-zero}
+-- A zero closes the open block, and any other byte joins or fills it: the three steps of `ByteLemmas`.
+use Rattle.std.proofs.Common.{refl, arith}
+use Rattle.cobs.proofs.encoding.ByteLemmas.{byte-fills, byte-joins, byte-zero}
+use Rattle.cobs.proofs.encoding.StepLemmas.{is-place}
 use Rattle.cobs.proofs.enc.unbuffered.UnbufferedEncoder.append_byte.Goals as goal
 
 pub returns-then-byte-eq0 : goal.returns-then-byte-eq0
-returns-then-byte-eq0 c = λ behind fits. takes-zero c.args.self.now c.args.dest.now c.args.byte c.requires.open_block c.requires.room behind fits c.if-byte-eq0.true refl
+returns-then-byte-eq0 c = λ behind fits. byte-zero (is-place c.args.self.now _ c.requires.open_block c.requires.room) fits (omega arith) (omega arith) c.if-byte-eq0.true (omega arith) refl
 
 pub returns-then-code-eq-FULL_BLOCK_BYTES : goal.returns-then-code-eq-FULL_BLOCK_BYTES
-returns-then-code-eq-FULL_BLOCK_BYTES c = λ behind fits.
-    takes-last c.args.self.now c.args.dest.now c.args.byte c.requires.open_block c.requires.room behind fits c.if-byte-eq0.false c.if-code-eq-FULL_BLOCK_BYTES.true refl
+returns-then-code-eq-FULL_BLOCK_BYTES c = λ behind fits. byte-fills (is-place c.args.self.now _ c.requires.open_block c.requires.room) fits (omega arith) (omega arith) c.if-byte-eq0.false (omega arith) refl
 
 pub returns-else-code-eq-FULL_BLOCK_BYTES : goal.returns-else-code-eq-FULL_BLOCK_BYTES
-returns-else-code-eq-FULL_BLOCK_BYTES c = λ behind fits.
-    takes-other c.args.self.now c.args.dest.now c.args.byte c.requires.open_block c.requires.room behind fits c.if-byte-eq0.false c.if-code-eq-FULL_BLOCK_BYTES.false
-    (ap (λ (n : ℕ). place_at c.args.self.now.index n false) (omega arith))
+returns-else-code-eq-FULL_BLOCK_BYTES c = λ behind fits. byte-joins (is-place c.args.self.now _ c.requires.open_block c.requires.room) fits (omega arith) (omega arith) c.if-byte-eq0.false (omega arith) (omega arith) refl
