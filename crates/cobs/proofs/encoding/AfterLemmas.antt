@@ -9,7 +9,7 @@ use Rattle.cobs.specs.Length.{encoded_len}
 use Rattle.cobs.specs.OpenBlock.{Reached, end_of, next_of, place_at, CobsEncoderAfter}
 use Rattle.cobs.proofs.format.GrammarLemmas.{one_frame}
 use Rattle.cobs.proofs.format.UniqueLemmas.{one_encoded, length-encoded}
-use Rattle.cobs.proofs.encoding.OpenLemmas.{All-front, concat-push, message_of-close, frame_push}
+use Rattle.cobs.proofs.encoding.OpenLemmas.{blocks-of, f-is, message_of-close, frame_push}
 use Rattle.cobs.proofs.format.FrameLemmas.{last_of-push}
 use Rattle.cobs.specs.Internal.Reaches.{Opened, ends_in_full}
 
@@ -106,7 +106,7 @@ pub frame-is : {f m o : List ℕ} {index code : ℕ} (e : IsEncodedFrame f m) (r
     → (is_full (last_of e.reads.blocks) ≡ ends_in_full r.front r.bytes) × (f ≡ concat r.front ++ (if ends_in_full r.front r.bytes then [] else code ∷ r.bytes))
 frame-is {f} {m} {o} {index} {code} e r = elim (cases_Bool (ends_in_full r.front r.bytes)) [
   | inl full ↦
-      let each = All-front r.front (code ∷ r.bytes) r.frame.each in
+      let each = blocks-of r in
       let n = no_bytes r.front r.bytes (sym full) in
       let one : code ≡ 1 = each.1.0 ∙ ap (λ (x : List ℕ). length x + 1) n.0 in
       let same = one_encoded f (concat r.front) m e (encoded-full m r.front each.0 n.1 (rw (n.0, one) at r.message)) in
@@ -118,7 +118,7 @@ frame-is {f} {m} {o} {index} {code} e r = elim (cases_Bool (ends_in_full r.front
       let short = r.not_full in
       rw open' (
         ap (λ (l : List (List ℕ)). is_full (last_of l)) parse ∙ ap is_full (last_of-push r.front (code ∷ r.bytes)) ∙ ne_eqb code 255 (λ k. omega arith),
-        same ∙ r.frame.whole ∙ concat-push r.front (code ∷ r.bytes),
+        same ∙ f-is r,
       )
 ]
 
@@ -127,7 +127,7 @@ module _ (slice m : List ℕ) (r : Reached) (h : CobsEncoderAfter slice r m) whe
   o = h.follows.1
 
   parts : All IsBlock o.front × IsBlock (r.block.code ∷ o.bytes)
-  parts = All-front o.front (r.block.code ∷ o.bytes) o.frame.each
+  parts = blocks-of o
 
   noted-is : r.full ≡ ends_in_full o.front o.bytes
   noted-is = h.noted ∙ (frame-is h.encoded o).0

@@ -1,20 +1,20 @@
 -- The change of an open frame by each byte: a zero closes its last block, the 254th nonzero byte fills it, any other joins it.
 -- By `message_of-close` and `message_of-more`.
-use Rattle.std.proofs.Common.{◌≡◌, ◌≢◌, ℕ, ◌+◌, ◌<◌, Bool, if◌then◌else◌, List, [], ◌∷◌, ◌++◌, length, set, All, refl, sym, ap, ◌∙◌, subst, arith, append-nil, append_assoc, length-append}
+use Rattle.std.proofs.Common.{◌≡◌, ◌≢◌, ℕ, ◌+◌, ◌<◌, Bool, if◌then◌else◌, List, [], ◌∷◌, ◌++◌, length, set, All, refl, sym, ap, ◌∙◌, arith, append-nil, append_assoc, length-append}
 use Rattle.std.specs.List.{concat}
 use Rattle.std.proofs.lemmas.Bool.{ne_eqb}
 use Rattle.std.proofs.lemmas.List.{set_at, length_push}
-use Rattle.std.proofs.lemmas.List.Elements.{All-head, All-tail, All-cons, All-nil, All-push}
+use Rattle.std.proofs.lemmas.List.Elements.{All-head, All-nil, All-push}
 use Rattle.cobs.specs.Grammar.{IsBlock, bytes_of, joint, last_of, lone_block, message_of, IsFrameOf, IsOpenFrame}
 use Rattle.cobs.specs.OpenBlock.{OpenBlock, AgreeOutside, IsOpenOutput}
 use Rattle.cobs.proofs.format.GrammarLemmas.{lone_block-is_block}
 use Rattle.std.proofs.lemmas.List.Folds.{concat-append}
-use Rattle.cobs.proofs.format.FrameLemmas.{last_of-push}
+use Rattle.cobs.proofs.format.FrameLemmas.{All-apart, last_of-push}
 use Rattle.cobs.proofs.format.JoinLemmas.{message_of-append}
 
 -- the message of blocks with a lone block after them
 pub message_of-close : (front : List (List ℕ)) → front ≢ [] → message_of (front ++ lone_block ∷ []) ≡ message_of front ++ joint (last_of front)
-message_of-close front some = message_of-append front (lone_block ∷ []) some (λ e. cc) ∙ append-nil (message_of front ++ joint (last_of front))
+message_of-close front some = grind (arith, message_of-append, append-nil)
 
 -- bytes added to the last block are added to the message, whatever the code
 pub message_of-more : (bs : List (List ℕ)) (c d : ℕ) (bytes more : List ℕ) → message_of (bs ++ (c ∷ bytes ++ more) ∷ []) ≡ message_of (bs ++ (d ∷ bytes) ∷ []) ++ more
@@ -24,7 +24,7 @@ message_of-more (x ∷ y ∷ bs) c d bytes more = grind (arith, append_assoc, (m
 
 -- a block after others
 pub concat-push : (front : List (List ℕ)) (block : List ℕ) → concat (front ++ block ∷ []) ≡ concat front ++ block
-concat-push front block = concat-append front (block ∷ []) ∙ ap (λ (x : List ℕ). concat front ++ x) (append-nil block)
+concat-push front block = grind (arith, concat-append, append-nil)
 
 -- some blocks and one more are not none
 pub append-some : (bs : List (List ℕ)) (b : List ℕ) (cs : List (List ℕ)) → bs ++ b ∷ cs ≢ []
@@ -33,8 +33,7 @@ append-some (x ∷ bs) b cs e = cc
 
 -- the blocks before the last, and the last
 pub All-front : (bs : List (List ℕ)) (b : List ℕ) → All IsBlock (bs ++ b ∷ []) → All IsBlock bs × IsBlock b
-All-front [] b h = (All-nil IsBlock, All-head IsBlock b [] h)
-All-front (x ∷ bs) b h = let r = All-front bs b (All-tail IsBlock x (bs ++ b ∷ []) h) in (All-cons IsBlock x bs (All-head IsBlock x (bs ++ b ∷ []) h) r.0, r.1)
+All-front bs b h = let both = All-apart IsBlock bs (b ∷ []) h in (both.0, All-head IsBlock b [] both.1)
 
 -- the frame of blocks with one more
 pub frame_push : (bs : List (List ℕ)) (b : List ℕ) → All IsBlock bs → IsBlock b → IsFrameOf (concat bs ++ b) (bs ++ b ∷ [])
@@ -44,99 +43,88 @@ frame_push bs b h i = record { some = append-some bs b []; each = All-push IsBlo
 pub IsOpenFrame-start : IsOpenFrame lone_block [] 0 1
 IsOpenFrame-start = grind (arith, frame_push, All-nil, lone_block-is_block)
 
--- the change by a byte of an open frame f, and of a list g that is f except for the code of the open block
-module _ (m f g : List ℕ) (index code : ℕ) (o : IsOpenFrame f m index code) (same : AgreeOutside index f g) where
-  -- the blocks of f
+-- an open frame
+module _ {m f : List ℕ} {index code : ℕ} (o : IsOpenFrame f m index code) where
   pub blocks-of : All IsBlock o.front × IsBlock (code ∷ o.bytes)
   blocks-of = All-front o.front (code ∷ o.bytes) o.frame.each
 
   pub f-is : f ≡ concat o.front ++ code ∷ o.bytes
   f-is = o.frame.whole ∙ concat-push o.front (code ∷ o.bytes)
 
+  -- behind a block that is closed a new one is open, whatever is in the place of its code
+  closed : {k g : List ℕ} (block : List ℕ) (next x : ℕ) → IsBlock block → length (concat o.front ++ block) ≡ next → message_of (o.front ++ block ∷ []) ++ joint block ≡ k
+      → g ≡ (concat o.front ++ block) ++ x ∷ [] → IsOpenOutput g (record { index = next; code = 1 }) k
+  closed block next x is long message out = (
+    _,
+    record {
+      front = o.front ++ block ∷ [];
+      bytes = [];
+      frame = rw (← concat-push o.front block) (frame_push (o.front ++ block ∷ []) lone_block (All-push IsBlock o.front block blocks-of.0 is) lone_block-is_block);
+      message = rw (message_of-close (o.front ++ block ∷ []) (append-some o.front block []), last_of-push o.front block) (sym message);
+      begins = rw concat-push (sym long);
+      not_full = omega arith;
+    },
+    (x, out ∙ sym (set_at (concat o.front ++ block) 1 [] x next long)),
+  )
+
+-- what a byte makes of it, and of a list g that is f but for the code of the open block
+module _ {m f g : List ℕ} {index code : ℕ} (o : IsOpenFrame f m index code) (same : AgreeOutside index f g) where
   pub g-is : g ≡ concat o.front ++ same.0 ∷ o.bytes
-  g-is = grind (arith, f-is, set_at)
+  g-is = (rw (f-is o) at same.1) ∙ set_at (concat o.front) code o.bytes same.0 index (sym o.begins)
 
   -- g with another code
-  pub set-g : (y : ℕ) → set g index y ≡ concat o.front ++ y ∷ o.bytes
-  set-g y = ap (λ (l : List ℕ). set l index y) g-is ∙ set_at (concat o.front) same.0 o.bytes y index (sym o.begins)
+  set-g : (y : ℕ) → set g index y ≡ concat o.front ++ y ∷ o.bytes
+  set-g y = rw g-is (set_at (concat o.front) same.0 o.bytes y index (sym o.begins))
 
   -- the right code makes g that frame
   pub completed : set g index code ≡ f
-  completed = set-g code ∙ sym f-is
-
-  -- after a block that is closed a new one is open
-  closed : (block : List ℕ) (next : ℕ) → IsBlock block → length (concat o.front ++ block) ≡ next
-      → IsOpenFrame ((concat o.front ++ block) ++ lone_block) (message_of (o.front ++ block ∷ []) ++ joint block) next 1
-  closed block next is at = record {
-    front = o.front ++ block ∷ [];
-    bytes = [];
-    frame = subst (λ (x : List ℕ). IsFrameOf (x ++ lone_block) ((o.front ++ block ∷ []) ++ lone_block ∷ [])) (concat-push o.front block)
-        (frame_push (o.front ++ block ∷ []) lone_block (All-push IsBlock o.front block blocks-of.0 is) lone_block-is_block);
-    message = sym (message_of-close (o.front ++ block ∷ []) (append-some o.front block []) ∙ ap (λ (b : List ℕ). message_of (o.front ++ block ∷ []) ++ joint b) (last_of-push o.front block));
-    begins = sym at ∙ ap length (sym (concat-push o.front block));
-    not_full = omega arith;
-  }
+  completed = set-g code ∙ sym (f-is o)
 
   -- a zero closes the block
-  pub open-zero : (x : ℕ) → (h : List ℕ) × IsOpenFrame h (m ++ 0 ∷ []) (index + code) 1 × AgreeOutside (index + code) h (set g index code ++ x ∷ [])
+  pub open-zero : (x : ℕ) → IsOpenOutput (set g index code ++ x ∷ []) (record { index = index + code; code = 1 }) (m ++ 0 ∷ [])
   open-zero x =
-      let block : List ℕ = code ∷ o.bytes in
-      let is = blocks-of.1.0 in
-      let len : length (concat o.front ++ block) ≡ index + code = length-append (concat o.front) block ∙ (let b = o.begins in omega arith) in
-      let zero : joint block ≡ 0 ∷ [] = ap (λ (t : Bool). if t then [] else 0 ∷ []) (ne_eqb code 255 (λ e. let n = o.not_full in omega arith)) in
-      let message : message_of (o.front ++ block ∷ []) ++ joint block ≡ m ++ 0 ∷ [] = cc in (
-        _,
-        subst (λ (k : List ℕ). IsOpenFrame ((concat o.front ++ block) ++ lone_block) k (index + code) 1) message (closed block (index + code) blocks-of.1 len),
-        (x, ap (λ (l : List ℕ). l ++ x ∷ []) (set-g code) ∙ sym (set_at (concat o.front ++ block) 1 [] x (index + code) len)),
-      )
+      let is = blocks-of o in
+      let b = o.begins in
+      let long : length (concat o.front ++ code ∷ o.bytes) ≡ index + code = length-append (concat o.front) (code ∷ o.bytes) ∙ omega (arith, is.1.0) in
+      let zero : joint (code ∷ o.bytes) ≡ 0 ∷ [] = ap (λ (t : Bool). if t then [] else 0 ∷ []) (ne_eqb code 255 (λ e. let n = o.not_full in omega arith)) in
+      closed o (code ∷ o.bytes) (index + code) x is.1 long (rw zero (ap (λ (l : List ℕ). l ++ 0 ∷ []) (sym o.message))) (ap (λ (l : List ℕ). l ++ x ∷ []) (set-g code))
 
-  -- a nonzero byte joins the block
-  pub open-more : (b : ℕ) → b ≢ 0 → code ≢ 254 → (h : List ℕ) × IsOpenFrame h (m ++ b ∷ []) index (code + 1) × AgreeOutside index h (g ++ b ∷ [])
-  open-more b nz room =
-      let is : IsBlock (code ∷ o.bytes) = blocks-of.1 in
-      let block : List ℕ = (code + 1) ∷ (o.bytes ++ b ∷ []) in
-      let n = length_push o.bytes b in
-      let more : IsBlock block = (let c = is.0 in omega arith, let c = o.not_full in omega arith, All-push (λ byte. byte ≢ 0) o.bytes b is.2 nz) in (
-        _,
-        record {
-          front = o.front;
-          bytes = o.bytes ++ b ∷ [];
-          frame = frame_push o.front block blocks-of.0 more;
-          message = ap (λ (l : List ℕ). l ++ b ∷ []) o.message ∙ sym (message_of-more o.front (code + 1) code o.bytes (b ∷ []));
-          begins = o.begins;
-          not_full = let c = o.not_full in omega arith;
-        },
-        (
-          same.0,
-          ap (λ (l : List ℕ). l ++ b ∷ []) g-is ∙ append_assoc (concat o.front) (same.0 ∷ o.bytes) (b ∷ [])
-              ∙ sym (set_at (concat o.front) (code + 1) (o.bytes ++ b ∷ []) same.0 index (sym o.begins)),
-        ),
-      )
+  module _ (byte : ℕ) (nonzero : byte ≢ 0) where
+    -- a block of its bytes and this one
+    longer : (next : ℕ) → next ≡ code + 1 → next < 256 → IsBlock (next ∷ (o.bytes ++ byte ∷ []))
+    longer next is fits = let b = (blocks-of o).1 in (omega (arith, b.0, length_push o.bytes byte), fits, All-push (λ byte. byte ≢ 0) o.bytes byte b.2 nonzero)
 
-  -- the 254th nonzero byte fills it
-  pub open-full : (b x : ℕ) → b ≢ 0 → code ≡ 254 → (h : List ℕ) × IsOpenFrame h (m ++ b ∷ []) (index + 255) 1 × AgreeOutside (index + 255) h (set g index 255 ++ b ∷ x ∷ [])
-  open-full b x nz at =
-      let is = blocks-of.1 in
-      let block : List ℕ = 255 ∷ (o.bytes ++ b ∷ []) in
-      let n = length_push o.bytes b in
-      let more : IsBlock block = (let c = is.0 in omega arith, omega arith, All-push (λ byte. byte ≢ 0) o.bytes b is.2 nz) in
-      let len : length (concat o.front ++ block) ≡ index + 255 = length-append (concat o.front) block ∙ (let b = o.begins in let c = is.0 in omega arith) in
-      let message : message_of (o.front ++ block ∷ []) ++ joint block ≡ m ++ b ∷ [] =
-      append-nil (message_of (o.front ++ block ∷ [])) ∙ message_of-more o.front 255 code o.bytes (b ∷ []) ∙ ap (λ (l : List ℕ). l ++ b ∷ []) (sym o.message) in
-      let out : set g index 255 ++ b ∷ x ∷ [] ≡ (concat o.front ++ block) ++ x ∷ [] =
-      ap (λ (l : List ℕ). l ++ b ∷ x ∷ []) (set-g 255) ∙ sym (append_assoc (concat o.front ++ 255 ∷ o.bytes) (b ∷ []) (x ∷ [])) ∙ ap (λ (l : List ℕ). l ++ x ∷ []) (append_assoc (concat o.front) (255 ∷ o.bytes) (b ∷ [])) in (
-        _,
-        subst (λ (k : List ℕ). IsOpenFrame ((concat o.front ++ block) ++ lone_block) k (index + 255) 1) message (closed block (index + 255) more len),
-        (x, out ∙ sym (set_at (concat o.front ++ block) 1 [] x (index + 255) len)),
-      )
+    -- a nonzero byte joins the block
+    pub open-more : code ≢ 254 → IsOpenOutput (g ++ byte ∷ []) (record { index = index; code = code + 1 }) (m ++ byte ∷ [])
+    open-more room = (
+      _,
+      record {
+        front = o.front;
+        bytes = o.bytes ++ byte ∷ [];
+        frame = frame_push o.front ((code + 1) ∷ (o.bytes ++ byte ∷ [])) (blocks-of o).0 (longer (code + 1) refl (let c = o.not_full in omega arith));
+        message = rw (message_of-more o.front (code + 1) code o.bytes (byte ∷ [])) (ap (λ (l : List ℕ). l ++ byte ∷ []) o.message);
+        begins = o.begins;
+        not_full = let c = o.not_full in omega arith;
+      },
+      (same.0, rw (set_at (concat o.front) (code + 1) (o.bytes ++ byte ∷ []) same.0 index (sym o.begins), g-is) (append_assoc (concat o.front) (same.0 ∷ o.bytes) (byte ∷ []))),
+    )
+
+    -- the 254th fills it
+    pub open-full : (x : ℕ) → code ≡ 254 → IsOpenOutput (set g index 255 ++ byte ∷ x ∷ []) (record { index = index + 255; code = 1 }) (m ++ byte ∷ [])
+    open-full x last =
+        let b = o.begins in
+        let more = longer 255 (omega arith) (omega arith) in
+        let long : length (concat o.front ++ 255 ∷ (o.bytes ++ byte ∷ [])) ≡ index + 255 = length-append (concat o.front) (255 ∷ (o.bytes ++ byte ∷ [])) ∙ omega (arith, more.0) in
+        let message = append-nil _ ∙ message_of-more o.front 255 code o.bytes (byte ∷ []) ∙ ap (λ (l : List ℕ). l ++ byte ∷ []) (sym o.message) in
+        closed o (255 ∷ (o.bytes ++ byte ∷ [])) (index + 255) x more long message (rw (set-g 255) (grind (arith, append_assoc)))
 
 -- the output of a caller that carried out the results ends with the open block
 module _ (g : List ℕ) (state : OpenBlock) (m : List ℕ) (o : IsOpenOutput g state m) where
   pub length-IsOpenOutput : length g ≡ state.index + state.code
   length-IsOpenOutput =
-      let is = (blocks-of m o.0 g state.index state.code o.1 o.2).1 in
-      let all = ap length (g-is m o.0 g state.index state.code o.1 o.2) ∙ length-append (concat o.1.front) (o.2.0 ∷ o.1.bytes) in
+      let is = (blocks-of o.1).1 in
+      let all = ap length (g-is o.1 o.2) ∙ length-append (concat o.1.front) (o.2.0 ∷ o.1.bytes) in
       omega arith
 
   pub index-IsOpenOutput : state.index < length g
-  index-IsOpenOutput = let is = (blocks-of m o.0 g state.index state.code o.1 o.2).1 in let code = is.0 in let len = length-IsOpenOutput in omega arith
+  index-IsOpenOutput = let code = (blocks-of o.1).1.0 in let len = length-IsOpenOutput in omega arith

@@ -69,7 +69,7 @@ module _ {s : Start} {slice : List ℕ} {pos index next : ℕ} {P : Bool → Typ
         by_count (inr other) m t =
             let l = long in
             let least' = least in
-            let joined = Opened-join slice (m ++ take pos s.source) bytes index next t.0 (λ e. other (omega (arith, ap length e))) nonzero (omega arith) (omega arith) (rw l here) t.2 in
+            let joined = Opened-join t.2 bytes (λ e. other (omega (arith, ap length e))) nonzero (omega arith) (omega arith) (rw l here) in
             (false, some (omega arith), grind (arith, append_assoc, take-add))
 
     -- a zero closes the open block
@@ -87,7 +87,7 @@ module _ {s : Start} {slice : List ℕ} {pos index next : ℕ} {P : Bool → Typ
           rest = drop-set-lt (whole_end s) slice index (next - index) (omega arith) ∙ r.rest;
           taken = λ m h.
               let t = r.taken m h in
-              let closed = Opened-close slice (m ++ take pos s.source) index next (next - index) t.0 (omega arith) (omega arith) t.2 in
+              let closed = Opened-close t.2 (next - index) (omega arith) (omega arith) in
               (false, not_full, grind (arith, append_assoc, take_more));
         }
 
@@ -95,7 +95,7 @@ module _ {s : Start} {slice : List ℕ} {pos index next : ℕ} {P : Bool → Typ
   pub full-taken : next ≡ index + 255 → next ≤ length slice → (m : List ℕ) → HadTaken s m → Opened (set slice index 255) (m ++ take pos s.source) next (next + 1) true
   full-taken full fits m h =
       let t = r.taken m h in
-      let closed = Opened-close slice (m ++ take pos s.source) index next 255 t.0 fits (sym full) t.2 in
+      let closed = Opened-close t.2 255 fits (sym full) in
       grind (arith, append-nil)
 
   pub Reaches-full : {Q : Bool → Type 0} → pos < length s.source → next ≡ index + 255 → whole_end s ≤ length slice → Q true → Reaches s (set slice index 255) pos next (next + 1) Q

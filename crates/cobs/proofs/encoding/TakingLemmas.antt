@@ -12,7 +12,7 @@ use Rattle.cobs.specs.Length.{encoded_len, open_len}
 use Rattle.cobs.specs.OpenBlock.{Reached, CobsEncoderAfter, IsPlaceIn, end_after, end_of, next_of, place_at}
 use Rattle.cobs.specs.Internal.Taking.{TakesFront}
 use Rattle.cobs.proofs.encoding.AfterLemmas.{end-is, from_after, to_after}
-use Rattle.cobs.proofs.encoding.OpenLemmas.{All-front}
+use Rattle.cobs.proofs.encoding.OpenLemmas.{blocks-of}
 use Rattle.cobs.proofs.encoding.CoreLemmas.{after-fits, after-nothing, after-len}
 use Rattle.cobs.proofs.encoding.OpenLenLemmas.{open_len-least, open_len-most}
 use Rattle.cobs.proofs.encoding.ReachLemmas.{Reaches-at, Reaches-full, Reaches-join, Reaches-same, ends, full-taken, least}
@@ -27,11 +27,10 @@ pub ruleset short_room = (after-some, open_len-most, cases_Bool)
 -- an encoder that has taken a message is at a place
 pub after-place : (slice m : List ℕ) (r : Reached) → CobsEncoderAfter slice r m → IsPlaceIn (length slice) r
 after-place slice m r h =
-    let o = h.follows.1 in
-    let block = (All-front o.front (r.block.code ∷ o.bytes) o.frame.each).1 in
+    let block = (blocks-of h.follows.1).1 in
     let end = end-is slice m r h in
     let within = after-fits slice m r h in
-    record { some = let c = block.0 in omega arith; not_full = o.not_full; fits = omega arith }
+    record { some = omega (arith, block.0); not_full = h.follows.1.not_full; fits = omega arith }
 
 -- how long the frame is once the encoder has taken these bytes too
 pub after-end : (slice m bytes : List ℕ) (r : Reached) → CobsEncoderAfter slice r m → encoded_len (m ++ bytes) ≡ end_after r bytes

@@ -1,6 +1,6 @@
 -- All frames of a message are its encoded frame and, if the message ends in a full run, that frame with the lone block: by
 -- induction on the blocks, and `one_encoded`.
-use Rattle.std.proofs.Common.{◌≡◌, ◌≢◌, ℕ, zero, suc, ◌+◌, ◌↔◌, true, false, List, [], ◌∷◌, ◌++◌, length, map, set, All, refl, sym, ap, ◌∙◌, subst, arith, append-nil, append_assoc, length-append, inl, inr, ⊎_elim, ◌⊎◌}
+use Rattle.std.proofs.Common.{◌≡◌, ◌≢◌, ℕ, zero, suc, ◌+◌, ◌↔◌, true, false, List, [], ◌∷◌, ◌++◌, length, map, All, refl, sym, ap, ◌∙◌, subst, arith, append-nil, append_assoc, length-append, inl, inr, ⊎_elim, ◌⊎◌}
 use Rattle.std.specs.List.{concat, join_with_byte}
 use Rattle.std.proofs.lemmas.List.Folds.{concat-append}
 use Rattle.std.proofs.lemmas.List.{length_push}
@@ -145,10 +145,10 @@ open_longer f m index code o x = ⊎_elim
 
 -- a byte after a message that an encoder has taken
 pub EncoderAfter-push : (state : OpenBlock) (m : List ℕ) (b : ℕ) → EncoderAfter state m → EncoderAfter (next_open state b) (m ++ b ∷ [])
-EncoderAfter-push state m zero (f, o) = let r = open-zero m f (set f state.index 0) state.index state.code o (0, refl) 0 in (r.0, r.1)
+EncoderAfter-push state m zero (f, o) = let r = open-zero o (0, refl) 0 in (r.0, r.1)
 EncoderAfter-push state m (suc b) (f, o) = ⊎_elim
-    (λ (full : state.code ≡ 254). let r = open-full m f (set f state.index 0) state.index state.code o (0, refl) (suc b) 0 (λ e. omega arith) full in grind arith)
-    (λ (room : state.code ≢ 254). let r = open-more m f (set f state.index 0) state.index state.code o (0, refl) (suc b) (λ e. omega arith) room in grind arith)
+    (λ (full : state.code ≡ 254). let r = open-full o (0, refl) (suc b) (λ e. omega arith) 0 full in grind arith)
+    (λ (room : state.code ≢ 254). let r = open-more o (0, refl) (suc b) (λ e. omega arith) room in grind arith)
     (cases_eq state.code 254)
 
 after_all : (more m : List ℕ) (state : OpenBlock) → EncoderAfter state m → (next : OpenBlock) × EncoderAfter next (m ++ more)
