@@ -4,7 +4,6 @@ pub mod OpenedLemmas
 pub mod OpenLenLemmas
 pub mod ReachLemmas
 pub mod AfterLemmas
-pub mod CoreLemmas
 pub mod RoomLemmas
 pub mod TakingLemmas
 pub mod MarkLemmas

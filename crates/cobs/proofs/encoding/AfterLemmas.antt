@@ -1,12 +1,16 @@
--- What a `CobsEncoder` says about its slice (`CobsEncoderAfter`) and what the core of the encoder knows about it (`Opened`) are the
--- same, since a message has one encoded frame (`one_encoded`).
-use Rattle.std.proofs.Common.{◌≡◌, ◌≢◌, ℕ, ◌+◌, ◌<◌, ◌≤◌, Bool, true, false, if◌then◌else◌, List, [], ◌∷◌, ◌++◌, length, drop, take, get_or, All, refl, sym, ap, ◌∙◌, arith, inl, inr, ◌⊎◌, append-nil, append_assoc, take_at, drop_at, length-append, length-take-le, length-take}
+-- What a `CobsEncoder` says of its slice (`CobsEncoderAfter`) and what the core of the encoder knows of it (`Opened`) are the
+-- same, since a message has one encoded frame (`one_encoded`). So its length and its room follow, and `close` completes it.
+use Rattle.std.proofs.Common.{◌≡◌, ◌≢◌, ℕ, ◌+◌, ◌-◌, ◌<◌, ◌≤◌, Bool, true, false, if◌then◌else◌, List, [], ◌∷◌, ◌++◌, length, set, drop, take, get_or, All, refl, sym, ap, ◌∙◌, arith, inl, inr, ◌⊎◌, append-nil, append_assoc, take_at, drop_at, length-append, length-take-le, length-take}
 use Rattle.std.specs.List.{concat}
 use Rattle.std.proofs.lemmas.Bool.{cases_Bool, true≢false, ne_eqb}
 use Rattle.std.proofs.lemmas.List.{take-take, take-append-drop, drop_more, drop_all, set_at, set_past, same_from_push}
 use Rattle.cobs.specs.Grammar.{IsBlock, IsFull, is_full, lone_block, last_of, message_of, IsFrameOf, IsEncodedFrame, IsOpenFrame}
-use Rattle.cobs.specs.Length.{encoded_len}
-use Rattle.cobs.specs.OpenBlock.{Reached, end_of, next_of, place_at, CobsEncoderAfter}
+use Rattle.cobs.specs.Length.{encoded_len, open_len}
+use Rattle.cobs.proofs.encoding.OpenLenLemmas.{Opened-len}
+use Rattle.std.proofs.Math.Seq.{take-set-lt}
+use Rattle.std.proofs.lemmas.List.{set-set}
+use Rattle.std.proofs.lemmas.List.Elements.{All-nil}
+use Rattle.cobs.specs.OpenBlock.{Reached, end_after, end_of, next_of, place_at, CobsEncoderAfter, IsPlaceIn}
 use Rattle.cobs.proofs.format.GrammarLemmas.{one_frame}
 use Rattle.cobs.proofs.format.UniqueLemmas.{one_encoded, length-encoded}
 use Rattle.cobs.proofs.encoding.OpenLemmas.{blocks-of, f-is, message_of-close, frame_push}
@@ -122,7 +126,7 @@ frame-is {f} {m} {o} {index} {code} e r = elim (cases_Bool (ends_in_full r.front
       )
 ]
 
-module _ (slice m : List ℕ) (r : Reached) (h : CobsEncoderAfter slice r m) where
+module _ {slice m : List ℕ} {r : Reached} (h : CobsEncoderAfter slice r m) where
   abbrev o : IsOpenFrame h.follows.0 m r.block.index r.block.code
   o = h.follows.1
 
@@ -182,3 +186,38 @@ module _ (slice m : List ℕ) (r : Reached) (h : CobsEncoderAfter slice r m) whe
       let l = sym (length-encoded h.frame m h.encoded) in
       let c = parts.1.0 in
       grind (arith, cases_Bool, whole-is refl, length-append, append-nil, o.begins)
+
+  length-frame : length h.frame ≡ end_of r
+  length-frame = length-encoded h.frame m h.encoded ∙ end-is
+
+  -- it is within the slice
+  pub after-fits : encoded_len m ≤ length slice
+  after-fits = let l = length-frame in let e = end-is in let f = h.fits in omega arith
+
+  pub after-place : IsPlaceIn (length slice) r
+  after-place = record { some = omega (arith, parts.1.0); not_full = o.not_full; fits = omega (arith, end-is, after-fits) }
+
+  -- how long it is once the encoder has taken these bytes too
+  pub after-len : (bytes : List ℕ) → bytes ≢ [] → encoded_len (m ++ bytes) ≡ r.block.index + open_len r.block.code bytes
+  after-len bytes some =
+      let code : next_of r - r.block.index ≡ r.block.code = omega arith in
+      rw code at (Opened-len bytes (λ full. some) from_after)
+
+  pub after-end : (bytes : List ℕ) → encoded_len (m ++ bytes) ≡ end_after r bytes
+  after-end [] = ap encoded_len (append-nil m) ∙ end-is
+  after-end (b ∷ bytes) = after-len (b ∷ bytes) (λ e. cc)
+
+  -- the code of the open block completes the frame; a frame that ends in a full block is complete
+  pub closed-full : r.full ≡ true → IsEncodedFrame (take r.block.index slice) m
+  closed-full full = grind (arith, length-frame, set_past)
+
+  pub closed-open : r.full ≡ false → IsEncodedFrame (take (next_of r) (set slice r.block.index r.block.code)) m
+  closed-open open' =
+      let some = after-place.some in
+      let long : length h.frame ≡ next_of r = length-frame ∙ ap (λ (b : Bool). if b then r.block.index else next_of r) open' in
+      let same : h.frame ≡ concat o.front ++ r.block.code ∷ o.bytes = whole-is open' in
+      grind (arith, set_at, take-set-lt, set-set)
+
+-- the encoder that has taken nothing
+pub after-nothing : (slice : List ℕ) → 0 < length slice → CobsEncoderAfter slice (place_at 0 1 false) []
+after-nothing slice some = grind (arith, to_after, All-nil, drop_all, length-take)

@@ -7,18 +7,18 @@ use Rattle.cobs.specs.Grammar.{HasNoZero}
 use Rattle.cobs.specs.Length.{encoded_len}
 use Rattle.cobs.specs.OpenBlock.{CobsEncoderAfter, IsPlaceIn, Reached, end_after, next_of, place_at}
 use Rattle.cobs.specs.Internal.Taking.{TakesFront}
-use Rattle.cobs.proofs.encoding.CoreLemmas.{after-len}
+use Rattle.cobs.proofs.encoding.AfterLemmas.{after-len, after-place}
 use Rattle.cobs.proofs.encoding.OpenLenLemmas.{same_start}
 use Rattle.cobs.proofs.encoding.ReachLemmas.{IsNotFull, Reaches-weaker, Reaches-zero}
-use Rattle.cobs.proofs.encoding.TakingLemmas.{after-place, front-filled, front-taken, joined, reaches-start, short_room}
+use Rattle.cobs.proofs.encoding.TakingLemmas.{front-filled, front-taken, joined, reaches-start, short_room}
 use Rattle.cobs_bytes.proofs.bytes.ListLemmas.{length-ones, ones-nonzero}
 use Rattle.cobs.specs.Internal.Reaches.{Reaches, start_with}
 
 -- how long the frame of a longer message is
-pub after-more : (slice m a bytes : List ℕ) (r : Reached) → CobsEncoderAfter slice r m → HasNoZero a → length a + 1 ≡ r.block.code → bytes ≢ [] → encoded_len (m ++ bytes) ≡ r.block.index + encoded_len (a ++ bytes)
-after-more slice m a bytes r h nonzero long some =
+pub after-more : {slice m : List ℕ} {r : Reached} (a bytes : List ℕ) → CobsEncoderAfter slice r m → HasNoZero a → length a + 1 ≡ r.block.code → bytes ≢ [] → encoded_len (m ++ bytes) ≡ r.block.index + encoded_len (a ++ bytes)
+after-more {r = r} a bytes h nonzero long some =
     let k = length-ones (r.block.code - 1) in
-    after-len slice m bytes r some h ∙ ap (λ (n : ℕ). r.block.index + n) (same_start (replicate (r.block.code - 1) 1) a bytes (ones-nonzero (r.block.code - 1)) nonzero (omega arith))
+    after-len h bytes some ∙ ap (λ (n : ℕ). r.block.index + n) (same_start (replicate (r.block.code - 1) 1) a bytes (ones-nonzero (r.block.code - 1)) nonzero (omega arith))
 
 -- the first byte of a source is taken
 module _ {source slice : List ℕ} {r : Reached} {next : ℕ} (place : IsPlaceIn (length slice) r) (fits : end_after r source ≤ length slice) (some : 0 < length source) (at : next ≡ next_of r) where
@@ -51,9 +51,9 @@ pub fits-byte : (slice : List ℕ) (r : Reached) (byte : ℕ) → 0 < r.block.co
 fits-byte slice r byte some short room = grind (arith, short_room)
 
 -- the same of what it has taken
-module _ (slice m : List ℕ) (r : Reached) (h : CobsEncoderAfter slice r m) (room : next_of r < length slice) where
+module _ {slice m : List ℕ} {r : Reached} (h : CobsEncoderAfter slice r m) (room : next_of r < length slice) where
   place : IsPlaceIn (length slice) r
-  place = after-place slice m r h
+  place = after-place h
 
   fits : (byte : ℕ) → end_after r (byte ∷ []) ≤ length slice
   fits byte = fits-byte slice r byte place.some place.not_full room

@@ -1,19 +1,16 @@
 -- How the core of the encoder takes a source, step by step: `front-taken` turns what was reached into `TakesFront`, and
 -- `front-next` joins two steps.
-use Rattle.std.proofs.Common.{◌≡◌, ◌≢◌, get_or, ℕ, ◌+◌, ◌-◌, ◌<◌, ◌≤◌, Bool, true, false, List, [], ◌∷◌, ◌++◌, length, drop, take, refl, sym, ap, ◌∙◌, subst, inl, inr, arith, append-nil, append_assoc, length-drop, take_all}
+use Rattle.std.proofs.Common.{◌≡◌, ◌≢◌, get_or, ℕ, ◌+◌, ◌-◌, ◌<◌, ◌≤◌, Bool, true, false, List, [], ◌∷◌, ◌++◌, length, drop, take, refl, sym, ap, ◌∙◌, inl, inr, arith, append-nil, append_assoc, length-drop, take_all}
 use Rattle.std.proofs.Math.ListN.{set}
 use Rattle.std.proofs.Math.Seq.{take-add}
 use Rattle.std.proofs.lemmas.Bool.{cases_Bool, cases_lt}
 use Rattle.std.proofs.lemmas.List.{drop-drop, drop-set, drop-set-lt, drop_all, drop_more, length-set, take-set-le, take_rest}
 use Rattle.std.proofs.lemmas.List.Elements.{All-cons, All-nil}
-use Rattle.std.proofs.lemmas.Grind.{common_steps}
 use Rattle.cobs.specs.Grammar.{HasNoZero}
 use Rattle.cobs.specs.Length.{encoded_len, open_len}
 use Rattle.cobs.specs.OpenBlock.{Reached, CobsEncoderAfter, IsPlaceIn, end_after, end_of, next_of, place_at}
 use Rattle.cobs.specs.Internal.Taking.{TakesFront}
-use Rattle.cobs.proofs.encoding.AfterLemmas.{end-is, from_after, to_after}
-use Rattle.cobs.proofs.encoding.OpenLemmas.{blocks-of}
-use Rattle.cobs.proofs.encoding.CoreLemmas.{after-fits, after-nothing, after-len}
+use Rattle.cobs.proofs.encoding.AfterLemmas.{after-end, after-nothing, end-is, from_after, to_after}
 use Rattle.cobs.proofs.encoding.OpenLenLemmas.{open_len-least, open_len-most}
 use Rattle.cobs.proofs.encoding.ReachLemmas.{Reaches-at, Reaches-full, Reaches-join, Reaches-same, ends, full-taken, least}
 use Rattle.cobs.specs.Internal.Reaches.{HadTaken, Reaches, Start, start_with, whole_end}
@@ -23,24 +20,6 @@ after-some r bytes h = grind arith
 
 -- for the tactics of `try_append`
 pub ruleset short_room = (after-some, open_len-most, cases_Bool)
-
--- an encoder that has taken a message is at a place
-pub after-place : (slice m : List ℕ) (r : Reached) → CobsEncoderAfter slice r m → IsPlaceIn (length slice) r
-after-place slice m r h =
-    let block = (blocks-of h.follows.1).1 in
-    let end = end-is slice m r h in
-    let within = after-fits slice m r h in
-    record { some = omega (arith, block.0); not_full = h.follows.1.not_full; fits = omega arith }
-
--- how long the frame is once the encoder has taken these bytes too
-pub after-end : (slice m bytes : List ℕ) (r : Reached) → CobsEncoderAfter slice r m → encoded_len (m ++ bytes) ≡ end_after r bytes
-after-end slice m [] r h = ap encoded_len (append-nil m) ∙ end-is slice m r h
-after-end slice m (b ∷ bytes) r h = after-len slice m (b ∷ bytes) r (λ e. cc) h
-
--- no bytes fit wherever an encoder can be
-pub none-fits : (n : ℕ) (r : Reached) (bytes : List ℕ) → length bytes ≡ 0 → IsPlaceIn n r → end_after r bytes ≤ n
-none-fits n r [] e p = p.fits
-none-fits n r (b ∷ bytes) e p = absurd (omega arith)
 
 -- a source has room for its bytes at the least
 pub next-least : (r : Reached) (source : List ℕ) → 0 < r.block.code → 0 < length source → next_of r + length source ≤ end_after r source
@@ -56,7 +35,7 @@ reaches-start {source} {old} {r} some code short =
       within = omega arith;
       room = grind (arith, after-some);
       rest = refl;
-      taken = λ m h. (r.full, tt, rw append-nil (from_after old m r h));
+      taken = λ m h. (r.full, tt, rw append-nil (from_after h));
     }
 
 -- a byte is written behind the open block's
@@ -122,40 +101,38 @@ front-filled {source} {old} {slice} {r} {r'} {pos} {index} {next} fits full s on
 
 -- nothing is taken
 pub front-none : (slice : List ℕ) (r : Reached) (source : List ℕ) → IsPlaceIn (length slice) r → TakesFront slice r source 0 slice r
-front-none slice r source p = record { place = p; after = λ m h. subst (CobsEncoderAfter slice r) (sym (append-nil m)) h; end = refl; rest = refl }
+front-none slice r source p = record { place = p; after = λ m h. rw append-nil h; end = refl; rest = refl }
 
 -- one step and then another, on what is left
-pub front-next : {slice slice' slice'' source left : List ℕ} {r r' r'' : Reached} (n k : ℕ) → left ≡ drop n source → TakesFront slice r source n slice' r' → TakesFront slice' r' left k slice'' r''
-    → TakesFront slice r source (n + k) slice'' r''
-front-next {slice} {slice'} {slice''} {source} {left} {r} {r'} {r''} n k is a b = record {
-  place = b.place;
-  after = λ m h. subst (CobsEncoderAfter slice'' r'') (append_assoc m (take n source) (take k left) ∙ ap (λ (x : List ℕ). m ++ (take n source ++ take k x)) is ∙ ap (λ (x : List ℕ). m ++ x) (sym (take-add n k source))) (b.after (m ++ take n source) (a.after m h));
-  end = ap (end_after r'') (sym (drop-drop k n source) ∙ ap (drop k) (sym is)) ∙ b.end ∙ left-end;
-  rest = subst (λ (e : ℕ). drop e slice'' ≡ drop e slice') left-end b.rest ∙ a.rest;
-}
-  where
-    left-end : end_after r' left ≡ end_after r source
-    left-end = ap (end_after r') is ∙ a.end
+module _ {slice slice' source left : List ℕ} {r r' : Reached} (n : ℕ) (is : left ≡ drop n source) (a : TakesFront slice r source n slice' r') where
+  -- what is left fits
+  pub left-end : end_after r' left ≡ end_after r source
+  left-end = ap (end_after r') is ∙ a.end
 
--- the rest fits, and with it the whole source is taken
-pub left-end : {slice slice' source left : List ℕ} {r r' : Reached} (n : ℕ) → left ≡ drop n source → TakesFront slice r source n slice' r' → end_after r' left ≡ end_after r source
-left-end {r' = r'} n is t = ap (end_after r') is ∙ t.end
+  pub front-next : {slice'' : List ℕ} {r'' : Reached} (k : ℕ) → TakesFront slice' r' left k slice'' r'' → TakesFront slice r source (n + k) slice'' r''
+  front-next {slice''} {r''} k b =
+      let taken : take (n + k) source ≡ take n source ++ take k left = rw is (take-add n k source) in
+      record {
+        place = b.place;
+        after = λ m h. rw (taken, ← append_assoc) (b.after (m ++ take n source) (a.after m h));
+        end = ap (end_after r'') (sym (drop-drop k n source) ∙ ap (drop k) (sym is)) ∙ b.end ∙ left-end;
+        rest = (rw left-end at b.rest) ∙ a.rest;
+      }
 
-pub front-last : {slice slice' slice'' source left : List ℕ} {r r' r'' : Reached} (n : ℕ) → n ≤ length source → left ≡ drop n source → TakesFront slice r source n slice' r' → TakesFront slice' r' left (length left) slice'' r''
-    → TakesFront slice r source (length source) slice'' r''
-front-last {slice} {slice'} {slice''} {source} {left} {r} {r'} {r''} n le is a b =
-    grind (arith, common_steps, length-drop)
+  -- with that the whole source is taken
+  pub front-last : {slice'' : List ℕ} {r'' : Reached} → n ≤ length source → TakesFront slice' r' left (length left) slice'' r'' → TakesFront slice r source (length source) slice'' r''
+  front-last le b = let sum : n + length left ≡ length source = omega (arith, length-drop n source, ap length is) in rw (← sum) (front-next (length left) b)
 
 -- the whole source is taken
 module _ {slice slice' source : List ℕ} {r r' : Reached} (t : TakesFront slice r source (length source) slice' r') where
   pub all-after : (m : List ℕ) → CobsEncoderAfter slice r m → CobsEncoderAfter slice' r' (m ++ source)
-  all-after m h = subst (λ (x : List ℕ). CobsEncoderAfter slice' r' (m ++ x)) (take_all (length source) source (omega arith)) (t.after m h)
+  all-after m h = rw (take_all (length source) source (omega arith)) at (t.after m h)
 
   pub all-end : end_of r' ≡ end_after r source
   all-end = sym (ap (end_after r') (drop_all (length source) source (omega arith))) ∙ t.end
 
   pub all-rest : drop (end_of r') slice' ≡ drop (end_of r') slice
-  all-rest = subst (λ (n : ℕ). drop n slice' ≡ drop n slice) (sym all-end) t.rest
+  all-rest = rw all-end t.rest
 
 -- an encoder that has taken nothing
 module _ (slice : List ℕ) (r : Reached) (is : r ≡ place_at 0 1 false) (some : 0 < length slice) where
@@ -163,10 +140,10 @@ module _ (slice : List ℕ) (r : Reached) (is : r ≡ place_at 0 1 false) (some 
   start-fits source = grind arith
 
   pub start-place : IsPlaceIn (length slice) r
-  start-place = subst (IsPlaceIn (length slice)) (sym is) (record { some = omega arith; not_full = omega arith; fits = omega arith })
+  start-place = rw is (record { some = omega arith; not_full = omega arith; fits = omega arith })
 
   pub start-taken : CobsEncoderAfter slice r []
-  start-taken = subst (λ (x : Reached). CobsEncoderAfter slice x []) (sym is) (after-nothing slice some)
+  start-taken = rw is (after-nothing slice some)
 
   -- takes its whole source
   module _ {slice' source : List ℕ} {r' : Reached} (t : TakesFront slice r source (length source) slice' r') where

@@ -1,13 +1,12 @@
 -- A whole message that is taken into an empty slice, with its last block closed at the end, full or not (`write_each`).
-use Rattle.std.proofs.Common.{◌≡◌, ℕ, ◌+◌, ◌-◌, ◌<◌, ◌≤◌, true, false, List, length, take, drop, refl, sym, ◌∙◌, inl, inr, arith, append-nil}
+use Rattle.std.proofs.Common.{◌≡◌, ℕ, ◌+◌, ◌-◌, ◌<◌, ◌≤◌, false, List, length, take, drop, refl, sym, ◌∙◌, inl, inr, arith, append-nil}
 use Rattle.std.proofs.Math.ListN.{set}
 use Rattle.std.proofs.lemmas.Bool.{cases_lt}
 use Rattle.std.proofs.lemmas.List.{drop-set-lt}
 use Rattle.cobs.specs.Grammar.{IsEncodedFrame}
 use Rattle.cobs.specs.Length.{encoded_len}
 use Rattle.cobs.specs.OpenBlock.{place_at}
-use Rattle.cobs.proofs.encoding.AfterLemmas.{from_after}
-use Rattle.cobs.proofs.encoding.CoreLemmas.{closed-full, closed-open}
+use Rattle.cobs.proofs.encoding.AfterLemmas.{closed-full, closed-open, from_after}
 use Rattle.cobs.proofs.encoding.ReachLemmas.{IsNotFull, ends}
 use Rattle.cobs.proofs.encoding.TakingLemmas.{front-filled, front-taken, start-after, start-fits}
 use Rattle.cobs.specs.Internal.Reaches.{HadTaken, Reaches, Start, start_with, whole_end}
@@ -27,7 +26,7 @@ whole-start {old} {source} some = record {
   within = omega arith;
   room = let e = whole-fits old source some in omega arith;
   rest = refl;
-  taken = λ m h. (false, refl, rw append-nil (from_after old m (place_at 0 1 false) h));
+  taken = λ m h. (false, refl, rw append-nil (from_after h));
 }
 
 -- its last block is closed
@@ -47,8 +46,8 @@ module _ {old source slice : List ℕ} {pos index next : ℕ} (some : 0 < length
       elim (cases_lt next (index + 255)) [
         | inl open' ↦ (let sum : index + (next - index) ≡ next = omega arith in
             let after = start-after old (place_at 0 1 false) refl some (front-taken (omega arith) {full = false} r' open' (λ all. refl) sum refl) in
-            rw sum at (closed-open slice source (place_at index (next - index) false) after refl (omega arith)))
+            rw sum at (closed-open after refl))
         | inr full ↦ (let code : next - index ≡ 255 = omega arith in
             let after = start-after old (place_at 0 1 false) refl some (front-filled (omega arith) (omega arith) r' refl refl) in
-            rw code (closed-full (set slice index 255) source (place_at next 1 true) after refl))
+            rw code (closed-full after refl))
       ]

@@ -1,4 +1,4 @@
-use Rattle.std.proofs.Common.{◌≡◌, [], drop, refl, sym, ◌∙◌, subst, arith, ℕ}
+use Rattle.std.proofs.Common.{◌≡◌, [], refl, ◌∙◌, arith}
 use Rattle.std.proofs.lemmas.Grind.{common_steps}
 use Rattle.cobs.proofs.encoding.TakingLemmas.{all-rest, start-after, start-len, start-taken}
 use Rattle.cobs.proofs.enc.encode_long.Goals as goal
@@ -12,5 +12,5 @@ pub returns : goal.returns
 returns c = record {
   frame = c.close-2.ensures.frame c.args.source.now (start-after c.args.dest.now _ refl (omega arith) c.append-progress.ensures);
   len = c.close-2.ensures.end ∙ start-len c.args.dest.now _ refl (omega arith) c.append-progress.ensures;
-  rest = c.close-2.ensures.rest ∙ subst (λ (n : ℕ). drop n c.append-progress.new.dest ≡ drop n c.args.dest.now) (sym c.close-2.ensures.end) (all-rest c.append-progress.ensures);
+  rest = c.close-2.ensures.rest ∙ (rw c.close-2.ensures.end (all-rest c.append-progress.ensures));
 }

@@ -1,11 +1,9 @@
-use Rattle.std.proofs.Common.{ℕ, List, take, subst}
-use Rattle.cobs.specs.Grammar.{IsEncodedFrame}
 use Rattle.cobs.proofs.format.SentinelLemmas.{encoded_nonzero}
 use Rattle.cobs.proofs.enc.try_encode.Goals as goal
 use Rattle.cobs_bytes.proofs.bytes.XoredLemmas.{xor_each-zero}
 
 pub returns-in-Some-clause-frame : goal.returns-in-Some-clause-frame
-returns-in-Some-clause-frame c = subst (λ (f : List ℕ). IsEncodedFrame f c.args.source.now) (xor_each-zero (take c.in-Some.len c.encode_few.new.dest)) c.in-Some.ensures.frame
+returns-in-Some-clause-frame c = rw xor_each-zero at c.in-Some.ensures.frame
 
 pub returns-in-Some-clause-no_sentinel : goal.returns-in-Some-clause-no_sentinel
 returns-in-Some-clause-no_sentinel c = encoded_nonzero (returns-in-Some-clause-frame c)

@@ -9,5 +9,5 @@ returns c = record {
   output = λ g m state o. (length-IsOpenOutput g state m o, index-IsOpenOutput g state m o);
   shorter = open_shorter;
   longer = open_longer;
-  end = λ slice m reached after. sym (end-is slice m reached after);
+  end = λ slice m reached after. sym (end-is after);
 }

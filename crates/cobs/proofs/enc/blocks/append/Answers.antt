@@ -5,13 +5,13 @@ use Rattle.cobs.proofs.encoding.TakingLemmas.{front-last, left-end}
 use Rattle.cobs.proofs.enc.blocks.append.Goals as goal
 
 pub append_short-requires-clause-fits : goal.append_short-requires-clause-fits
-append_short-requires-clause-fits c = let e = left-end c.append_windows-read.result.0 (take_rest c.args.source.now c.append_windows-read.result.0) c.append_windows-read.ensures.taken in omega arith
+append_short-requires-clause-fits c = grind (arith, left-end, take_rest)
 
 pub append_rest-reached-requires : goal.append_rest-reached-requires
 append_rest-reached-requires c = grind (arith, left-end, take_rest)
 
 pub returns-then-fits_window_and_block : goal.returns-then-fits_window_and_block
-returns-then-fits_window_and_block c = front-last c.append_windows-read.result.0 (omega arith) (take_rest c.args.source.now c.append_windows-read.result.0) c.append_windows-read.ensures.taken c.append_short.ensures
+returns-then-fits_window_and_block c = front-last _ (take_rest c.args.source.now _) c.append_windows-read.ensures.taken (omega arith) c.append_short.ensures
 
 pub returns-else-fits_window_and_block : goal.returns-else-fits_window_and_block
-returns-else-fits_window_and_block c = front-last c.append_windows-read.result.0 (omega arith) (take_rest c.args.source.now c.append_windows-read.result.0) c.append_windows-read.ensures.taken c.append_rest-reached.ensures
+returns-else-fits_window_and_block c = front-last _ (take_rest c.args.source.now _) c.append_windows-read.ensures.taken (omega arith) c.append_rest-reached.ensures

@@ -47,7 +47,7 @@ by_block-preserved c =
     let e = c.by_block.invariant.taken.end in
     let o = s.ordered in
     let taken = front-taken (omega arith) {full = false} s (omega arith) (λ all. refl) (omega arith) c.progress_at-progress-else-next-len.ensures in
-    record { within = omega arith; taken = front-next c.by_block.read c.min-len.result refl c.by_block.invariant.taken taken }
+    record { within = omega arith; taken = front-next c.by_block.read refl c.by_block.invariant.taken c.min-len.result taken }
 
 -- and may fill it
 pub by_block-preserved-then-next-len : goal.by_block-preserved-then-next-len
@@ -55,7 +55,7 @@ by_block-preserved-then-next-len c =
     let s = joined (goal.at.by_block-preserved-then-next-len c).After-copy_from_slice in
     let e = c.by_block.invariant.taken.end in
     let taken = front-filled (omega arith) c.if-next-len.true s (omega arith) c.progress_at-progress.ensures in
-    record { within = omega arith; taken = front-next c.by_block.read c.min-len.result refl c.by_block.invariant.taken taken }
+    record { within = omega arith; taken = front-next c.by_block.read refl c.by_block.invariant.taken c.min-len.result taken }
 
 pub returns-clause-taken : goal.returns-clause-taken
 returns-clause-taken c =
@@ -68,4 +68,4 @@ returns-clause-taken c =
     let zero : get_or left 0 0 ≡ 0 = grind (arith, drop_more) in
     let long = length-drop c.by_block.read c.args.source.now in
     let one : next_of (reached_at c.by_block.progress) + 1 - next_of (reached_at c.by_block.progress) ≡ 1 = omega arith in
-    front-next c.by_block.read 1 refl t (byte-zero t.place (omega arith) (omega arith) refl zero refl (rw one at c.progress_at.ensures))
+    front-next c.by_block.read refl t 1 (byte-zero t.place (omega arith) (omega arith) refl zero refl (rw one at c.progress_at.ensures))

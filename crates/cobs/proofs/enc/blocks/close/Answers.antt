@@ -1,14 +1,13 @@
 -- With its last code written the slice holds the whole frame: by `closed-open`, or `closed-full` if it ends in a full block.
 use Rattle.std.proofs.Common.{arith}
 use Rattle.std.proofs.lemmas.List.{take-set}
-use Rattle.cobs.specs.Fields.Progress.{reached_at}
-use Rattle.cobs.proofs.encoding.CoreLemmas.{closed-full, closed-open}
+use Rattle.cobs.proofs.encoding.AfterLemmas.{closed-full, closed-open}
 use Rattle.cobs.proofs.enc.blocks.close.Goals.{then-index-dest, then-progress, else-progress, else-index-dest}
 use Rattle.cobs.proofs.enc.blocks.close.Goals as goal
 
 pub returns-then-progress-2-clause-frame : goal.returns-then-progress-2-clause-frame
 returns-then-progress-2-clause-frame c = λ m h.
-    let frame = closed-full c.args.dest.now m (reached_at c.args.progress) h c.if-progress-2.true in
+    let frame = closed-full h c.if-progress-2.true in
     elim c.if-index-dest.branch [
       | then-index-dest w ↦ rw w.dest-is (rw (take-set c.args.dest.now c.args.progress.index w.if-progress.dest) frame)
       | else-index-dest w ↦ rw w.dest-is frame
@@ -16,7 +15,7 @@ returns-then-progress-2-clause-frame c = λ m h.
 
 pub returns-clause-frame : goal.returns-clause-frame
 returns-clause-frame c = λ m h.
-    let frame = closed-open c.args.dest.now m (reached_at c.args.progress) h c.if-progress-2.false c.requires.some in
+    let frame = closed-open h c.if-progress-2.false in
     elim c.if-index-dest.branch [
       | then-index-dest w ↦ elim w.if-progress.branch [
         | then-progress v ↦ absurd (grind arith)

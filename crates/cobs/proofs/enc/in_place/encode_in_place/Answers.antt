@@ -3,13 +3,13 @@ use Rattle.std.proofs.lemmas.Bool.{cases_Bool}
 use Rattle.std.proofs.lemmas.List.{get_or-drop, length_push, take_more}
 use Rattle.cobs.specs.Fields.Progress.{reached_at, reached_by}
 use Rattle.cobs.specs.Length.{max_encoded_len}
-use Rattle.cobs.specs.OpenBlock.{CobsEncoderAfter, IsPlaceIn, Reached, end_after, end_of, next_of}
+use Rattle.cobs.specs.OpenBlock.{CobsEncoderAfter, Reached, end_after, end_of, next_of}
 use Rattle.cobs.specs.Overwritten.{message_in}
 use Rattle.cobs.proofs.format.LengthLemmas.{encoded_len-le}
 use Rattle.cobs.proofs.format.SentinelLemmas.{encoded_nonzero}
-use Rattle.cobs.proofs.encoding.AfterLemmas.{end-is}
+use Rattle.cobs.proofs.encoding.AfterLemmas.{after-end, after-place, end-is}
 use Rattle.cobs.proofs.encoding.StepLemmas.{room-only}
-use Rattle.cobs.proofs.encoding.TakingLemmas.{after-end, after-place, all-end, all-rest, next-least}
+use Rattle.cobs.proofs.encoding.TakingLemmas.{all-end, all-rest, next-least}
 use Rattle.cobs.proofs.enc.in_place.encode_in_place.Goals as goal
 use Rattle.cobs_bytes.proofs.bytes.ListLemmas.{drop-later}
 
@@ -22,11 +22,11 @@ there a k x y le e =
     subst (λ (n : ℕ). get_or x n 0 ≡ get_or y n 0) s (grind (arith, get_or-drop))
 
 -- the frame with one byte more is within the slice
-fits-one : (slice m : List ℕ) (r : Reached) (byte n : ℕ) → CobsEncoderAfter slice r m → length m < n → max_encoded_len n ≤ length slice → end_after r (byte ∷ []) ≤ length slice
-fits-one slice m r byte n h more fits =
+fits-one : {slice m : List ℕ} {r : Reached} (byte n : ℕ) → CobsEncoderAfter slice r m → length m < n → max_encoded_len n ≤ length slice → end_after r (byte ∷ []) ≤ length slice
+fits-one {m = m} byte n h more fits =
     let longer = encoded_len-le (m ++ byte ∷ []) in
     let long = length_push m byte in
-    let end = after-end slice m (byte ∷ []) r h in
+    let end = after-end h (byte ∷ []) in
     omega arith
 
 pub by_byte-init : goal.by_byte-init
@@ -39,7 +39,7 @@ append_byte-requires c =
     let byte : ℕ = get_or c.by_byte.buffer (c.max_encoding_overhead-before.result + c.by_byte.taken) 0 in
     let long = length-take c.by_byte.taken (drop c.max_encoding_overhead-before.result c.args.buffer.now) in
     let room = room-only c.by_byte.encoder (length c.by_byte.buffer) byte
-    (record { place = after-place c.by_byte.buffer _ r i.after; fits = fits-one c.by_byte.buffer _ r byte c.args.len i.after (omega arith) (omega arith) }) in
+    (record { place = after-place i.after; fits = fits-one byte c.args.len i.after (omega arith) (omega arith) }) in
     record { open_block = room.0; room = room.1 }
 
 pub by_byte-preserved : goal.by_byte-preserved
@@ -51,21 +51,21 @@ by_byte-preserved c =
     let r' : Reached = reached_by c.append_byte.new.self in
     let i = c.by_byte.invariant in
     let some = length-take c.by_byte.taken (drop before old) in
-    let e = c.append_byte.ensures [] (fits-one c.by_byte.buffer _ r _ c.args.len i.after (omega arith) (omega arith)) in
+    let e = c.append_byte.ensures [] (fits-one _ c.args.len i.after (omega arith) (omega arith)) in
     let long = length-drop before old in
     let taken = length-take c.by_byte.taken (drop before old) in
-    let end = end-is c.by_byte.buffer _ r i.after in
+    let end = end-is i.after in
     let most = encoded_len-le (take c.by_byte.taken (drop before old)) in
     let byte : get_or c.by_byte.buffer at 0 ≡ get_or (drop before old) c.by_byte.taken 0 =
     there (end_of r) at c.by_byte.buffer old (omega arith) i.rest ∙ sym (get_or-drop before old c.by_byte.taken 0) in
     let more : take (c.by_byte.taken + 1) (drop before old) ≡ take c.by_byte.taken (drop before old) ++ get_or c.by_byte.buffer at 0 ∷ [] = grind (arith, take_more) in
     let le = end-le r in
-    let least = next-least r (get_or c.by_byte.buffer at 0 ∷ []) (after-place c.by_byte.buffer _ r i.after).some (omega arith) in
+    let least = next-least r (get_or c.by_byte.buffer at 0 ∷ []) (after-place i.after).some (omega arith) in
     let reached = all-end e in
     record { after = rw more (e.after _ i.after); rest = all-rest e ∙ drop-later (end_of r) (end_of r') c.by_byte.buffer old (omega arith) i.rest }
 
 pub close-requires : goal.close-requires
-close-requires c = subst (IsPlaceIn (length c.by_byte.buffer)) (sym c.progress.ensures.progress) (after-place c.by_byte.buffer _ (reached_by c.by_byte.encoder) c.by_byte.invariant.after)
+close-requires c = rw c.progress.ensures.progress (after-place c.by_byte.invariant.after)
 
 pub returns : goal.returns
 returns c =
@@ -79,6 +79,6 @@ returns c =
     record {
       frame = frame;
       no_sentinel = encoded_nonzero frame;
-      len = c.close.ensures.end ∙ sym (end-is c.by_byte.buffer (message_in c.args.len c.args.buffer.now) r after);
+      len = c.close.ensures.end ∙ sym (end-is after);
       rest = c.close.ensures.rest ∙ subst (λ (n : ℕ). drop n c.by_byte.buffer ≡ drop n c.args.buffer.now) (sym (c.close.ensures.end ∙ ap end_of same)) c.by_byte.invariant.rest;
     }

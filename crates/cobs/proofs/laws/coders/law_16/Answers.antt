@@ -1,16 +1,15 @@
-use Rattle.cobs.proofs.encoding.CoreLemmas.{after-nothing, closed-full, closed-open}
-use Rattle.cobs.proofs.encoding.TakingLemmas.{after-place}
+use Rattle.cobs.proofs.encoding.AfterLemmas.{after-nothing, after-place, closed-full, closed-open}
 use Rattle.cobs.proofs.encoding.ByteLemmas.{after-byte, after-filled, after-more, after-zero}
 use Rattle.cobs.proofs.laws.coders.law_16.Goals as goal
 
 pub returns : goal.returns
 returns c = record {
   nothing = after-nothing;
-  place = after-place;
-  goes_on = after-more;
-  joins = λ slice m reached byte h other short room. after-byte slice m reached h room byte other short;
-  fills = λ slice m reached byte h other last room. after-filled slice m reached h room byte other last;
-  closes = after-zero;
-  frame = λ slice m reached h open'. closed-open slice m reached h open' (after-place slice m reached h).some;
-  full_frame = closed-full;
+  place = λ _ _ _ h. after-place h;
+  goes_on = λ _ _ a bytes _ h. after-more a bytes h;
+  joins = λ _ _ _ byte h other short room. after-byte h room byte other short;
+  fills = λ _ _ _ byte h other last room. after-filled h room byte other last;
+  closes = λ _ _ _ h room. after-zero h room;
+  frame = λ _ _ _ h open'. closed-open h open';
+  full_frame = λ _ _ _ h full. closed-full h full;
 }

@@ -23,5 +23,5 @@ by_byte-preserved c =
     let t = c.by_byte.invariant in
     let end = t.end in
     let left = drop_more c.args.bytes.now c.by_byte.i 0 c.by_byte-test.true in
-    front-next c.by_byte.i 1 (sym left) t
-    (c.append_byte.ensures _ (subst (λ (xs : List ℕ). end_after (reached_by c.by_byte.encoder) xs ≤ length c.by_byte.dest) left (omega arith)))
+    let fits = subst (λ (xs : List ℕ). end_after (reached_by c.by_byte.encoder) xs ≤ length c.by_byte.dest) left (omega arith) in
+    front-next c.by_byte.i (sym left) t 1 (c.append_byte.ensures _ fits)

@@ -3,7 +3,8 @@ use Rattle.cobs.specs.Fields.Progress.{reached_by}
 use Rattle.cobs.specs.OpenBlock.{HasRoomFor}
 use Rattle.cobs.specs.Internal.Taking.{TakesFront}
 use Rattle.cobs.proofs.encoding.StepLemmas.{has-room, room-only}
-use Rattle.cobs.proofs.encoding.TakingLemmas.{after-end, after-place, all-after, all-rest}
+use Rattle.cobs.proofs.encoding.TakingLemmas.{all-after, all-rest}
+use Rattle.cobs.proofs.encoding.AfterLemmas.{after-end, after-place}
 use Rattle.cobs.proofs.enc.unbuffered.UnbufferedEncoder.feed.Goals.{Joined-then-taken-gt253, After-append_byte, then-taken-gt253-via-then-taken-gt253, then-taken-gt253-via-else-taken-gt253+then-room-self, then-taken-gt253-via-else-taken-gt253+else-room-self+then-room-self-2}
 use Rattle.cobs.proofs.enc.unbuffered.UnbufferedEncoder.feed.Goals as goal
 
@@ -21,8 +22,8 @@ returns-then-taken-gt253-clause-room c = (λ t. cc, λ h. absurd (none c h))
 
 pub returns-then-taken-gt253-clause-fits : goal.returns-then-taken-gt253-clause-fits
 returns-then-taken-gt253-clause-fits c = λ m h.
-    let e = after-end c.args.dest.now m (c.args.byte ∷ []) (reached_by c.args.self.now) h in
-    (λ t. cc, λ le. absurd (none c (record { place = after-place c.args.dest.now m _ h; fits = omega arith })))
+    let e = after-end h (c.args.byte ∷ []) in
+    (λ t. cc, λ le. absurd (none c (record { place = after-place h; fits = omega arith })))
 
 room : (c : After-append_byte) → HasRoomFor (length c.args.dest.now) (reached_by c.args.self.now) (c.args.byte ∷ [])
 room c = has-room c.args.self.now c.args.dest.now c.args.byte c.if-taken-gt253.false (omega (arith, c.if-room-self.false, c.if-room-self-2.false))
@@ -35,7 +36,7 @@ returns-clause-room c = (λ t. room (goal.at.returns-clause-room c).After-append
 
 pub returns-clause-fits : goal.returns-clause-fits
 returns-clause-fits c = λ m h.
-    let e = after-end c.args.dest.now m (c.args.byte ∷ []) (reached_by c.args.self.now) h in
+    let e = after-end h (c.args.byte ∷ []) in
     let fits = (room (goal.at.returns-clause-fits c).After-append_byte).fits in
     (λ t. omega arith, λ le. refl)
 

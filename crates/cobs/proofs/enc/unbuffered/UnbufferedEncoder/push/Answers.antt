@@ -1,26 +1,24 @@
-use Rattle.std.proofs.Common.{◌≡◌, length, refl, sym, ap, ◌∙◌, arith}
-use Rattle.std.proofs.lemmas.Bool.{eqb-true}
-use Rattle.cobs.specs.Fields.Progress.{reached_by}
+use Rattle.std.proofs.Common.{append-nil, [], ◌≡◌, refl, ap, arith}
+use Rattle.std.proofs.lemmas.Grind.{common_steps}
 use Rattle.cobs.specs.OpenBlock.{Reached, end_after}
-use Rattle.cobs.proofs.encoding.TakingLemmas.{after-end, after-place, all-end, none-fits, short_room}
+use Rattle.cobs.proofs.encoding.AfterLemmas.{after-end, after-fits, after-place}
+use Rattle.cobs.proofs.encoding.TakingLemmas.{all-end, short_room}
 use Rattle.cobs.proofs.enc.unbuffered.UnbufferedEncoder.push.Goals as goal
 
 pub returns-then-not-is_within-clause-fits : goal.returns-then-not-is_within-clause-fits
-returns-then-not-is_within-clause-fits c = λ m h. let yes = c.is_within.ensures.1 (after-place _ m _ h) in (λ t. cc, λ le. cc)
+returns-then-not-is_within-clause-fits c = λ m h. let yes = c.is_within.ensures.1 (after-place h) in (λ t. cc, λ le. cc)
 
 pub returns-then-is_empty-clause-fits : goal.returns-then-is_empty-clause-fits
 returns-then-is_empty-clause-fits c = λ m h.
-    let e = after-end c.args.dest.now m c.args.bytes.now (reached_by c.args.self.now) h in
-    let none : length c.args.bytes.now ≡ 0 = eqb-true _ 0 (sym c.is_empty.ensures ∙ c.if-is_empty.true) in
-    let fits = none-fits (length c.args.dest.now) (reached_by c.args.self.now) c.args.bytes.now none (after-place _ m _ h) in
-    (λ t. omega arith, λ le. refl)
+    let none : c.args.bytes.now ≡ [] = grind (arith, common_steps) in
+    rw (none, append-nil) (λ t. after-fits h, λ le. refl)
 
 pub append_short-requires-clause-fits : goal.append_short-requires-clause-fits
 append_short-requires-clause-fits c = grind (arith, short_room)
 
 pub returns-then-at-bytes-clause-fits : goal.returns-then-at-bytes-clause-fits
 returns-then-at-bytes-clause-fits c = λ m h.
-    let e = after-end c.args.dest.now m c.args.bytes.now (reached_by c.args.self.now) h in
+    let e = after-end h c.args.bytes.now in
     let same = ap (λ (r : Reached). end_after r c.args.bytes.now) c.progress-at.ensures.progress in
     let end = all-end c.append_short.ensures in
     let fits = c.append_short.ensures.place.fits in
@@ -29,13 +27,13 @@ returns-then-at-bytes-clause-fits c = λ m h.
 
 pub returns-then-not-try_append-clause-fits : goal.returns-then-not-try_append-clause-fits
 returns-then-not-try_append-clause-fits c = λ m h.
-    let e = after-end c.args.dest.now m c.args.bytes.now (reached_by c.args.self.now) h in
+    let e = after-end h c.args.bytes.now in
     let same = ap (λ (r : Reached). end_after r c.args.bytes.now) c.progress-at.ensures.progress in
     (λ t. cc, λ le. let yes = c.try_append.ensures.fits.1 (omega arith) in cc)
 
 pub returns-clause-fits : goal.returns-clause-fits
 returns-clause-fits c = λ m h.
-    let e = after-end c.args.dest.now m c.args.bytes.now (reached_by c.args.self.now) h in
+    let e = after-end h c.args.bytes.now in
     let same = ap (λ (r : Reached). end_after r c.args.bytes.now) c.progress-at.ensures.progress in
     let fits = c.try_append.ensures.fits.0 c.if-not-try_append.false in
     (λ t. omega arith, λ le. refl)

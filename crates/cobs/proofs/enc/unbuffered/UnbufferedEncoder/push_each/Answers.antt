@@ -1,33 +1,31 @@
-use Rattle.std.proofs.Common.{◌≡◌, ◌≢◌, ◌+◌, length, refl, sym, ◌∙◌, arith}
-use Rattle.std.proofs.lemmas.Bool.{eqb-false, eqb-true}
-use Rattle.cobs.specs.Fields.Progress.{reached_by}
+use Rattle.std.proofs.Common.{append-nil, [], ◌≡◌, ◌≢◌, ◌+◌, length, refl, sym, ◌∙◌, arith}
+use Rattle.std.proofs.lemmas.Bool.{eqb-false}
+use Rattle.std.proofs.lemmas.Grind.{common_steps}
 use Rattle.cobs.proofs.encoding.OpenLenLemmas.{open_len-least}
 use Rattle.cobs.proofs.encoding.StepLemmas.{end-with, place-short}
-use Rattle.cobs.proofs.encoding.TakingLemmas.{after-end, after-place, none-fits}
+use Rattle.cobs.proofs.encoding.AfterLemmas.{after-end, after-fits, after-place}
 use Rattle.cobs.proofs.enc.unbuffered.UnbufferedEncoder.push_each.Goals as goal
 
 pub returns-then-not-is_within-clause-fits : goal.returns-then-not-is_within-clause-fits
-returns-then-not-is_within-clause-fits c = λ m h. let yes = c.is_within.ensures.1 (after-place _ m _ h) in (λ t. cc, λ le. cc)
+returns-then-not-is_within-clause-fits c = λ m h. let yes = c.is_within.ensures.1 (after-place h) in (λ t. cc, λ le. cc)
 
 pub returns-then-is_empty-clause-fits : goal.returns-then-is_empty-clause-fits
 returns-then-is_empty-clause-fits c = λ m h.
-    let e = after-end c.args.dest.now m c.args.bytes.now (reached_by c.args.self.now) h in
-    let none : length c.args.bytes.now ≡ 0 = eqb-true _ 0 (sym c.is_empty.ensures ∙ c.if-is_empty.true) in
-    let fits = none-fits (length c.args.dest.now) (reached_by c.args.self.now) c.args.bytes.now none (after-place _ m _ h) in
-    (λ t. omega arith, λ le. refl)
+    let none : c.args.bytes.now ≡ [] = grind (arith, common_steps) in
+    rw (none, append-nil) (λ t. after-fits h, λ le. refl)
 
 pub returns-then-not-has_room-clause-fits : goal.returns-then-not-has_room-clause-fits
 returns-then-not-has_room-clause-fits c = λ m h.
-    let e = after-end c.args.dest.now m c.args.bytes.now (reached_by c.args.self.now) h in
+    let e = after-end h c.args.bytes.now in
     let some : length c.args.bytes.now ≢ 0 = eqb-false _ 0 (sym c.is_empty.ensures ∙ c.if-is_empty.false) in
-    let end = end-with c.args.self.now c.args.bytes.now (place-short c.args.self.now _ (after-place _ m _ h)) (omega arith) in
+    let end = end-with c.args.self.now c.args.bytes.now (place-short c.args.self.now _ (after-place h)) (omega arith) in
     (λ t. cc, λ le. let yes = c.has_room.ensures.fits.1 (omega arith) in cc)
 
 pub returns-clause-fits : goal.returns-clause-fits
 returns-clause-fits c = λ m h.
-    let e = after-end c.args.dest.now m c.args.bytes.now (reached_by c.args.self.now) h in
+    let e = after-end h c.args.bytes.now in
     let some : length c.args.bytes.now ≢ 0 = eqb-false _ 0 (sym c.is_empty.ensures ∙ c.if-is_empty.false) in
-    let end = end-with c.args.self.now c.args.bytes.now (place-short c.args.self.now _ (after-place _ m _ h)) (omega arith) in
+    let end = end-with c.args.self.now c.args.bytes.now (place-short c.args.self.now _ (after-place h)) (omega arith) in
     let least = open_len-least (c.args.self.now.taken + 1) c.args.bytes.now (omega arith) in
     let enough = c.has_room.ensures.fits.0 c.if-not-has_room.false in
     (λ t. omega arith, λ le. refl)
