@@ -1,6 +1,6 @@
 -- How long the encoded frame gets, counted from its open block: which nonzero bytes that block has doesn't matter
 -- (`same_start`), so they count as ones.
-use Rattle.std.proofs.Common.{◌≡◌, ◌≢◌, ℕ, ◌+◌, ◌-◌, ◌<◌, ◌≤◌, Bool, true, List, [], ◌∷◌, ◌++◌, length, drop, get_or, length-drop, replicate, All, refl, sym, ap, ◌∙◌, arith, append-nil, append_assoc, length-append}
+use Rattle.std.proofs.Common.{◌≡◌, ◌≢◌, ℕ, ◌+◌, ◌-◌, ◌<◌, ◌≤◌, Bool, true, List, [], ◌∷◌, ◌++◌, length, drop, get_or, length-drop, replicate, All, refl, ap, ◌∙◌, arith, append-nil, append_assoc, length-append}
 use Rattle.std.specs.List.{concat}
 use Rattle.std.proofs.lemmas.Bool.{cases_Bool, eqb-true, eqb-false}
 use Rattle.std.proofs.lemmas.List.{drop_all, drop_more, nil_from_length}
@@ -20,11 +20,19 @@ same_start a b t na nb e = grind (arith, stretches-append, length-append)
 pub open_len-join : (code : ℕ) (more t : List ℕ) → 0 < code → HasNoZero more → open_len code (more ++ t) ≡ open_len (code + length more) t
 open_len-join code more t some nonzero =
     let front : List ℕ = replicate (code - 1) 1 in
-    let l = length-append front more in
-    let k = length-ones (code - 1) in
-    let n = length-ones (code + length more - 1) in
-    let s = same_start (front ++ more) (replicate (code + length more - 1) 1) t (All-append (λ byte. byte ≢ 0) front more (ones-nonzero (code - 1)) nonzero) (ones-nonzero (code + length more - 1)) (omega arith) in
+    let longer : List ℕ = replicate (code + length more - 1) 1 in
+    let both = All-append (λ byte. byte ≢ 0) front more (ones-nonzero (code - 1)) nonzero in
+    let long : length (front ++ more) ≡ length longer = grind (arith, length-append, length-ones) in
+    let same = same_start (front ++ more) longer t both (ones-nonzero (code + length more - 1)) long in
     grind (arith, append_assoc)
+
+-- a full block is closed if there are more bytes
+pub open_len-full : (t : List ℕ) → t ≢ [] → open_len 255 t ≡ 255 + open_len 1 t
+open_len-full t more = encoded_len-full (replicate 254 1) t (length-ones 254) (ones-nonzero 254) more
+
+-- the block ends if there are none
+pub open_len-end : (code : ℕ) → 0 < code → code ≤ 255 → open_len code [] ≡ code
+open_len-end code some short = grind (arith, append-nil, length-ones, encoded_len-last, ones-nonzero)
 
 -- a zero closes it
 pub open_len-zero : (code : ℕ) (t : List ℕ) → 0 < code → code < 255 → open_len code (0 ∷ t) ≡ code + open_len 1 t
@@ -32,7 +40,7 @@ open_len-zero code t some short = grind (arith, length-ones, encoded_len-zero, o
 
 -- each byte of the message takes one of the frame at the least
 pub open_len-least : (code : ℕ) (t : List ℕ) → 0 < code → code + length t ≤ open_len code t
-open_len-least code t some = let l = length-append (replicate (code - 1) 1) t in let k = length-ones (code - 1) in omega arith
+open_len-least code t some = omega (arith, length-append (replicate (code - 1) 1) t, length-ones (code - 1))
 
 pub open_len-most : (code : ℕ) (t : List ℕ) → 0 < code → open_len code t ≤ max_encoded_len (code - 1 + length t)
 open_len-most code t some = grind (arith, length-append, length-ones, encoded_len-le)
@@ -52,7 +60,7 @@ some_message (code ∷ bytes) (next ∷ blocks) is more e = let z = ap length e 
 pub len-blocks : (front : List (List ℕ)) (code : ℕ) (bytes t : List ℕ) → All IsBlock front → (is_full (last_of front) ≡ true → bytes ++ t ≢ [])
     → encoded_len (message_of (front ++ (code ∷ bytes) ∷ []) ++ t) ≡ length (concat front) + encoded_len (bytes ++ t)
 len-blocks [] code bytes t each some = let n : ℕ = encoded_len (bytes ++ t) in omega arith
-len-blocks (b ∷ []) code bytes t each some = len-block b bytes t (All-head IsBlock b [] each) some ∙ ap (λ (x : List ℕ). length x + encoded_len (bytes ++ t)) (sym (append-nil b))
+len-blocks (b ∷ []) code bytes t each some = rw append-nil (len-block b bytes t (All-head IsBlock b [] each) some)
 len-blocks (b ∷ c ∷ front) code bytes t each some =
     let more = All-tail IsBlock b (c ∷ front) each in
     let m : List ℕ = message_of (c ∷ front ++ (code ∷ bytes) ∷ []) in
@@ -70,21 +78,19 @@ Opened-len {full = full} t more o = grind (arith, length-ones, len-blocks, same_
 module _ (bytes : List ℕ) (i : ℕ) where
   -- the bytes are all taken
   pub len-end : (code : ℕ) → 0 < code → code ≤ 255 → length bytes ≤ i → open_len code (drop i bytes) ≡ code
-  len-end code some short last =
-      let k = length-ones (code - 1) in
-      ap (open_len code) (drop_all i bytes last) ∙ ap encoded_len (append-nil (replicate (code - 1) 1)) ∙ encoded_len-last (replicate (code - 1) 1) (omega arith) (ones-nonzero (code - 1)) ∙ omega arith
+  len-end code some short last = rw (drop_all i bytes last) (open_len-end code some short)
 
   module _ (more : i < length bytes) where
     -- a full block is closed
     pub len-full : (code : ℕ) → code ≡ 255 → open_len code (drop i bytes) ≡ 255 + open_len 1 (drop i bytes)
-    len-full code is = encoded_len-full (replicate (code - 1) 1) (drop i bytes) (omega (arith, length-ones (code - 1))) (ones-nonzero (code - 1)) (λ e. omega (arith, length-drop i bytes, ap length e))
+    len-full code is = rw is (open_len-full (drop i bytes) (λ e. omega (arith, length-drop i bytes, ap length e)))
 
     -- a byte joins the block
     pub len-byte : (code : ℕ) → 0 < code → get_or bytes i 0 ≢ 0 → open_len code (drop i bytes) ≡ open_len (code + 1) (drop (i + 1) bytes)
     len-byte code some other =
-        let b : ℕ = get_or bytes i 0 in
-        ap (open_len code) (drop_more bytes i 0 more) ∙ open_len-join code (b ∷ []) (drop (i + 1) bytes) some (All-cons (λ byte. byte ≢ 0) b [] other (All-nil (λ byte. byte ≢ 0)))
+        let nonzero = All-cons (λ byte. byte ≢ 0) (get_or bytes i 0) [] other (All-nil (λ byte. byte ≢ 0)) in
+        rw (drop_more bytes i 0 more) (open_len-join code (get_or bytes i 0 ∷ []) (drop (i + 1) bytes) some nonzero)
 
     -- a zero closes it
     pub len-zero : (code : ℕ) → 0 < code → code < 255 → get_or bytes i 0 ≡ 0 → open_len code (drop i bytes) ≡ code + open_len 1 (drop (i + 1) bytes)
-    len-zero code some short is = ap (open_len code) (drop_more bytes i 0 more ∙ ap (λ (b : ℕ). b ∷ drop (i + 1) bytes) is) ∙ open_len-zero code (drop (i + 1) bytes) some short
+    len-zero code some short is = rw (drop_more bytes i 0 more, is) (open_len-zero code (drop (i + 1) bytes) some short)

@@ -8,9 +8,7 @@ use Rattle.std.proofs.lemmas.List.{drop-drop, drop_more, drop_all, drop-set-lt, 
 use Rattle.cobs.specs.Grammar.{HasNoZero}
 use Rattle.cobs.specs.Length.{open_len}
 use Rattle.cobs.proofs.encoding.OpenedLemmas.{Opened-code, Opened-same, Opened-same-empty, Opened-join, Opened-close}
-use Rattle.cobs.proofs.encoding.OpenLenLemmas.{open_len-join, open_len-zero, open_len-least}
-use Rattle.cobs.proofs.format.LengthLemmas.{encoded_len-full, encoded_len-last}
-use Rattle.cobs_bytes.proofs.bytes.ListLemmas.{length-ones, ones-nonzero}
+use Rattle.cobs.proofs.encoding.OpenLenLemmas.{open_len-end, open_len-full, open_len-join, open_len-zero, open_len-least}
 use Rattle.cobs.specs.Internal.Reaches.{HadTaken, Opened, Reaches, Start, whole_end}
 
 -- the same places, by other names
@@ -100,11 +98,12 @@ module _ {s : Start} {slice : List ℕ} {pos index next : ℕ} {P : Bool → Typ
 
   pub Reaches-full : {Q : Bool → Type 0} → pos < length s.source → next ≡ index + 255 → whole_end s ≤ length slice → Q true → Reaches s (set slice index 255) pos next (next + 1) Q
   Reaches-full more full fits is_full =
-      grind (arith, length-drop, drop-set-lt, full-taken, length-ones, encoded_len-full, ones-nonzero)
+      let left = open_len-full (drop pos s.source) (λ e. omega (arith, length-drop pos s.source, ap length e)) in
+      grind (arith, drop-set-lt, full-taken)
 
   -- the last byte ends the frame
   pub ends : pos ≡ length s.source → whole_end s ≡ next
-  ends last = grind (arith, drop_all, length-ones, append-nil, encoded_len-last, ones-nonzero)
+  ends last = grind (arith, drop_all, open_len-end)
 
 -- after a step it is known that the last block isn't full
 abbrev pub IsNotFull : Bool → Type 0

@@ -1,4 +1,6 @@
-use Rattle.std.proofs.Common.{◌≡◌, refl, ◌+◌, ◌-◌, ◌<◌, ◌∙◌, ◌++◌, ℕ, List, take, drop, ap, sym, subst, arith, length-take, length-drop, length-take-le, rules}
+-- All but the last 254 bytes are fed, and of those as many as give what is kept (`kept_len`): together they are what `kept_fed`
+-- needs for the result and the buffer.
+use Rattle.std.proofs.Common.{◌≡◌, refl, ◌+◌, ◌-◌, ◌<◌, ◌≤◌, ◌∙◌, ◌++◌, ℕ, List, length, take, drop, ap, sym, subst, arith, length-take, length-drop, length-take-le, rules}
 use Rattle.std.proofs.lemmas.List.{take-take}
 use Rattle.std.proofs.lemmas.List.Elements.{All-take}
 use Rattle.std.proofs.Math.Seq.{take-add}
@@ -6,9 +8,7 @@ use Rattle.cobs.specs.Fields.Decoders.{phase_of}
 use Rattle.cobs.specs.declared.dec.unbuffered.TheConstants.{START}
 use Rattle.cobs.specs.Grammar.{HasNoZero}
 use Rattle.cobs.specs.Feed.{Phase, Idle}
-use Rattle.cobs.specs.Decode.{head_result}
-use Rattle.cobs.specs.Overwritten.{overwritten}
-use Rattle.cobs.specs.Piece.{last_part, missing, kept_output}
+use Rattle.cobs.specs.Piece.{last_part, missing}
 use Rattle.cobs.specs.Sentinel.{xor_each}
 use Rattle.cobs.specs.Internal.FeedsQuietly.{FeedsQuietly}
 use Rattle.cobs.proofs.decoding.HeadlineLemmas.{bytes_below}
@@ -44,45 +44,53 @@ module _ (c : After-take_in_place) where
   fed = subst (λ (k : ℕ). FeedsQuietly old Idle (take k old) new phase) (omega arith) c.take_in_place.ensures.fed
 
   rest : drop tail new ≡ drop tail old
-  rest = rest_read old new START c.take_in_place.new.self 0 tail tail (omega arith) (omega arith) (part-nonzero 0 (tail - 0) c.args.end old c.requires.nonzero (omega arith)) c.take_in_place.ensures.fed c.take_in_place.ensures.behind
-      ∙ ap (λ (k : ℕ). drop k old) (omega arith)
+  rest =
+      let nz = part-nonzero 0 (tail - 0) c.args.end old c.requires.nonzero (omega arith) in
+      rest_read old new START c.take_in_place.new.self 0 tail tail (omega arith) (omega arith) nz c.take_in_place.ensures.fed c.take_in_place.ensures.behind ∙ ap (λ (k : ℕ). drop k old) (omega arith)
 
   left : c.take_in_place.new.self.missing ≡ missing (last_part (take tail old))
   left = (quiet-at old new (take tail old) phase (quiet (take tail old) old new phase first fed) c.take_in_place.new.self refl).1
 
-  bytes-are : xor_each 0 (take (c.args.end - tail) (drop tail new)) ≡ take (c.args.end - tail) (drop tail old)
-  bytes-are = xor_each-zero (take (c.args.end - tail) (drop tail new)) ∙ ap (take (c.args.end - tail)) rest
+  abbrev bytes : List ℕ
+  bytes = take (c.args.end - tail) (drop tail old)
 
-  last : HasNoZero (take (c.args.end - tail) (drop tail old))
+  bytes-are : xor_each 0 (take (c.args.end - tail) (drop tail new)) ≡ bytes
+  bytes-are = rw rest (xor_each-zero bytes)
+
+  bytes-long : length (take (c.args.end - tail) (drop tail new)) ≡ c.args.end - tail
+  bytes-long = omega (arith, length-take (c.args.end - tail) (drop tail new), length-drop tail new)
+
+  last : HasNoZero bytes
   last = part-nonzero tail (c.args.end - tail) c.args.end old c.requires.nonzero (omega arith)
 
 pub kept_len-len-requires-clause-left : goal.kept_len-len-requires-clause-left
 kept_len-len-requires-clause-left c =
     let at = (goal.at.kept_len-len-requires-clause-left c).After-take_in_place in
     let l = length-take-le (tail at) (old at) (omega arith) in
-    omega (arith, left at, tail_left (take (tail at) (old at)) c.args.end (omega arith) (All-take (λ b. b < 256) (tail at) (old at) (bytes_below _ (search rules))), length-take (c.args.end - tail at) (drop (tail at) (new at)), length-drop (tail at) (new at))
+    let most = tail_left (take (tail at) (old at)) c.args.end (omega arith) (All-take (λ b. b < 256) (tail at) (old at) (bytes_below _ (search rules))) in
+    omega (arith, left at, most, bytes-long at)
 
 pub kept_len-len-requires-clause-nonzero : goal.kept_len-len-requires-clause-nonzero
-kept_len-len-requires-clause-nonzero c = let at = (goal.at.kept_len-len-requires-clause-nonzero c).After-take_in_place in subst HasNoZero (sym (bytes-are at)) (last at)
+kept_len-len-requires-clause-nonzero c = let at = (goal.at.kept_len-len-requires-clause-nonzero c).After-take_in_place in rw (bytes-are at) (last at)
 
 pub take_in_place-requires-2-clause-nonzero : goal.take_in_place-requires-2-clause-nonzero
 take_in_place-requires-2-clause-nonzero c =
     let at = (goal.at.take_in_place-requires-2-clause-nonzero c).After-take_in_place in
-    let n = c.kept_len-len.ensures.within in
-    subst (λ (l : List ℕ). HasNoZero (take (tail at + c.kept_len-len.result.0 - tail at) l)) (sym (rest at)) (part-nonzero (tail at) _ c.args.end (old at) c.requires.nonzero (omega (arith, n, length-take (c.args.end - tail at) (drop (tail at) (new at)))))
+    rw (rest at) (part-nonzero (tail at) _ c.args.end (old at) c.requires.nonzero (omega (arith, c.kept_len-len.ensures.within, bytes-long at)))
 
 pub returns : goal.returns
 returns c =
     let at = (goal.at.returns c).After-take_in_place in
     let p : List ℕ = take (tail at) (old at) in
-    let q : List ℕ = take (c.args.end - tail at) (drop (tail at) (old at)) in
+    let q : List ℕ = bytes at in
     let n : ℕ = c.kept_len-len.result.0 in
     let e = c.kept_len-len.ensures in
     let all : p ++ q ≡ take c.args.end (old at) = sym (take-add (tail at) (c.args.end - tail at) (old at)) ∙ ap (λ (k : ℕ). take k (old at)) (omega arith) in
-    let l = length-take (c.args.end - tail at) (drop (tail at) (new at)) in
-    let next : take (tail at + n - tail at) (drop (tail at) (new at)) ≡ take n q
-    = ap (λ (k : ℕ). take k (drop (tail at) (new at))) (omega arith) ∙ ap (take n) (rest at) ∙ sym (take-take n (c.args.end - tail at) (drop (tail at) (old at)) (omega (arith, e.within))) in
-    let both : (c.message_len.result ≡ head_result (take c.args.end (old at))) × (c.take_in_place-2.new.buffer ≡ overwritten (old at) (kept_output (take c.args.end (old at))))
-    = rw all at (kept_fed p q (old at) (new at) c.take_in_place-2.new.buffer (phase at) c.take_in_place-2.new.self n c.kept_len-len.result.1 c.message_len.result (first at) (last at) (fed at)
-    (rw next at c.take_in_place-2.ensures.fed) (rw (bytes-are at) at (e.kept p (sym (left at)))) (rw (bytes-are at) at (e.whole p (sym (left at)))) c.message_len.ensures.whole c.message_len.ensures.broken) in
+    let count : tail at + n - tail at ≡ n = omega arith in
+    let few : n ≤ c.args.end - tail at = omega (arith, e.within, bytes-long at) in
+    let next = rw (count, rest at, ← take-take n (c.args.end - tail at) (drop (tail at) (old at)) few) at c.take_in_place-2.ensures.fed in
+    let kept = rw (bytes-are at) at (e.kept p (sym (left at))) in
+    let whole = rw (bytes-are at) at (e.whole p (sym (left at))) in
+    let both = rw all at (kept_fed p q (old at) (new at) c.take_in_place-2.new.buffer (phase at) c.take_in_place-2.new.self n c.kept_len-len.result.1 c.message_len.result
+    (first at) (last at) (fed at) next kept whole c.message_len.ensures.whole c.message_len.ensures.broken) in
     record { returned = both.0; buffer = both.1 }
