@@ -35,7 +35,7 @@ def exported():
 def public_calls():
     """The public functions, and the methods of public types and traits, as (TYPE or "", NAME). The laws are left out."""
     names, found = exported(), set()
-    for path in sorted(SRC.rglob("*.rt")):
+    for path in prose.tracked(r"crates/cobs/src/.*\.rt"):
         owner = block = ""
         for line in path.read_text().splitlines():
             head = re.match(r"(?:pub )?(?:impl|trait)\b(?:<[^{]*?>)? *(?:\w+(?:<.*>)? for )?(\w+).*\{$", line)
@@ -90,7 +90,7 @@ def without_function():
     known = {}
     for block in wrong_code.all_blocks():
         if block.crate not in known:
-            paths = (TOP / "crates" / block.crate / "src").rglob("*.rt")
+            paths = prose.tracked(rf"crates/{block.crate}/src/.*\.rt")
             known[block.crate] = {(owner, name) for path in paths for owner, name, _ in prose.contracts(path)}
         *place, name = block.function.split("::")
         # In a method's path the name of its trait, if it is of one, follows that of its type.

@@ -30,7 +30,6 @@ at words that have a plainer one and at comments of functions that don't begin w
 no status.
 """
 import re
-import subprocess
 import sys
 
 sys.dont_write_bytecode = True
@@ -81,7 +80,7 @@ def public_items(path):
 
 def items_without_example():
     """A line for each public item whose documentation has no example."""
-    for path in sorted(SRC.rglob("*.rt")):
+    for path in prose.tracked(r"crates/cobs/src/.*\.rt"):
         for number, name, comment in public_items(path):
             if not any(text.strip().endswith("```") for text in comment):
                 yield f"{path.relative_to(TOP)}:{number}: {name} has no example"
@@ -99,7 +98,7 @@ def contract(lines):
 def quoted(call):
     """The contract of a public call, under its type."""
     of_type, _, name = call.rpartition("::")
-    for path in sorted(SRC.rglob("*.rt")):
+    for path in prose.tracked(r"crates/cobs/src/.*\.rt"):
         lines, owner = path.read_text().splitlines(), ""
         for at, line in enumerate(lines):
             block = re.match(r"(?:pub )?(?:impl|trait)\b(?:<[^{]*?>)? *(?:\w+(?:<.*>)? for )?(\w+).*\{$", line)
@@ -121,15 +120,12 @@ def all_contracts():
 
 def private_names():
     """A line for each file outside crates/cobs that names its proofs, or a type by a private module."""
-    for path in sorted((TOP / "crates").glob("*/*/")):
-        if path.name not in ("src", "specs", "proofs") or path.parent.name == "cobs":
-            continue
-        for file in sorted([*path.rglob("*.rt"), *path.rglob("*.antt")]):
-            for number, line in enumerate(file.read_text().splitlines(), 1):
-                if "Rattle.cobs.proofs" in line:
-                    yield f"{file.relative_to(TOP)}:{number}: names a proof of cobs"
-                if re.search(r"Rattle\.cobs\.specs\.declared\.[a-z]", line):
-                    yield f"{file.relative_to(TOP)}:{number}: names a type of cobs by a private module, not as declared.TYPE"
+    for file in prose.tracked(r"crates/(?!cobs/)\w+/(src|specs|proofs)/.*\.(rt|antt)"):
+        for number, line in enumerate(file.read_text().splitlines(), 1):
+            if "Rattle.cobs.proofs" in line:
+                yield f"{file.relative_to(TOP)}:{number}: names a proof of cobs"
+            if re.search(r"Rattle\.cobs\.specs\.declared\.[a-z]", line):
+                yield f"{file.relative_to(TOP)}:{number}: names a type of cobs by a private module, not as declared.TYPE"
 
 
 def names_on_map():
@@ -152,8 +148,7 @@ def files_off_map():
     """A line for each file that the map doesn't name, nor a folder that it is in."""
     names = names_on_map()
     bases = sorted((base for base in names if base is not None), key=len, reverse=True)
-    command = ["git", "-C", str(TOP), "ls-files"]
-    for file in subprocess.run(command, capture_output=True, text=True, check=True).stdout.splitlines():
+    for file in prose.files():
         base = next(base for base in bases if not base or file.startswith(base + "/"))
         path = PurePosixPath(file.removeprefix(base + "/"))
         places = [path, path.with_suffix(""), PurePosixPath(file)]
@@ -165,9 +160,7 @@ def files_off_map():
 
 def names_without_file():
     """A line for each file that the map names and that isn't there."""
-    command = ["git", "-C", str(TOP), "ls-files"]
-    listed = subprocess.run(command, capture_output=True, text=True, check=True).stdout.splitlines()
-    files = {f"/{file}" for file in listed if (TOP / file).is_file()}
+    files = {f"/{file}" for file in prose.files()}
     for name in sorted(set().union(*names_on_map().values())):
         if re.fullmatch(r"[\w./-]+\.[a-z]{1,6}", name) and not any(file.endswith(f"/{name.removeprefix('../')}") for file in files):
             yield f"docs/MAP.md: it names {name}, which isn't there"
@@ -181,7 +174,7 @@ def wrong_code_amiss():
             block.texts(TOP / "crates")
         except (OSError, ValueError) as why:
             yield f"tests/wrong_code.txt: {block.name}: {why}"
-    edits = [path.stem for path in sorted((TOP / "crates").glob("*/must-fail/*.edit"))]
+    edits = [path.stem for path in prose.tracked(r"crates/\w+/must-fail/.*\.edit")]
     text = (TOP / "tests/REFUSED.md").read_text()
     there, named = [*edits, *(block.name for block in blocks)], re.findall(r"`(\w+-\w+)`", text)
     yield from (f"tests/REFUSED.md: it doesn't name {name}" for name in there if f"`{name}`" not in text)

@@ -8,6 +8,8 @@ import re
 from itertools import takewhile
 from pathlib import Path
 
+import prose
+
 TOP = Path(__file__).resolve().parent.parent
 SRC = TOP / "crates/cobs/src"
 TESTS = TOP / "crates/cobs_doc_vectors/src"
@@ -97,7 +99,7 @@ def stale_tests():
     """A line for each file of tests that isn't what its doc comments say, with the first difference, and for each file of
     src with examples that is in no file of tests."""
     covered = {path for patterns in SOURCES.values() for pattern in patterns for path in SRC.glob(pattern)}
-    for path in sorted(set(SRC.rglob("*.rt")) - covered):
+    for path in sorted({*prose.tracked(r"crates/cobs/src/.*\.rt")} - covered):
         if blocks(path, ""):
             yield f"{path.relative_to(TOP)}: SOURCES in tests/examples.py doesn't name it"
     for name in SOURCES:

@@ -33,7 +33,7 @@ def cases():
 
 def lines_of(kind, suffix):
     """The lines of a folder of `cobs` and of `cobs_bytes`, which it is built on."""
-    paths = [path for crate in ("cobs", "cobs_bytes") for path in (TOP / "crates" / crate / kind).rglob(f"*{suffix}")]
+    paths = prose.tracked(rf"crates/(cobs|cobs_bytes)/{kind}/.*{re.escape(suffix)}")
     return sum(len(path.read_text().splitlines()) for path in paths)
 
 

@@ -3,6 +3,8 @@ are short everywhere, but for a file of tests."""
 import re
 from pathlib import Path
 
+import prose
+
 TOP = Path(__file__).resolve().parent.parent
 FILE_MOST, FUNCTION_MOST = 450, 40
 LIBRARIES = ("cobs_bytes", "cobs", "cobs_abi", "cobs_c", "cobs_small")
@@ -14,7 +16,7 @@ def modules(crate):
     src = TOP / "crates" / crate / "src"
     root = next((src / name for name in ("lib.rt", "main.rt") if (src / name).exists()))
     texts = {}
-    for path in src.rglob("*.rt"):
+    for path in prose.tracked(rf"crates/{crate}/src/.*\.rt"):
         name = "" if path == root else "::".join(path.relative_to(src).with_suffix("").parts)
         texts[name] = path.read_text()
     return texts
@@ -89,7 +91,7 @@ def long_pieces(path):
 def complaints():
     for crate in LIBRARIES:
         yield from rings(crate)
-    for path in sorted((TOP / "crates").glob("*/src/**/*.rt")):
+    for path in prose.tracked(r"crates/\w+/src/.*\.rt"):
         yield from long_pieces(path)
 
 

@@ -30,7 +30,7 @@ def there():
     public = [f"{owner}::{name}" if owner else name for owner, name in calls.public_calls()]
     public += [name for name in clauses if re.fullmatch(r"law_\d+", name)]
     found = {f"call {call}": clauses.get(call, set()) for call in public}
-    for path in sorted(SPECS.rglob("*.antt")):
+    for path in prose.tracked(r"crates/cobs/specs/.*\.antt"):
         within, text = path.relative_to(SPECS).with_suffix(""), path.read_text()
         if within.parts[0] == "Internal" or path.name in ("Lib.antt", "Fields.antt", "Internal.antt"):
             continue

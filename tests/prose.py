@@ -4,6 +4,7 @@ A document is each Markdown file of the repository. Of the sources the comments 
 """
 import re
 import subprocess
+from functools import cache
 from pathlib import Path
 
 TOP = Path(__file__).resolve().parent.parent
@@ -44,11 +45,17 @@ PUBLIC_NAMES = [
 RT_COMMANDS = set("all check ci doc expand fmt lemma lib must-fail new plant run selftest test tidy try verdict version".split())
 
 
+@cache
 def files():
     """Each file of the repository that git tracks, as a path from its top."""
     command = ["git", "-C", str(TOP), "ls-files"]
     listed = subprocess.run(command, capture_output=True, text=True, check=True).stdout.splitlines()
     return [name for name in listed if (TOP / name).is_file()]
+
+
+def tracked(pattern):
+    """The files that git tracks and whose paths from the top are matched by the pattern, in order."""
+    return sorted(TOP / name for name in files() if re.fullmatch(pattern, name))
 
 
 def documents():
@@ -256,13 +263,13 @@ def contracts(path):
 def clauses():
     """The clauses of each function, by its name and by its type's with it, the laws of each trait, and the fields of each record."""
     known = {}
-    for path in sorted((TOP / "crates").glob("*/src/**/*.rt")):
+    for path in tracked(r"crates/\w+/src/.*\.rt"):
         for owner, name, ensured in contracts(path):
             for key in (name, f"{owner}::{name}"):
                 known.setdefault(key, set()).update(ensured)
         for trait, body in re.findall(r"^pub trait (\w+).*?\{$(.*?)^\}", path.read_text(), re.S | re.M):
             known.setdefault(trait, set()).update(re.findall(r"^    ghost (\w+):", body, re.M))
-    for path in sorted((TOP / "crates").glob("*/specs/**/*.antt")):
+    for path in tracked(r"crates/\w+/specs/.*\.antt"):
         record = None
         for line in path.read_text().splitlines():
             begun = re.match(r"(?:pub )?record (\w+)", line)
@@ -280,10 +287,9 @@ def clauses():
 def unknown_names():
     """A line for each clause, definition or call that a document names and no crate has."""
     known = clauses()
-    folders = [path for kind in ("src", "specs") for path in (TOP / "crates").glob(f"*/{kind}/**/*") if path.is_file()]
-    folders.append(TOP / "bindings/c/include/jcobs.h")
-    words = {word for path in folders for word in re.findall(r"\w+", path.read_text())}
-    words |= {path.name for path in (TOP / "crates").iterdir()} | {path.stem for path in (TOP / "crates").glob("*/proofs/**/*")}
+    named = tracked(r"crates/\w+/(src|specs)/.*|bindings/c/include/jcobs\.h")
+    words = {word for path in named for word in re.findall(r"\w+", path.read_text())}
+    words |= {part for path in tracked(r"crates/\w+/proofs/.*") for part in path.with_suffix("").parts}
     for name in ("docs/ARCHITECTURE.md", "docs/PROMISES.md", "docs/FORMAT.md", "SECURITY.md", "crates/cobs/CALLING.md"):
         text = blank(r"^```.*?^```$", (TOP / name).read_text(), re.S | re.M)
         for number, line in enumerate(text.splitlines(), 1):

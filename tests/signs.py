@@ -7,6 +7,8 @@ where READING.md sends its reader, the words that begin a definition count, and 
 import re
 from pathlib import Path
 
+import prose
+
 TOP = Path(__file__).resolve().parent.parent
 CRATE = TOP / "crates/cobs"
 READING = TOP / "docs/READING.md"
@@ -40,7 +42,7 @@ def public_clauses(path):
 
 def imported():
     """The words that the files of the crate import from the toolchain's definitions."""
-    texts = [path.read_text() for path in sorted((CRATE / "src").rglob("*.rt"))]
+    texts = [path.read_text() for path in prose.tracked(r"crates/cobs/src/.*\.rt")]
     lists = [names for text in texts for names in re.findall(r"ghost use Rattle\.std\.specs\.[\w.]*?\{(.*?)\};", text, re.S)]
     return {name.strip() for names in lists for name in names.split(",")}
 
@@ -48,7 +50,7 @@ def imported():
 def met():
     """Each sign and word that has to be explained, and a place that has it."""
     known, found = imported() | LANGUAGE, {}
-    for path in sorted((CRATE / "src").rglob("*.rt")):
+    for path in prose.tracked(r"crates/cobs/src/.*\.rt"):
         for clause in public_clauses(path):
             if clause.startswith("ensures*"):
                 found.setdefault("ensures*", path)
@@ -57,7 +59,7 @@ def met():
                     found.setdefault(token, path)
             if " record {" in clause:
                 found.setdefault("record", path)
-    for path in sorted((CRATE / "specs").rglob("*.antt")):
+    for path in prose.tracked(r"crates/cobs/specs/.*\.antt"):
         text = re.sub(r"--.*", "", path.read_text())
         for token in [*BEGIN.findall(text), *re.findall(r"[⊎⊤⊥¬∥]+₁?", re.sub(r"^use .*", "", text, flags=re.M))]:
             found.setdefault(token, path)
