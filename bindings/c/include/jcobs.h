@@ -72,9 +72,8 @@
  * signal handler, no DMA transfer. The library may read a byte twice, and if the byte has changed in between, the
  * call may access memory outside the buffers or never return. Pass what a transfer has finished, or a copy.
  *
- * No function allocates, locks, or keeps a pointer or anything else from one call to the next: what a call does
- * depends on its arguments alone. So calls on different buffers and states may run at the same time, in signal
- * handlers too.
+ * No function allocates, locks, or keeps a pointer or anything else from one call to the next: a call depends only on
+ * its arguments. So calls on different buffers and states may run at the same time, in signal handlers too.
  *
  * Results
  *
@@ -91,7 +90,7 @@
  * In the source of decode, decode_with_sentinel and decode_in_place no sentinel has to follow the frame: without
  * one the frame ends with the source, and consumed is the source's length. A frame that was cut off between two of
  * its blocks is a frame too, with status OK: if a sentinel has to follow, test source[consumed - 1]. In
- * place too: no call changes the sentinel or what follows it. The streaming decoder reports a frame only
+ * place too: no call changes the sentinel or the bytes after it. The streaming decoder reports a frame only
  * at its sentinel. COBS has no checksum: damage that turns a frame into another one isn't noticed.
  *
  * Built for x86-64, the library needs x86-64-v2 (SSE4.2 and POPCNT: Intel since 2009, AMD since 2011); for
@@ -151,7 +150,7 @@ typedef struct jcobs_answer {
     size_t length;       /* how many bytes at the front of the buffer it is about */
 } jcobs_answer;
 
-/* What bytes are, without sentinels around them. */
+/* Whether bytes are a frame, and which one of their message. No sentinels are around them. */
 enum jcobs_kind {
     JCOBS_NOT_A_FRAME = 0, /* there are none, one is 0, or they break off inside a block */
     JCOBS_CANONICAL = 1,   /* the frame that encoders write for its message */

@@ -133,8 +133,8 @@ impl DecoderState {
     /// full block, and after any other block `DataContinue(0)`, the zero that joins the two blocks. Inside a block, a
     /// byte returns `DataContinue` with itself.
     ///
-    /// Every state has a result for every byte. This includes states that no frame leads to, such as `Grab(255)`. These
-    /// are the block rules of the paper by Cheshire and Baker; the names of the results are those of the crate `cobs`.
+    /// Every state has a result for every byte. This includes states that no frame leads to, such as `Grab(255)`. The rules
+    /// for blocks are those of the paper by Cheshire and Baker; the names of the results are those of the crate `cobs`.
     ///
     /// # Errors
     /// `InvalidFrame` for a sentinel inside a block. Its `decoded_bytes` is always 0 here, because the state doesn't
