@@ -1,5 +1,7 @@
-"""The public calls of crates/cobs, for tests/docs.py: which rows the documents must have of each."""
+"""The public calls of crates/cobs, for tests/docs.py: which rows the documents must have for each; and the functions of
+wrong_code.txt and REFUSED.md."""
 import re
+from functools import cache
 from pathlib import Path
 
 import prose
@@ -85,17 +87,30 @@ def without_row():
             yield f"docs/DIFFERENCES.md: “What this library has in addition” has no {call}, which the crate doesn't have"
 
 
+def is_there(function):
+    """Whether a crate has a function, `CRATE::MODULE::TYPE::TRAIT::NAME`, or a type of this name."""
+    crate, *place, name = function.split("::")
+    of = place[-1] if place and place[-1][0].isupper() else ""
+    # In a method's path the name of its trait, if it is of one, follows that of its type.
+    return any(owner == name or fn == name and bool(owner) == bool(of) and of.startswith(owner or "") for owner, fn in functions_of(crate))
+
+
+@cache
+def functions_of(crate):
+    """The functions of a crate, as (TYPE or None, NAME)."""
+    paths = prose.tracked(rf"crates/{crate}/src/.*\.rt")
+    return {(owner, name) for path in paths for owner, name, _ in prose.contracts(path)}
+
+
 def without_function():
-    """A line for each block of tests/wrong_code.txt whose function isn't there: `CRATE::MODULE::TYPE::TRAIT::NAME`."""
-    known = {}
+    """A line for each function of tests/wrong_code.txt, and of the rows of tests/REFUSED.md, that isn't there."""
     for block in wrong_code.all_blocks():
-        if block.crate not in known:
-            paths = prose.tracked(rf"crates/{block.crate}/src/.*\.rt")
-            known[block.crate] = {(owner, name) for path in paths for owner, name, _ in prose.contracts(path)}
-        *place, name = block.function.split("::")
-        # In a method's path the name of its trait, if it is of one, follows that of its type.
-        if not any(fn == name and (place or [""])[-1].startswith(owner or "") for owner, fn in known[block.crate]):
+        if not is_there(block.only):
             yield f"tests/wrong_code.txt: {block.name}: there is no {block.only}"
+    for row in rows("tests/REFUSED.md"):
+        function = re.match(r"\| `(\w+(?:::\w+)+)(?::[^`]*)?`", row)
+        if function and (TOP / "crates" / function[1].split("::")[0]).is_dir() and not is_there(function[1]):
+            yield f"tests/REFUSED.md: there is no {function[1]}; `tests/wrong_code.py --write NAME` of the row's blocks writes it anew"
 
 
 def complaints():

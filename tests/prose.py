@@ -245,7 +245,9 @@ def other_versions():
 def contracts(path):
     """Each function of a source: its type, or None, its name, and the names of its clauses."""
     found, owner = [], None
-    for line in path.read_text().splitlines():
+    # The head of a block may go over two lines.
+    text = re.sub(r"^(impl\b[^{\n]*)\n +(for [^{\n]*\{)$", r"\1 \2", path.read_text(), flags=re.M)
+    for line in text.splitlines():
         block = re.match(r"(?:pub )?(?:impl|trait)\b(?:<[^{]*?>)? *(?:[\w:]+(?:<.*>)? for )?(\w+).*\{$", line)
         function = re.match(r" *(?:pub(?:\(crate\))? )?(?:extern \"C\" )?fn (\w+)", line)
         clause = re.match(r" *ensures\*? (\w+) \{", line)
