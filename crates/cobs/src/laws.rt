@@ -285,9 +285,9 @@ pub fn law_9()
 
 /// Damage stays between its sentinels.
 ///
-/// If bytes between two sentinels are changed, lost or added, sentinels among them too, the outcomes before the first
-/// and after the second of the two are unchanged. If no sentinel is between the two, they enclose one piece, with one
-/// outcome, or nothing if they are adjacent.
+/// Suppose that bytes between two sentinels are changed, lost or added, even sentinels among them. Then the outcomes
+/// before the first of the two sentinels and those after the second are unchanged. If no sentinel is between the two,
+/// they enclose one piece, with one outcome, or nothing if they are adjacent.
 ///
 /// So a receiver on a noisy line, or a reader of a damaged file of records, loses only the messages that the damage
 /// touches.
