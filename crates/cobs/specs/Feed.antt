@@ -1,17 +1,12 @@
 -- The result of a streaming decoder for a byte, and its phase after the front of a piece.
-use Rattle.std.specs.Prelude.{ℕ, ◌≡◌, ◌≢◌, ◌≤◌, ◌<◌, ◌+◌, ◌⊎◌, ◌==◌, nat_le, Bool, true, false, List, [], ◌∷◌, ◌++◌, length, take, drop, Option, Some, None, Result, Ok, Err, IfOk, IfSome, if◌then◌else◌}
+use Rattle.std.specs.Prelude.{ℕ, ◌≡◌, ◌≢◌, ◌≤◌, ◌==◌, nat_le, Bool, List, [], ◌∷◌, ◌++◌, length, take, drop, Option, Some, None, Result, Ok, Err, IfOk, IfSome, if◌then◌else◌}
 use Rattle.std.specs.Result.{result_map_both}
 use Rattle.cobs.specs.Grammar.{HasNoZero, is_full}
 use Rattle.cobs.specs.Piece.{output, last_part, missing}
-use Rattle.cobs.specs.Table.{data_of, table_result, table_state}
 use Rattle.cobs.specs.Stream.{Outcome, outcome_of}
 use Rattle.cobs.specs.Decode.{outcome_result}
 use Rattle.cobs.specs.declared.error.DecodeError.{DecodeError}
-use Rattle.cobs.specs.declared.dec.state.DecoderState.{DecoderState}
-use Rattle.cobs.specs.declared.dec.state.DecoderState.TheVariants as states
-use Rattle.cobs.specs.declared.dec.state.DecodeResult.{DecodeResult}
-use Rattle.cobs.specs.declared.dec.state.DecodeResult.TheVariants.{NoData, DataStart, DataComplete, DataContinue}
-use Rattle.cobs.specs.declared.error.DecodeError.TheVariants.{InvalidFrame, TargetBufTooSmall}
+use Rattle.cobs.specs.declared.error.DecodeError.TheVariants.{TargetBufTooSmall}
 
 -- how a streaming decoder reports an outcome: as the calls for whole frames do, in an option
 abbrev pub fed_result : Outcome → Result (Option ℕ) DecodeError
@@ -38,27 +33,6 @@ pub data Phase : Type 0 where
   Idle : Phase
   Within : (full : Bool) (left count : ℕ) → Phase
   Overlong : Phase
-
--- a decoder's state in the table of `DecoderState`, or `None` if the output was too long
-abbrev pub state_in : Phase → Option DecoderState
-state_in Idle = Some states.Idle
-state_in (Within false left count) = Some (states.Grab left)
-state_in (Within true left count) = Some (states.GrabChain left)
-state_in Overlong = None
-
--- how many bytes of the piece's output are written
-abbrev pub written_in : Phase → ℕ
-written_in Idle = 0
-written_in (Within full left count) = count
-written_in Overlong = 0
-
--- the result of a decoder that has written n bytes, for a result of that table
-abbrev pub counted : ℕ → Result DecodeResult DecodeError → Result (Option ℕ) DecodeError
-counted n (Ok NoData) = Ok None
-counted n (Ok DataStart) = Ok None
-counted n (Ok (DataContinue byte)) = Ok None
-counted n (Ok DataComplete) = Ok (Some n)
-counted n (Err error) = Err (InvalidFrame n)
 
 -- the phase after the front p of a piece, in a buffer of n bytes
 unfoldable pub phase_after : List ℕ → ℕ → Phase
@@ -88,11 +62,5 @@ pub record Feeds (buffer : List ℕ) (phase : Phase) (byte : ℕ) (result : Resu
   -- in every phase
   pub zero_idle : byte ≡ 0 → phase' ≡ Idle
   pub zero_unchanged : byte ≡ 0 → buffer' ≡ buffer
-  -- the state changes as in the table, unless the output is now too long
-  pub by_table : (state : DecoderState) → state_in phase ≡ Some state → phase' ≢ Overlong → state_in phase' ≡ Some (table_state state byte)
-  -- the result is that of the table, unless it has a byte of the message for which the buffer has no room
-  pub result_by_table : (state : DecoderState) → state_in phase ≡ Some state
-      → (result ≡ counted (written_in phase) (table_result state byte))
-      ⊎ ((result ≡ Err TargetBufTooSmall) × (length buffer < written_in phase + length (data_of (table_result state byte))))
   pub bound : IfOk result (λ found. IfSome found (λ n. n ≤ length buffer))
   pub len : length buffer' ≡ length buffer

@@ -11,6 +11,7 @@ use Rattle.cobs.specs.OpenBlock.{CobsEncoderAfter, Reached, next_of, place_at}
 use Rattle.cobs.specs.Push.{PushesBytes}
 use Rattle.cobs.specs.Step.{next_result, next_buffer, next_phase}
 use Rattle.cobs.specs.Stream.{ended_pieces, outcome_of, stream_outcomes, unended}
+use Rattle.cobs.specs.Table.{FeedsByTable}
 use Rattle.cobs.specs.declared.error.DecodeError.{DecodeError}
 use Rattle.cobs.specs.declared.error.DecodeReport.{DecodeReport}
 use Rattle.cobs.specs.declared.error.PushError.{PushError}
@@ -58,6 +59,7 @@ pub record EncoderLaw : Type 0 where
 -- `law_17`: a decoder, byte by byte
 pub record DecoderLaw : Type 0 where
   pub step : (buffer : List ℕ) (phase : Phase) (byte : ℕ) → let n = length buffer in Feeds buffer phase byte (next_result n phase byte) (next_buffer buffer phase byte) (next_phase n phase byte)
+  pub by_table : (n : ℕ) (phase : Phase) (byte : ℕ) → FeedsByTable n phase byte (next_result n phase byte) (next_phase n phase byte)
   pub nothing : (buffer : List ℕ) (phase : Phase) → TakesPiece buffer phase [] None buffer phase
   pub byte : (bytes buffer between buffer' : List ℕ) (phase phase_between phase' : Phase) (result : Result (Option ℕ) DecodeError) (i : ℕ) → i < length bytes → TakesPiece buffer phase (take i bytes) None between phase_between → Feeds between phase_between (slice_index bytes i) result buffer' phase' → (slice_index bytes i ≡ 0 → end_reported result ≡ None) → TakesPiece buffer phase (take (i + 1) bytes) None buffer' phase'
   pub end : (bytes buffer between buffer' : List ℕ) (phase phase_between phase' : Phase) (result : Result (Option ℕ) DecodeError) (end : PieceEnd) (i : ℕ) → i < length bytes → TakesPiece buffer phase (take i bytes) None between phase_between → Feeds between phase_between (slice_index bytes i) result buffer' phase' → slice_index bytes i ≡ 0 → end_reported result ≡ Some end → TakesPiece buffer phase bytes (Some (end, i + 1)) buffer' phase'

@@ -1,13 +1,16 @@
--- The table of `DecoderState`: the result of each state for a byte, the state after it, and their meaning for a piece.
-use Rattle.std.specs.Prelude.{ℕ, zero, suc, ◌≡◌, ◌<◌, ◌-◌, ◌==◌, List, [], ◌∷◌, All, Result, Ok, Err, if◌then◌else◌}
+-- The table of `DecoderState`: the result of each state for a byte, the state after it, and their meaning for a piece. A
+-- streaming decoder moves by the same table.
+use Rattle.std.specs.Prelude.{ℕ, zero, suc, ◌≡◌, ◌≢◌, ◌<◌, ◌+◌, ◌-◌, ◌⊎◌, ◌==◌, true, false, List, [], ◌∷◌, length, All, Option, Some, None, Result, Ok, Err, if◌then◌else◌}
 use Rattle.cobs.specs.Grammar.{HasNoZero, is_full}
 use Rattle.cobs.specs.Piece.{last_part, missing, output}
+use Rattle.cobs.specs.Feed.{Phase}
+use Rattle.cobs.specs.Feed as phases
 use Rattle.cobs.specs.declared.dec.state.DecoderState.{DecoderState}
 use Rattle.cobs.specs.declared.dec.state.DecoderState.TheVariants.{Idle, Grab, GrabChain}
 use Rattle.cobs.specs.declared.dec.state.DecodeResult.{DecodeResult}
 use Rattle.cobs.specs.declared.dec.state.DecodeResult.TheVariants.{NoData, DataStart, DataComplete, DataContinue}
 use Rattle.cobs.specs.declared.error.DecodeError.{DecodeError}
-use Rattle.cobs.specs.declared.error.DecodeError.TheVariants.{InvalidFrame}
+use Rattle.cobs.specs.declared.error.DecodeError.TheVariants.{InvalidFrame, TargetBufTooSmall}
 
 -- the state after a code: in a block, all of whose bytes are missing
 abbrev pub opened_by : ℕ → DecoderState
@@ -50,3 +53,34 @@ pub record StateAfter (state : DecoderState) (p so_far : List ℕ) : Type 0 wher
   pub bytes : All (λ byte. byte < 256) p
   pub state_is : state ≡ state_after p
   pub so_far_is : so_far ≡ output p
+
+-- a decoder's state in the table of `DecoderState`, or `None` if the output was too long
+abbrev pub state_in : Phase → Option DecoderState
+state_in phases.Idle = Some Idle
+state_in (phases.Within false left count) = Some (Grab left)
+state_in (phases.Within true left count) = Some (GrabChain left)
+state_in phases.Overlong = None
+
+-- how many bytes of the piece's output are written
+abbrev pub written_in : Phase → ℕ
+written_in phases.Idle = 0
+written_in (phases.Within full left count) = count
+written_in phases.Overlong = 0
+
+-- the result of a decoder that has written n bytes, for a result of that table
+abbrev pub counted : ℕ → Result DecodeResult DecodeError → Result (Option ℕ) DecodeError
+counted n (Ok NoData) = Ok None
+counted n (Ok DataStart) = Ok None
+counted n (Ok (DataContinue byte)) = Ok None
+counted n (Ok DataComplete) = Ok (Some n)
+counted n (Err error) = Err (InvalidFrame n)
+
+-- feeding a byte to a decoder over a buffer of n bytes changes its phase to `phase'`, and has this result, as the table
+-- says. This holds in every phase.
+pub record FeedsByTable (n : ℕ) (phase : Phase) (byte : ℕ) (result : Result (Option ℕ) DecodeError) (phase' : Phase) : Type 0 where
+  -- the state changes as in the table, unless the output is now too long
+  pub next : (state : DecoderState) → state_in phase ≡ Some state → phase' ≢ phases.Overlong → state_in phase' ≡ Some (table_state state byte)
+  -- the result is that of the table, unless it has a byte of the message for which the buffer has no room
+  pub returned : (state : DecoderState) → state_in phase ≡ Some state
+      → (result ≡ counted (written_in phase) (table_result state byte))
+      ⊎ ((result ≡ Err TargetBufTooSmall) × (n < written_in phase + length (data_of (table_result state byte))))

@@ -7,7 +7,7 @@ ghost use Rattle.cobs.specs.Decode.{first_output, head_result, in_place, in_plac
 ghost use Rattle.cobs.specs.Overwritten.{message_in, overwritten, written_at};
 ghost use Rattle.cobs.specs.Fields.Decoders.{borrowed_buffer, borrowed_phase, borrowed_slice, heapless_buffer, heapless_phase, owned_buffer, owned_phase};
 ghost use Rattle.cobs.specs.Fields.Report.{frame_size_of, parsed_size_of};
-ghost use Rattle.cobs.specs.Feed.{state_in, Idle, Overlong, PhaseAfter};
+ghost use Rattle.cobs.specs.Feed.{Idle, Overlong, PhaseAfter};
 ghost use Rattle.cobs.specs.Grammar.{HasNoZero, IsEncodedFrame, Reads};
 ghost use Rattle.cobs.specs.Headline.{IsPiece, PushesMessage};
 ghost use Rattle.cobs.specs.Length.{encoded_len, max_encoded_len};
@@ -15,7 +15,7 @@ ghost use Rattle.cobs.specs.Sentinel.{IsFreeOf, xor_each};
 ghost use Rattle.cobs.specs.Messages.{AreFrames, messages_in};
 ghost use Rattle.cobs.specs.Piece.{last_part, missing};
 ghost use Rattle.cobs.specs.Stream.{first_piece, head};
-ghost use Rattle.cobs.specs.Table.{data_of};
+ghost use Rattle.cobs.specs.Table.{data_of, state_in};
 
 use cobs::laws::{law_2, law_4, law_12};
 use cobs::{

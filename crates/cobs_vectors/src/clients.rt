@@ -1,7 +1,8 @@
 //! Callers as in a user's own crate: a handler of one byte, a loop over a stream, a reader of frames, a round trip, a
 //! log. Their contracts are proved only from the public clauses of `cobs`.
 ghost use Rattle.std.specs.Prelude.{◌≡◌, ◌≢◌, ◌≤◌, ◌<◌, ◌^◌, ◌↔◌, ◌∷◌, ◌++◌, [], length, take, drop, List, ℕ, IfOk, IfSome, IsOk, OnOk, IsSomeAnd, IsTrue, Some};
-ghost use Rattle.cobs.specs.Feed.{DecoderAfter, Idle, Overlong, state_in};
+ghost use Rattle.cobs.specs.Feed.{DecoderAfter, Idle, Overlong};
+ghost use Rattle.cobs.specs.Table.{state_in};
 ghost use Rattle.cobs.specs.FeedPiece.{IsWithin, outcome_at};
 ghost use Rattle.cobs.specs.Fields.Encoders.{reached_by};
 ghost use Rattle.cobs.specs.Fields.Reader.{kept_of, reader_state};

@@ -17,7 +17,7 @@ use Rattle.std.specs.Prelude.{IfOk, IfSome}
 use Rattle.std.proofs.lemmas.Grind.{common_steps}
 use Rattle.cobs.proofs.format.StreamLemmas.{fed-nonzero}
 use Rattle.cobs.proofs.streaming.LastPiece.{output-longer}
-use Rattle.cobs.proofs.streaming.TableLemmas.{returned_by_table, output-nil, phase_by_table}
+use Rattle.cobs.proofs.streaming.TableLemmas.{output-nil}
 use Rattle.cobs.proofs.decoding.PieceLemmas.{output-one, last_part-one, output-push_more, output-push_next, last_part-push_next, missing-push_more, is_full-push_more, output-push}
 
 -- a decoder whose output was too long is in that phase, whatever its other numbers are
@@ -176,8 +176,6 @@ Feeds-step buffer phase b = record {
   untouched = λ p h nz. PhaseAfter-untouched buffer phase p b h nz;
   zero_idle = λ e. rw e (next_phase-zero (length buffer) phase);
   zero_unchanged = λ e. rw e (next_buffer-zero buffer phase);
-  by_table = λ state e going. phase_by_table (length buffer) phase b state e going;
-  result_by_table = λ state e. returned_by_table (length buffer) phase b state e;
   bound = result-bound (length buffer) phase b;
   len = length-next_buffer buffer phase b;
 }

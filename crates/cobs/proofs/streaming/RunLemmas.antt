@@ -6,11 +6,12 @@ use Rattle.cobs.specs.declared.dec.unbuffered.UnbufferedDecoder.{UnbufferedDecod
 use Rattle.std.proofs.lemmas.List.Elements.{All-head, All-tail}
 use Rattle.std.proofs.lemmas.Bool.{ne_eqb, cases_lt}
 use Rattle.cobs.specs.Grammar.{HasNoZero}
-use Rattle.cobs.specs.Feed.{Phase, Within, Overlong, written_in}
+use Rattle.cobs.specs.Feed.{Phase, Within, Overlong}
 use Rattle.cobs.specs.FeedPiece.{TakesPiece, end_reported}
 use Rattle.cobs.specs.Fields.Decoders.{phase_of, phase_with}
 use Rattle.cobs.specs.Internal.FeedsQuietly.{FeedsQuietly}
 use Rattle.cobs.specs.Step.{next_phase, next_buffer, next_result}
+use Rattle.cobs.specs.Table.{written_in}
 use Rattle.cobs.proofs.streaming.FeedLemmas.{Feeds-step}
 use Rattle.cobs.proofs.streaming.ByByteLemmas.{piece-more}
 use Rattle.cobs_bytes.proofs.bytes.ListLemmas.{part-nonzero}

@@ -6,10 +6,10 @@ use Rattle.std.proofs.lemmas.List.Elements.{All-nil, All-push}
 use Rattle.std.proofs.lemmas.Grind.{common_steps}
 use Rattle.cobs.specs.Grammar.{HasNoZero, is_full, Reads}
 use Rattle.cobs.specs.Piece.{parts, parts_after, last_part, missing, is_whole, output}
-use Rattle.cobs.specs.Table.{opened_by, table_result, table_state, data_of, state_after, StateAfter}
+use Rattle.cobs.specs.Table.{opened_by, table_result, table_state, data_of, state_after, StateAfter, counted, state_in, written_in, FeedsByTable}
 use Rattle.cobs.specs.declared.dec.state.DecoderState.{DecoderState}
 use Rattle.cobs.specs.declared.dec.state.DecoderState.TheVariants.{Idle, Grab, GrabChain}
-use Rattle.cobs.specs.Feed.{Phase, Within, Overlong, counted, state_in, written_in}
+use Rattle.cobs.specs.Feed.{Phase, Within, Overlong}
 use Rattle.cobs.specs.Feed as phases
 use Rattle.cobs.specs.Step.{next_result, next_phase}
 use Rattle.cobs.specs.declared.dec.state.DecodeResult.TheVariants.{DataComplete}
@@ -93,10 +93,14 @@ StateAfter-end state p so_far m s =
 coded : (n b count : ℕ) → state_in (cond (eqb b 0) phases.Idle (Within (eqb b 255) (b - 1) count)) ≡ Some (cond (eqb b 0) Idle (opened_by b))
 coded n b count = grind (arith, eqb-true)
 
-pub phase_by_table : (n : ℕ) (phase : Phase) (b : ℕ) (state : DecoderState) → state_in phase ≡ Some state → next_phase n phase b ≢ Overlong → state_in (next_phase n phase b) ≡ Some (table_state state b)
+phase_by_table : (n : ℕ) (phase : Phase) (b : ℕ) (state : DecoderState) → state_in phase ≡ Some state → next_phase n phase b ≢ Overlong → state_in (next_phase n phase b) ≡ Some (table_state state b)
 phase_by_table n phase b state h e = grind (arith, coded, eqb-true)
 
-pub returned_by_table : (n : ℕ) (phase : Phase) (b : ℕ) (state : DecoderState) → state_in phase ≡ Some state
+returned_by_table : (n : ℕ) (phase : Phase) (b : ℕ) (state : DecoderState) → state_in phase ≡ Some state
     → let stated = table_result state b in
     (next_result n phase b ≡ counted (written_in phase) stated) ⊎ ((next_result n phase b ≡ Err TargetBufTooSmall) × (n < written_in phase + length (data_of stated)))
 returned_by_table n phase b state h = grind (arith, cases_lt)
+
+-- the machine moves by the table
+pub FeedsByTable-step : (n : ℕ) (phase : Phase) (b : ℕ) → FeedsByTable n phase b (next_result n phase b) (next_phase n phase b)
+FeedsByTable-step n phase b = record { next = phase_by_table n phase b; returned = returned_by_table n phase b }

@@ -5,6 +5,7 @@ ghost use Rattle.cobs.specs.Feed.{DecoderAfter, Feeds, Idle};
 ghost use Rattle.cobs.specs.Grammar.{Reads};
 ghost use Rattle.cobs.specs.Headline.{IsPiece, PushesMessage};
 ghost use Rattle.cobs.specs.Push.{PushesBytes};
+ghost use Rattle.cobs.specs.Table.{FeedsByTable};
 ghost use Rattle.cobs.specs.Fields.Decoders.{borrowed_buffer, borrowed_phase, borrowed_slice, LendsSlice, owned_buffer, owned_phase, LendsOwned};
 
 use crate::dec::frame_decoder::{FrameDecoder, PieceEnd, WriteBuffer};
@@ -80,6 +81,8 @@ impl<'a> CobsDecoder<'a> {
     pub fn feed(&mut self, byte: u8) -> Result<Option<usize>, DecodeError>
         ensures feeds { Feeds (borrowed_buffer self.old) (borrowed_phase self.old) byte result
             (borrowed_buffer self.new) (borrowed_phase self.new) }
+        ensures by_table { FeedsByTable (length (borrowed_buffer self.old)) (borrowed_phase self.old) byte result
+            (borrowed_phase self.new) }
         ensures same_slice { borrowed_slice self.new ≡ borrowed_slice self.old }
     {
         self.inner.feed(self.dest, byte)
@@ -243,6 +246,8 @@ impl CobsDecoderOwned {
     pub fn feed(&mut self, byte: u8) -> Result<Option<usize>, DecodeError>
         ensures feeds { Feeds (owned_buffer self.old) (owned_phase self.old) byte result
             (owned_buffer self.new) (owned_phase self.new) }
+        ensures by_table { FeedsByTable (length (owned_buffer self.old)) (owned_phase self.old) byte result
+            (owned_phase self.new) }
     {
         self.inner.feed(&mut self.dest, byte)
     }

@@ -3,6 +3,7 @@
 ghost use Rattle.std.specs.Prelude.{◌≡◌, ◌≤◌, ℕ, List, length, ◌+◌};
 ghost use Rattle.cobs.specs.Feed.{Feeds, Phase};
 ghost use Rattle.cobs.specs.FeedPiece.{end_reported, TakesPiece};
+ghost use Rattle.cobs.specs.Table.{FeedsByTable};
 ghost use Rattle.std.specs.Borrow.{sem};
 ghost use Rattle.cobs.specs.Overwritten.{written_at};
 ghost use Rattle.cobs.specs.Fields.Decoders.{LendsBytes};
@@ -81,6 +82,7 @@ pub trait FrameDecoder {
     /// ```
     fn feed_byte(&mut self, byte: u8) -> Result<Option<usize>, DecodeError>
         ensures feeds { Feeds (bytes self.old) (phase self.old) byte result (bytes self.new) (phase self.new) }
+        ensures by_table { FeedsByTable (length (bytes self.old)) (phase self.old) byte result (phase self.new) }
         ensures same_loan { loan self.new ≡ loan self.old };
 
     /// Takes bytes of the stream, through the first zero that ends a piece.

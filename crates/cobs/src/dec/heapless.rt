@@ -6,6 +6,7 @@ ghost use Rattle.cobs.specs.Feed.{DecoderAfter, Feeds, Idle};
 ghost use Rattle.cobs.specs.Grammar.{Reads};
 ghost use Rattle.cobs.specs.Headline.{IsPiece, PushesMessage};
 ghost use Rattle.cobs.specs.Push.{PushesBytes};
+ghost use Rattle.cobs.specs.Table.{FeedsByTable};
 
 use crate::dec::frame_decoder::{FrameDecoder, PieceEnd, WriteBuffer};
 use crate::dec::unbuffered::UnbufferedDecoder;
@@ -83,6 +84,8 @@ impl<const N: usize> CobsDecoderHeapless<N> {
     pub fn feed(&mut self, byte: u8) -> Result<Option<usize>, DecodeError>
         ensures feeds { Feeds (heapless_buffer self.old) (heapless_phase self.old) byte result
             (heapless_buffer self.new) (heapless_phase self.new) }
+        ensures by_table { FeedsByTable (length (heapless_buffer self.old)) (heapless_phase self.old) byte result
+            (heapless_phase self.new) }
     {
         self.inner.feed(self.dest.as_mut_slice(), byte)
     }

@@ -4,6 +4,7 @@ ghost use Rattle.cobs.specs.Feed.{DecoderAfter, Feeds, Idle};
 ghost use Rattle.cobs.specs.Fields.Decoders.{phase_at, phase_of};
 ghost use Rattle.cobs.specs.Push.{PushesBytes};
 ghost use Rattle.cobs.specs.FeedPiece.{TakesPiece};
+ghost use Rattle.cobs.specs.Table.{FeedsByTable};
 
 use crate::dec::frame_decoder::PieceEnd;
 use crate::error::{DecodeError, DecodeReport, PushError};
@@ -204,6 +205,7 @@ impl UnbufferedDecoder {
     #[inline(always)]
     pub fn feed(&mut self, dest: &mut [u8], byte: u8) -> Result<Option<usize>, DecodeError>
         ensures feeds { Feeds dest.old (phase_of self.old) byte result dest.new (phase_of self.new) }
+        ensures by_table { FeedsByTable (length dest.old) (phase_of self.old) byte result (phase_of self.new) }
     {
         self.step(dest, byte)
     }

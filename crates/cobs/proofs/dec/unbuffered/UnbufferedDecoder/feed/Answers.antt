@@ -1,5 +1,9 @@
 use Rattle.cobs.proofs.streaming.FeedLemmas.{Feeds-as}
+use Rattle.cobs.proofs.streaming.TableLemmas.{FeedsByTable-step}
 use Rattle.cobs.proofs.dec.unbuffered.UnbufferedDecoder.feed.Goals as goal
 
-pub returns : goal.returns
-returns c = let e = c.step.ensures in record { feeds = Feeds-as e.returned e.phase e.buffer }
+pub returns-clause-feeds : goal.returns-clause-feeds
+returns-clause-feeds c = let e = c.step.ensures in Feeds-as e.returned e.phase e.buffer
+
+pub returns-clause-by_table : goal.returns-clause-by_table
+returns-clause-by_table c = let e = c.step.ensures in rw (e.returned, e.phase) (FeedsByTable-step _ _ _)

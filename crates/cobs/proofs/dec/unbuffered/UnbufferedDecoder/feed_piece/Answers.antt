@@ -3,6 +3,7 @@ use Rattle.std.proofs.Math.Seq.{take-length}
 use Rattle.cobs.specs.Feed.{Feeds, Phase}
 use Rattle.cobs.specs.Fields.Decoders.{phase_of, phase_with}
 use Rattle.cobs.specs.FeedPiece.{TakesPiece, end_reported}
+use Rattle.cobs.specs.Table.{FeedsByTable}
 use Rattle.cobs.specs.Internal.FeedsQuietly.{FeedsQuietly}
 use Rattle.cobs.specs.declared.dec.frame_decoder.PieceEnd.{PieceEnd}
 use Rattle.cobs.specs.declared.dec.state.DecoderState.TheVariants.{Grab, GrabChain}
@@ -19,29 +20,29 @@ quietly bytes buffer buffer' phase phase' fed =
     rw (take_all (0 + length bytes) bytes (omega arith)) at (piece-run bytes 0 (length bytes) (omega arith) (piece-nothing _ _) (rw (← take-length bytes) at fed))
 
 -- a zero ends a piece of which a byte is written
-ended_at : (is_full : Bool) (left count : ℕ) (buffer buffer' : List ℕ) (phase' : Phase) (result : Result (Option ℕ) DecodeError)
-    → Feeds buffer (phase_with is_full left (suc count)) 0 result buffer' phase' → end_reported result ≢ None
-ended_at false zero count buffer buffer' phase' result f none = elim (f.result_by_table (Grab 0) refl) [
+ended_at : (is_full : Bool) (left count n : ℕ) (phase' : Phase) (result : Result (Option ℕ) DecodeError)
+    → FeedsByTable n (phase_with is_full left (suc count)) 0 result phase' → end_reported result ≢ None
+ended_at false zero count n phase' result f none = elim (f.returned (Grab 0) refl) [
   | inl is ↦ let e = rw is at none in cc
   | inr is ↦ let e = rw is.0 at none in cc
 ]
-ended_at false (suc left) count buffer buffer' phase' result f none = elim (f.result_by_table (Grab (suc left)) refl) [
+ended_at false (suc left) count n phase' result f none = elim (f.returned (Grab (suc left)) refl) [
   | inl is ↦ let e = rw is at none in cc
   | inr is ↦ let e = rw is.0 at none in cc
 ]
-ended_at true zero count buffer buffer' phase' result f none = elim (f.result_by_table (GrabChain 0) refl) [
+ended_at true zero count n phase' result f none = elim (f.returned (GrabChain 0) refl) [
   | inl is ↦ let e = rw is at none in cc
   | inr is ↦ let e = rw is.0 at none in cc
 ]
-ended_at true (suc left) count buffer buffer' phase' result f none = elim (f.result_by_table (GrabChain (suc left)) refl) [
+ended_at true (suc left) count n phase' result f none = elim (f.returned (GrabChain (suc left)) refl) [
   | inl is ↦ let e = rw is at none in cc
   | inr is ↦ let e = rw is.0 at none in cc
 ]
 
-ended_by : (written missing joint too_long : ℕ) (buffer buffer' : List ℕ) (phase' : Phase) (result : Result (Option ℕ) DecodeError) → too_long ≡ 0 → 0 < written
-    → Feeds buffer (phase_of (record { written = written; missing = missing; joint = joint; too_long = too_long })) 0 result buffer' phase' → end_reported result ≢ None
-ended_by zero missing joint too_long buffer buffer' phase' result going some f = absurd (omega arith)
-ended_by (suc count) missing joint too_long buffer buffer' phase' result going some f = ended_at (eqb joint 0) missing count buffer buffer' phase' result (rw going at f)
+ended_by : (written missing joint too_long n : ℕ) (phase' : Phase) (result : Result (Option ℕ) DecodeError) → too_long ≡ 0 → 0 < written
+    → FeedsByTable n (phase_of (record { written = written; missing = missing; joint = joint; too_long = too_long })) 0 result phase' → end_reported result ≢ None
+ended_by zero missing joint too_long n phase' result going some f = absurd (omega arith)
+ended_by (suc count) missing joint too_long n phase' result going some f = ended_at (eqb joint 0) missing count n phase' result (rw going at f)
 
 -- the first bytes were fed, none of which ends a piece, and then a zero
 module _ (bytes buffer between buffer' : List ℕ) (phase phase_between phase' : Phase) (result : Result (Option ℕ) DecodeError) (len : ℕ) (within : len < length bytes) (zero : get_or bytes len 0 ≡ 0)
@@ -69,7 +70,7 @@ pub returns-in_err-end : goal.returns-in_err-end
 returns-in_err-end c =
     let n = c.take_front.new.self in
     let begun = c.take_front.ensures.begun c.if-take_front.true in
-    absurd (ended_by n.written n.missing n.joint n.too_long _ _ _ _ begun.0 begun.1 c.feed.ensures.feeds (sym c.in_err-end.ensures.end))
+    absurd (ended_by n.written n.missing n.joint n.too_long _ _ _ begun.0 begun.1 c.feed.ensures.by_table (sym c.in_err-end.ensures.end))
 
 pub returns-then-take_front : goal.returns-then-take_front
 returns-then-take_front c =
