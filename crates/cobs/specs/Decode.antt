@@ -5,7 +5,6 @@ use Rattle.std.specs.Result.{result_map_both}
 use Rattle.cobs.specs.Overwritten.{overwritten}
 use Rattle.cobs.specs.Piece.{output, kept_output, is_whole}
 use Rattle.cobs.specs.Stream.{Outcome, Message, Broken, TooLong, outcome_of, first_piece, head}
-use Rattle.cobs.specs.Fields.Report.{report_of}
 use Rattle.cobs.specs.declared.error.DecodeReport.{DecodeReport}
 use Rattle.cobs.specs.declared.error.DecodeError.{DecodeError}
 use Rattle.cobs.specs.declared.error.DecodeError.TheVariants.{EmptyFrame, InvalidFrame, TargetBufTooSmall}
@@ -32,18 +31,22 @@ outcome_result TooLong = Err TargetBufTooSmall
 
 -- the result for an outcome, with the number of bytes that were consumed
 abbrev pub report_result : ℕ → Result ℕ DecodeError → Result DecodeReport DecodeError
-report_result parsed (Ok size) = Ok (report_of parsed size)
+report_result parsed (Ok size) = Ok (record { parsed_size = parsed; frame_size = size })
 report_result parsed (Err error) = Err error
 
--- the result for a source that isn't empty, given its first piece, in a buffer of n bytes
-abbrev pub result_by_piece : List ℕ → Option (List ℕ) → ℕ → Result DecodeReport DecodeError
-result_by_piece source None n = Err (InvalidFrame 0)
-result_by_piece source (Some p) n = report_result (len_through_piece source p) (outcome_result (outcome_of p n))
-
--- the result of `decode` for a source, in a buffer of n bytes
+-- the result of `decode` for a source, in a buffer of n bytes: what its first piece decodes to, if there is one
 abbrev pub result_of_decode : List ℕ → ℕ → Result DecodeReport DecodeError
 result_of_decode [] n = Err EmptyFrame
-result_of_decode (byte ∷ bytes) n = result_by_piece (byte ∷ bytes) (first_piece (byte ∷ bytes)) n
+result_of_decode (byte ∷ bytes) n =
+    let source = byte ∷ bytes in
+    elim (first_piece source) [
+      | None ↦ Err (InvalidFrame 0)
+      | Some p ↦ elim (outcome_of p n) [
+        | Message message ↦ Ok (record { parsed_size = len_through_piece source p; frame_size = length message })
+        | Broken count ↦ Err (InvalidFrame count)
+        | TooLong ↦ Err TargetBufTooSmall
+      ]
+    ]
 
 -- the output of the first piece of a source, if there is one
 abbrev pub output_of : Option (List ℕ) → List ℕ

@@ -1,5 +1,5 @@
 -- The result of pushing bytes to a streaming decoder, and the decoder's buffer and phase after it.
-use Rattle.std.specs.Prelude.{ℕ, ◌≡◌, ◌+◌, ◌-◌, ◌<◌, ◌≤◌, ◌==◌, List, [], ◌∷◌, ◌++◌, length, take, drop, filter, slice_index, Option, Some, None, Result, Ok, Err, IfOk, IfSome, if◌then◌else◌}
+use Rattle.std.specs.Prelude.{ℕ, ◌≡◌, ◌≢◌, ◌+◌, ◌-◌, ◌<◌, ◌≤◌, ◌==◌, List, [], ◌∷◌, ◌++◌, length, take, drop, filter, slice_index, Option, Some, None, Result, Ok, Err, IfOk, IfSome, if◌then◌else◌}
 use Rattle.cobs.specs.Grammar.{last_of}
 use Rattle.cobs.specs.Piece.{output}
 use Rattle.cobs.specs.Stream.{stretches, is_nonempty, unended, Outcome, Message, Broken, TooLong, stream_outcomes}
@@ -14,29 +14,6 @@ use Rattle.cobs.specs.declared.error.DecodeError.TheVariants.{EmptyFrame, Invali
 -- the last piece of a stream, ended by a zero or by the end of the stream, or the empty list if there is none
 unfoldable pub last_piece : List ℕ → List ℕ
 last_piece t = last_of (filter is_nonempty (stretches t))
-
--- the result for the byte at this place, if the bytes are fed one by one to a decoder over n bytes after the front p
-abbrev pub result_at : List ℕ → List ℕ → ℕ → ℕ → Result (Option ℕ) DecodeError
-result_at p bytes n place = result_for (unended (p ++ take place bytes)) (slice_index bytes place) n
-
--- each of the first `count` bytes returns `Ok(None)`
-abbrev pub IsQuiet : List ℕ → List ℕ → ℕ → ℕ → Type 0
-IsQuiet p bytes n count = (place : ℕ) → place < count → result_at p bytes n place ≡ Ok None
-
--- each of the first `count` bytes except the last returns `Ok(None)`, and the last one returns `returned`
-pub record StopsAfter (p bytes : List ℕ) (n count : ℕ) (returned : Result (Option ℕ) DecodeError) : Type 0 where
-  pub place : ℕ
-  pub within : place < length bytes
-  pub last : count ≡ place + 1
-  pub quiet : IsQuiet p bytes n place
-  pub result_there : result_at p bytes n place ≡ returned
-
--- a push after the front p returns the result of the first byte that doesn't return `Ok(None)`, with the number of
--- bytes through that one
-abbrev pub PushReturns : List ℕ → List ℕ → ℕ → Result (Option DecodeReport) PushError → Type 0
-PushReturns p bytes n (Ok None) = IsQuiet p bytes n (length bytes)
-PushReturns p bytes n (Ok (Some report)) = StopsAfter p bytes n (parsed_size_of report) (Ok (Some (frame_size_of report)))
-PushReturns p bytes n (Err failure) = StopsAfter p bytes n failure.parsed_size (Err failure.error)
 
 -- how many bytes a push consumed: the number in its result, or all
 abbrev pub consumed_size : List ℕ → Result (Option DecodeReport) PushError → ℕ
@@ -80,7 +57,10 @@ last_result (Err failure) = Err failure.error
 -- a push of the bytes changes the decoder's buffer and phase to `buffer'` and `phase'`, and has this result
 pub record PushesBytes (buffer : List ℕ) (phase : Phase) (bytes : List ℕ)
     (result : Result (Option DecodeReport) PushError) (buffer' : List ℕ) (phase' : Phase) : Type 0 where
-  pub push_returns : (p : List ℕ) → PhaseAfter (length buffer) phase p → PushReturns p bytes (length buffer) result
+  -- each byte that was consumed returns `Ok(None)`, except the last one, which returns the result of the push
+  pub push_returns : (p : List ℕ) → PhaseAfter (length buffer) phase p → (place : ℕ) → place < consumed_size bytes result
+      → result_for (unended (p ++ take place bytes)) (slice_index bytes place) (length buffer)
+      ≡ (if place + 1 == consumed_size bytes result then last_result result else Ok None)
   -- the decoder has taken the bytes that were consumed
   pub phased : (p : List ℕ) → PhaseAfter (length buffer) phase p
       → PhaseAfter (length buffer) phase' (unended (p ++ consumed bytes result))
@@ -95,6 +75,8 @@ pub record PushesBytes (buffer : List ℕ) (phase : Phase) (bytes : List ℕ)
       → stream_outcomes (p ++ consumed bytes result) (length buffer) ≡ pushed_outcomes bytes result buffer'
   -- in every phase, the push feeds the bytes that were consumed
   pub feeds : FeedsInTurn buffer phase (consumed bytes result) (last_result result) buffer' phase'
+  -- a result that isn't `Ok(None)` is that of a byte
+  pub some : last_result result ≢ Ok None → 0 < consumed_size bytes result
   pub within : consumed_size bytes result ≤ length bytes
   pub bound : IfOk result (λ found. IfSome found (λ report. frame_size_of report ≤ length buffer))
   pub zero_idle : (front : List ℕ) → consumed bytes result ≡ front ++ 0 ∷ [] → phase' ≡ Idle

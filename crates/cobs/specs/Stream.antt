@@ -1,5 +1,5 @@
 -- A stream is cut at its zeros, and each piece between them has its own outcome.
-use Rattle.std.specs.Prelude.{ℕ, ◌==◌, nat_le, Bool, true, false, List, [], ◌∷◌, length, filter, map, Option, Some, None, if◌then◌else◌}
+use Rattle.std.specs.Prelude.{ℕ, ◌==◌, nat_le, Bool, true, false, List, [], ◌∷◌, length, filter, map, slice_get, Option, if◌then◌else◌}
 use Rattle.std.specs.List.{slice_split}
 use Rattle.cobs.specs.Grammar.{last_of}
 use Rattle.cobs.specs.Piece.{output, is_whole}
@@ -23,10 +23,6 @@ abbrev pub first_of : List (List ℕ) → List ℕ
 first_of [] = []
 first_of (xs ∷ more) = xs
 
-abbrev pub first_found : List (List ℕ) → Option (List ℕ)
-first_found [] = None
-first_found (xs ∷ more) = Some xs
-
 -- the pieces that a zero ends, in order
 unfoldable pub ended_pieces : List ℕ → List (List ℕ)
 ended_pieces t = filter is_nonempty (but_last (stretches t))
@@ -37,7 +33,7 @@ unended t = last_of (stretches t)
 
 -- the first piece, ended by a zero or by the end of the stream
 unfoldable pub first_piece : List ℕ → Option (List ℕ)
-first_piece t = first_found (filter is_nonempty (stretches t))
+first_piece t = slice_get (filter is_nonempty (stretches t)) 0
 
 -- the bytes before the first zero, or all of the stream
 unfoldable pub head : List ℕ → List ℕ

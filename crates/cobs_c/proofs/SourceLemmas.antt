@@ -1,7 +1,7 @@
 -- Sources, and how much of them a call takes.
-use Rattle.std.proofs.Common.{◌≡◌, ◌<◌, ◌≤◌, ℕ, List, [], ◌∷◌, length, take, drop, get_or, Option, Some, None, Result, Ok, Err, sym, ap, subst}
+use Rattle.std.proofs.Common.{◌≡◌, ◌<◌, ◌≤◌, ℕ, List, [], ◌∷◌, length, take, drop, get_or, Some, None, Result, Ok, Err, sym, subst, arith}
 use Rattle.cobs.specs.Grammar.{HasNoZero}
-use Rattle.cobs.specs.Decode.{result_by_piece, leading_zeros, len_through_piece, result_of_decode, report_result, outcome_result}
+use Rattle.cobs.specs.Decode.{leading_zeros, len_through_piece, result_of_decode, report_result, outcome_result}
 use Rattle.cobs.specs.Stream.{first_piece, outcome_of}
 use Rattle.cobs.specs.declared.DecodeError.{DecodeError}
 
@@ -20,7 +20,7 @@ module _ (source rest : List ℕ) (n : ℕ) (is : rest ≡ drop (leading_zeros s
 pub result-some : (source p : List ℕ) (n : ℕ) → first_piece source ≡ Some p → result_of_decode source n ≡ report_result (len_through_piece source p) (outcome_result (outcome_of p n))
 unfolding first_piece
 result-some [] p n is = absurd cc
-result-some (b ∷ bs) p n is = ap (λ (found : Option (List ℕ)). result_by_piece (b ∷ bs) found n) is
+result-some (b ∷ bs) p n is = grind arith
 
 -- an error with the count of what was consumed
 pub report_result-err : (parsed : ℕ) (size : Result ℕ DecodeError) (error : DecodeError) → Err error ≡ report_result parsed size → Err error ≡ size

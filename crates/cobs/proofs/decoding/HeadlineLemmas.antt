@@ -9,7 +9,7 @@ use Rattle.cobs.specs.Overwritten.{overwritten}
 use Rattle.cobs.specs.Grammar.{Reads}
 use Rattle.cobs.specs.Piece.{output, kept_output, is_whole, IsWhole}
 use Rattle.cobs.specs.Stream.{Broken, TooLong, outcome_of, head}
-use Rattle.cobs.specs.Decode.{outcome_result, report_result, len_through_piece, result_of_decode, first_output, head_result, head_result_within, in_place, result_in_place, in_place_report, result_of_sentinel_decode, output_of, result_by_piece}
+use Rattle.cobs.specs.Decode.{outcome_result, report_result, len_through_piece, result_of_decode, first_output, head_result, head_result_within, in_place, result_in_place, in_place_report, result_of_sentinel_decode, output_of}
 use Rattle.cobs.specs.Headline.{IsPiece, BeginsWith, ReturnsMessage, ReportsMessage}
 use Rattle.cobs.specs.declared.error.DecodeReport.{DecodeReport}
 use Rattle.cobs.specs.declared.error.DecodeError.{DecodeError}
@@ -17,6 +17,7 @@ use Rattle.cobs.specs.declared.error.DecodeError.TheVariants.{InvalidFrame, Targ
 use Rattle.cobs.proofs.format.FrameLemmas.{frame_whole, frame_output, reads_output}
 use Rattle.cobs.proofs.decoding.KeptLemmas.{all-kept}
 use Rattle.cobs.proofs.decoding.OutcomeLemmas.{outcome_of_whole, first_piece_alone, head_alone, length-head, output_within}
+use Rattle.cobs.proofs.decoding.OutcomeSteps.{result_by_piece, result_of_decode-is}
 use Rattle.cobs.proofs.decoding.ReadsLemmas.{frame_piece}
 use Rattle.cobs.proofs.decoding.SourceSteps.{result-fits, result-too_long}
 use Rattle.cobs.proofs.decoding.VectorSteps.{kept_within, overwritten-begins}
@@ -79,7 +80,7 @@ outcome_of_long p n more = grind (arith, lt-leb)
 
 result_of_decode_alone : (f : List ℕ) (n : ℕ) → IsPiece f → result_of_decode f n ≡ report_result (len_through_piece f f) (outcome_result (outcome_of f n))
 result_of_decode_alone [] n piece = absurd (piece.0 refl)
-result_of_decode_alone (byte ∷ bytes) n piece = ap (λ p. result_by_piece (byte ∷ bytes) p n) (first_piece_alone (byte ∷ bytes) piece.0 piece.1)
+result_of_decode_alone (byte ∷ bytes) n piece = result_of_decode-is byte bytes n ∙ ap (λ p. result_by_piece (byte ∷ bytes) p n) (first_piece_alone (byte ∷ bytes) piece.0 piece.1)
 
 outcome_result-rejected : (f : List ℕ) (n : ℕ) → (is_whole f ≡ false) ⊎ (n < length (output f)) → (error : DecodeError) × (outcome_result (outcome_of f n) ≡ Err error)
 outcome_result-rejected f n (inr more) = (TargetBufTooSmall, ap outcome_result (outcome_of_long f n more))

@@ -1,13 +1,12 @@
 -- What `decode` returns follows from the counts that a decoder has: the output's length, and the missing bytes of the last
 -- part. By the definition of `outcome_of`, case by case.
-use Rattle.std.proofs.Common.{◌≡◌, ◌≢◌, ℕ, ◌+◌, ◌<◌, ◌≤◌, Bool, false, IsTrue, eqb, List, [], ◌∷◌, length, take, drop, min, None, Some, Result, Ok, Err, if◌then◌else◌, sym, ap, arith, length-take-le, take-append-drop, take_all}
+use Rattle.std.proofs.Common.{◌≡◌, ◌≢◌, ℕ, ◌+◌, ◌<◌, ◌≤◌, Bool, false, IsTrue, eqb, List, [], ◌∷◌, length, take, drop, min, Option, None, Some, Result, Ok, Err, if◌then◌else◌, sym, ap, arith, length-take-le, take-append-drop, take_all}
 use Rattle.std.specs.Prelude.{IfOk}
 use Rattle.std.proofs.lemmas.Bool.{cases_eq, le-leb, lt-leb, ne_eqb, eq-eqb}
 use Rattle.cobs.specs.Piece.{output, last_part, missing, is_whole}
 use Rattle.cobs.specs.Stream.{Message, Broken, TooLong, outcome_of, first_piece, head}
 use Rattle.cobs.specs.Overwritten.{overwritten}
-use Rattle.cobs.specs.Fields.Report.{report_of}
-use Rattle.cobs.specs.Decode.{leading_zeros, outcome_result, report_result, result_of_decode, head_result, in_place_report}
+use Rattle.cobs.specs.Decode.{leading_zeros, len_through_piece, outcome_result, report_result, result_of_decode, head_result, in_place_report}
 use Rattle.cobs.specs.declared.error.DecodeReport.{DecodeReport}
 use Rattle.cobs.specs.declared.error.DecodeError.{DecodeError}
 use Rattle.cobs.specs.declared.error.DecodeError.TheVariants.{InvalidFrame, TargetBufTooSmall}
@@ -29,9 +28,17 @@ module _ (p : List ℕ) (n : ℕ) where
   unfolding outcome_of
   outcome_result_broken some fits broken k is = grind (arith, is_whole-of, ne_eqb, le-leb)
 
+-- the result for a source that isn't empty, by its first piece
+abbrev pub result_by_piece : List ℕ → Option (List ℕ) → ℕ → Result DecodeReport DecodeError
+result_by_piece source None n = Err (InvalidFrame 0)
+result_by_piece source (Some p) n = report_result (len_through_piece source p) (outcome_result (outcome_of p n))
+
+pub result_of_decode-is : (byte : ℕ) (bytes : List ℕ) (n : ℕ) → result_of_decode (byte ∷ bytes) n ≡ result_by_piece (byte ∷ bytes) (first_piece (byte ∷ bytes)) n
+result_of_decode-is byte bytes n = grind arith
+
 -- the result for a source that isn't empty and has no piece
 pub result_of_decode-none : (source : List ℕ) (n : ℕ) → 0 < length source → first_piece source ≡ None → Err (InvalidFrame 0) ≡ result_of_decode source n
-result_of_decode-none source n h e = grind arith
+result_of_decode-none source n h e = grind (arith, result_of_decode-is)
 
 -- a buffer over which nothing is written
 pub overwritten-none : (buffer : List ℕ) → overwritten buffer [] ≡ buffer
@@ -45,7 +52,7 @@ module _ (buffer h : List ℕ) (some : 0 < length buffer) (is : h ≡ head buffe
   pub in_place_report-rejected : (error : DecodeError) → result ≡ Err error → Err error ≡ in_place_report buffer
   in_place_report-rejected error e = grind arith
 
-  pub in_place_report-decoded : (size parsed : ℕ) → result ≡ Ok size → parsed ≡ length h → (report : DecodeReport) → report ≡ report_of parsed size → Ok report ≡ in_place_report buffer
+  pub in_place_report-decoded : (size parsed : ℕ) → result ≡ Ok size → parsed ≡ length h → (report : DecodeReport) → report ≡ record { parsed_size = parsed; frame_size = size } → Ok report ≡ in_place_report buffer
   in_place_report-decoded size parsed e count report r = grind arith
 
 -- the result for a piece whose output fits

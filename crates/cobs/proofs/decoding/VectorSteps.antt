@@ -5,11 +5,12 @@ use Rattle.cobs.specs.Overwritten.{overwritten}
 use Rattle.cobs.specs.Piece.{output, is_whole, kept_output}
 use Rattle.cobs.specs.Stream.{outcome_of, first_piece, head}
 use Rattle.cobs.specs.Fields.Report.{frame_size_of}
-use Rattle.cobs.specs.Decode.{outcome_result, result_of_decode, result_by_piece, output_of, first_output, message_of_piece, decoded, head_result, result_of_sentinel_decode, message_of_head, decoded_head}
+use Rattle.cobs.specs.Decode.{outcome_result, result_of_decode, output_of, first_output, message_of_piece, decoded, head_result, result_of_sentinel_decode, message_of_head, decoded_head}
 use Rattle.cobs.specs.declared.error.DecodeReport.{DecodeReport}
 use Rattle.cobs.specs.declared.error.DecodeError.{DecodeError}
 use Rattle.cobs.specs.declared.error.DecodeError.TheVariants.{InvalidFrame, TargetBufTooSmall}
 use Rattle.cobs.proofs.decoding.OutcomeLemmas.{output_within, first_piece_head, length-head}
+use Rattle.cobs.proofs.decoding.OutcomeSteps.{result_by_piece, result_of_decode-is}
 use Rattle.cobs.proofs.decoding.SourceSteps.{result-fits}
 
 -- a buffer that has room begins with the bytes that are written
@@ -43,7 +44,7 @@ module _ (source : List ℕ) (n : ℕ) (room : n ≡ length source) where
   piece-message report old (Some p) is long e = grind (arith, first_piece_within, output_within, outcome_result-fits, overwritten-begins)
 
   result-equals : 0 < length source → result_of_decode source n ≡ result_by_piece source (first_piece source) n
-  result-equals some = grind arith
+  result-equals some = grind (arith, result_of_decode-is)
 
   decoded-is : 0 < length source → decoded source ≡ message_of_piece (first_piece source)
   decoded-is some = grind arith

@@ -1,7 +1,7 @@
 -- A push of a list and the zero after it reports the message m exactly if the list reads as m: by `PushesBytes`, whose field
 -- `outcomes` says it of a push through the zero, and `push_returns` of an error before it.
-use Rattle.std.proofs.Common.{◌≡◌, ◌≢◌, ℕ, ◌<◌, ◌≤◌, Fits, get_or, w8, ◌↔◌, List, [], ◌∷◌, ◌++◌, length, take, All, Option, Some, None, Result, Ok, Err, refl, sym, ap, ◌∙◌, subst, arith, length-append, length-take-le, take-append-drop, take_all, take_at, drop, ⊎_elim}
-use Rattle.std.proofs.lemmas.Bool.{cases_lt, cases_Bool, ne_eqb, le-leb}
+use Rattle.std.proofs.Common.{◌≡◌, ◌≢◌, ℕ, ◌-◌, ◌+◌, ◌<◌, ◌≤◌, Fits, get_or, w8, ◌↔◌, List, [], ◌∷◌, ◌++◌, length, take, All, Option, Some, None, Result, Ok, Err, refl, sym, ap, ◌∙◌, subst, arith, length-append, length-take-le, take-append-drop, take_all, take_at, drop, ⊎_elim}
+use Rattle.std.proofs.lemmas.Bool.{cases_lt, cases_Bool, eq-eqb, ne_eqb, le-leb}
 use Rattle.std.proofs.lemmas.List.{take-append-le, take_more, get_or_append_left}
 use Rattle.std.proofs.lemmas.List.Elements.{All-take, All-get_or}
 use Rattle.cobs.specs.Grammar.{Reads}
@@ -9,12 +9,13 @@ use Rattle.cobs.specs.Piece.{output}
 use Rattle.cobs.specs.Stream.{Outcome, Message, outcome_of, stream_outcomes, unended}
 use Rattle.cobs.specs.Feed.{Phase, Idle, result_for}
 use Rattle.cobs.specs.Fields.Report.{parsed_size_of, frame_size_of}
-use Rattle.cobs.specs.Push.{result_at, PushesBytes, pushed_outcomes}
+use Rattle.cobs.specs.Push.{PushesBytes, pushed_outcomes}
 use Rattle.cobs.specs.Headline.{IsPiece, PushesMessage}
 use Rattle.cobs.specs.declared.error.DecodeReport.{DecodeReport}
 use Rattle.cobs.specs.declared.error.PushError.{PushError}
 use Rattle.cobs.proofs.streaming.FeedLemmas.{DecoderAfter-idle}
 use Rattle.cobs.proofs.streaming.LastPiece.{output-grows}
+use Rattle.cobs.proofs.streaming.PushLemmas.{result_at}
 use Rattle.cobs.proofs.format.StreamLemmas.{stream_outcomes-no_zero, stream_outcomes-one, unended-no_zero}
 use Rattle.cobs.proofs.decoding.OutcomeLemmas.{outcome_reads}
 use Rattle.cobs.proofs.decoding.ReadsLemmas.{frame_piece}
@@ -87,11 +88,10 @@ module _ (buffer bytes buffer' f : List ℕ) (phase phase' : Phase) (idle : phas
       let o : stream_outcomes (take k (f ++ 0 ∷ [])) n ≡ pushed_outcomes bytes (Err failure) buffer' = ap (λ (x : List ℕ). stream_outcomes (take k x) n) (sym is) ∙ w.outcomes [] after in
       absurd (pushed-no_message bytes failure buffer' m (ap (λ (x : Outcome). x ∷ []) (sym message) ∙ sym (one_outcome f n piece k all) ∙ o)))
       (λ (short : k ≤ length f).
-      let stop = w.push_returns [] after.phased in
-      let last = stop.last in
-      let quiet = quiet_inside f n piece fits stop.place (omega arith) in
-      let result_there = ap (λ (x : List ℕ). result_at [] x n stop.place) (sym is) ∙ stop.result_there in
-      absurd (let e = sym quiet ∙ result_there in cc))
+      let some : 0 < k = w.some (λ e. cc) in
+      let quiet = quiet_inside f n piece fits (k - 1) (omega (arith, some, short)) in
+      let last = rw (eq-eqb (k - 1 + 1) k (omega (arith, some))) at (w.push_returns [] after.phased (k - 1) (omega (arith, some))) in
+      absurd (let e = sym quiet ∙ ap (λ (x : List ℕ). result_at [] x n (k - 1)) (sym is) ∙ last in cc))
       (cases_lt (length f) k)
 
 -- the bytes of a front are bytes

@@ -1,14 +1,14 @@
 -- A push so far, and its end: a byte that returns `Ok(None)` continues the push, any other ends it. By `ByByteLemmas`.
-use Rattle.std.proofs.Common.{Err, IfOk, IfSome, List, None, Ok, Option, Result, Some, [], ap, arith, cond, drop, eqb, get_or, length, refl, sym, take, ℕ, ◌++◌, ◌+◌, ◌<◌, ◌∙◌, ◌∷◌, ◌≡◌, ◌≤◌}
+use Rattle.std.proofs.Common.{Err, IfOk, IfSome, List, None, Ok, Option, Result, Some, [], ap, arith, cond, drop, eqb, get_or, length, refl, sym, take, ℕ, ◌++◌, ◌+◌, ◌<◌, ◌∙◌, ◌∷◌, ◌≡◌, ◌≢◌, ◌≤◌, ⊎_elim}
 use Rattle.std.proofs.lemmas.List.{take_more, length_push, same_from_push}
-use Rattle.std.proofs.lemmas.Bool.{ne_eqb, eq-eqb}
+use Rattle.std.proofs.lemmas.Bool.{ne_eqb, eq-eqb, cases_eq}
 use borrow.Author.Count.{below_more}
 use Rattle.cobs.specs.Stream.{unended}
 use Rattle.cobs.specs.Feed.{DecoderAfter, Feeds, Idle, Phase, PhaseAfter, result_for}
 use Rattle.cobs.specs.FeedPiece.{TakesPiece, end_reported}
 use Rattle.cobs.specs.Internal.FeedsQuietly.{FeedsQuietly}
-use Rattle.cobs.specs.Push.{FeedsInTurn, IsQuiet, PushReturns, PushesBytes, StopsAfter, consumed, consumed_size, error_outcomes, last_result, pushed_outcomes, result_at}
-use Rattle.cobs.specs.Fields.Report.{frame_size_of, report_of}
+use Rattle.cobs.specs.Push.{FeedsInTurn, PushesBytes, consumed, consumed_size, error_outcomes, last_result, pushed_outcomes}
+use Rattle.cobs.specs.Fields.Report.{frame_size_of}
 use Rattle.cobs.specs.declared.error.DecodeError.{DecodeError}
 use Rattle.cobs.proofs.streaming.ByByteLemmas.{piece-nothing, piece-more, takes_behind, holds_behind, untouched_behind}
 use Rattle.cobs.proofs.streaming.FeedLemmas.{Feeds-step}
@@ -21,6 +21,21 @@ use Rattle.cobs.specs.declared.error.PushError.{PushError}
 no_message : (q : List ℕ) (b n k : ℕ) → result_for q b n ≡ Ok (Some k) → b ≡ 0
 unfolding result_for
 no_message q b n k h = grind (arith, ne_eqb)
+
+-- the result for the byte at this place, if the bytes are fed one by one behind the front p
+abbrev pub result_at : List ℕ → List ℕ → ℕ → ℕ → Result (Option ℕ) DecodeError
+result_at p bytes n place = result_for (unended (p ++ take place bytes)) (get_or bytes place 0) n
+
+-- each of the first i bytes returns `Ok(None)`
+abbrev pub IsQuiet : List ℕ → List ℕ → ℕ → ℕ → Type 0
+IsQuiet p bytes n i = (place : ℕ) → place < i → result_at p bytes n place ≡ Ok None
+
+-- the byte behind them, which ends the push
+ends_at : (p bytes : List ℕ) (n i place : ℕ) (r : Result (Option ℕ) DecodeError) → IsQuiet p bytes n i → result_at p bytes n i ≡ r → place < i + 1 → result_at p bytes n place ≡ cond (eqb (place + 1) (i + 1)) r (Ok None)
+ends_at p bytes n i place r quiet last within = ⊎_elim
+    (λ (e : place ≡ i). rw (eq-eqb (place + 1) (i + 1) (omega (arith, e))) (ap (result_at p bytes n) e ∙ last))
+    (λ (ne : place ≢ i). rw (ne_eqb (place + 1) (i + 1) (λ e. ne (omega (arith, e)))) (quiet place (omega (arith, ne))))
+    (cases_eq place i)
 
 -- the first i bytes took a decoder from a buffer and phase to others, and each returned `Ok(None)`
 pub record Pushed (buffer₀ : List ℕ) (phase₀ : Phase) (buffer : List ℕ) (phase : Phase) (bytes : List ℕ) (i : ℕ) : Type 0 where
@@ -61,22 +76,19 @@ module _ {buffer₀ buffer buffer' : List ℕ} {phase₀ phase phase' : Phase} {
 
   -- THE PUSH ENDS
 
-  stops_here : (r : Result (Option ℕ) DecodeError) → result ≡ r → (p : List ℕ) → PhaseAfter (length buffer₀) phase₀ p → StopsAfter p bytes (length buffer₀) (i + 1) r
-  stops_here r e p h = record { place = i; within = within; last = refl; quiet = s.quiet p h; result_there = result_here p h ∙ e }
-
   -- this is its result
   ended : (r : Result (Option DecodeReport) PushError) → consumed_size bytes r ≡ i + 1 → last_result r ≡ result
-      → ((p : List ℕ) → PhaseAfter (length buffer₀) phase₀ p → PushReturns p bytes (length buffer₀) r)
       → ((p : List ℕ) → DecoderAfter buffer₀ phase₀ p → reported_by (get_or bytes i 0) result buffer' ≡ pushed_outcomes bytes r buffer')
       → IfOk r (λ found. IfSome found (λ report. frame_size_of report ≤ length buffer₀)) → PushesBytes buffer₀ phase₀ bytes r buffer' phase'
-  ended r count last returns outcomes bound = let takes = takes_behind bytes i within s.piece f in record {
-    push_returns = returns;
+  ended r count last outcomes bound = let takes = takes_behind bytes i within s.piece f in record {
+    push_returns = rw (count, last) (λ p h place inside. ends_at p bytes (length buffer₀) i place result (s.quiet p h) (result_here p h) inside);
     phased = rw (consumed, count) takes.phased;
     after = rw (consumed, count) takes.after;
     holds = rw (consumed, count) (holds_behind bytes i within s.piece f);
     untouched = rw (consumed, count) (untouched_behind bytes i within s.piece f);
     outcomes = rw (consumed, count) (λ p h. sym (takes.outcomes p h) ∙ outcomes p h);
-    within = omega arith;
+    some = λ _. omega (arith, count);
+    within = omega (arith, count, within);
     bound = bound;
     zero_idle = rw (consumed, count) zero_behind;
     feeds = rw (consumed, count, last) feeds_behind;
@@ -84,13 +96,13 @@ module _ {buffer₀ buffer buffer' : List ℕ} {phase₀ phase phase' : Phase} {
   }
 
   -- a message is reported
-  pub pushed_some : (n : ℕ) → result ≡ Ok (Some n) → PushesBytes buffer₀ phase₀ bytes (Ok (Some (report_of (i + 1) n))) buffer' phase'
-  pushed_some n e = ended (Ok (Some (report_of (i + 1) n))) refl (sym e) (stops_here (Ok (Some n)) e)
+  pub pushed_some : (n : ℕ) → result ≡ Ok (Some n) → PushesBytes buffer₀ phase₀ bytes (Ok (Some (record { parsed_size = i + 1; frame_size = n }))) buffer' phase'
+  pushed_some n e = ended (Ok (Some (record { parsed_size = i + 1; frame_size = n }))) refl (sym e)
       (λ p h. rw (e, eq-eqb _ 0 (no_message _ _ _ n (result_here p h.phased ∙ e))) refl) (rw (← s.piece.takes.len) (rw e at f.bound))
 
   -- an error is returned
   pub pushed_error : (e : DecodeError) → result ≡ Err e → PushesBytes buffer₀ phase₀ bytes (Err (record { error = e; parsed_size = i + 1 })) buffer' phase'
-  pushed_error e is = ended (Err (record { error = e; parsed_size = i + 1 })) refl (sym is) (stops_here (Err e) is)
+  pushed_error e is = ended (Err (record { error = e; parsed_size = i + 1 })) refl (sym is)
       (λ p h. ap (λ r. reported_by (get_or bytes i 0) r buffer') is ∙ ap (λ (k : ℕ). cond (eqb (get_or bytes k 0) 0) (error_outcomes e) []) (omega arith)) tt
 
 -- no byte is left

@@ -9,7 +9,3 @@ parsed_size_of report = report.parsed_size
 -- how many bytes the message has
 abbrev pub frame_size_of : DecodeReport → ℕ
 frame_size_of report = report.frame_size
-
--- the report of these two sizes
-abbrev pub report_of : ℕ → ℕ → DecodeReport
-report_of parsed frame = record { parsed_size = parsed; frame_size = frame }
