@@ -20,7 +20,7 @@ usage: tests/docs.py [--write]
 - Each block of tests/wrong_code.txt can be applied, and its function is there. `tests/REFUSED.md` counts and names these
   and the edits of must-fail/. With --write the blocks are counted, and the names go that aren't there any more.
 - No imports of the libraries go in a ring; files have at most 450 lines and functions 40 (layout.py).
-- The links of each document, the paths and commands that it shows, and the clauses that it names are there; names in src/ and
+- The links of each document, the paths and commands that it shows, and the clauses that it names are there; scripts can be run; names in src/ and
   specs/ are plain; all versions are that of the file VERSION (prose.py).
 - Counts, sizes and the toolchain in documents are those of the tree, copies are equal, and addresses can exist (facts.py).
 - The drawing and the table of crates of docs/ARCHITECTURE.md are what docs/architecture.py makes of the manifests (facts.py).

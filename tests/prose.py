@@ -2,6 +2,7 @@
 
 A document is each Markdown file of the repository. Of the sources the comments are read, and the names in src/ and specs/.
 """
+import os
 import re
 import subprocess
 from functools import cache
@@ -205,6 +206,14 @@ def dead_commands():
                     yield f"{name}:{number}: rt has no command {command}"
 
 
+def scripts_that_do_not_run():
+    """A line for each script that names its interpreter and isn't executable, so that a command of a document fails."""
+    for name in files():
+        with (TOP / name).open("rb") as script:
+            if script.read(2) == b"#!" and not os.access(TOP / name, os.X_OK):
+                yield f"{name}: it isn't executable"
+
+
 VERSIONS = [
     ("CHANGELOG.md", r"^## (\d[\w.]*) \(\d{4}-\d\d-\d\d\)$"),
     ("bindings/rust/CHANGELOG.md", r"^## (\d[\w.]*) \(\d{4}-\d\d-\d\d\)$"),
@@ -308,5 +317,5 @@ def unknown_names():
 
 def complaints():
     """Everything that is wrong in the documents as text."""
-    checks = (unplain_names, dead_links, dead_commands, other_versions, unknown_names)
+    checks = (unplain_names, dead_links, dead_commands, scripts_that_do_not_run, other_versions, unknown_names)
     return [line for check in checks for line in check()]

@@ -1,5 +1,5 @@
 #!/bin/sh
-# Sees that the shipped library for C searches by memchr and copies slices: search.sh [ARCHIVE]
+# Checks that the shipped library for C searches by memchr and copies slices: search.sh [ARCHIVE]
 #
 # Needs a C compiler, gdb and nm, on x86-64. It prints a row for each call, message and length, with how many searches and
 # slices the call made, and fails if a call makes fewer than tests/search.c asks for.
