@@ -38,7 +38,7 @@ static void print_answer(jcobs_answer answer, const unsigned char *buffer)
     }
 }
 
-/* Waits for bytes and reads them; 0 at the end of the input, and -1 where that failed. */
+/* Waits for bytes and reads them. Returns 0 at the end of the input, and -1 if that failed. */
 static ssize_t read_some(int fd, unsigned char *bytes, size_t len)
 {
     struct pollfd wait = {0, POLLIN, 0};

@@ -1,4 +1,4 @@
-/* Sends each line of standard input, without its newline, as a frame on standard output with a zero behind it.
+/* Sends each line of standard input, without its newline, as a frame on standard output with a zero after it.
  *
  * A line is given to the encoder in pieces, as they are read, so only the frame is kept. */
 #include <jcobs.h>
@@ -9,7 +9,7 @@
 #define LONGEST 65536
 #define ROOM JCOBS_MAX_LENGTH(LONGEST)
 
-/* The frame of the longest line, and the zero behind it. */
+/* The frame of the longest line, and the zero after it. */
 static unsigned char frame[ROOM + 1];
 
 /* Ends the frame of a line and sends it; returns 0 if that failed. */

@@ -178,7 +178,7 @@ constexpr std::size_t max_overhead(std::size_t message_len) noexcept
     return jcobs_encode_in_place(bytes.data(), bytes.size(), message_len);
 }
 
-// Decodes the first frame of the source to the front of a buffer. Zeros in front of it are skipped.
+// Decodes the first frame of the source to the front of a buffer. Leading zeros are skipped.
 [[nodiscard]] inline jcobs_answer decode(view source, buffer message) noexcept
 {
     return jcobs_decode(source.data(), source.size(), message.data(), message.size());

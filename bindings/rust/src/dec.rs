@@ -13,7 +13,7 @@ pub use decoder::CobsDecoderOwned;
 pub use decoder::{CobsDecoder, CobsDecoderHeapless};
 
 impl Default for UnbufferedDecoder {
-    /// That of [`new`](Self::new).
+    /// Does what [`new`](Self::new) does.
     fn default() -> Self {
         Self::new()
     }
@@ -34,13 +34,13 @@ impl core::error::Error for ReadFault {}
 #[deprecated(since = "0.5.0", note = "use DecodeReport instead")]
 pub type DecodingResult = DecodeReport;
 
-/// Decodes the first frame of `source` to the front of `dest`. Zeros in front of the frame are skipped, and it ends at
-/// the next zero, or with the source. The bytes of `dest` after the message stay as they are.
+/// Decodes the first frame of `source` to the front of `dest`. Leading zeros are skipped, and the frame ends at the next
+/// zero, or with the source. The bytes of `dest` after the message stay as they are.
 ///
-/// The report counts what was parsed with the zeros in front, and the one after it where there is one.
+/// The parsed bytes that the report counts are the leading zeros, the frame, and the zero after it if there is one.
 ///
-/// A frame that was cut off between two of its blocks is a frame too. If the zero has to be there, test the last byte
-/// that was parsed.
+/// A frame that was cut off between two of its blocks is a frame too. If a zero has to follow the frame, test the last
+/// parsed byte.
 ///
 /// ```
 /// let mut dest = [0; 8];
@@ -54,17 +54,17 @@ pub type DecodingResult = DecodeReport;
 ///
 /// - [`DecodeError::EmptyFrame`]: `source` is empty.
 /// - [`DecodeError::InvalidFrame`]: the frame breaks off inside a block, after this many bytes of output, which are at
-///   the front of `dest`; or `source` has zeros alone.
-/// - [`DecodeError::TargetBufTooSmall`]: the output of the frame, broken or not, is longer than `dest`, which holds as
-///   much of it as fits.
+///   the front of `dest`; or `source` has only zeros, and then the count is 0.
+/// - [`DecodeError::TargetBufTooSmall`]: the output of the frame, broken or not, is longer than `dest`, which then holds
+///   the first bytes of the output.
 #[inline]
 pub fn decode(source: &[u8], dest: &mut [u8]) -> Result<DecodeReport, DecodeError> {
     proved::decode(source, dest)
 }
 
-/// Decodes the frame at the front of `buff` in its own place, and returns the message's length. It ends at the first
-/// zero, or with the buffer. No zero is skipped: one in front is an empty message. The bytes after the message stay as
-/// they are.
+/// Decodes the frame at the front of `buff` in its own place, and returns the message's length in bytes. The frame ends at
+/// the first zero, or with the buffer. No zero is skipped: a leading zero is an empty message. The bytes after the message
+/// stay as they are.
 ///
 /// ```
 /// let mut buff = *b"\x02a\x02b\0";
@@ -75,14 +75,15 @@ pub fn decode(source: &[u8], dest: &mut [u8]) -> Result<DecodeReport, DecodeErro
 /// # Errors
 ///
 /// - [`DecodeError::EmptyFrame`]: `buff` is empty.
-/// - [`DecodeError::InvalidFrame`]: the frame breaks off inside a block. The count is that of the output of the whole
-///   blocks, which is at the front of `buff`.
+/// - [`DecodeError::InvalidFrame`]: the frame breaks off inside a block. The count is the length of the output of the whole
+///   blocks before it, which is at the front of `buff`.
 #[inline]
 pub fn decode_in_place(buff: &mut [u8]) -> Result<usize, DecodeError> {
     Ok(decode_in_place_report(buff)?.frame_size())
 }
 
-/// As [`decode_in_place`], with a report that also says how long the frame is. A zero after it isn't counted.
+/// Does what [`decode_in_place`] does, and returns a report that also has the frame's length. The zero after the frame isn't
+/// counted.
 ///
 /// ```
 /// let mut buf = *b"\x03hi\0\x02x";
@@ -99,9 +100,9 @@ pub fn decode_in_place_report(buf: &mut [u8]) -> Result<DecodeReport, DecodeErro
     proved::decode_in_place_report(buf)
 }
 
-/// Decodes the frame at the front of `source`, for the given sentinel, to the front of `dest`, and returns the
-/// message's length. It ends at the first sentinel, or with the source. No sentinel is skipped: one in front is an
-/// empty message. The bytes of `dest` after the message stay as they are.
+/// Decodes the frame at the front of `source`, for the given sentinel, to the front of `dest`, and returns the message's
+/// length in bytes. The frame ends at the first sentinel, or with the source. No sentinel is skipped: a leading sentinel is
+/// an empty message. The bytes of `dest` after the message stay as they are.
 ///
 /// ```
 /// let mut frame = [0; 8];
@@ -114,10 +115,10 @@ pub fn decode_in_place_report(buf: &mut [u8]) -> Result<DecodeReport, DecodeErro
 /// # Errors
 ///
 /// - [`DecodeError::EmptyFrame`]: `source` is empty.
-/// - [`DecodeError::InvalidFrame`]: the frame breaks off inside a block. The count is that of the output of the whole
-///   blocks, which is at the front of `dest`.
-/// - [`DecodeError::TargetBufTooSmall`]: that output, or the message, is longer than `dest`, which holds as much of it
-///   as fits.
+/// - [`DecodeError::InvalidFrame`]: the frame breaks off inside a block. The count is the length of the output of the whole
+///   blocks before it, which is at the front of `dest`.
+/// - [`DecodeError::TargetBufTooSmall`]: that output, or the message, is longer than `dest`, which then holds its first
+///   bytes.
 #[inline]
 pub fn decode_with_sentinel(
     source: &[u8],
@@ -127,8 +128,8 @@ pub fn decode_with_sentinel(
     proved::decode_with_sentinel(source, dest, sentinel)
 }
 
-/// As [`decode_in_place`], for the given sentinel. Each byte of `buff`, those after the frame too, is first XORed with
-/// it, as the crate `cobs` does.
+/// Does what [`decode_in_place`] does, for the given sentinel. Each byte of `buff`, even those after the frame, is first
+/// XORed with the sentinel, as in the crate `cobs`.
 ///
 /// ```
 /// let mut buff = [0; 3];
@@ -145,7 +146,7 @@ pub fn decode_in_place_with_sentinel(buff: &mut [u8], sentinel: u8) -> Result<us
     proved::decode_in_place_with_sentinel(buff, sentinel)
 }
 
-/// The message of the first frame of `source`, found as [`decode`] finds it.
+/// Returns the message of the first frame of `source`, which is found as by [`decode`].
 ///
 /// ```
 /// assert_eq!(jcobs::decode_vec(b"\x03hi\0"), Ok(b"hi".to_vec()));
@@ -153,7 +154,7 @@ pub fn decode_in_place_with_sentinel(buff: &mut [u8], sentinel: u8) -> Result<us
 ///
 /// # Errors
 ///
-/// [`DecodeError::EmptyFrame`] and [`DecodeError::InvalidFrame`], where [`decode`] returns them.
+/// [`DecodeError::EmptyFrame`] and [`DecodeError::InvalidFrame`], if [`decode`] returns them.
 #[cfg(feature = "alloc")]
 pub fn decode_vec(source: &[u8]) -> Result<alloc::vec::Vec<u8>, DecodeError> {
     let mut decoded = alloc::vec![0; source.len()];
@@ -162,7 +163,7 @@ pub fn decode_vec(source: &[u8]) -> Result<alloc::vec::Vec<u8>, DecodeError> {
     Ok(decoded)
 }
 
-/// The message of the frame at the front of `source`, found as [`decode_with_sentinel`] finds it.
+/// Returns the message of the frame at the front of `source`, which is found as by [`decode_with_sentinel`].
 ///
 /// ```
 /// let frame = jcobs::encode_vec_with_sentinel(b"hi", 7);
@@ -171,7 +172,7 @@ pub fn decode_vec(source: &[u8]) -> Result<alloc::vec::Vec<u8>, DecodeError> {
 ///
 /// # Errors
 ///
-/// [`DecodeError::EmptyFrame`] and [`DecodeError::InvalidFrame`], where [`decode_with_sentinel`] returns them.
+/// [`DecodeError::EmptyFrame`] and [`DecodeError::InvalidFrame`], if [`decode_with_sentinel`] returns them.
 #[cfg(feature = "alloc")]
 pub fn decode_vec_with_sentinel(
     source: &[u8],

@@ -10,14 +10,14 @@ pub use crate::proved::{
 pub use encoder::CobsEncoder;
 
 impl Default for UnbufferedEncoder {
-    /// That of [`new`](Self::new).
+    /// Does what [`new`](Self::new) does.
     fn default() -> Self {
         Self::new()
     }
 }
 
-/// Writes the frame of `source`, without sentinels, to the front of `dest`, and returns its length. The bytes after it
-/// stay as they are.
+/// Writes the frame of `source`, without sentinels, to the front of `dest`, and returns the frame's length in bytes. The
+/// bytes after the frame stay as they are.
 ///
 /// ```
 /// let mut dest = [0xAA; 8];
@@ -27,15 +27,15 @@ impl Default for UnbufferedEncoder {
 ///
 /// # Panics
 ///
-/// Where the frame doesn't fit. Room for [`max_encoding_length`](crate::max_encoding_length) always suffices.
+/// If the frame doesn't fit `dest`. [`max_encoding_length`](crate::max_encoding_length) bytes are always enough.
 #[inline]
 #[track_caller]
 pub fn encode(source: &[u8], dest: &mut [u8]) -> usize {
     try_encode(source, dest).expect("the frame fits `dest`")
 }
 
-/// Writes the frame of `source`, without sentinels, to the front of `dest`, and returns its length. The bytes after it
-/// stay as they are.
+/// Writes the frame of `source`, without sentinels, to the front of `dest`, and returns the frame's length in bytes. The
+/// bytes after the frame stay as they are.
 ///
 /// ```
 /// use jcobs::{try_encode, DestBufTooSmallError};
@@ -48,14 +48,14 @@ pub fn encode(source: &[u8], dest: &mut [u8]) -> usize {
 ///
 /// # Errors
 ///
-/// Where the frame doesn't fit, and only there. Then `dest` is as it was.
+/// [`DestBufTooSmallError`] exactly if the frame doesn't fit `dest`, which then stays as it was.
 #[inline]
 pub fn try_encode(source: &[u8], dest: &mut [u8]) -> Result<usize, DestBufTooSmallError> {
     proved::try_encode(source, dest)
 }
 
-/// Writes 0, the frame of `source`, and 0 to the front of `dest`, and returns the length of all three. The bytes after
-/// it stay as they are.
+/// Writes 0, the frame of `source`, and 0 to the front of `dest`, and returns the length of all three in bytes. The bytes
+/// after them stay as they are.
 ///
 /// ```
 /// let mut dest = [0xAA; 6];
@@ -65,15 +65,15 @@ pub fn try_encode(source: &[u8], dest: &mut [u8]) -> Result<usize, DestBufTooSma
 ///
 /// # Panics
 ///
-/// Where it doesn't fit. Room for [`max_encoding_length`](crate::max_encoding_length) and 2 always suffices.
+/// If the three don't fit `dest`. [`max_encoding_length`](crate::max_encoding_length) plus 2 bytes are always enough.
 #[inline]
 #[track_caller]
 pub fn encode_including_sentinels(source: &[u8], dest: &mut [u8]) -> usize {
     try_encode_including_sentinels(source, dest).expect("the frame and its sentinels fit `dest`")
 }
 
-/// Writes 0, the frame of `source`, and 0 to the front of `dest`, and returns the length of all three. The bytes after
-/// it stay as they are.
+/// Writes 0, the frame of `source`, and 0 to the front of `dest`, and returns the length of all three in bytes. The bytes
+/// after them stay as they are.
 ///
 /// ```
 /// let mut dest = [0xAA; 4];
@@ -85,7 +85,7 @@ pub fn encode_including_sentinels(source: &[u8], dest: &mut [u8]) -> usize {
 ///
 /// # Errors
 ///
-/// Where it doesn't fit, and only there. Then `dest` is as it was.
+/// [`DestBufTooSmallError`] exactly if the three don't fit `dest`, which then stays as it was.
 #[inline]
 pub fn try_encode_including_sentinels(
     source: &[u8],
@@ -94,8 +94,8 @@ pub fn try_encode_including_sentinels(
     proved::try_encode_including_sentinels(source, dest)
 }
 
-/// Writes the frame of `source` for the given sentinel to the front of `dest`, and returns its length: the frame for 0,
-/// each byte XORed with `sentinel`. The bytes after it stay as they are.
+/// Writes the frame of `source` for the given sentinel to the front of `dest`, and returns the frame's length in bytes. It
+/// is the frame for 0, with each byte XORed with `sentinel`. The bytes after the frame stay as they are.
 ///
 /// ```
 /// let mut dest = [0; 4];
@@ -105,16 +105,17 @@ pub fn try_encode_including_sentinels(
 ///
 /// # Panics
 ///
-/// Where the frame doesn't fit. Room for [`max_encoding_length`](crate::max_encoding_length) always suffices.
+/// If the frame doesn't fit `dest`. [`max_encoding_length`](crate::max_encoding_length) bytes are always enough.
 #[inline]
 #[track_caller]
 pub fn encode_with_sentinel(source: &[u8], dest: &mut [u8], sentinel: u8) -> usize {
     try_encode_with_sentinel(source, dest, sentinel).expect("the frame fits `dest`")
 }
 
-/// Encodes a message in its own buffer, and returns the frame's length. The message's `len` bytes are in `buffer` after
-/// the first [`max_encoding_overhead`](crate::max_encoding_overhead) of `len` bytes, and the frame is at its front. The
-/// bytes after the frame stay as they are. The crate `cobs` doesn't have this call.
+/// Encodes a message in its own buffer, and returns the frame's length in bytes. Before the call, the message's `len` bytes
+/// are in `buffer` after the first [`max_encoding_overhead`](crate::max_encoding_overhead) of `len` bytes. After it, the
+/// frame is at the front of `buffer`, and the bytes after the frame are as they were. The crate `cobs` doesn't have this
+/// call.
 ///
 /// ```
 /// let mut buffer = *b"\0hello..";
@@ -135,7 +136,7 @@ pub fn encode_in_place(buffer: &mut [u8], len: usize) -> usize {
     proved::encode_in_place(buffer, len)
 }
 
-/// As [`encode_with_sentinel`], with an error in place of the panic. The crate `cobs` doesn't have this call.
+/// Does what [`encode_with_sentinel`] does, and returns an error instead of a panic. The crate `cobs` doesn't have this call.
 ///
 /// ```
 /// let mut dest = [0; 2];
@@ -145,7 +146,7 @@ pub fn encode_in_place(buffer: &mut [u8], len: usize) -> usize {
 ///
 /// # Errors
 ///
-/// Where the frame doesn't fit, and only there. Then `dest` is as it was.
+/// [`DestBufTooSmallError`] exactly if the frame doesn't fit `dest`, which then stays as it was.
 #[inline]
 pub fn try_encode_with_sentinel(
     source: &[u8],
@@ -155,13 +156,13 @@ pub fn try_encode_with_sentinel(
     proved::try_encode_with_sentinel(source, dest, sentinel)
 }
 
-/// Memory for the longest frame of the message, and this many bytes more.
+/// Allocates zeros for the longest frame of the message, and this many bytes more.
 #[cfg(feature = "alloc")]
 fn room_for(source: &[u8], more: usize) -> alloc::vec::Vec<u8> {
     alloc::vec![0; crate::max_encoding_length(source.len()) + more]
 }
 
-/// The frame of `source`, without sentinels.
+/// Returns the frame of `source`, without sentinels.
 ///
 /// ```
 /// assert_eq!(jcobs::encode_vec(b""), [1]);
@@ -176,7 +177,7 @@ pub fn encode_vec(source: &[u8]) -> alloc::vec::Vec<u8> {
     encoded
 }
 
-/// 0, the frame of `source`, and 0; nothing after it.
+/// Returns 0, the frame of `source`, and 0, and nothing after them.
 ///
 /// ```
 /// assert_eq!(jcobs::encode_vec_including_sentinels(b"hi"), b"\0\x03hi\0");
@@ -190,7 +191,7 @@ pub fn encode_vec_including_sentinels(source: &[u8]) -> alloc::vec::Vec<u8> {
     encoded
 }
 
-/// The frame of `source` for the given sentinel, as [`encode_with_sentinel`] writes it.
+/// Returns the frame of `source` for the given sentinel, as [`encode_with_sentinel`] writes it.
 ///
 /// ```
 /// assert_eq!(jcobs::encode_vec_with_sentinel(b"\xFF\0", 0xFF), [0xFD, 0x00, 0xFE]);

@@ -77,9 +77,9 @@
 //! # What is proved
 //!
 //! The functions of `src/proved/` are those of the Rattle crates `cobs` and `cobs_bytes` without their contracts. There each
-//! one is proved to return the right result, not to panic, and to end, for a `usize` of 64 bits. The files beside that folder
-//! give them the crate's signatures, choose among them for a push of one byte, and are tested. Memory safety rests on the
-//! compiler and on `memchr`: only the vectors of `src/simd.rs` have `unsafe` code here.
+//! one is proved to return the right result, not to panic, and to end, for a `usize` of 64 bits. The other files of `src/` have
+//! the signatures of the crate `cobs`, and choose one of the proved functions for a push of one byte; they are tested. Memory
+//! safety rests on the compiler and on `memchr`: only the vectors of `src/simd.rs` have `unsafe` code here.
 //!
 //! # Features
 //!
@@ -172,8 +172,8 @@ pub const fn max_encoding_overhead(source_len: usize) -> usize {
     proved::max_encoding_overhead(source_len)
 }
 
-/// The length of the longest frame of a message of `source_len` bytes. With that much room no encoding call fails;
-/// sentinels need one byte each beside it.
+/// Returns the length of the longest frame of a message of `source_len` bytes, without sentinels. In a buffer of this length
+/// no encoding call fails; each sentinel needs one more byte.
 ///
 /// ```
 /// const ROOM: usize = jcobs::max_encoding_length(1000);

@@ -104,7 +104,7 @@ impl<R: BufRead> MessageReader<R> {
     /// - Each error of the source, such as [`ErrorKind::TimedOut`] and [`ErrorKind::WouldBlock`], except
     ///   [`ErrorKind::Interrupted`], after which the source is read again.
     ///
-    /// After an error the next call continues where this one was.
+    /// After an error the next call continues at the same byte.
     pub fn read_message(&mut self) -> io::Result<Option<Result<&[u8], DecodeError>>> {
         Ok(self.read_piece()?.map(|end| match end {
             PieceEnd::Message(len) => Ok(&self.message[..len]),

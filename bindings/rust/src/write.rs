@@ -7,9 +7,9 @@ use crate::enc::encode;
 
 /// Ends a frame that was cut, so that no decoder takes it for a message.
 ///
-/// A zero alone would make a shorter message of a frame that was cut between two blocks. If k bytes of a block are
-/// missing, at most 254, the first k of these complete it. The next one is a code of 255, followed by fewer than 254
-/// bytes. The 1 is there for k = 0: it is an empty block.
+/// A single zero isn't enough: a frame that was cut between two blocks would be read as a shorter message. If k bytes of a
+/// block are missing, at most 254, the first k of these complete it. The next one is a code of 255, followed by fewer than
+/// 254 bytes. The 1 is there for k = 0: it is an empty block.
 const CLOSING: [u8; 256] = {
     let mut bytes = [255; 256];
     bytes[0] = 1;

@@ -195,9 +195,8 @@ static const char encode_document[] =
 static const char decode_document[] =
     "decode(frame, *, sentinel=0)\n--\n\n"
     "Decodes a frame, and returns its message.\n\n"
-    "The frame ends at the first sentinel after it, or with the bytes. Sentinels in front of it are skipped, and "
-    "bytes\n"
-    "after its sentinel are ignored: use a `Decoder` for more than one frame.\n\n"
+    "Leading sentinels are skipped, and the frame ends at the next sentinel, or with the bytes. The bytes after that\n"
+    "sentinel have no effect: use a `Decoder` for more than one frame.\n\n"
     "Raises `DecodeError` if the frame breaks off inside a block, or if there is no frame.\n\n"
     ">>> jcobs.decode(b\"\\x06hello\")\n"
     "b'hello'\n"
@@ -239,7 +238,7 @@ static int add_type(PyObject *module, const char *name, PyType_Spec *spec)
     return 0;
 }
 
-/* What is behind the calls: the library of proved machine code, or C that was made from it and compiled here. */
+/* The code that the calls use: the library of proved machine code, or C that was made from it and compiled here. */
 #ifdef JCOBS_COMPILED
 #define BACKEND "compiled"
 #else

@@ -39,14 +39,15 @@ class AsyncFrameReader(Frames):
     """Reads frames from a stream of asyncio, trio or anyio, and sends messages.
 
     `read` returns the outcome of one frame: a `Message`, `Broken` or `TooLong`. `async for` yields each one, as soon as
-    its frame ends, until the stream ends. If a read is cancelled, as by a timeout, no byte is lost, and reading goes on.
+    its frame ends, until the stream ends. If a read is cancelled, as by a timeout, no byte is lost, and the next call
+    continues there.
 
     The stream is an `asyncio.StreamReader`, and `writer` its `StreamWriter`; or an object with `receive_some`, as those
-    of trio; or one with `receive`, as those of anyio. Messages are sent to the latter two by their `send_all` and `send`,
-    or to those of `writer`.
+    of trio; or one with `receive`, as those of anyio. Messages to a stream of trio or anyio are sent by its `send_all` or
+    `send`, or by that of `writer`.
 
-    With `sync` a sentinel is sent in front of the first frame. It ends what the line has of an earlier sender or of
-    noise.
+    With `sync` a sentinel is sent before the first frame. It ends the bytes of an earlier sender, or of noise on the
+    line.
 
     >>> import asyncio
     >>> async def show() -> None:
@@ -215,7 +216,7 @@ class AsyncFrameReader(Frames):
         """Sends a message, and returns the next one that comes, its reply.
 
         Raises TimeoutError if none has come after `timeout` seconds, and `DecodeError` if it is damaged or too long.
-        With `discard` what has come so far is dropped first, as the late reply to another request.
+        With `discard` the bytes that have come so far are dropped first, such as a late reply to another request.
         """
         Deadline(timeout)
         if discard:

@@ -18,8 +18,8 @@ class DecodeError(ValueError):
     """Raised by `decode` if there is no message, and by `request` of a reader if there is none in the reply.
 
     `kind` is "broken" if the frame breaks off inside a block, or "empty" if there are no bytes, or only sentinels. For a
-    reader it is "too_long" if the message is longer than `max_length`. `data` is what the frame decodes to, up to where
-    it ends, or to `max_length` bytes.
+    reader it is "too_long" if the message is longer than `max_length`. `data` is the bytes that the frame decodes to
+    before it breaks off, at most `max_length` of them.
 
     >>> try:
     ...     jcobs.decode(b"\\x06hel")

@@ -1,4 +1,4 @@
-"""The calls of the extension `_core` in Python alone, where that isn't built or can't be loaded.
+"""The calls of the extension `_core`, in Python, if that isn't built or can't be loaded.
 
 Frames for another sentinel are XORed with it, so all loops are about the sentinel 0.
 """
@@ -119,8 +119,8 @@ def encode(data: ReadableBuffer, *, sentinel: int = 0, terminated: bool = False)
 def decode(frame: ReadableBuffer, *, sentinel: int = 0) -> bytes:
     """Decodes a frame, and returns its message.
 
-    The frame ends at the first sentinel after it, or with the bytes. Sentinels in front of it are skipped, and bytes
-    after its sentinel are ignored: use a `Decoder` for more than one frame.
+    Leading sentinels are skipped, and the frame ends at the next sentinel, or with the bytes. The bytes after that
+    sentinel have no effect: use a `Decoder` for more than one frame.
 
     Raises `DecodeError` if the frame breaks off inside a block, or if there is no frame.
 

@@ -31,8 +31,8 @@ LONGEST_DISCARD = 1.0
 def closing(count: int, sentinel: int) -> bytes:
     """Returns bytes that end a frame which was cut, and that no decoder takes for the end of a message.
 
-    A sentinel alone would make a shorter message of a frame that was cut between two of its blocks. If k bytes of a
-    block are missing, fewer than `count`, the first k of these complete it. The next one is a code of 255, and fewer than
+    A single sentinel isn't enough: a frame that was cut between two of its blocks would be a shorter message. If k bytes
+    of a block are missing, fewer than `count`, the first k of these complete it. The next one is a code of 255, and fewer than
     254 bytes follow it. Up to 254 bytes of a block can be missing: for a `count` of 255 the first of these is the code of
     an empty block, as the code of a full one would be followed by 254 bytes.
     """
@@ -64,7 +64,7 @@ class Deadline:
 
 
 class Frames(Coder):
-    """A decoder, what it is to decode, and the outcomes that were decoded and not yet handed out."""
+    """A decoder, the bytes that it should decode, and the outcomes that were decoded and not yet returned."""
 
     def __init__(self, max_length: int, sentinel: int, sync: bool) -> None:
         self._decoder = Decoder(max_length, sentinel)
@@ -145,14 +145,14 @@ class FrameReader(Frames):
     its frame ends, until the stream ends or a timeout of the port or socket passes. Reading can go on after that, and no
     byte is lost if the read of the file raises an exception.
 
-    If a signal handler raises an exception, no byte of a socket, a pipe or a file is lost. pyserial may lose some of a
-    port, and the `makefile` of a socket some of that: then the frames that they belong to are reported as one `Broken`.
+    If a signal handler raises an exception, no byte of a socket, a pipe or a file is lost. Bytes may be lost in pyserial
+    and in the `makefile` of a socket: then the frames that they belong to are reported as one `Broken`.
 
-    With `sync` a sentinel is sent in front of the first frame. It ends what the line has of an earlier sender or of
-    noise.
+    With `sync` a sentinel is sent before the first frame. It ends the bytes of an earlier sender, or of noise on the
+    line.
 
-    One thread at a time may read, and one may write, which may be another one. A call raises RuntimeError while another
-    one of the same kind is at work.
+    One thread at a time may read, and at the same time one thread may write. A call raises RuntimeError while another
+    call of the same kind is at work.
 
     >>> import io
     >>> reader = jcobs.FrameReader(io.BytesIO(b"\\x03hi\\x00\\x06hello\\x00\\x05by"))
@@ -326,11 +326,11 @@ class FrameReader(Frames):
         """Sends a message, and returns the next one that comes, its reply.
 
         Raises TimeoutError if none has come after `timeout` seconds, and `DecodeError` if it is damaged or too long.
-        After that its reply, or the rest of it, may still come. With `discard` what has come so far is dropped first, so
-        that it isn't taken for the reply to this message.
+        After that its reply, or the rest of it, may still come. With `discard` the bytes that have come so far are dropped
+        first, so that they aren't mistaken for the reply to this message.
 
-        A reply that comes even later is taken for it, as COBS doesn't say which reply belongs to which request. If that
-        can be, number them.
+        A reply that comes even later is mistaken for it, because COBS doesn't say which reply belongs to which request. If
+        that can happen, number the requests.
         """
         Deadline(timeout)
         if discard:

@@ -32,7 +32,7 @@ class Message(core.Outcome):
 
 
 class Broken(core.Outcome):
-    """A frame that breaks off inside a block. `data` is what it decodes to, up to where it ends."""
+    """A frame that breaks off inside a block. `data` is the bytes that it decodes to before it breaks off."""
 
     __slots__ = ()
     __match_args__ = ("data",)
@@ -61,7 +61,7 @@ class Coder:
 class Decoder(Coder):
     """Decodes a stream of frames that comes in chunks of any size.
 
-    `max_length` is the length of the longest message; the decoder allocates so much memory at once. A broken or too
+    `max_length` is the length of the longest message; the decoder allocates this much memory at once. A broken or too
     long frame never affects the next one.
 
     A decoder is for one thread at a time: while a call is at work, each method raises RuntimeError in other threads, and
@@ -76,8 +76,8 @@ class Decoder(Coder):
     def feed(self, chunk: ReadableBuffer) -> List[Outcome]:
         """Decodes the next bytes of the stream, and returns the outcome of each frame that ends in them, in order.
 
-        Raises MemoryError if there isn't enough memory for them; these outcomes are then lost, and the decoder is
-        reset. So they are if a signal handler raises an exception, as for Ctrl-C.
+        Raises MemoryError if there isn't enough memory for them. Then these outcomes are lost, and the decoder is reset.
+        The same happens if a signal handler raises an exception, as for Ctrl-C.
 
         >>> decoder = jcobs.Decoder(max_length=5)
         >>> for outcome in decoder.feed(b"\\x03hi\\x00\\x06hel\\x00\\x07hello!\\x00"):
@@ -116,7 +116,7 @@ class Decoder(Coder):
 class Encoder(Coder):
     """Encodes messages that arise in pieces.
 
-    `max_length` is the length of the longest message; the encoder allocates so much memory at once. It is for one
+    `max_length` is the length of the longest message; the encoder allocates this much memory at once. It is for one
     thread at a time, as a `Decoder`.
 
     >>> encoder = jcobs.Encoder()

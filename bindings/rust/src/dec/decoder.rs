@@ -1,12 +1,12 @@
 //! A stream of frames to messages, one after another.
 //!
-//! The three decoders differ in whose the buffer is.
+//! The three decoders differ in who owns the buffer.
 
 use crate::ArrayVec;
 use crate::dec::{DecodeError, DecodeReport, FrameDecoder, PieceEnd, UnbufferedDecoder};
 use crate::simd::HAS_VECTORS;
 
-/// What the three decoders share: all but the buffer.
+/// The part that the three decoders have in common: everything except the buffer.
 #[derive(Debug)]
 struct Progress {
     decoder: UnbufferedDecoder,
@@ -78,15 +78,15 @@ macro_rules! decoder_methods {
         /// # Errors
         ///
         /// - [`DecodeError::InvalidFrame`]: the byte is a zero inside a block. The next byte begins a frame.
-        /// - [`DecodeError::TargetBufTooSmall`]: the message is longer than the buffer. It is the result of the byte
-        ///   that no longer fits, and of each further one, through the zero that ends the frame.
+        /// - [`DecodeError::TargetBufTooSmall`]: the message is longer than the buffer. This is the result for the first
+        ///   byte that doesn't fit, and for each byte after it, through the zero that ends the frame.
         #[inline]
         pub fn feed(&mut self, data: u8) -> Result<Option<usize>, DecodeError> {
             self.progress.feed(&mut self.dest[..], data)
         }
 
-        /// Takes bytes of a stream of frames, through the zero that ends the first frame, or all of them. Bytes after
-        /// that zero aren't looked at: push them next.
+        /// Takes bytes of a stream of frames, through the zero that ends the first frame, or all of them if no frame ends.
+        /// The bytes after that zero have no effect: push them next.
         ///
         /// - `Ok(None)`: all were taken, and no frame has ended.
         /// - `Ok(Some(report))`: a frame has ended, after [`parsed_size`](DecodeReport::parsed_size) of these bytes,
@@ -95,18 +95,18 @@ macro_rules! decoder_methods {
         /// # Errors
         ///
         /// - [`DecodeError::InvalidFrame`]: the frame breaks off inside a block. The bytes were taken through its zero.
-        /// - [`DecodeError::TargetBufTooSmall`]: the message is longer than the buffer. It is the result of each push
-        ///   that has bytes of what no longer fits, or the zero after it. The bytes were taken through that zero, or
-        ///   all.
+        /// - [`DecodeError::TargetBufTooSmall`]: the message is longer than the buffer. This is the result of each push
+        ///   with bytes that don't fit, and of the push with the zero after them. The bytes were taken through that zero,
+        ///   or all of them.
         ///
-        /// After an error, go on with the bytes from [`parsed_size`](Self::parsed_size) on: then a broken frame
-        /// never affects another.
+        /// After an error, continue with the bytes from [`parsed_size`](Self::parsed_size) on. Then a broken frame never
+        /// affects another one.
         #[inline]
         pub fn push(&mut self, data: &[u8]) -> Result<Option<DecodeReport>, DecodeError> {
             self.progress.push(&mut self.dest[..], data)
         }
 
-        /// How many bytes the last [`push`](Self::push) or [`feed`](Self::feed) took, whatever it returned; 0 before
+        /// Returns how many bytes the last [`push`](Self::push) or [`feed`](Self::feed) took, whatever it returned; 0 before
         /// the first. The crate `cobs` doesn't have this call.
         #[inline]
         #[must_use]
@@ -114,17 +114,17 @@ macro_rules! decoder_methods {
             self.progress.parsed_size
         }
 
-        /// The buffer, which messages are decoded to.
+        /// Returns the buffer to which messages are decoded.
         #[inline]
         #[must_use]
         pub fn dest(&self) -> &[u8] {
             &self.dest[..]
         }
 
-        /// The buffer, which messages are decoded to.
+        /// Returns the buffer to which messages are decoded, for writing.
         ///
-        /// It may be changed while no frame is open. Otherwise nothing is specified about the open frame's result, nor
-        /// the buffer then.
+        /// It may be changed while no frame is open. If it is changed at another time, the result of the open frame and the
+        /// contents of the buffer are unspecified.
         #[inline]
         pub fn dest_mut(&mut self) -> &mut [u8] {
             &mut self.dest[..]
@@ -135,7 +135,8 @@ macro_rules! decoder_methods {
 /// `reset`, of the decoders that have it.
 macro_rules! decoder_reset {
     () => {
-        /// Goes back to where no frame has begun. The buffer stays, and [`parsed_size`](Self::parsed_size).
+        /// Puts the decoder back to the start, when no frame has begun. The buffer and
+        /// [`parsed_size`](Self::parsed_size) stay as they are.
         #[inline]
         pub fn reset(&mut self) {
             self.progress.decoder.reset();
@@ -183,7 +184,7 @@ pub struct CobsDecoder<'a> {
 }
 
 impl<'a> CobsDecoder<'a> {
-    /// A decoder that has taken nothing, and decodes to `dest`.
+    /// Makes a decoder that has taken nothing yet, and that decodes to `dest`.
     #[inline]
     pub const fn new(dest: &'a mut [u8]) -> CobsDecoder<'a> {
         CobsDecoder {
@@ -214,7 +215,7 @@ pub struct CobsDecoderHeapless<const N: usize> {
 }
 
 impl<const N: usize> CobsDecoderHeapless<N> {
-    /// A decoder that has taken nothing, with a buffer of zeros.
+    /// Makes a decoder that has taken nothing yet, with a buffer of zeros.
     #[inline]
     #[must_use]
     pub const fn new() -> Self {
@@ -224,8 +225,8 @@ impl<const N: usize> CobsDecoderHeapless<N> {
         }
     }
 
-    /// A decoder over the bytes of this vector, which is filled with zeros to its capacity: an array of `N` bytes, an
-    /// [`ArrayVec`], or with the feature `heapless` a vector of that crate.
+    /// Makes a decoder over the bytes of this vector, which is filled with zeros up to its capacity. The vector is an array of
+    /// `N` bytes, an [`ArrayVec`], or with the feature `heapless` a vector of that crate.
     ///
     /// ```
     /// let decoder = jcobs::CobsDecoderHeapless::new_with_vec([7; 3]);
@@ -246,13 +247,13 @@ impl<const N: usize> CobsDecoderHeapless<N> {
 frame_decoder!(CobsDecoderHeapless<N>, <const N: usize>);
 
 impl<const N: usize> Default for CobsDecoderHeapless<N> {
-    /// That of [`new`](Self::new).
+    /// Does what [`new`](Self::new) does.
     fn default() -> Self {
         Self::new()
     }
 }
 
-/// A streaming decoder over memory that is taken once.
+/// A streaming decoder over a buffer that is allocated once.
 ///
 /// ```
 /// let mut decoder = jcobs::CobsDecoderOwned::new(4);
@@ -271,7 +272,7 @@ pub struct CobsDecoderOwned {
 
 #[cfg(feature = "alloc")]
 impl CobsDecoderOwned {
-    /// A decoder that has taken nothing, with a buffer of `dest_buf_size` zeros.
+    /// Makes a decoder that has taken nothing yet, with a buffer of `dest_buf_size` zeros.
     #[must_use]
     pub fn new(dest_buf_size: usize) -> Self {
         Self {

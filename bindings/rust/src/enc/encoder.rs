@@ -22,8 +22,8 @@ pub struct CobsEncoder<'a> {
 }
 
 impl<'a> CobsEncoder<'a> {
-    /// Makes an encoder that has taken nothing, and writes to `out_buf`. No frame fits an empty slice: then each push is
-    /// an error.
+    /// Makes an encoder that has taken nothing yet, and that writes to `out_buf`. No frame fits an empty slice, so over one
+    /// each push is an error.
     #[inline]
     pub fn new(out_buf: &'a mut [u8]) -> CobsEncoder<'a> {
         CobsEncoder {
@@ -36,16 +36,16 @@ impl<'a> CobsEncoder<'a> {
     ///
     /// # Errors
     ///
-    /// Where the frame of all that was taken and these bytes doesn't fit, and only there. Then nothing has changed, so
-    /// the frame of what was taken before can still be had, or fewer bytes be pushed.
+    /// [`DestBufTooSmallError`] exactly if the frame of the message so far, these bytes included, doesn't fit the slice. Then
+    /// nothing has changed, so the caller can still end the frame of the bytes before, or push fewer bytes.
     #[inline]
     pub fn push(&mut self, data: &[u8]) -> Result<(), DestBufTooSmallError> {
         self.encoder.push(self.dest, data)
     }
 
-    /// Ends the message: the slice begins with its frame, of the returned length, without a sentinel. It is the frame
-    /// that [`encode`](crate::encode) writes, and the bytes after it are as they were at first. The length is 0 if the
-    /// slice is empty, and only then.
+    /// Ends the message, and returns the length of its frame in bytes. The slice then begins with this frame, without a
+    /// sentinel. It is the frame that [`encode`](crate::encode) writes, and the bytes after it are as they were at first. The
+    /// length is 0 only if the slice is empty.
     #[inline]
     pub fn finalize(self) -> usize {
         if self.dest.is_empty() {
