@@ -11,7 +11,7 @@ use Rattle.std.proofs.Math.Seq.{take-set-lt}
 use Rattle.std.proofs.lemmas.List.{set-set}
 use Rattle.std.proofs.lemmas.List.Elements.{All-nil}
 use Rattle.cobs.specs.OpenBlock.{Reached, end_after, end_of, next_of, place_at, CobsEncoderAfter, IsPlaceIn}
-use Rattle.cobs.proofs.format.GrammarLemmas.{one_frame}
+use Rattle.cobs.proofs.format.GrammarLemmas.{encoded-by, one_frame}
 use Rattle.cobs.proofs.format.UniqueLemmas.{one_encoded, length-encoded}
 use Rattle.cobs.proofs.encoding.OpenLemmas.{blocks-of, f-is, message_of-close, frame_push}
 use Rattle.cobs.proofs.format.FrameLemmas.{last_of-push}
@@ -29,10 +29,7 @@ no_bytes front bytes h = grind (arith, true≢false)
 
 -- blocks are an encoded frame unless they end in a full block and the lone block
 encoded-open : (f m : List ℕ) (front : List (List ℕ)) (code : ℕ) (bytes : List ℕ) → IsFrameOf f (front ++ (code ∷ bytes) ∷ []) → m ≡ message_of (front ++ (code ∷ bytes) ∷ []) → false ≡ ends_in_full front bytes → IsEncodedFrame f m
-encoded-open f m front code bytes frame message noted = record {
-  reads = record { blocks = front ++ (code ∷ bytes) ∷ []; frame = frame; message = message };
-  canonical = record { blocks = front ++ (code ∷ bytes) ∷ []; frame = frame; shorter = lone_behind };
-}
+encoded-open f m front code bytes frame message noted = encoded-by (front ++ (code ∷ bytes) ∷ []) frame message lone_behind
   where
     lone_behind : (fr : List (List ℕ)) (c : List ℕ) → IsFull c → front ++ (code ∷ bytes) ∷ [] ≢ fr ++ c ∷ lone_block ∷ []
     lone_behind fr c full e =
@@ -45,10 +42,7 @@ full-frame : (front : List (List ℕ)) → All IsBlock front → is_full (last_o
 full-frame front each full = record { some = full-some front full; each = each; whole = refl }
 
 encoded-full : (m : List ℕ) (front : List (List ℕ)) → All IsBlock front → is_full (last_of front) ≡ true → m ≡ message_of (front ++ lone_block ∷ []) → IsEncodedFrame (concat front) m
-encoded-full m front each full message = record {
-  reads = record { blocks = front; frame = full-frame front each full; message = message ∙ message_of-lone front full };
-  canonical = record { blocks = front; frame = full-frame front each full; shorter = λ fr c is e. ends_lone fr c e };
-}
+encoded-full m front each full message = encoded-by front (full-frame front each full) (message ∙ message_of-lone front full) (λ fr c is e. ends_lone fr c e)
   where
     ends_lone : (fr : List (List ℕ)) (c : List ℕ) → front ≢ fr ++ c ∷ lone_block ∷ []
     ends_lone fr c e =

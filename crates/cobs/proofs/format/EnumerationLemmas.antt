@@ -7,13 +7,13 @@ use Rattle.std.proofs.lemmas.List.{length_push}
 use Rattle.std.proofs.lemmas.Bool.{cases_Bool, cases_eq, true≢false, eqb-true, eqb-false}
 use Rattle.std.proofs.lemmas.List.Elements.{All-head, All-tail}
 use Rattle.std.proofs.lemmas.List.Splits.{slice_split_none, slice_split_at, join_with_byte-slice_split}
-use Rattle.cobs.specs.Grammar.{HasNoZero, IsBlock, is_full, IsFull, joint, lone_block, message_of, last_of, IsFrameOf, IsOpenFrame, Reads, IsEncodedFrame}
+use Rattle.cobs.specs.Grammar.{HasNoZero, IsBlock, is_full, IsFull, joint, lone_block, message_of, last_of, IsOpenFrame, Reads, IsEncodedFrame}
 use Rattle.cobs.specs.Length.{last_number, last_run, EndsInFullRun, encoded_len}
 use Rattle.cobs.specs.OpenBlock.{EncoderAfter, OpenBlock, next_open}
 use Rattle.cobs.proofs.encoding.OpenLemmas.{IsOpenFrame-start, open-full, open-more, open-zero}
 use Rattle.cobs.specs.Laws.{IsFrameFor}
 use Rattle.cobs.proofs.format.FrameLemmas.{All-apart, last_of-cons, last_of-push}
-use Rattle.cobs.proofs.format.GrammarLemmas.{lone_block-reads, IsShorter, IsShorter-tail, IsShorter-cons, IsShorter-single}
+use Rattle.cobs.proofs.format.GrammarLemmas.{encoded-by, lone_block-reads, IsShorter, IsShorter-tail, IsShorter-cons, IsShorter-single}
 use Rattle.cobs.proofs.format.LengthLemmas.{no_zero, some_stretch, stretches-append, onto_parts}
 use Rattle.cobs.proofs.format.JoinLemmas.{message_of-append, Reads-append}
 use Rattle.cobs.proofs.format.UniqueLemmas.{IsEncodedFrame-shorter, first-block, length-encoded}
@@ -32,8 +32,9 @@ last_run-all bytes h = grind (arith, slice_split_none, no_zero)
 last_run-zero : (bytes m : List ℕ) → HasNoZero bytes → last_run (bytes ++ 0 ∷ m) ≡ last_run m
 last_run-zero bytes m h = grind (arith, slice_split_at, no_zero, some_stretch, last_number-cons)
 
--- nonzero bytes before a message lengthen its last run, or don't change it
-last-onto_parts : (bytes : List ℕ) (ps : List (List ℕ)) → ps ≢ [] → (last_number (map length (onto_parts bytes ps)) ≡ last_number (map length ps)) ⊎ ((last_number (map length (onto_parts bytes ps)) ≡ length bytes + last_number (map length ps)) × (length (join_with_byte 0 ps) ≡ last_number (map length ps)))
+-- nonzero bytes in front of a message lengthen its last run, or leave it
+last-onto_parts : (bytes : List ℕ) (ps : List (List ℕ)) → ps ≢ [] → let last = last_number (map length ps) in let longer = last_number (map length (onto_parts bytes ps)) in
+    (longer ≡ last) ⊎ ((longer ≡ length bytes + last) × (length (join_with_byte 0 ps) ≡ last))
 last-onto_parts bytes ps h = grind (arith, length-append)
 
 last_run-append : (bytes m : List ℕ) → HasNoZero bytes → (last_run (bytes ++ m) ≡ last_run m) ⊎ ((last_run (bytes ++ m) ≡ length bytes + last_run m) × (length m ≡ last_run m))
@@ -68,7 +69,7 @@ ends_full ((c ∷ bytes) ∷ d ∷ ds) some h s =
 pub ends_in_full : (g m : List ℕ) (e : IsEncodedFrame g m) → IsFull (last_of e.reads.blocks) ↔ EndsInFullRun m
 ends_in_full g m e =
     let r = e.reads in
-    subst (λ (l : List ℕ). IsFull (last_of r.blocks) ↔ EndsInFullRun l) (sym r.message) (ends_full r.blocks r.frame.some r.frame.each (IsEncodedFrame-shorter g m e))
+    subst (λ (l : List ℕ). IsFull (last_of r.blocks) ↔ EndsInFullRun l) (sym r.message) (ends_full _ r.frame.some r.frame.each (IsEncodedFrame-shorter g m e))
 
 -- BLOCKS ARE CANONICAL, OR CANONICAL BLOCKS THAT END IN A FULL ONE AND THE LONE BLOCK
 
@@ -102,12 +103,12 @@ either_blocks (b ∷ c ∷ d ∷ ds) some h = ⊎_elim
 
 frames_of : (f m : List ℕ) → Reads f m → IsFrameFor f m
 frames_of f m r = ⊎_elim
-    (λ s. inl (record { reads = r; canonical = record { blocks = r.blocks; frame = r.frame; shorter = s } }))
+    (λ s. inl (encoded-by r.blocks r.frame r.message s))
     (λ (w : EndsInLone r.blocks).
     let cs = w.0 in
-    let frame : IsFrameOf (concat cs) cs = record { some = w.2; each = (All-apart IsBlock cs (lone_block ∷ []) (subst (All IsBlock) w.1 r.frame.each)).0; whole = refl } in
+    let each = (All-apart IsBlock cs (lone_block ∷ []) (rw w.1 at r.frame.each)).0 in
     let message : m ≡ message_of cs = grind (arith, message_of-append, append-nil) in
-    let encoded : IsEncodedFrame (concat cs) m = record { reads = record { blocks = cs; frame = frame; message = message }; canonical = record { blocks = cs; frame = frame; shorter = w.3 } } in
+    let encoded : IsEncodedFrame (concat cs) m = encoded-by cs (record { some = w.2; each = each; whole = refl }) message w.3 in
     let whole : f ≡ concat cs ++ lone_block = r.frame.whole ∙ ap concat w.1 ∙ concat-append cs (lone_block ∷ []) in
     inr ((ends_in_full (concat cs) m encoded).0 w.4, (concat cs, encoded, whole)))
     (either_blocks r.blocks r.frame.some r.frame.each)

@@ -1,5 +1,5 @@
 -- A frame reads as its output, since the parts of a frame are its blocks: by induction on the blocks.
-use Rattle.std.proofs.Common.{◌≡◌, ◌≢◌, ℕ, zero, suc, ◌-◌, ◌<◌, ◌≤◌, List, [], ◌∷◌, ◌++◌, length, take, drop, All, refl, sym, ap, ◌∙◌, subst, arith, append-nil, append_assoc, length-take, length-take-le, take-append-drop, take_at, drop_at, ⊎_elim}
+use Rattle.std.proofs.Common.{◌≡◌, ◌≢◌, ℕ, zero, suc, ◌-◌, ◌<◌, ◌≤◌, List, [], ◌∷◌, ◌++◌, length, drop, All, refl, sym, ap, ◌∙◌, subst, arith, append-nil, append_assoc, length-take, length-take-le, take-append-drop, take_at, drop_at, ⊎_elim}
 use Rattle.std.specs.List.{concat}
 use Rattle.std.proofs.lemmas.Bool.{cases_lt, eq-eqb, eqb-true}
 use Rattle.std.proofs.lemmas.List.{drop_all}
@@ -33,7 +33,7 @@ unfolding parts_after
 concat-parts_after zero [] = refl
 concat-parts_after (suc n) [] = refl
 concat-parts_after (suc n) (x ∷ p) = concat-parts_after n p
-concat-parts_after zero (c ∷ p) = ap (λ (x : List ℕ). c ∷ take (c - 1) p ++ x) (concat-parts_after (c - 1) p) ∙ ap (λ (x : List ℕ). c ∷ x) (take-append-drop (c - 1) p)
+concat-parts_after zero (c ∷ p) = rw (concat-parts_after (c - 1) p, take-append-drop (c - 1) p) refl
 
 pub concat-parts : (p : List ℕ) → concat (parts p) ≡ p
 unfolding parts
@@ -103,7 +103,8 @@ blocks_of_whole (c ∷ p) h below whole = blocks_behind 0 (c ∷ p) h below (eqb
 concat_nonzero : (blocks : List (List ℕ)) → All IsBlock blocks → HasNoZero (concat blocks)
 concat_nonzero [] h = All-nil (λ b. b ≢ 0)
 concat_nonzero (block ∷ blocks) h =
-    All-append (λ b. b ≢ 0) block (concat blocks) (let is = All-head IsBlock block blocks h in grind (arith, All-cons)) (concat_nonzero blocks (All-tail IsBlock block blocks h))
+    let is = All-head IsBlock block blocks h in
+    All-append (λ b. b ≢ 0) block (concat blocks) (grind (arith, All-cons)) (concat_nonzero blocks (All-tail IsBlock block blocks h))
 
 concat_some : (blocks : List (List ℕ)) → blocks ≢ [] → All IsBlock blocks → concat blocks ≢ []
 concat_some [] some h = absurd (some refl)

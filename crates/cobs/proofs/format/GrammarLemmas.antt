@@ -4,7 +4,7 @@ use Rattle.std.proofs.Common.{◌≡◌, ◌≢◌, ◌↔◌, ℕ, ◌+◌, ◌
 use Rattle.std.specs.List.{concat}
 use Rattle.std.proofs.lemmas.List.{append_cancel_left}
 use Rattle.std.proofs.lemmas.List.Elements.{All-cons, All-nil, All-head, All-tail}
-use Rattle.cobs.specs.Grammar.{IsBlock, IsFull, bytes_of, joint, lone_block, message_of, IsFrame, IsFrameOf, Reads, IsCanonical}
+use Rattle.cobs.specs.Grammar.{IsBlock, IsFull, bytes_of, joint, lone_block, message_of, IsFrame, IsFrameOf, Reads, IsCanonical, IsEncodedFrame}
 use Rattle.cobs.specs.Piece.{parts, parts_after}
 use Rattle.cobs.proofs.format.FrameLemmas.{parts-block, parts-frame, frame_output}
 
@@ -30,7 +30,14 @@ IsShorter-cons b bs apart s (x ∷ front) block full e = let rest : bs ≡ front
 pub IsShorter-single : (b : List ℕ) → IsShorter (b ∷ [])
 IsShorter-single b front block full e = (let n = ap length e in let l = length-append front (block ∷ lone_block ∷ []) in omega arith)
 
--- a block before a frame
+-- a frame by its blocks
+abbrev pub encoded-by : {f m : List ℕ} (blocks : List (List ℕ)) → IsFrameOf f blocks → m ≡ message_of blocks → IsShorter blocks → IsEncodedFrame f m
+encoded-by blocks frame message shorter = record {
+  reads = record { blocks = blocks; frame = frame; message = message };
+  canonical = record { blocks = blocks; frame = frame; shorter = shorter };
+}
+
+-- a block in front of a frame
 pub frame-cons : (b f : List ℕ) (bs : List (List ℕ)) → IsBlock b → IsFrameOf f bs → IsFrameOf (b ++ f) (b ∷ bs)
 frame-cons b f bs h frame = record { some = λ e. cc; each = All-cons IsBlock b bs h frame.each; whole = ap (λ x. b ++ x) frame.whole }
 
@@ -90,7 +97,7 @@ module _ (block f : List ℕ) (is : IsBlock block) where
         frame = behind some c.blocks c.frame;
         shorter = IsShorter-tail block (parts f) (subst IsShorter (blocks-are c.blocks c.frame) c.shorter);
       },
-      λ full lone. c.shorter [] block full (blocks-are c.blocks c.frame ∙ ap (λ (x : List ℕ). block ∷ parts x) lone ∙ ap (λ (x : List (List ℕ)). block ∷ x) lone-parts),
+      λ full lone. c.shorter [] block full (cc (blocks-are c.blocks c.frame, lone-parts)),
     ),
     λ both. IsCanonical-cons block f is both.1 both.0,
   )
@@ -99,5 +106,5 @@ module _ (block f : List ℕ) (is : IsBlock block) where
 pub short-frame : (code : ℕ) (bytes : List ℕ) → length bytes + 1 < code → IsFrame (code ∷ bytes) → ⊥
 unfolding parts parts_after
 short-frame code bytes short frame =
-    let each : All IsBlock (parts (code ∷ bytes)) = subst (All IsBlock) (sym (parts-frame (code ∷ bytes) frame.1.blocks frame.1.frame)) frame.1.frame.each in
+    let each : All IsBlock (parts (code ∷ bytes)) = subst (All IsBlock) (sym (parts-frame _ frame.1.blocks frame.1.frame)) frame.1.frame.each in
     grind (arith, All-head, length-take)

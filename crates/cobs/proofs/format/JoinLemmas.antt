@@ -1,5 +1,5 @@
--- Frames joined are a frame, and a front of a frame that is a frame ends at the end of a block: by `one_frame`.
-use Rattle.std.proofs.Common.{◌≡◌, ◌≢◌, ℕ, ◌↔◌, List, [], ◌∷◌, ◌++◌, All, refl, sym, ap, ◌∙◌, length, subst, arith, append-nil, length-append, append_assoc}
+-- Frames joined are a frame, and the fronts of a frame that are frames end where a block ends: by `one_frame`.
+use Rattle.std.proofs.Common.{◌≡◌, ◌≢◌, ℕ, ◌↔◌, List, [], ◌∷◌, ◌++◌, All, refl, ap, ◌∙◌, length, subst, arith, append-nil, length-append, append_assoc}
 use Rattle.std.specs.List.{concat}
 use Rattle.std.proofs.lemmas.List.{nil_from_length}
 use Rattle.std.proofs.lemmas.List.Folds.{concat-append}
@@ -24,26 +24,21 @@ Reads-append f m g k r s = record {
   frame = record {
     some = λ none. r.frame.some (nil_from_length r.blocks (omega (arith, ap length none, length-append r.blocks s.blocks)));
     each = All-append IsBlock r.blocks s.blocks r.frame.each s.frame.each;
-    whole = ap (λ (l : List ℕ). l ++ g) r.frame.whole ∙ ap (λ (l : List ℕ). concat r.blocks ++ l) s.frame.whole ∙ sym (concat-append r.blocks s.blocks);
+    whole = cc (concat-append r.blocks s.blocks);
   };
-  message = ap (λ (l : List ℕ). l ++ joint (last_of r.blocks) ++ k) r.message ∙ ap (λ (l : List ℕ). message_of r.blocks ++ joint (last_of r.blocks) ++ l) s.message
-      ∙ sym (message_of-append r.blocks s.blocks r.frame.some s.frame.some);
+  message = cc (message_of-append r.blocks s.blocks r.frame.some s.frame.some);
 }
 
 -- FRONTS
 
 -- the blocks of a front that is a frame are the first blocks of the frame
 first_blocks : (p q : List ℕ) (blocks first : List (List ℕ)) → IsFrameOf (p ++ q) blocks → IsFrameOf p first → blocks ≡ first ++ parts q
-first_blocks p q blocks first frame front =
-    sym (parts-frame (p ++ q) blocks frame) ∙ ap (λ (l : List ℕ). parts (l ++ q)) front.whole ∙ parts-append first q front.each
+first_blocks p q blocks first frame front = cc (parts-frame (p ++ q) blocks frame, parts-append first q front.each)
 
 -- the message of the first blocks is a front of the message of all
 message_of-front : (first rest : List (List ℕ)) → first ≢ [] → (more : List ℕ) × (message_of (first ++ rest) ≡ message_of first ++ more)
-message_of-front first [] some = ([], ap message_of (append-nil first) ∙ sym (append-nil (message_of first)))
-message_of-front first (b ∷ rest) some = (
-  joint (last_of first) ++ message_of (b ∷ rest),
-  message_of-append first (b ∷ rest) some (λ e. cc) ∙ append_assoc (message_of first) (joint (last_of first)) (message_of (b ∷ rest)),
-)
+message_of-front first [] some = ([], rw (append-nil first, append-nil (message_of first)) refl)
+message_of-front first (b ∷ rest) some = (_, message_of-append first (b ∷ rest) some (λ e. cc) ∙ append_assoc (message_of first) (joint (last_of first)) (message_of (b ∷ rest)))
 
 -- a front is a frame exactly if it ends at a block's end
 pub front_frame : (p q m : List ℕ) (r : Reads (p ++ q) m) → p ≢ [] → IsFrame p ↔ EndsAtBlock p r.blocks
@@ -62,4 +57,4 @@ front_frame p q m r some = (
 pub front_message : (p q k m : List ℕ) → Reads (p ++ q) m → Reads p k → IsFront k m
 front_message p q k m r s =
     let more = message_of-front s.blocks (parts q) s.frame.some in
-    (more.0, r.message ∙ ap message_of (first_blocks p q r.blocks s.blocks r.frame s.frame) ∙ more.1 ∙ ap (λ (l : List ℕ). l ++ more.0) (sym s.message))
+    (more.0, cc (first_blocks p q r.blocks s.blocks r.frame s.frame, more.1))

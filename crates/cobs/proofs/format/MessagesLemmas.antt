@@ -1,6 +1,6 @@
 -- A stream that has a frame and a zero for each of some messages has these messages as its outcomes: by `StreamLemmas`, one
 -- message at a time.
-use Rattle.std.proofs.Common.{◌≡◌, ◌≢◌, ℕ, ◌+◌, ◌<◌, ◌≤◌, List, [], ◌∷◌, ◌++◌, length, take, set, map, All, ap, ◌∙◌, subst, arith, append_assoc, length-append, length-take, get_or}
+use Rattle.std.proofs.Common.{◌≡◌, ◌≢◌, ℕ, ◌+◌, ◌<◌, ◌≤◌, List, [], ◌∷◌, ◌++◌, length, take, set, map, All, ap, ◌∙◌, arith, append_assoc, length-append, length-take, get_or}
 use Rattle.std.specs.List.{AllZip, flat_map}
 use Rattle.std.proofs.lemmas.List.{take_more, take_more_set, map_push, take-map, flat_map_more, take-append-le}
 use Rattle.std.proofs.lemmas.List.Elements.{AllZip-push, All-nil, All-head, All-tail}
@@ -8,7 +8,7 @@ use Rattle.std.proofs.lemmas.List.Sums.{sum_by-append, sum_by-take-le}
 use Rattle.std.proofs.Math.Seq.{take-append-add}
 use Rattle.std.specs.Global.{Vec}
 use Rattle.std.proofs.lemmas.Grind.{common_steps}
-use borrow.Rule.Slice.PartMut.{put_mid, post_of}
+use borrow.Rule.Slice.PartMut.{put_mid}
 use Rattle.cobs.specs.Grammar.{Reads, IsEncodedFrame}
 use Rattle.cobs.specs.Length.{max_encoded_len}
 use Rattle.cobs.specs.Stream.{Outcome, Message, stream_outcomes}
@@ -24,18 +24,18 @@ pub AreFrames-push : (messages : List (List ℕ)) (bytes frame message : List �
 AreFrames-push messages bytes frame message h encoded = record {
   frames = h.frames ++ frame ∷ [];
   each = AllZip-push IsEncodedFrame h.frames messages frame message h.each encoded;
-  joined = append_assoc bytes frame (0 ∷ []) ∙ ap (λ (x : List ℕ). x ++ (frame ++ 0 ∷ [])) h.joined ∙ flat_map_more (λ f. f ++ 0 ∷ []) [] h.frames frame;
+  joined = cc (append_assoc bytes frame (0 ∷ []), flat_map_more (λ f. f ++ 0 ∷ []) [] h.frames frame);
 }
 
 -- the messages up to one of the vectors, and that one
 pub messages_in-more : (vectors : List (Vec ℕ)) (i : ℕ) (d : Vec ℕ) → i < length vectors → messages_in (take (i + 1) vectors) ≡ messages_in (take i vectors) ++ (get_or vectors i d).items ∷ []
-messages_in-more vectors i d within = ap messages_in (take_more vectors i d within) ∙ map_push (λ v. v.items) (take i vectors) (get_or vectors i d)
+messages_in-more vectors i d within = rw (take_more vectors i d within) (map_push (λ v. v.items) (take i vectors) (get_or vectors i d))
 
 -- THE ROOM
 
 -- some of the messages take no more room than all of them
 pub room-some : (vectors : List (Vec ℕ)) (i : ℕ) → room_for_frames (messages_in (take i vectors)) ≤ room_for_frames (messages_in vectors)
-room-some vectors i = subst (λ (x : List (List ℕ)). room_for_frames x ≤ room_for_frames (messages_in vectors)) (take-map (λ v. v.items) i vectors) (sum_by-take-le (λ m. max_encoded_len (length m) + 1) (messages_in vectors) i)
+room-some vectors i = rw take-map at (sum_by-take-le (λ m. max_encoded_len (length m) + 1) (messages_in vectors) i)
 
 -- the room after one of the vectors: its longest frame and a zero more
 pub room-step : (vectors : List (Vec ℕ)) (i : ℕ) (vector : Vec ℕ) → i < length vectors → vector ≡ get_or vectors i vector
@@ -52,17 +52,15 @@ written dest new behind end len within room =
 
 -- such a list is as long as what was written
 pub length-written : (dest new : List ℕ) (end part : ℕ) → end ≤ length dest → end + length new ≤ length (put_mid end part dest new)
-length-written dest new end part within = omega (arith, length-append (take end dest) (new ++ post_of end part dest), length-append new (post_of end part dest), length-take end dest)
+length-written dest new end part within = simp length-append (omega (arith, length-take end dest))
 
 -- WHAT COMES BACK
 
 -- the first outcome of a stream that begins with a frame and its zero is the frame's message
 outcomes_behind : (frame message bytes : List ℕ) (n : ℕ) → Reads frame message → length message ≤ n → stream_outcomes ((frame ++ 0 ∷ []) ++ bytes) n ≡ Message message ∷ stream_outcomes bytes n
 outcomes_behind frame message bytes n r fits =
-    stream_outcomes-append (frame ++ 0 ∷ []) bytes n
-    ∙ ap (λ (x : List ℕ). stream_outcomes (frame ++ 0 ∷ []) n ++ stream_outcomes (x ++ bytes) n) (unended-zero frame)
-    ∙ ap (λ (x : List Outcome). x ++ stream_outcomes bytes n) (stream_outcomes-one frame n (frame_some frame message r) (frame_nonzero frame message r))
-    ∙ ap (λ (x : Outcome). x ∷ stream_outcomes bytes n) (outcome_frame frame message n r fits)
+    let one = stream_outcomes-one frame n (frame_some frame message r) (frame_nonzero frame message r) in
+    cc (stream_outcomes-append (frame ++ 0 ∷ []) bytes n, unended-zero frame, outcome_frame frame message n r fits)
 
 outcomes_of_frames : (frames messages : List (List ℕ)) (n : ℕ) → AllZip IsEncodedFrame frames messages → All (λ m. length m ≤ n) messages
     → stream_outcomes (flat_map (λ f. f ++ 0 ∷ []) frames) n ≡ map Message messages

@@ -3,7 +3,7 @@
 use Rattle.std.proofs.Common.{rules, get_or, ◌≡◌, ◌≢◌, ℕ, zero, suc, length-append, ◌+◌, ◌-◌, ◌<◌, ◌≤◌, List, [], ◌∷◌, length, drop, take, replicate, set, refl, sym, ap, ◌∙◌, subst, arith, take_at}
 use borrow.Rule.Slice.PartMut.{put_mid}
 use Rattle.std.specs.Int.Bits.{bit_xor, xor_self}
-use Rattle.std.proofs.lemmas.List.{same_lists, places, take-map, take-take, drop-map, take_rest}
+use Rattle.std.proofs.lemmas.List.{same_lists, places, take-map, drop-map, take_rest}
 use Rattle.std.proofs.lemmas.List.Elements.{All-map, All-weaker}
 use Rattle.cobs.specs.Grammar.{HasNoZero, IsEncodedFrame, IsFrame}
 use Rattle.cobs.specs.Sentinel.{xor_each, IsEncodedFrameFor, IsDelimitedFrame, IsFreeOf, between_ends}
@@ -12,7 +12,7 @@ use Rattle.cobs_bytes.proofs.bytes.XoredLemmas.{xor_twice}
 
 pub xor_each-twice : (s : ℕ) (f : List ℕ) → xor_each s (xor_each s f) ≡ f
 xor_each-twice s [] = refl
-xor_each-twice s (b ∷ f) = ap (λ (x : ℕ). x ∷ xor_each s (xor_each s f)) (xor_twice b s) ∙ ap (λ (l : List ℕ). b ∷ l) (xor_each-twice s f)
+xor_each-twice s (b ∷ f) = rw (xor_twice b s, xor_each-twice s f) refl
 
 -- parts of some bytes, XORed
 module _ (bytes : List ℕ) (s : ℕ) where
@@ -27,15 +27,12 @@ module _ (bytes : List ℕ) (s : ℕ) where
       ap (λ (k : ℕ). xor_each s (take k (drop i bytes))) {x = i + n - i} {y = n} (omega arith)
       ∙ sym (take-map (λ b. bit_xor b s) n (drop i bytes)) ∙ ap (take n) (sym (drop-map (λ b. bit_xor b s) i bytes))
 
-  pub part_xored : (n k : ℕ) → n ≤ k → take n (xor_each s (take k bytes)) ≡ take n (xor_each s bytes)
-  part_xored n k few = ap (take n) (front_xored k) ∙ take-take n k (xor_each s bytes) few
-
   pub ones_xored : (n : ℕ) → take n bytes ≡ replicate n (bit_xor 1 s) → take n (xor_each s bytes) ≡ replicate n 1
   ones_xored n e = sym (front_xored n) ∙ ap (xor_each s) e ∙ xored_ones n
     where
       xored_ones : (n : ℕ) → xor_each s (replicate n (bit_xor 1 s)) ≡ replicate n 1
       xored_ones zero = refl
-      xored_ones (suc n) = ap (λ (x : ℕ). x ∷ xor_each s (replicate n (bit_xor 1 s))) (xor_twice 1 s) ∙ ap (λ (l : List ℕ). 1 ∷ l) (xored_ones n)
+      xored_ones (suc n) = rw (xor_twice 1 s, xored_ones n) refl
 
 pub first_xored : (bytes : List ℕ) (s : ℕ) → 0 < length bytes → take 1 (xor_each s bytes) ≡ bit_xor (get_or bytes 0 0) s ∷ []
 first_xored [] s some = absurd (omega arith)

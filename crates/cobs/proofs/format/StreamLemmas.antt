@@ -55,7 +55,7 @@ unended-append t u = grind (arith, stretches-append, last_of-append, length-stre
 -- a stream cut in two: the outcomes of the first part, then those of the second after the unended bytes of the first
 pub stream_outcomes-append : (t u : List ℕ) (n : ℕ) → stream_outcomes (t ++ u) n ≡ stream_outcomes t n ++ stream_outcomes (unended t ++ u) n
 unfolding stream_outcomes
-stream_outcomes-append t u n = ap (map (λ p. outcome_of p n)) (ended_pieces-append t u) ∙ map-append (λ p. outcome_of p n) (ended_pieces t) (ended_pieces (unended t ++ u))
+stream_outcomes-append t u n = rw (ended_pieces-append t u) (map-append (λ p. outcome_of p n) (ended_pieces t) (ended_pieces (unended t ++ u)))
 
 -- A PIECE AT THE FRONT OF A STREAM
 
@@ -99,12 +99,16 @@ outcomes_at-nonzero p b n h = grind (arith, ne_eqb)
 
 push_outcomes : (p : List ℕ) (b n : ℕ) → HasNoZero p → stream_outcomes (p ++ b ∷ []) n ≡ outcomes_at p b n
 push_outcomes p zero n h = stream_outcomes-piece p n h
-push_outcomes p (suc b) n h = stream_outcomes-no_zero (p ++ suc b ∷ []) n (All-push (λ x. x ≢ 0) p (suc b) h (λ e. omega arith)) ∙ sym (outcomes_at-nonzero p (suc b) n (λ e. omega arith))
+push_outcomes p (suc b) n h =
+    let nonzero = All-push (λ x. x ≢ 0) p (suc b) h (λ e. omega arith) in
+    stream_outcomes-no_zero (p ++ suc b ∷ []) n nonzero ∙ sym (outcomes_at-nonzero p (suc b) n (λ e. omega arith))
 
 push_unended : (p : List ℕ) (b : ℕ) → HasNoZero p → unended (p ++ b ∷ []) ≡ fed p b
 unfolding unended
 push_unended p zero h = ap last_of (stretches-piece p [] h)
-push_unended p (suc b) h = unended-no_zero (p ++ suc b ∷ []) (All-push (λ x. x ≢ 0) p (suc b) h (λ e. omega arith)) ∙ sym (fed-nonzero p (suc b) (λ e. omega arith))
+push_unended p (suc b) h =
+    let nonzero = All-push (λ x. x ≢ 0) p (suc b) h (λ e. omega arith) in
+    unended-no_zero (p ++ suc b ∷ []) nonzero ∙ sym (fed-nonzero p (suc b) (λ e. omega arith))
 
 -- WHAT IS UNENDED HAS NO ZERO
 
@@ -115,13 +119,13 @@ pub unended_no_zero : (t : List ℕ) → HasNoZero (unended t)
 unfolding unended
 unended_no_zero [] = All-nil (λ x. x ≢ 0)
 unended_no_zero (zero ∷ t) = let some = length-stretches t in grind (arith, (unended_no_zero t))
-unended_no_zero (suc b ∷ t) = rw (stretches-nonzero (suc b) t (λ e. omega arith)) (last_of-onto_first (suc b) (stretches t) (λ e. omega arith) (length-stretches t) (unended_no_zero t))
+unended_no_zero (suc b ∷ t) = grind (arith, stretches-nonzero, last_of-onto_first, length-stretches, (unended_no_zero t))
 
 -- ONE MORE BYTE OF A STREAM
 
 -- the outcomes
 pub stream_outcomes-push : (t : List ℕ) (b n : ℕ) → stream_outcomes (t ++ b ∷ []) n ≡ stream_outcomes t n ++ outcomes_at (unended t) b n
-stream_outcomes-push t b n = stream_outcomes-append t (b ∷ []) n ∙ ap (λ (x : List Outcome). stream_outcomes t n ++ x) (push_outcomes (unended t) b n (unended_no_zero t))
+stream_outcomes-push t b n = grind (arith, stream_outcomes-append, push_outcomes, unended_no_zero)
 
 -- the unended bytes
 pub unended-push : (t : List ℕ) (b : ℕ) → unended (t ++ b ∷ []) ≡ fed (unended t) b

@@ -2,7 +2,7 @@
 -- block (`first-block`), and so on.
 use Rattle.std.proofs.Common.{◌⊎◌, inl, inr, ◌≡◌, ◌≢◌, ℕ, ◌<◌, Bool, true, false, if◌then◌else◌, List, [], ◌∷◌, ◌++◌, length, take, get_or, All, refl, sym, ap, ◌∙◌, subst, arith, append-nil, append_assoc, length-append, take_at, ⊎_elim}
 use Rattle.std.specs.List.{concat}
-use Rattle.std.proofs.lemmas.Bool.{cases_order, cases_Bool, ne_eqb, eqb-true, eqb-false}
+use Rattle.std.proofs.lemmas.Bool.{cases_Bool, ne_eqb, eqb-true, eqb-false}
 use Rattle.std.proofs.lemmas.List.{get_or_append_left, get_or_at, append_cancel_left}
 use Rattle.std.proofs.lemmas.List.Elements.{All-head, All-tail, All-get_or}
 use Rattle.cobs.specs.Grammar.{IsBlock, is_full, joint, lone_block, message_of, bytes_of, IsEncodedFrame, Reads}
@@ -27,7 +27,7 @@ message-first c a (b ∷ bs) = (joint (c ∷ a) ++ message_of (b ∷ bs), append
 
 -- and if there are more blocks, the joint and the rest follow them
 pub message-rest : (b : List ℕ) (d : List ℕ) (ds : List (List ℕ)) (t : Bool) → is_full b ≡ t → message_of (b ∷ d ∷ ds) ≡ bytes_of b ++ ((if t then [] else 0 ∷ []) ++ message_of (d ∷ ds))
-message-rest b d ds t e = append_assoc (bytes_of b) (joint b) (message_of (d ∷ ds)) ∙ ap (λ (t : Bool). bytes_of b ++ ((if t then [] else 0 ∷ []) ++ message_of (d ∷ ds))) e
+message-rest b d ds t e = rw (← e) (append_assoc (bytes_of b) (joint b) (message_of (d ∷ ds)))
 
 -- after a full block of canonical blocks something is left
 pub full-more : (b d : List ℕ) (ds : List (List ℕ)) → All IsBlock (b ∷ d ∷ ds) → IsShorter (b ∷ d ∷ ds) → is_full b ≡ true → message_of (d ∷ ds) ≢ []
@@ -47,7 +47,7 @@ first-block c a d ds h s =
 length-blocks : (bs : List (List ℕ)) → bs ≢ [] → All IsBlock bs → IsShorter bs → length (concat bs) ≡ encoded_len (message_of bs)
 length-blocks [] p h s = absurd (p refl)
 length-blocks ([] ∷ bs) p h s = absurd (All-head IsBlock [] bs h)
-length-blocks ((c ∷ a) ∷ []) p h s = let is = All-head IsBlock (c ∷ a) [] h in let l = encoded_len-last a (omega arith) is.2 in let n = ap length (append-nil a) in omega arith
+length-blocks ((c ∷ a) ∷ []) p h s = let is = All-head IsBlock (c ∷ a) [] h in omega (arith, encoded_len-last a (omega arith) is.2, ap length (append-nil a))
 length-blocks ((c ∷ a) ∷ d ∷ ds) p h s =
     let is = All-head IsBlock (c ∷ a) (d ∷ ds) h in
     let ih = length-blocks (d ∷ ds) (λ e. cc) (All-tail IsBlock (c ∷ a) (d ∷ ds) h) (IsShorter-tail (c ∷ a) (d ∷ ds) s) in
@@ -76,7 +76,7 @@ same_first : (b c : List ℕ) (bs cs : List (List ℕ)) → All IsBlock (b ∷ b
 same_first [] c bs cs h i e = absurd (All-head IsBlock [] bs h)
 same_first (x ∷ b) [] bs cs h i e = absurd (All-head IsBlock [] cs i)
 same_first (x ∷ b) (y ∷ c) bs cs h i e =
-    let len : length b ≡ length c = ⊎_elim (λ e. e) (λ o. ⊎_elim (λ lt. absurd (not_shorter x y b c bs cs h i e lt)) (λ lt. absurd (not_shorter y x c b cs bs i h (sym e) lt)) o) (cases_order (length b) (length c)) in
+    let len : length b ≡ length c = omega (arith, not_shorter x y b c bs cs h i e, not_shorter y x c b cs bs i h (sym e)) in
     let more_b = message-first x b bs in let more_c = message-first y c cs in
     let front : take (length b) _ ≡ b = ap (take (length b)) more_b.1 ∙ take_at b more_b.0 (length b) refl in
     grind (arith, take_at, All-head)
@@ -105,8 +105,10 @@ IsEncodedFrame-shorter f m e = subst IsShorter (one_frame f e.canonical.blocks e
 -- a message has one encoded frame
 pub one_encoded : (f g m : List ℕ) → IsEncodedFrame f m → IsEncodedFrame g m → f ≡ g
 one_encoded f g m e d =
-    let fr = e.reads.frame in let gr = d.reads.frame in
-    fr.whole ∙ ap concat (one_blocks e.reads.blocks d.reads.blocks fr.some gr.some fr.each gr.each (IsEncodedFrame-shorter f m e) (IsEncodedFrame-shorter g m d) (sym e.reads.message ∙ d.reads.message)) ∙ sym gr.whole
+    let fr = e.reads.frame in
+    let gr = d.reads.frame in
+    let same = one_blocks _ _ fr.some gr.some fr.each gr.each (IsEncodedFrame-shorter f m e) (IsEncodedFrame-shorter g m d) (sym e.reads.message ∙ d.reads.message) in
+    fr.whole ∙ ap concat same ∙ sym gr.whole
 
 pub length-encoded : (f m : List ℕ) → IsEncodedFrame f m → length f ≡ encoded_len m
 length-encoded f m e =
