@@ -63,12 +63,12 @@ enum jcobs_frame_kind { JCOBS_FRAME_KIND_NOT_A_FRAME, JCOBS_FRAME_KIND_CANONICAL
 /* What a step came to. */
 enum {
     JCOBS_IS_NONE,
-    JCOBS_IS_EMPTY_FRAME,
-    JCOBS_IS_SOME,
     JCOBS_IS_MESSAGE,
-    JCOBS_IS_INVALID_FRAME,
     JCOBS_IS_BROKEN,
     JCOBS_IS_TOO_LONG,
+    JCOBS_IS_EMPTY_FRAME,
+    JCOBS_IS_SOME,
+    JCOBS_IS_INVALID_FRAME,
     JCOBS_IS_TARGET_BUF_TOO_SMALL,
     JCOBS_IS_DEST_BUF_TOO_SMALL_ERROR,
     JCOBS_IS_OK
@@ -148,10 +148,141 @@ static JCOBS_INLINE jcobs_found jcobs_found_of(int kind, size_t count, size_t co
     return found;
 }
 
-/* Makes an idle decoder, for a buffer of any length, even an empty one. */
+/* Returns how many zeros the source begins with, which decode skips before a frame. (A choice of this library.) */
+static size_t jcobs_leading_zeros(const unsigned char *source, size_t source_len)
+{
+    for (size_t i = 0; i < source_len; i++) {
+        if (source[i] != 0) {
+            return i;
+        }
+    }
+    return source_len;
+}
+
+/* Returns the result for a piece that ended after this many bytes of output, with this many bytes of its last
+ * block missing. */
+static JCOBS_INLINE jcobs_found jcobs_ended(size_t written, size_t missing, size_t at)
+{
+    if (missing == 0) {
+        return jcobs_found_of(JCOBS_IS_MESSAGE, written, at);
+    }
+    return jcobs_found_of(JCOBS_IS_BROKEN, written, at);
+}
+
+/* Returns where a piece ends that goes on at at: after its zero, or with the source. */
+static JCOBS_NOINLINE size_t jcobs_end_after(const unsigned char *source, size_t source_len, size_t at)
+{
+    size_t end = at;
+
+    while (end < source_len) {
+        end++;
+        if (source[end - 1] == 0) {
+            break;
+        }
+    }
+    return end;
+}
+
+/* Decodes the first piece of the source into dest, one byte after another, and returns how it ended, and how many
+ * bytes were consumed: leading zeros, the piece, and the zero after it if there is one. Returns None if there is
+ * no piece. */
+static JCOBS_INLINE jcobs_found jcobs_decode_piece(const unsigned char *source, size_t source_len, unsigned char *dest,
+                                                   size_t dest_len)
+{
+    size_t start = jcobs_leading_zeros(source, source_len);
+
+    if (start == source_len) {
+        return jcobs_found_of(JCOBS_IS_NONE, 0, 0);
+    }
+    size_t at = start + 1;
+    size_t written = 0;
+    for (;;) {
+        unsigned char code = source[at - 1];
+        size_t left = (size_t)code - 1;
+        for (;;) {
+            if (at == source_len) {
+                return jcobs_ended(written, left, at);
+            }
+            unsigned char byte = source[at];
+            at++;
+            if (byte == 0) {
+                return jcobs_ended(written, left, at);
+            }
+            if (left == 0) {
+                break;
+            }
+            if (written == dest_len) {
+                return jcobs_found_of(JCOBS_IS_TOO_LONG, 0, jcobs_end_after(source, source_len, at));
+            }
+            dest[written] = byte;
+            written++;
+            left--;
+        }
+        if (code != JCOBS_FULL) {
+            if (written == dest_len) {
+                return jcobs_found_of(JCOBS_IS_TOO_LONG, 0, jcobs_end_after(source, source_len, at));
+            }
+            dest[written] = 0;
+            written++;
+        }
+    }
+}
+
+/* Returns the result of a call that succeeded: this many bytes were taken, and this many are at the front of the
+ * buffer. */
+static jcobs_answer jcobs_done(size_t consumed, size_t length)
+{
+    return jcobs_answered(JCOBS_OK, consumed, length);
+}
+
+/* Decodes the first frame of the source to the front of message.
+ * Proved, by the contract in decode.rt: the result and every byte of the buffer depend only on the source and
+ * message_len, as COBS is defined; a buffer as long as the source is never too small. */
+jcobs_answer jcobs_decode(const void *source, size_t source_len, void *message, size_t message_len)
+{
+    jcobs_found found = jcobs_decode_piece((const unsigned char *)source, source_len, (unsigned char *)message,
+                                           message_len);
+
+    if (found.kind == JCOBS_IS_NONE) {
+        return jcobs_answered(JCOBS_EMPTY, source_len, 0);
+    }
+    switch (found.kind) {
+    case JCOBS_IS_MESSAGE:
+        return jcobs_done(found.consumed, found.count);
+    case JCOBS_IS_BROKEN:
+        return jcobs_answered(JCOBS_BROKEN, found.consumed, found.count);
+    default:
+        return jcobs_answered(JCOBS_TOO_SMALL, found.consumed, message_len);
+    }
+}
+
+/* Makes an idle decoder, for a buffer of any length, also an empty one. */
 static jcobs_decoder jcobs_decoder_new(void)
 {
     return jcobs_decoder_of(0, 0, 0, 0);
+}
+
+/* Makes the decoder one that has taken nothing, even if its state is corrupt.
+ * Proved, by the contract in decoder.rt: then the decoder has taken nothing, whatever its state was. */
+void jcobs_decoder_reset(jcobs_decoder *decoder)
+{
+    decoder->written = 0;
+    decoder->missing = 0;
+    decoder->joint = 0;
+    decoder->too_long = 0;
+}
+
+/* Returns whether no piece has begun, so that the next byte that isn't a zero begins one. */
+static JCOBS_INLINE int jcobs_decoder_is_idle_inside(const jcobs_decoder *decoder)
+{
+    return decoder->written == 0 && decoder->missing == 0 && decoder->joint == 0 && decoder->too_long == 0;
+}
+
+/* Returns 1 if no piece is open, and 0 otherwise.
+ * Proved, by the contract in decoder.rt: the result is 1 exactly if no piece is open. */
+unsigned int jcobs_decoder_is_idle(const jcobs_decoder *decoder)
+{
+    return jcobs_decoder_is_idle_inside(decoder) ? 1 : 0;
 }
 
 /* Returns the value of joint after a block with this code. */
@@ -223,8 +354,8 @@ static JCOBS_INLINE jcobs_outcome jcobs_decoder_end(jcobs_decoder *decoder, size
     if (ended.missing != 0) {
         return jcobs_outcome_of(JCOBS_IS_INVALID_FRAME, ended.written);
     }
-    /* This happens only if the caller now passes a shorter buffer, since no more bytes are counted than were
-     * written. */
+    /* This happens only if the caller has changed the buffer, since no more is counted than was written to the
+     * first. */
     if (len < ended.written) {
         return jcobs_outcome_of(JCOBS_IS_TARGET_BUF_TOO_SMALL, 0);
     }
@@ -234,9 +365,9 @@ static JCOBS_INLINE jcobs_outcome jcobs_decoder_end(jcobs_decoder *decoder, size
     return jcobs_outcome_of(JCOBS_IS_SOME, ended.written);
 }
 
-/* Takes bytes of a stream of frames for this sentinel, one step for each byte. It stops after the sentinel that
- * ends the first piece, or takes all bytes if no piece ends. For the sentinel 0 it does what feed_piece does. It
- * has no search and no copy of slices, so it is small, and fast for a few bytes. (A choice of this library.) */
+/* Takes bytes of a stream of frames for this sentinel, one step for each byte, through the sentinel that ends the
+ * first piece, or all of them, as feed_piece does for the sentinel 0. It has no search and no copy of slices, so
+ * it is small, and fast for a few bytes. (A choice of this library.) */
 static JCOBS_INLINE jcobs_found jcobs_decoder_feed_each(jcobs_decoder *decoder, unsigned char *dest, size_t dest_len,
                                                         const unsigned char *bytes, size_t bytes_len,
                                                         unsigned char sentinel)
@@ -265,7 +396,7 @@ static JCOBS_INLINE jcobs_found jcobs_decoder_feed_each(jcobs_decoder *decoder, 
             }
         }
     }
-    /* If a piece is too long, only its end matters. */
+    /* Of a piece that is too long, only the end matters. */
     while (taken < bytes_len) {
         unsigned char byte = (unsigned char)(bytes[taken] ^ sentinel);
         taken++;
@@ -293,13 +424,6 @@ static JCOBS_INLINE size_t jcobs_held(const jcobs_decoder *decoder, size_t room)
     return decoder->written < room ? decoder->written : room;
 }
 
-/* Returns the result of a call that succeeded: this many bytes were taken, and this many are at the front of the
- * buffer. */
-static jcobs_answer jcobs_done(size_t consumed, size_t length)
-{
-    return jcobs_answered(JCOBS_OK, consumed, length);
-}
-
 /* Returns the result of a call that took these of len bytes, into a buffer of room bytes. */
 static JCOBS_INLINE jcobs_answer jcobs_result_of(const jcobs_decoder *decoder, jcobs_found found, size_t len,
                                                  size_t room)
@@ -319,7 +443,7 @@ static JCOBS_INLINE jcobs_answer jcobs_result_of(const jcobs_decoder *decoder, j
 }
 
 /* Takes bytes of a stream of frames for this sentinel, through the sentinel that ends the first piece, or all of
- * them if no piece ends. */
+ * them. */
 static JCOBS_INLINE jcobs_answer jcobs_decode_each(jcobs_decoder *decoder, unsigned char *buffer, size_t buffer_len,
                                                    const unsigned char *bytes, size_t bytes_len, unsigned char sentinel)
 {
@@ -328,8 +452,8 @@ static JCOBS_INLINE jcobs_answer jcobs_decode_each(jcobs_decoder *decoder, unsig
     return jcobs_result_of(decoder, found, bytes_len, buffer_len);
 }
 
-/* Takes bytes of the stream, through the zero that ends the first piece, or all of them if no piece ends. Even if
- * the state is corrupt, the buffer keeps its length, and the counts are within the bytes and the buffer.
+/* Takes bytes of the stream, through the zero that ends the first piece, or all of them. Even if the state is
+ * corrupt, the buffer keeps its length, and the counts are within the bytes and the buffer.
  * Proved, by the contract in decoder.rt: the result, the state and the buffer are those that the definition of the
  * stream has after these bytes, however it is cut into calls. In every state consumed and length are within bytes
  * and buffer. */
@@ -352,76 +476,11 @@ static JCOBS_INLINE jcobs_outcome jcobs_decoder_step(jcobs_decoder *decoder, uns
     return jcobs_outcome_of(JCOBS_IS_NONE, 0);
 }
 
-/* Takes the next byte of the stream, with this buffer, as CobsDecoder::feed does, with its errors. */
+/* Takes the next byte of the stream, over this buffer, as CobsDecoder::feed does, with its errors. */
 static JCOBS_INLINE jcobs_outcome jcobs_decoder_feed_inside(jcobs_decoder *decoder, unsigned char *dest,
                                                             size_t dest_len, unsigned char byte)
 {
     return jcobs_decoder_step(decoder, dest, dest_len, byte);
-}
-
-/* Returns the result of a call that took these bytes, into a buffer of room bytes, given how the piece has ended. */
-static jcobs_answer jcobs_result_for_end(size_t consumed, size_t room, jcobs_outcome end)
-{
-    JCOBS_STATUS status;
-    size_t length;
-
-    switch (end.kind) {
-    case JCOBS_IS_NONE:
-        status = JCOBS_EMPTY;
-        length = 0;
-        break;
-    case JCOBS_IS_MESSAGE:
-        return jcobs_done(consumed, end.count);
-    case JCOBS_IS_BROKEN:
-        status = JCOBS_BROKEN;
-        length = end.count;
-        break;
-    default:
-        status = JCOBS_TOO_SMALL;
-        length = room;
-        break;
-    }
-    return jcobs_answered(status, consumed, length);
-}
-
-/* Decodes the first frame of the source to the front of message.
- * Proved, by the contract in decode.rt: the result and every byte of the buffer depend only on the source and
- * message_len, as COBS is defined; a buffer as long as the source is never too small. */
-jcobs_answer jcobs_decode(const void *source, size_t source_len, void *message, size_t message_len)
-{
-    unsigned char *const to = (unsigned char *)message;
-    jcobs_decoder decoder = jcobs_decoder_new();
-    jcobs_answer pushed = jcobs_decoder_push(&decoder, to, message_len, (const unsigned char *)source, source_len);
-
-    if (pushed.status != JCOBS_MORE) {
-        return jcobs_answered(pushed.status, pushed.consumed, pushed.length);
-    }
-    /* The source ends the piece, as a zero would. */
-    jcobs_outcome end = jcobs_piece_end_reported(jcobs_decoder_feed_inside(&decoder, to, message_len, 0));
-    return jcobs_result_for_end(source_len, message_len, end);
-}
-
-/* Makes the decoder idle, even if its state is corrupt.
- * Proved, by the contract in decoder.rt: then the decoder has taken nothing, whatever its state was. */
-void jcobs_decoder_reset(jcobs_decoder *decoder)
-{
-    decoder->written = 0;
-    decoder->missing = 0;
-    decoder->joint = 0;
-    decoder->too_long = 0;
-}
-
-/* Returns whether no piece has begun, so that the next byte that isn't a zero begins one. */
-static JCOBS_INLINE int jcobs_decoder_is_idle_inside(const jcobs_decoder *decoder)
-{
-    return (decoder->written | (size_t)decoder->missing | (size_t)decoder->joint | (size_t)decoder->too_long) == 0;
-}
-
-/* Returns 1 if no piece is open, and 0 otherwise.
- * Proved, by the contract in decoder.rt: the result is 1 exactly if no piece is open. */
-unsigned int jcobs_decoder_is_idle(const jcobs_decoder *decoder)
-{
-    return jcobs_decoder_is_idle_inside(decoder) ? 1 : 0;
 }
 
 /* Takes the next byte of a stream of frames, whose sentinel is zero. */
@@ -691,7 +750,7 @@ jcobs_answer jcobs_encode_in_place(void *buffer, size_t buffer_len, size_t messa
     return jcobs_encode_within((unsigned char *)buffer, buffer_len, message_len);
 }
 
-/* Puts the encoder back to the start, even if its state is corrupt: it has then taken nothing.
+/* Makes the encoder one that has taken nothing, even if its state is corrupt.
  * Proved, by the contract in encoder.rt: then the encoder has taken nothing, whatever its state was. */
 void jcobs_encoder_reset(jcobs_encoder *encoder)
 {

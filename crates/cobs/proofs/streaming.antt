@@ -14,3 +14,4 @@ pub mod PushHeadline
 pub mod TableLemmas
 pub mod ByByteLemmas
 pub mod FrameTaken
+pub mod ReadPiece

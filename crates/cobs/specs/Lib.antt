@@ -14,6 +14,7 @@ pub mod FeedPiece
 pub mod Messages
 pub mod NextFrame
 pub mod Decode
+pub mod FirstPiece
 pub mod Headline
 pub mod Laws
 pub mod Internal

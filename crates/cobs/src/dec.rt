@@ -15,7 +15,7 @@ mod unbuffered;
 mod whole;
 
 pub use buffered::{CobsDecoder, CobsDecoderOwned};
-pub use each::decode_blocks_each;
+pub use each::{decode_blocks_each, decode_piece};
 pub use forms::{decode_vec, decode_vec_with_sentinel, decode_with_sentinel};
 pub use frame_decoder::{FrameDecoder, PieceEnd, WriteBuffer};
 pub use heapless::CobsDecoderHeapless;

@@ -72,9 +72,9 @@ mod stream;
 pub use dec::{
     CobsDecoder, CobsDecoderHeapless, CobsDecoderOwned, DecodeResult, DecoderPhase, DecoderState,
     FrameDecoder, FrameKind, PieceEnd, UnbufferedDecoder, WriteBuffer, decode, decode_blocks_each,
-    decode_in_place, decode_in_place_report, decode_in_place_with_sentinel, decode_short,
-    decode_short_in_place, decode_vec, decode_vec_with_sentinel, decode_with_sentinel, frame_kind,
-    kind_by_blocks, leading_zeros,
+    decode_in_place, decode_in_place_report, decode_in_place_with_sentinel, decode_piece,
+    decode_short, decode_short_in_place, decode_vec, decode_vec_with_sentinel,
+    decode_with_sentinel, frame_kind, kind_by_blocks, leading_zeros,
 };
 pub use enc::{
     CobsEncoder, EncoderProgress, EncoderState, PushResult, UnbufferedEncoder, encode,

@@ -1,2 +1,1 @@
-mod LeadLemmas
 mod PieceLemmas

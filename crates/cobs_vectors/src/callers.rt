@@ -2,8 +2,8 @@
 //!
 //! There is no test here. The prover derives each contract from the clauses of the calls in the function, so a clause
 //! that says too little for its users is noticed here.
-ghost use Rattle.std.specs.Prelude.{◌≡◌, ◌≢◌, ◌≤◌, ◌<◌, ◌+◌, ◌^◌, ◌↔◌, ◌∷◌, ◌++◌, [], All, length, take, drop, slice_index, slice_set, List, ℕ, Ok, Some, option_to_list, IfOk, IfSome, IsSomeAnd, IsTrue};
-ghost use Rattle.cobs.specs.Decode.{first_output, head_result, in_place, in_place_report, result_of_decode};
+ghost use Rattle.std.specs.Prelude.{◌≡◌, ◌≢◌, ◌≤◌, ◌<◌, ◌+◌, ◌^◌, ◌↔◌, ◌∷◌, ◌++◌, [], All, length, take, drop, slice_index, slice_set, List, ℕ, None, Ok, Some, option_to_list, IfOk, IfSome, IsSomeAnd, IsTrue};
+ghost use Rattle.cobs.specs.Decode.{first_output, head_result, in_place, in_place_report, len_through_piece, result_of_decode};
 ghost use Rattle.cobs.specs.Overwritten.{message_in, overwritten, written_at};
 ghost use Rattle.cobs.specs.Fields.Decoders.{borrowed_buffer, borrowed_phase, borrowed_slice, heapless_buffer, heapless_phase, owned_buffer, owned_phase};
 ghost use Rattle.cobs.specs.Fields.Report.{frame_size_of, parsed_size_of};
@@ -21,7 +21,7 @@ use cobs::laws::{law_2, law_4, law_12};
 use cobs::{
     CobsDecoder, CobsDecoderHeapless, CobsDecoderOwned, DecodeError, DecodeReport, DecodeResult,
     DecoderState, DestBufTooSmallError, FrameKind, PushError, WriteBuffer, decode,
-    decode_blocks_each, decode_in_place_report, decode_short, decode_short_in_place,
+    decode_blocks_each, decode_in_place_report, decode_piece, decode_short, decode_short_in_place,
     decode_with_sentinel, encode, encode_frames, encode_frames_room, encode_in_place,
     encode_including_sentinels, encode_vec, encode_vec_including_sentinels,
     encode_vec_with_sentinel, encode_with_sentinel, kind_by_blocks, leading_zeros, len_to_zero,
@@ -104,6 +104,19 @@ pub fn decode_before_zero(buffer: &mut [u8]) -> Result<usize, DecodeError>
     law_12();
     let end = len_to_zero(buffer);
     decode_blocks_each(buffer, end)
+}
+
+/// Decodes the first piece of the source, and returns the bytes after it, whether or not it is a frame.
+pub fn decode_first<'a>(source: &'a [u8], dest: &mut [u8]) -> &'a [u8]
+    ensures rest { (p : List ℕ) → first_piece source.now ≡ Some p
+        → result.now ≡ drop (len_through_piece source.now p) source.now }
+    ensures none { first_piece source.now ≡ None → result.now ≡ [] }
+    ensures buffer { dest.new ≡ overwritten dest.old (first_output source.now) }
+{
+    match decode_piece(source, dest) {
+        Some((_, consumed)) => &source[consumed..],
+        None => &source[source.len()..],
+    }
 }
 
 /// Returns the source from its first nonzero byte on, which has the same first piece.

@@ -18,7 +18,7 @@ pub(crate) mod whole;
 pub use buffered::CobsDecoder;
 #[cfg(feature = "alloc")]
 pub use buffered::CobsDecoderOwned;
-pub use each::decode_blocks_each;
+pub use each::{decode_blocks_each, decode_piece};
 pub use forms::decode_with_sentinel;
 #[cfg(feature = "alloc")]
 pub use forms::{decode_vec, decode_vec_with_sentinel};

@@ -68,8 +68,9 @@ pub(crate) mod stream;
 pub use dec::{
     CobsDecoder, CobsDecoderHeapless, DecodeResult, DecoderPhase, DecoderState, FrameDecoder,
     FrameKind, PieceEnd, UnbufferedDecoder, WriteBuffer, decode, decode_blocks_each,
-    decode_in_place, decode_in_place_report, decode_in_place_with_sentinel, decode_short,
-    decode_short_in_place, decode_with_sentinel, frame_kind, kind_by_blocks, leading_zeros,
+    decode_in_place, decode_in_place_report, decode_in_place_with_sentinel, decode_piece,
+    decode_short, decode_short_in_place, decode_with_sentinel, frame_kind, kind_by_blocks,
+    leading_zeros,
 };
 #[cfg(feature = "alloc")]
 pub use dec::{CobsDecoderOwned, decode_vec, decode_vec_with_sentinel};

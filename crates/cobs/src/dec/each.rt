@@ -1,19 +1,19 @@
 //! Decoding one byte after another, for targets without vectors.
-ghost use Rattle.std.specs.Prelude.{◌≡◌, ◌≢◌, ◌+◌, ◌<◌, ◌≤◌, ◌++◌, length, take, drop, slice_index};
-ghost use Rattle.cobs.specs.Decode.{head_result, in_place, in_place_report};
-ghost use Rattle.cobs.specs.Feed.{Overlong};
-ghost use Rattle.cobs.specs.Fields.Decoders.{phase_of};
+ghost use Rattle.std.specs.Prelude.{◌≡◌, ◌≢◌, ◌+◌, ◌≤◌, ◌++◌, Some, length, min, take, drop};
+ghost use Rattle.cobs.specs.Decode.{first_output, head_result, in_place, in_place_report, result_of_decode};
+ghost use Rattle.cobs.specs.FirstPiece.{end_of_first};
 ghost use Rattle.cobs.specs.Grammar.{HasNoZero};
-ghost use Rattle.cobs.specs.Internal.FeedsQuietly.{FeedsQuietly};
 ghost use Rattle.cobs.specs.Overwritten.{overwritten};
 ghost use Rattle.cobs.specs.Piece.{kept_output};
-ghost use Rattle.cobs.specs.Step.{next_phase};
+ghost use Rattle.cobs.specs.Stream.{head};
+ghost use Rattle.cobs.specs.declared.dec.frame_decoder.PieceEnd.TheVariants.{Broken, Message};
 
 use crate::block::FULL_CODE;
-use crate::dec::unbuffered::UnbufferedDecoder;
+use crate::dec::frame_decoder::PieceEnd;
+use crate::dec::step::FULL;
+use crate::dec::whole::leading_zeros;
 use crate::error::{DecodeError, DecodeReport};
 use crate::find::len_to_zero;
-use cobs_bytes::window::has_vectors;
 
 /// Moves `len` bytes of the buffer, which begin at `from`, to `to`, and returns where they end.
 #[inline(always)]
@@ -99,33 +99,108 @@ pub(crate) fn decode_in_place_each(buf: &mut [u8]) -> Result<DecodeReport, Decod
     })
 }
 
-impl UnbufferedDecoder {
-    /// Does what [`take_run`](Self::take_run) does, for a piece that isn't too long. Without vectors, it takes one byte after
-    /// another.
-    #[inline(always)]
-    pub(crate) fn take_to_zero(&mut self, dest: &mut [u8], bytes: &[u8]) -> usize
-        requires going { self.old.too_long ≡ 0 }
-        ensures within { result ≤ length bytes.now }
-        ensures fed { FeedsQuietly dest.old (phase_of self.old) (take result bytes.now) dest.new (phase_of self.new) }
-        ensures stop { result < length bytes.now → slice_index bytes.now result ≢ 0
-            → next_phase (length dest.new) (phase_of self.new) (slice_index bytes.now result) ≡ Overlong }
-    {
-        if has_vectors() {
-            return self.take_run(dest, bytes);
+/// Returns where a piece ends that goes on at `at`: after its zero, or with the source.
+// A function of its own, so that the loops of its caller have all registers of a small processor.
+#[inline(never)]
+fn end_after(source: &[u8], at: usize) -> usize
+    requires within { at ≤ length source.now }
+    ensures end { result ≡ min (length source.now) (at + length (head (drop at source.now)) + 1) }
+{
+    let mut end = at;
+    'by_byte: while end < source.len() {
+        end += 1;
+        if source[end - 1] == 0 {
+            break;
         }
-        // A copy, so that it stays in registers.
-        let mut here = *self;
-        let mut taken = 0;
-        'by_byte: while taken < bytes.len() && bytes[taken] != 0 {
-            let before = here;
-            here.take_byte(dest, bytes[taken]);
-            if here.too_long != 0 {
-                *self = before;
-                return taken;
+    }
+    end
+}
+
+/// Returns the result for a piece that ended after this many bytes of output, with this many bytes of its last block missing.
+#[inline(always)]
+fn ended(written: usize, missing: usize, at: usize) -> Option<(PieceEnd, usize)>
+    ensures whole { missing ≡ 0 → result ≡ Some (Message written, at) }
+    ensures broken { missing ≢ 0 → result ≡ Some (Broken written, at) }
+{
+    if missing == 0 {
+        return Some((PieceEnd::Message(written), at));
+    }
+    Some((PieceEnd::Broken(written), at))
+}
+
+/// Decodes the first piece of the source into `dest`, one byte after another, and returns how it ended, and how many bytes
+/// were consumed: leading zeros, the piece, and the zero after it if there is one. Returns `None` if there is no piece.
+///
+/// It does what [`decode`](crate::decode) does, and counts the consumed bytes in each case. It is small, and uses no vectors. (A
+/// choice of this library.)
+///
+/// ```
+/// let mut dest = [170; 3];
+/// let end = PieceEnd::Message(2);
+/// assert_eq!(rt; decode_piece(&[0, 3, 7, 8, 0, 2], &mut dest), Some((end, 5)));
+/// assert_eq!(rt; dest, [7, 8, 170]);
+/// assert_eq!(rt; decode_piece(&[0, 0], &mut dest), None);
+/// ```
+#[inline(always)]
+pub fn decode_piece(source: &[u8], dest: &mut [u8]) -> Option<(PieceEnd, usize)>
+    ensures answer { result ≡ end_of_first source.now (length dest.old) }
+    ensures buffer { dest.new ≡ overwritten dest.old (first_output source.now) }
+{
+    let start = leading_zeros(source);
+    if start == source.len() {
+        return None;
+    }
+    let mut at = start + 1;
+    let mut written = 0;
+    'by_block: loop {
+        let code = source[at - 1];
+        let mut left = code as usize - 1;
+        'by_byte: loop {
+            if at == source.len() {
+                return ended(written, left, at);
             }
-            taken += 1;
+            let byte = source[at];
+            at += 1;
+            if byte == 0 {
+                return ended(written, left, at);
+            }
+            if left == 0 {
+                break;
+            }
+            if written == dest.len() {
+                return Some((PieceEnd::TooLong, end_after(source, at)));
+            }
+            dest[written] = byte;
+            written += 1;
+            left -= 1;
         }
-        *self = here;
-        taken
+        if code != FULL {
+            if written == dest.len() {
+                return Some((PieceEnd::TooLong, end_after(source, at)));
+            }
+            dest[written] = 0;
+            written += 1;
+        }
+    }
+}
+
+/// Does what [`decode`](crate::decode) does, one byte after another.
+pub(crate) fn decode_each(source: &[u8], dest: &mut [u8]) -> Result<DecodeReport, DecodeError>
+    ensures returned { result ≡ result_of_decode source.now (length dest.old) }
+    ensures buffer { dest.new ≡ overwritten dest.old (first_output source.now) }
+{
+    if source.is_empty() {
+        return Err(DecodeError::EmptyFrame);
+    }
+    let Some((end, parsed_size)) = decode_piece(source, dest) else {
+        return Err(DecodeError::InvalidFrame { decoded_bytes: 0 });
+    };
+    match end {
+        PieceEnd::Message(frame_size) => Ok(DecodeReport {
+            parsed_size,
+            frame_size,
+        }),
+        PieceEnd::Broken(decoded_bytes) => Err(DecodeError::InvalidFrame { decoded_bytes }),
+        PieceEnd::TooLong => Err(DecodeError::TargetBufTooSmall),
     }
 }

@@ -6,6 +6,7 @@ ghost use Rattle.cobs.specs.Grammar.{Reads};
 ghost use Rattle.cobs.specs.Headline.{IsPiece, ReportsMessage};
 ghost use Rattle.cobs.specs.Stream.{head};
 
+use crate::dec::each::decode_each;
 use crate::dec::span::{decode_span, message_len};
 use crate::dec::unbuffered::START;
 use crate::error::{DecodeError, DecodeReport};
@@ -49,7 +50,7 @@ pub fn decode(source: &[u8], dest: &mut [u8]) -> Result<DecodeReport, DecodeErro
         → Reads source.now m × (length m ≤ length dest.old) }
 {
     if !has_vectors() {
-        return decode_long(source, dest);
+        return decode_each(source, dest);
     }
     if let Some(result) = decode_short(source, dest) {
         return result;
@@ -73,7 +74,7 @@ fn decode_long(source: &[u8], dest: &mut [u8]) -> Result<DecodeReport, DecodeErr
     }
     let rest = &source[start..];
     let mut progress = START;
-    let len = progress.take_to_zero(dest, rest);
+    let len = progress.take_run(dest, rest);
     if len < rest.len() && rest[len] != 0 {
         return Err(DecodeError::TargetBufTooSmall);
     }

@@ -2,8 +2,9 @@
 //! Decoding one byte after another, for targets without vectors.
 
 use crate::proved::block::FULL_CODE;
-use crate::proved::cobs_bytes::window::has_vectors;
-use crate::proved::dec::unbuffered::UnbufferedDecoder;
+use crate::proved::dec::frame_decoder::PieceEnd;
+use crate::proved::dec::step::FULL;
+use crate::proved::dec::whole::leading_zeros;
 use crate::proved::error::{DecodeError, DecodeReport};
 use crate::proved::find::len_to_zero;
 
@@ -78,27 +79,96 @@ pub(crate) fn decode_in_place_each(buf: &mut [u8]) -> Result<DecodeReport, Decod
     })
 }
 
-impl UnbufferedDecoder {
-    /// Does what [`take_run`](Self::take_run) does, for a piece that isn't too long. Without vectors, it takes one byte after
-    /// another.
-    #[inline(always)]
-    pub(crate) fn take_to_zero(&mut self, dest: &mut [u8], bytes: &[u8]) -> usize {
-        if has_vectors() {
-            return self.take_run(dest, bytes);
+/// Returns where a piece ends that goes on at `at`: after its zero, or with the source.
+// A function of its own, so that the loops of its caller have all registers of a small processor.
+#[inline(never)]
+fn end_after(source: &[u8], at: usize) -> usize {
+    let mut end = at;
+    'by_byte: while end < source.len() {
+        end += 1;
+        if source[end - 1] == 0 {
+            break;
         }
-        // A copy, so that it stays in registers.
-        let mut here = *self;
-        let mut taken = 0;
-        'by_byte: while taken < bytes.len() && bytes[taken] != 0 {
-            let before = here;
-            here.take_byte(dest, bytes[taken]);
-            if here.too_long != 0 {
-                *self = before;
-                return taken;
+    }
+    end
+}
+
+/// Returns the result for a piece that ended after this many bytes of output, with this many bytes of its last block missing.
+#[inline(always)]
+fn ended(written: usize, missing: usize, at: usize) -> Option<(PieceEnd, usize)> {
+    if missing == 0 {
+        return Some((PieceEnd::Message(written), at));
+    }
+    Some((PieceEnd::Broken(written), at))
+}
+
+/// Decodes the first piece of the source into `dest`, one byte after another, and returns how it ended, and how many bytes
+/// were consumed: leading zeros, the piece, and the zero after it if there is one. Returns `None` if there is no piece.
+///
+/// It does what [`decode`](crate::decode) does, and counts the consumed bytes in each case. It is small, and uses no vectors.
+///
+/// ```
+/// # use jcobs::proved::*;
+/// let mut dest = [170; 3];
+/// let end = PieceEnd::Message(2);
+/// assert_eq!(decode_piece(&[0, 3, 7, 8, 0, 2], &mut dest), Some((end, 5)));
+/// assert_eq!(dest, [7, 8, 170]);
+/// assert_eq!(decode_piece(&[0, 0], &mut dest), None);
+/// ```
+#[inline(always)]
+pub fn decode_piece(source: &[u8], dest: &mut [u8]) -> Option<(PieceEnd, usize)> {
+    let start = leading_zeros(source);
+    if start == source.len() {
+        return None;
+    }
+    let mut at = start + 1;
+    let mut written = 0;
+    'by_block: loop {
+        let code = source[at - 1];
+        let mut left = code as usize - 1;
+        'by_byte: loop {
+            if at == source.len() {
+                return ended(written, left, at);
             }
-            taken += 1;
+            let byte = source[at];
+            at += 1;
+            if byte == 0 {
+                return ended(written, left, at);
+            }
+            if left == 0 {
+                break;
+            }
+            if written == dest.len() {
+                return Some((PieceEnd::TooLong, end_after(source, at)));
+            }
+            dest[written] = byte;
+            written += 1;
+            left -= 1;
         }
-        *self = here;
-        taken
+        if code != FULL {
+            if written == dest.len() {
+                return Some((PieceEnd::TooLong, end_after(source, at)));
+            }
+            dest[written] = 0;
+            written += 1;
+        }
+    }
+}
+
+/// Does what [`decode`](crate::decode) does, one byte after another.
+pub(crate) fn decode_each(source: &[u8], dest: &mut [u8]) -> Result<DecodeReport, DecodeError> {
+    if source.is_empty() {
+        return Err(DecodeError::EmptyFrame);
+    }
+    let Some((end, parsed_size)) = decode_piece(source, dest) else {
+        return Err(DecodeError::InvalidFrame { decoded_bytes: 0 });
+    };
+    match end {
+        PieceEnd::Message(frame_size) => Ok(DecodeReport {
+            parsed_size,
+            frame_size,
+        }),
+        PieceEnd::Broken(decoded_bytes) => Err(DecodeError::InvalidFrame { decoded_bytes }),
+        PieceEnd::TooLong => Err(DecodeError::TargetBufTooSmall),
     }
 }

@@ -2,6 +2,7 @@
 //! Decoding a whole frame into another buffer.
 
 use crate::proved::cobs_bytes::window::has_vectors;
+use crate::proved::dec::each::decode_each;
 use crate::proved::dec::span::{decode_span, message_len};
 use crate::proved::dec::unbuffered::START;
 use crate::proved::error::{DecodeError, DecodeReport};
@@ -40,7 +41,7 @@ use crate::proved::find::len_without_end;
 /// ```
 pub fn decode(source: &[u8], dest: &mut [u8]) -> Result<DecodeReport, DecodeError> {
     if !has_vectors() {
-        return decode_long(source, dest);
+        return decode_each(source, dest);
     }
     if let Some(result) = decode_short(source, dest) {
         return result;
@@ -61,7 +62,7 @@ fn decode_long(source: &[u8], dest: &mut [u8]) -> Result<DecodeReport, DecodeErr
     }
     let rest = &source[start..];
     let mut progress = START;
-    let len = progress.take_to_zero(dest, rest);
+    let len = progress.take_run(dest, rest);
     if len < rest.len() && rest[len] != 0 {
         return Err(DecodeError::TargetBufTooSmall);
     }

@@ -13,17 +13,17 @@ returns-in-Some-clause-only c piece m stated =
 pub returns-clause-reads : goal.returns-clause-reads
 returns-clause-reads c m r fits =
     let kept = c.decode_short.ensures.kept c.in_default.is in
-    (decode_reads _ c.args.dest.now _ _ (rw kept at c.decode_long-2.ensures.returned) (rw kept at c.decode_long-2.ensures.buffer) (bytes_below _ c.type_inv.source) (frame_piece r) m).1 (r, fits)
+    (decode_reads _ c.args.dest.now _ _ (rw kept at c.decode_long.ensures.returned) (rw kept at c.decode_long.ensures.buffer) (bytes_below _ c.type_inv.source) (frame_piece r) m).1 (r, fits)
 
 pub returns-clause-only : goal.returns-clause-only
 returns-clause-only c piece m stated =
     let kept = c.decode_short.ensures.kept c.in_default.is in
-    (decode_reads _ c.args.dest.now _ _ (rw kept at c.decode_long-2.ensures.returned) (rw kept at c.decode_long-2.ensures.buffer) (bytes_below _ c.type_inv.source) piece m).0 stated
+    (decode_reads _ c.args.dest.now _ _ (rw kept at c.decode_long.ensures.returned) (rw kept at c.decode_long.ensures.buffer) (bytes_below _ c.type_inv.source) piece m).0 stated
 
 pub returns-then-not-has_vectors-clause-reads : goal.returns-then-not-has_vectors-clause-reads
 returns-then-not-has_vectors-clause-reads c m r fits =
-    (decode_reads _ c.args.dest.now _ _ c.decode_long.ensures.returned c.decode_long.ensures.buffer (bytes_below _ c.type_inv.source) (frame_piece r) m).1 (r, fits)
+    (decode_reads _ c.args.dest.now _ _ c.decode_each.ensures.returned c.decode_each.ensures.buffer (bytes_below _ c.type_inv.source) (frame_piece r) m).1 (r, fits)
 
 pub returns-then-not-has_vectors-clause-only : goal.returns-then-not-has_vectors-clause-only
 returns-then-not-has_vectors-clause-only c piece m stated =
-    (decode_reads _ c.args.dest.now _ _ c.decode_long.ensures.returned c.decode_long.ensures.buffer (bytes_below _ c.type_inv.source) piece m).0 stated
+    (decode_reads _ c.args.dest.now _ _ c.decode_each.ensures.returned c.decode_each.ensures.buffer (bytes_below _ c.type_inv.source) piece m).0 stated

@@ -1,11 +1,10 @@
-use Rattle.std.proofs.Common.{◌≡◌, ◌<◌, ◌-◌, ◌+◌, ℕ, List, [], ◌∷◌, length, take, drop, Some, sym, ap, ◌∙◌, arith, rules, length-drop, ◌≢◌, zero, suc, ◌≤◌, ◌++◌, get_or, refl, subst, length-take-le}
-use Rattle.std.proofs.lemmas.List.{take_rest, drop_more}
+use Rattle.std.proofs.Common.{◌≡◌, ◌<◌, ◌-◌, ℕ, List, length, take, drop, Some, sym, ap, ◌∙◌, arith, rules, length-drop, ◌≢◌, ◌≤◌, get_or, refl, subst, length-take-le}
+use Rattle.std.proofs.lemmas.List.{take_rest}
 use Rattle.std.proofs.lemmas.Bool.{eqb-true, eqb-false}
 use Rattle.cobs.specs.Decode.{output_of, leading_zeros, report_result}
 use Rattle.cobs.specs.Stream.{first_piece, head}
 use Rattle.cobs.proofs.decoding.HeadLemmas.{first_piece_empty, first_piece_none, first_piece_found, head_some, leading_zeros-stop, front_is_head}
 use Rattle.cobs.proofs.decoding.OutcomeSteps.{answer-by, result_of_decode-none, overwritten-none, outcome_result-too_long, result-by, always}
-use Rattle.std.proofs.lemmas.List.Elements.{All-head, All-tail}
 use Rattle.cobs.specs.Fields.Decoders.{phase_of}
 use Rattle.cobs.specs.Feed.{Phase, Idle, Overlong}
 use Rattle.cobs.specs.Grammar.{HasNoZero}
@@ -13,25 +12,9 @@ use Rattle.cobs.specs.Internal.FeedsQuietly.{FeedsQuietly}
 use Rattle.cobs.specs.Overwritten.{overwritten}
 use Rattle.cobs.specs.Piece.{output}
 use Rattle.cobs.specs.Step.{next_phase}
-use Rattle.cobs.proofs.decoding.OutcomeLemmas.{head-cons, head-zero}
 use Rattle.cobs.proofs.streaming.QuietLemmas.{Quiet, quiet, quiet-piece, quiet-at, quiet-full, quiet-long, quiet-written}
+use Rattle.cobs.proofs.streaming.ReadPiece.{code_first, head-at}
 use Rattle.cobs.proofs.dec.whole.decode_long.Goals as goal
-
--- the bytes before the first zero begin with bytes that aren't zeros
-head-front : (source : List ℕ) (n : ℕ) → HasNoZero (take n source) → head source ≡ take n source ++ head (drop n source)
-head-front source zero none = refl
-head-front [] (suc n) none = refl
-head-front (byte ∷ source) (suc n) none =
-    head-cons byte source (All-head (λ b. b ≢ 0) byte (take n source) none) ∙ ap (λ (l : List ℕ). byte ∷ l) (head-front source n (All-tail (λ b. b ≢ 0) byte (take n source) none))
-
-code_first : (source : List ℕ) (n : ℕ) → 0 < length (head source) → 0 < length (take n source) → get_or (take n source) 0 0 ≢ 0
-code_first source zero begins some = absurd (omega arith)
-code_first [] (suc n) begins some = absurd (omega arith)
-code_first (byte ∷ source) (suc n) begins some = λ e. omega (arith, ap (λ (x : ℕ). length (head (x ∷ source))) e, ap length (head-zero source))
-
--- and another one that is none
-head-at : (source : List ℕ) (n : ℕ) → HasNoZero (take n source) → n < length source → get_or source n 0 ≢ 0 → take n source ++ get_or source n 0 ∷ head (drop (n + 1) source) ≡ head source
-head-at source n none more nz = ap (λ (l : List ℕ). take n source ++ l) (sym (ap head (drop_more source n 0 more) ∙ head-cons _ _ nz)) ∙ sym (head-front source n none)
 
 -- a run of a source that begins with a code
 module _ (source old new : List ℕ) (phase : Phase) (run : ℕ) (begins : 0 < length (head source)) (fed : FeedsQuietly old Idle (take run source) new phase) where
@@ -90,8 +73,8 @@ pub returns-then-rest-len-ne0-clause-returned : goal.returns-then-rest-len-ne0-c
 returns-then-rest-len-ne0-clause-returned c =
     let source : List ℕ = c.args.source.now in
     let start = c.leading_zeros-start.ensures.count in
-    let fed = c.take_to_zero-len.ensures.fed in
-    let over = c.take_to_zero-len.ensures.stop c.if-len-rest.true c.if-rest-len-ne0.true in
+    let fed = c.take_run-len.ensures.fed in
+    let over = c.take_run-len.ensures.stop c.if-len-rest.true c.if-rest-len-ne0.true in
     answer-by source _ _ _ 0 _ (omega arith) (found source _ start (omega arith)) refl
     (outcome_result-too_long _ _ (long _ _ _ _ _ (begun source _ start (omega arith)) fed c.if-len-rest.true c.if-rest-len-ne0.true over)) tt
 
@@ -99,8 +82,8 @@ pub returns-then-rest-len-ne0-clause-buffer : goal.returns-then-rest-len-ne0-cla
 returns-then-rest-len-ne0-clause-buffer c =
     let source : List ℕ = c.args.source.now in
     let start = c.leading_zeros-start.ensures.count in
-    let fed = c.take_to_zero-len.ensures.fed in
-    let over = c.take_to_zero-len.ensures.stop c.if-len-rest.true c.if-rest-len-ne0.true in
+    let fed = c.take_run-len.ensures.fed in
+    let over = c.take_run-len.ensures.stop c.if-len-rest.true c.if-rest-len-ne0.true in
     full _ _ _ _ _ (begun source _ start (omega arith)) fed c.if-len-rest.true c.if-rest-len-ne0.true over
     ∙ ap (λ (l : _). overwritten c.args.dest.now (output_of l)) (sym (found source _ start (omega arith)))
 
@@ -112,13 +95,13 @@ module _ (c : goal.After-map) where
   begins : 0 < length (head piece)
   begins = begun c.args.source.now _ c.leading_zeros-start.ensures.count (omega arith)
 
-  fed : FeedsQuietly c.args.dest.now Idle (take c.take_to_zero-len.result piece) c.take_to_zero-len.new.dest (phase_of c.take_to_zero-len.new.self)
-  fed = c.take_to_zero-len.ensures.fed
+  fed : FeedsQuietly c.args.dest.now Idle (take c.take_run-len.result piece) c.take_run-len.new.dest (phase_of c.take_run-len.new.self)
+  fed = c.take_run-len.ensures.fed
 
-  stop : c.take_to_zero-len.result < length piece → get_or piece c.take_to_zero-len.result 0 ≡ 0
+  stop : c.take_run-len.result < length piece → get_or piece c.take_run-len.result 0 ≡ 0
   stop = grind arith
 
-  decoded : Quiet c.args.dest.now c.take_to_zero-len.new.dest (phase_of c.take_to_zero-len.new.self) (head piece)
+  decoded : Quiet c.args.dest.now c.take_run-len.new.dest (phase_of c.take_run-len.new.self) (head piece)
   decoded = whole piece _ _ _ _ begins fed (omega arith) stop
 
   is-found : first_piece c.args.source.now ≡ Some (head piece)
@@ -127,7 +110,7 @@ module _ (c : goal.After-map) where
 pub returns-clause-returned : goal.returns-clause-returned
 returns-clause-returned c =
     let is : c.map.result ≡ report_result c.min-parsed_size.result c.message_len-result.result = search rules in
-    let at = quiet-at _ _ _ _ (decoded c) c.take_to_zero-len.new.self refl in
+    let at = quiet-at _ _ _ _ (decoded c) c.take_run-len.new.self refl in
     is ∙ answer-by _ _ _ _ _ _ (omega arith) (is-found c) (omega (arith, c.leading_zeros-start.ensures.count))
     (result-by _ _ _ _ _ (begins c) (decoded c).fits at.0 at.1 c.message_len-result.ensures.whole c.message_len-result.ensures.broken)
     (always _ (count (piece c) _ _ _ _ (begins c) (fed c) (omega arith) (stop c)))

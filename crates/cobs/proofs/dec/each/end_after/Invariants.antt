@@ -1,0 +1,14 @@
+use Rattle.std.proofs.Common.{◌-◌, ◌≤◌, drop, length, take}
+use Rattle.cobs.specs.Grammar.{HasNoZero}
+use Rattle.cobs.proofs.dec.each.end_after.Given as goal
+
+-- the bytes from `at` to `end` have no zero
+abbrev pub invariant-by_byte : goal.invariant-by_byte
+invariant-by_byte l = record {
+  after : l.at ≤ l.end;
+  within : l.end ≤ length l.source;
+  before : HasNoZero (take (l.end - l.at) (drop l.at l.source));
+}
+
+abbrev pub decreases-by_byte : goal.decreases-by_byte
+decreases-by_byte l = length l.source - l.end
