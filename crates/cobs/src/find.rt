@@ -1,9 +1,29 @@
 //! Searches for the beginning and the end of pieces.
 ghost use Rattle.std.specs.Prelude.{All, ◌≢◌, ◌≡◌, ◌<◌, ◌≤◌, ◌+◌, ◌-◌, length, take, slice_index};
+ghost use Rattle.cobs.specs.Decode.{leading_zeros};
 ghost use Rattle.cobs.specs.Grammar.{HasNoZero};
 
 use cobs_bytes::window::{WIDE_WINDOW, WINDOW, first_zero, has_vectors, zeros_at};
 use memchr::memchr;
+
+/// Returns how many zeros the source begins with, which [`decode`](crate::decode) skips before a frame. (A choice of this library.)
+///
+/// ```
+/// assert_eq!(rt; leading_zeros(&[0, 0, 2, 7, 0]), 2);
+/// assert_eq!(rt; leading_zeros(&[0]), 1);
+/// assert_eq!(rt; leading_zeros(&[]), 0);
+/// ```
+pub fn leading_zeros(source: &[u8]) -> usize
+    ensures count { result ≡ leading_zeros source.now }
+    ensures within { result ≤ length source.now }
+{
+    'by_byte: for i in 0..source.len() {
+        if source[i] != 0 {
+            return i;
+        }
+    }
+    source.len()
+}
 
 /// Returns the index of the first byte of the source that equals `byte`, or the source's length if there is none.
 pub(crate) fn position_or_len(source: &[u8], byte: u8) -> usize

@@ -74,7 +74,7 @@ pub use dec::{
     FrameDecoder, FrameKind, PieceEnd, UnbufferedDecoder, WriteBuffer, decode, decode_blocks_each,
     decode_in_place, decode_in_place_report, decode_in_place_with_sentinel, decode_piece,
     decode_short, decode_short_in_place, decode_vec, decode_vec_with_sentinel,
-    decode_with_sentinel, frame_kind, kind_by_blocks, leading_zeros,
+    decode_with_sentinel, frame_kind, kind_by_blocks,
 };
 pub use enc::{
     CobsEncoder, EncoderProgress, EncoderState, PushResult, UnbufferedEncoder, encode,
@@ -85,7 +85,7 @@ pub use enc::{
 pub use error::{
     DecodeError, DecodeReport, DecodeVecError, DecodingResult, DestBufTooSmallError, PushError,
 };
-pub use find::len_to_zero;
+pub use find::{leading_zeros, len_to_zero};
 pub use framed::{FrameReader, FrameSource, Next, ReadFault, Recorded};
 pub use stream::{FrameOutcome, decode_stream, encode_frames, encode_frames_room};
 

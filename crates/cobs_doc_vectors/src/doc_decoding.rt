@@ -6,10 +6,10 @@
 
 use cobs::{
     CobsDecoder, DecodeError, DecodeResult, DecodeVecError, DecoderState, DecodingResult,
-    DestBufTooSmallError, FrameKind, PushError, decode, decode_blocks_each, decode_in_place,
-    decode_in_place_report, decode_in_place_with_sentinel, decode_short, decode_short_in_place,
-    decode_vec, decode_vec_with_sentinel, decode_with_sentinel, frame_kind, kind_by_blocks,
-    leading_zeros, len_to_zero,
+    DestBufTooSmallError, FrameKind, PieceEnd, PushError, decode, decode_blocks_each,
+    decode_in_place, decode_in_place_report, decode_in_place_with_sentinel, decode_piece,
+    decode_short, decode_short_in_place, decode_vec, decode_vec_with_sentinel,
+    decode_with_sentinel, frame_kind, kind_by_blocks, leading_zeros, len_to_zero,
 };
 use std::test::Fail;
 
@@ -74,6 +74,13 @@ fn decoding_result_example(rt: HostRuntime) -> Result<(), Fail> {
 }
 
 #[test]
+fn leading_zeros_example(rt: HostRuntime) {
+    assert_eq!(rt; leading_zeros(&[0, 0, 2, 7, 0]), 2);
+    assert_eq!(rt; leading_zeros(&[0]), 1);
+    assert_eq!(rt; leading_zeros(&[]), 0);
+}
+
+#[test]
 fn len_to_zero_example(rt: HostRuntime) {
     assert_eq!(rt; len_to_zero(&[3, 7, 8, 0, 2]), 3);
     assert_eq!(rt; len_to_zero(&[3, 7]), 2);
@@ -84,6 +91,18 @@ fn decode_blocks_each_example(rt: HostRuntime) {
     let mut buffer = [3, 10, 11, 2, 12, 0];
     assert_eq!(rt; decode_blocks_each(&mut buffer, 5), Ok(4));
     assert_eq!(rt; buffer, [10, 11, 0, 12, 12, 0]);
+}
+
+#[test]
+fn decode_piece_example(rt: HostRuntime) {
+    let mut dest = [170; 3];
+    let end = PieceEnd::Message(2);
+    assert_eq!(rt;
+        decode_piece(&[0, 3, 7, 8, 0, 2], &mut dest),
+        Some((end, 5))
+    );
+    assert_eq!(rt; dest, [7, 8, 170]);
+    assert_eq!(rt; decode_piece(&[0, 0], &mut dest), None);
 }
 
 #[test]
@@ -217,11 +236,4 @@ fn decode_short_example(rt: HostRuntime) {
     assert!(rt; decode_short(b"\x03hi\0", &mut dest).is_some());
     assert_eq!(rt; &dest, b"hi\xaa");
     assert_eq!(rt; decode_short(b"\x03hi\0\x02", &mut dest), None);
-}
-
-#[test]
-fn leading_zeros_example(rt: HostRuntime) {
-    assert_eq!(rt; leading_zeros(&[0, 0, 2, 7, 0]), 2);
-    assert_eq!(rt; leading_zeros(&[0]), 1);
-    assert_eq!(rt; leading_zeros(&[]), 0);
 }

@@ -11,9 +11,8 @@ ghost use Rattle.cobs.specs.declared.dec.frame_decoder.PieceEnd.TheVariants.{Bro
 use crate::block::FULL_CODE;
 use crate::dec::frame_decoder::PieceEnd;
 use crate::dec::step::FULL;
-use crate::dec::whole::leading_zeros;
 use crate::error::{DecodeError, DecodeReport};
-use crate::find::len_to_zero;
+use crate::find::{leading_zeros, len_to_zero};
 
 /// Moves `len` bytes of the buffer, which begin at `from`, to `to`, and returns where they end.
 #[inline(always)]

@@ -1,7 +1,7 @@
 //! Decoding a whole frame into another buffer.
 ghost use Rattle.std.specs.Prelude.{◌≡◌, ◌≤◌, ◌+◌, List, length, ℕ, None, IfSome, IsSome};
 ghost use Rattle.cobs.specs.Overwritten.{overwritten};
-ghost use Rattle.cobs.specs.Decode.{IsShortPiece, first_output, leading_zeros, result_of_decode};
+ghost use Rattle.cobs.specs.Decode.{IsShortPiece, first_output, result_of_decode};
 ghost use Rattle.cobs.specs.Grammar.{Reads};
 ghost use Rattle.cobs.specs.Headline.{IsPiece, ReportsMessage};
 ghost use Rattle.cobs.specs.Stream.{head};
@@ -10,7 +10,7 @@ use crate::dec::each::decode_each;
 use crate::dec::span::{decode_span, message_len};
 use crate::dec::unbuffered::START;
 use crate::error::{DecodeError, DecodeReport};
-use crate::find::len_without_end;
+use crate::find::{leading_zeros, len_without_end};
 use cobs_bytes::window::has_vectors;
 
 /// Decodes the first frame of the source into `dest`, and returns how many bytes were consumed and how many the
@@ -114,23 +114,4 @@ pub fn decode_short(source: &[u8], dest: &mut [u8]) -> Option<Result<DecodeRepor
         parsed_size: source.len(),
         frame_size,
     }))
-}
-
-/// Returns how many zeros the source begins with, which [`decode`] skips before a frame. (A choice of this library.)
-///
-/// ```
-/// assert_eq!(rt; leading_zeros(&[0, 0, 2, 7, 0]), 2);
-/// assert_eq!(rt; leading_zeros(&[0]), 1);
-/// assert_eq!(rt; leading_zeros(&[]), 0);
-/// ```
-pub fn leading_zeros(source: &[u8]) -> usize
-    ensures count { result ≡ leading_zeros source.now }
-    ensures within { result ≤ length source.now }
-{
-    'by_byte: for i in 0..source.len() {
-        if source[i] != 0 {
-            return i;
-        }
-    }
-    source.len()
 }

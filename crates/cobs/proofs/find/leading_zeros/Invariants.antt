@@ -1,6 +1,6 @@
 use Rattle.std.proofs.Common.{◌≡◌, ◌+◌, drop}
 use Rattle.cobs.specs.Decode.{leading_zeros}
-use Rattle.cobs.proofs.dec.whole.leading_zeros.Given as goal
+use Rattle.cobs.proofs.find.leading_zeros.Given as goal
 
 abbrev pub invariant-by_byte : goal.invariant-by_byte
 invariant-by_byte l = leading_zeros l.source ≡ l.i + leading_zeros (drop l.i l.source)
