@@ -256,13 +256,13 @@ jcobs_answer jcobs_decode(const void *source, size_t source_len, void *message, 
     }
 }
 
-/* Makes an idle decoder, for a buffer of any length, also an empty one. */
+/* Makes an idle decoder, for a buffer of any length, even an empty one. */
 static jcobs_decoder jcobs_decoder_new(void)
 {
     return jcobs_decoder_of(0, 0, 0, 0);
 }
 
-/* Makes the decoder one that has taken nothing, even if its state is corrupt.
+/* Makes the decoder idle, even if its state is corrupt.
  * Proved, by the contract in decoder.rt: then the decoder has taken nothing, whatever its state was. */
 void jcobs_decoder_reset(jcobs_decoder *decoder)
 {
@@ -275,7 +275,7 @@ void jcobs_decoder_reset(jcobs_decoder *decoder)
 /* Returns whether no piece has begun, so that the next byte that isn't a zero begins one. */
 static JCOBS_INLINE int jcobs_decoder_is_idle_inside(const jcobs_decoder *decoder)
 {
-    return decoder->written == 0 && decoder->missing == 0 && decoder->joint == 0 && decoder->too_long == 0;
+    return (decoder->written | (size_t)decoder->missing | (size_t)decoder->joint | (size_t)decoder->too_long) == 0;
 }
 
 /* Returns 1 if no piece is open, and 0 otherwise.
@@ -354,8 +354,8 @@ static JCOBS_INLINE jcobs_outcome jcobs_decoder_end(jcobs_decoder *decoder, size
     if (ended.missing != 0) {
         return jcobs_outcome_of(JCOBS_IS_INVALID_FRAME, ended.written);
     }
-    /* This happens only if the caller has changed the buffer, since no more is counted than was written to the
-     * first. */
+    /* This happens only if the caller now passes a shorter buffer, since no more bytes are counted than were
+     * written. */
     if (len < ended.written) {
         return jcobs_outcome_of(JCOBS_IS_TARGET_BUF_TOO_SMALL, 0);
     }
@@ -365,9 +365,9 @@ static JCOBS_INLINE jcobs_outcome jcobs_decoder_end(jcobs_decoder *decoder, size
     return jcobs_outcome_of(JCOBS_IS_SOME, ended.written);
 }
 
-/* Takes bytes of a stream of frames for this sentinel, one step for each byte, through the sentinel that ends the
- * first piece, or all of them, as feed_piece does for the sentinel 0. It has no search and no copy of slices, so
- * it is small, and fast for a few bytes. (A choice of this library.) */
+/* Takes bytes of a stream of frames for this sentinel, one step for each byte. It stops after the sentinel that
+ * ends the first piece, or takes all bytes if no piece ends. For the sentinel 0 it does what feed_piece does. It
+ * has no search and no copy of slices, so it is small, and fast for a few bytes. (A choice of this library.) */
 static JCOBS_INLINE jcobs_found jcobs_decoder_feed_each(jcobs_decoder *decoder, unsigned char *dest, size_t dest_len,
                                                         const unsigned char *bytes, size_t bytes_len,
                                                         unsigned char sentinel)
@@ -396,7 +396,7 @@ static JCOBS_INLINE jcobs_found jcobs_decoder_feed_each(jcobs_decoder *decoder, 
             }
         }
     }
-    /* Of a piece that is too long, only the end matters. */
+    /* If a piece is too long, only its end matters. */
     while (taken < bytes_len) {
         unsigned char byte = (unsigned char)(bytes[taken] ^ sentinel);
         taken++;
@@ -443,7 +443,7 @@ static JCOBS_INLINE jcobs_answer jcobs_result_of(const jcobs_decoder *decoder, j
 }
 
 /* Takes bytes of a stream of frames for this sentinel, through the sentinel that ends the first piece, or all of
- * them. */
+ * them if no piece ends. */
 static JCOBS_INLINE jcobs_answer jcobs_decode_each(jcobs_decoder *decoder, unsigned char *buffer, size_t buffer_len,
                                                    const unsigned char *bytes, size_t bytes_len, unsigned char sentinel)
 {
@@ -452,8 +452,8 @@ static JCOBS_INLINE jcobs_answer jcobs_decode_each(jcobs_decoder *decoder, unsig
     return jcobs_result_of(decoder, found, bytes_len, buffer_len);
 }
 
-/* Takes bytes of the stream, through the zero that ends the first piece, or all of them. Even if the state is
- * corrupt, the buffer keeps its length, and the counts are within the bytes and the buffer.
+/* Takes bytes of the stream, through the zero that ends the first piece, or all of them if no piece ends. Even if
+ * the state is corrupt, the buffer keeps its length, and the counts are within the bytes and the buffer.
  * Proved, by the contract in decoder.rt: the result, the state and the buffer are those that the definition of the
  * stream has after these bytes, however it is cut into calls. In every state consumed and length are within bytes
  * and buffer. */
@@ -476,7 +476,7 @@ static JCOBS_INLINE jcobs_outcome jcobs_decoder_step(jcobs_decoder *decoder, uns
     return jcobs_outcome_of(JCOBS_IS_NONE, 0);
 }
 
-/* Takes the next byte of the stream, over this buffer, as CobsDecoder::feed does, with its errors. */
+/* Takes the next byte of the stream, with this buffer, as CobsDecoder::feed does, with its errors. */
 static JCOBS_INLINE jcobs_outcome jcobs_decoder_feed_inside(jcobs_decoder *decoder, unsigned char *dest,
                                                             size_t dest_len, unsigned char byte)
 {
@@ -750,7 +750,7 @@ jcobs_answer jcobs_encode_in_place(void *buffer, size_t buffer_len, size_t messa
     return jcobs_encode_within((unsigned char *)buffer, buffer_len, message_len);
 }
 
-/* Makes the encoder one that has taken nothing, even if its state is corrupt.
+/* Puts the encoder back to the start, even if its state is corrupt: it has then taken nothing.
  * Proved, by the contract in encoder.rt: then the encoder has taken nothing, whatever its state was. */
 void jcobs_encoder_reset(jcobs_encoder *encoder)
 {

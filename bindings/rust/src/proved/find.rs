@@ -4,6 +4,23 @@
 use crate::proved::cobs_bytes::window::{WIDE_WINDOW, WINDOW, first_zero, has_vectors, zeros_at};
 use memchr::memchr;
 
+/// Returns how many zeros the source begins with, which [`decode`](crate::decode) skips before a frame.
+///
+/// ```
+/// # use jcobs::proved::*;
+/// assert_eq!(leading_zeros(&[0, 0, 2, 7, 0]), 2);
+/// assert_eq!(leading_zeros(&[0]), 1);
+/// assert_eq!(leading_zeros(&[]), 0);
+/// ```
+pub fn leading_zeros(source: &[u8]) -> usize {
+    'by_byte: for i in 0..source.len() {
+        if source[i] != 0 {
+            return i;
+        }
+    }
+    source.len()
+}
+
 /// Returns the index of the first byte of the source that equals `byte`, or the source's length if there is none.
 pub(crate) fn position_or_len(source: &[u8], byte: u8) -> usize {
     memchr(byte, source).unwrap_or(source.len())

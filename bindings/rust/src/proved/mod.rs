@@ -70,7 +70,6 @@ pub use dec::{
     FrameKind, PieceEnd, UnbufferedDecoder, WriteBuffer, decode, decode_blocks_each,
     decode_in_place, decode_in_place_report, decode_in_place_with_sentinel, decode_piece,
     decode_short, decode_short_in_place, decode_with_sentinel, frame_kind, kind_by_blocks,
-    leading_zeros,
 };
 #[cfg(feature = "alloc")]
 pub use dec::{CobsDecoderOwned, decode_vec, decode_vec_with_sentinel};
@@ -84,7 +83,7 @@ pub use enc::{encode_vec, encode_vec_including_sentinels, encode_vec_with_sentin
 pub use error::{
     DecodeError, DecodeReport, DecodeVecError, DecodingResult, DestBufTooSmallError, PushError,
 };
-pub use find::len_to_zero;
+pub use find::{leading_zeros, len_to_zero};
 #[cfg(feature = "std")]
 pub use framed::Recorded;
 pub use framed::{FrameReader, FrameSource, Next, ReadFault};

@@ -4,9 +4,8 @@
 use crate::proved::block::FULL_CODE;
 use crate::proved::dec::frame_decoder::PieceEnd;
 use crate::proved::dec::step::FULL;
-use crate::proved::dec::whole::leading_zeros;
 use crate::proved::error::{DecodeError, DecodeReport};
-use crate::proved::find::len_to_zero;
+use crate::proved::find::{leading_zeros, len_to_zero};
 
 /// Moves `len` bytes of the buffer, which begin at `from`, to `to`, and returns where they end.
 #[inline(always)]

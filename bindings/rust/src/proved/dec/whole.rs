@@ -6,7 +6,7 @@ use crate::proved::dec::each::decode_each;
 use crate::proved::dec::span::{decode_span, message_len};
 use crate::proved::dec::unbuffered::START;
 use crate::proved::error::{DecodeError, DecodeReport};
-use crate::proved::find::len_without_end;
+use crate::proved::find::{leading_zeros, len_without_end};
 
 /// Decodes the first frame of the source into `dest`, and returns how many bytes were consumed and how many the
 /// message has.
@@ -100,21 +100,4 @@ pub fn decode_short(source: &[u8], dest: &mut [u8]) -> Option<Result<DecodeRepor
             frame_size,
         }),
     )
-}
-
-/// Returns how many zeros the source begins with, which [`decode`] skips before a frame.
-///
-/// ```
-/// # use jcobs::proved::*;
-/// assert_eq!(leading_zeros(&[0, 0, 2, 7, 0]), 2);
-/// assert_eq!(leading_zeros(&[0]), 1);
-/// assert_eq!(leading_zeros(&[]), 0);
-/// ```
-pub fn leading_zeros(source: &[u8]) -> usize {
-    'by_byte: for i in 0..source.len() {
-        if source[i] != 0 {
-            return i;
-        }
-    }
-    source.len()
 }
