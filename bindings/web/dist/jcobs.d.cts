@@ -21,7 +21,7 @@ declare global {
 /** Bytes as the calls take them: an ArrayBuffer, a shared one, or any view of one. */
 export type Bytes = ArrayBuffer | SharedArrayBuffer | ArrayBufferView;
 
-/** Where `load` gets the module from. */
+/** The source from which `load` gets the module. */
 export type Source = string | URL | Response | PromiseLike<Response> | Bytes | WebAssembly.Module;
 
 export interface SentinelOptions {
@@ -46,24 +46,24 @@ export interface DecoderOptions extends PieceOptions {
   skipFirst?: boolean;
 }
 
-/** What a piece of a stream that a sentinel ends comes to. */
+/** The outcome of a piece of a stream that a sentinel ended. */
 export type Outcome =
   /** It is a frame, and this is its message. */
   | { message: Uint8Array; broken?: undefined; tooLong?: undefined }
-  /** It breaks off inside a block. What there is of it decodes to this many bytes. */
+  /** It breaks off inside a block. Its bytes decode to this many bytes. */
   | { broken: number; message?: undefined; tooLong?: undefined }
   /** It decodes to more than `maxLength` bytes. */
   | { tooLong: true; message?: undefined; broken?: undefined };
 
 /**
  * Why a call failed:
- * - "empty": `decode` was given no bytes, or sentinels alone;
+ * - "empty": `decode` was passed no bytes, or only sentinels;
  * - "broken": the frame breaks off inside a block;
  * - "unsupported": this engine is too old to run the module, or a content security policy forbids it.
  */
 export class CobsError extends Error {
   readonly kind: "empty" | "broken" | "unsupported";
-  /** With "broken", how many bytes the frame decodes to up to where it ends; else 0. */
+  /** With "broken", how many bytes the frame decodes to before it breaks off; otherwise 0. */
   readonly decodedBytes: number;
   constructor(kind: CobsError["kind"], message: string, decodedBytes?: number);
 }
@@ -74,7 +74,7 @@ export function isSupported(): boolean;
 /**
  * Loads the module. Every other call needs it. Without an argument it is the module that comes with this file.
  * Once it is loaded, or is being loaded, a further call changes nothing and returns the same promise.
- * @throws CobsError "unsupported"; or what went wrong with the source, after which `load` can be called again
+ * @throws CobsError "unsupported"; or the error of the source, after which `load` can be called again
  */
 export function load(source?: Source): Promise<void>;
 
@@ -82,14 +82,14 @@ export function load(source?: Source): Promise<void>;
  * Loads the module before it returns, for a program that can't wait for a promise. Without an argument it is the module that
  * comes with this file. Once it is loaded, a further call changes nothing. On a page, outside of a worker, Chrome allows this
  * from version 115 on.
- * @throws CobsError "unsupported"; or what is wrong with the source
+ * @throws CobsError "unsupported"; or the error of the source
  */
 export function loadSync(source?: Bytes | WebAssembly.Module): void;
 
-/** The length of the longest frame of a message of this many bytes, without sentinels. */
+/** Returns the length of the longest frame of a message of this many bytes, without sentinels. */
 export function maxEncodedLength(length: number): number;
 
-/** The frame of a message. */
+/** Returns the frame of a message. */
 export function encode(message: Bytes, options?: EncodeOptions): Uint8Array;
 
 /**
@@ -99,18 +99,18 @@ export function encode(message: Bytes, options?: EncodeOptions): Uint8Array;
 export function encodeInto(message: Bytes, dest: Bytes, options?: EncodeOptions): number;
 
 /**
- * The message of the first frame: sentinels in front are skipped, and it ends at the next sentinel or with the
- * bytes. What is after it isn't read.
+ * Returns the message of the first frame. Leading sentinels are skipped, and the frame ends at the next sentinel or with the
+ * bytes. The bytes after it have no effect.
  * @throws CobsError "empty" or "broken"
  */
 export function decode(frame: Bytes, options?: SentinelOptions): Uint8Array;
 
-/** Whether bytes are a frame: the encoded one of its message, or that one with a needless last block 01. */
+/** Returns whether bytes are a frame: the encoded one of its message, or that one with a needless last block 01. */
 export function frameKind(frame: Bytes, options?: SentinelOptions): "canonical" | "longer" | "notAFrame";
 
 /**
- * Iterates over what each piece of some bytes that a sentinel ends decodes to; `end` is the place after that sentinel.
- * Bytes after the last sentinel give no outcome.
+ * Iterates over the outcomes of the pieces of some bytes that a sentinel ends; `end` is the place after that sentinel.
+ * Bytes after the last sentinel have no outcome.
  */
 export function frames(bytes: Bytes, options?: DecoderOptions): IterableIterator<Outcome & { end: number }>;
 
@@ -118,16 +118,16 @@ export function frames(bytes: Bytes, options?: DecoderOptions): IterableIterator
 export class FrameDecoder {
   constructor(options?: DecoderOptions);
   /**
-   * Calls `visit` for each piece that the chunk ends; `end` is the place in the chunk after its sentinel. After a visit
-   * that throws or closes the decoder there are no more visits. What a visit throws, `push` throws once the whole chunk is
-   * taken, so that the next chunk is decoded as if nothing had been thrown.
+   * Calls `visit` for each piece that ends in the chunk; `end` is the place in the chunk after its sentinel. After a visit
+   * that throws or closes the decoder there are no more visits. An error that a visit throws is thrown by `push` once the
+   * whole chunk is taken, so the next chunk is decoded as if nothing had been thrown.
    */
   push(chunk: Bytes, visit: (outcome: Outcome, end: number) => void): void;
   /** Whether a frame has begun that no sentinel has ended yet. */
   get unfinished(): boolean;
   /** How many bytes `skipFirst` has left out, the first sentinel among them. */
   get skipped(): number;
-  /** Gives the decoder's memory back. Without it that happens at some garbage collection. */
+  /** Frees the decoder's memory. Without this call a garbage collection frees it at some time. */
   close(): void;
   /** The same, for `using`. */
   [Symbol.dispose](): void;
@@ -138,20 +138,20 @@ export class FrameEncoder {
   constructor(options?: PieceOptions);
   /**
    * Takes the next bytes of the message.
-   * @throws RangeError if the message would be longer than `maxLength`; none of the bytes is then taken
+   * @throws RangeError if the message would be longer than `maxLength`; then none of the bytes is taken
    */
   push(piece: Bytes): void;
   /** How many bytes of the message were taken so far. */
   get length(): number;
-  /** Returns the frame of all that was taken, and begins the next message. */
+  /** Returns the frame of all bytes that were taken, and begins the next message. */
   finish(options?: { terminated?: boolean }): Uint8Array;
-  /** Gives the encoder's memory back. */
+  /** Frees the encoder's memory. */
   close(): void;
   /** The same, for `using`. */
   [Symbol.dispose](): void;
 }
 
-/** Bytes in, outcomes out. What no sentinel has ended when the stream ends gives no outcome. */
+/** Bytes in, outcomes out. Bytes that no sentinel has ended when the stream ends have no outcome. */
 export class FrameDecoderStream {
   constructor(options?: DecoderOptions);
   readonly readable: ReadableStream<Outcome>;
