@@ -80,7 +80,7 @@ module _ (p q : List ℕ) (at code : ℕ) (here : at < length q) (is : code ≡ 
     unfolding kept_output
     broken-kept = grind (arith, front-is, all-is, behind.out, behind.last, next_code, is_whole-of, broken-last, ne_eqb, length-append, take_at)
 
--- a row of n blocks without bytes behind whole blocks
+-- a row of n blocks without bytes, after whole blocks
 pub ends-ones : (n : ℕ) (p q : List ℕ) (at : ℕ) → at + n ≤ length q → take n (drop at q) ≡ replicate n 1
     → missing (last_part (p ++ take at q)) ≡ 0 → missing (last_part (p ++ take (at + n) q)) ≡ 0
 ends-ones zero p q at fits ones ends = subst (λ (k : ℕ). missing (last_part (p ++ take k q)) ≡ 0) {x = at} (omega arith) ends

@@ -1,4 +1,4 @@
--- What a `CobsEncoder` says of its slice (`CobsEncoderAfter`) and what the core of the encoder knows of it (`Opened`) are the
+-- What a `CobsEncoder` says about its slice (`CobsEncoderAfter`) and what the core of the encoder knows about it (`Opened`) are the
 -- same, since a message has one encoded frame (`one_encoded`). So its length and its room follow, and `close` completes it.
 use Rattle.std.proofs.Common.{◌≡◌, ◌≢◌, ℕ, ◌+◌, ◌-◌, ◌<◌, ◌≤◌, Bool, true, false, if◌then◌else◌, List, [], ◌∷◌, ◌++◌, length, set, drop, take, get_or, All, refl, sym, ap, ◌∙◌, arith, inl, inr, ◌⊎◌, append-nil, append_assoc, take_at, drop_at, length-append, length-take-le, length-take}
 use Rattle.std.specs.List.{concat}
@@ -99,7 +99,7 @@ to_after slice m index next code full is short fits o = by_end full fits o.noted
           begins = (0, rw (← b) (o.written ∙ sym (set_past (concat o.front) index 0 (omega arith))));
         }
 
--- The encoded frame of a message, by the blocks of its open frame: a lone block behind a full one is no part of it.
+-- The encoded frame of a message, by the blocks of its open frame: a lone block after a full one is no part of it.
 pub frame-is : {f m o : List ℕ} {index code : ℕ} (e : IsEncodedFrame f m) (r : IsOpenFrame o m index code)
     → (is_full (last_of e.reads.blocks) ≡ ends_in_full r.front r.bytes) × (f ≡ concat r.front ++ (if ends_in_full r.front r.bytes then [] else code ∷ r.bytes))
 frame-is {f} {m} {o} {index} {code} e r = elim (cases_Bool (ends_in_full r.front r.bytes)) [

@@ -50,7 +50,7 @@ module _ {source slice : List ℕ} {r : Reached} {next : ℕ} (place : IsPlaceIn
 pub fits-byte : (slice : List ℕ) (r : Reached) (byte : ℕ) → 0 < r.block.code → r.block.code < 255 → next_of r < length slice → end_after r (byte ∷ []) ≤ length slice
 fits-byte slice r byte some short room = grind (arith, short_room)
 
--- the same of what it has taken
+-- the same for the bytes that it has taken
 module _ {slice m : List ℕ} {r : Reached} (h : CobsEncoderAfter slice r m) (room : next_of r < length slice) where
   place : IsPlaceIn (length slice) r
   place = after-place h

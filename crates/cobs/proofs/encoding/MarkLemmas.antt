@@ -20,7 +20,7 @@ use Rattle.cobs_bytes.proofs.bytes.MaskLemmas.{mask_behind, mask_behind-none, ma
 use Rattle.cobs.proofs.encoding.ReachLemmas.{Reaches-at, Reaches-weaker, Reaches-same, Reaches-full, Reaches-join, Reaches-zero, Reaches-zeros, IsNotFull, least}
 use Rattle.cobs.proofs.encoding.TakingLemmas.{front-taken, reaches-start}
 
--- len bytes of a source at `read` were copied behind the open block, where `slice` became `after`
+-- len bytes of a source at `read` were copied after the open block, and so `slice` became `after`
 pub record Copied (s : Start) (slice after : List ℕ) (read len index next : ℕ) : Type 0 where
   pub inside : read + len ≤ length s.source
   pub fits : whole_end s ≤ length slice
@@ -52,7 +52,7 @@ module _ {s : Start} {slice after : List ℕ} {read len index next : ℕ} (c : C
       let here = sym (take-take k len (drop next after) le) ∙ ap (take k) copied-here ∙ take-take k len (drop read s.source) le in
       Reaches-join copied-reaches length-after k (let i = c.inside in omega arith) short nonzero here (λ full z p. absurd (omega arith)) (λ z. refl)
 
--- such bytes are a window, whose bits say where its zeros are
+-- such bytes are a window, whose bits say which of them are zeros
 pub record CopiedWindow (s : Start) (slice after : List ℕ) (read len index next zeros : ℕ) : Type 0 where
   pub some : 0 < len
   pub few : len ≤ 32

@@ -51,7 +51,7 @@ module _ {m f : List ℕ} {index code : ℕ} (o : IsOpenFrame f m index code) wh
   pub f-is : f ≡ concat o.front ++ code ∷ o.bytes
   f-is = o.frame.whole ∙ concat-push o.front (code ∷ o.bytes)
 
-  -- behind a block that is closed a new one is open, whatever is in the place of its code
+  -- after a block that is closed a new one is open, whatever byte is in the place of its code
   closed : {k g : List ℕ} (block : List ℕ) (next x : ℕ) → IsBlock block → length (concat o.front ++ block) ≡ next → message_of (o.front ++ block ∷ []) ++ joint block ≡ k
       → g ≡ (concat o.front ++ block) ++ x ∷ [] → IsOpenOutput g (record { index = next; code = 1 }) k
   closed block next x is long message out = (
@@ -67,7 +67,7 @@ module _ {m f : List ℕ} {index code : ℕ} (o : IsOpenFrame f m index code) wh
     (x, out ∙ sym (set_at (concat o.front ++ block) 1 [] x next long)),
   )
 
--- what a byte makes of it, and of a list g that is f but for the code of the open block
+-- the change of it by a byte, and that of a list g that is f except for the code of the open block
 module _ {m f g : List ℕ} {index code : ℕ} (o : IsOpenFrame f m index code) (same : AgreeOutside index f g) where
   pub g-is : g ≡ concat o.front ++ same.0 ∷ o.bytes
   g-is = (rw (f-is o) at same.1) ∙ set_at (concat o.front) code o.bytes same.0 index (sym o.begins)

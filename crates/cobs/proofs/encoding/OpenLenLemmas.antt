@@ -70,7 +70,7 @@ len-blocks (b ∷ c ∷ front) code bytes t each some =
     let l = length-append b (concat (c ∷ front)) in
     len-block b m t (All-head IsBlock b (c ∷ front) each) (λ full. not_none) ∙ omega arith
 
--- the frame of a message that goes on
+-- the frame of a message that continues
 pub Opened-len : {slice m : List ℕ} {index next : ℕ} {full : Bool} (t : List ℕ) → (full ≡ true → t ≢ []) → Opened slice m index next full → encoded_len (m ++ t) ≡ index + open_len (next - index) t
 Opened-len {full = full} t more o = grind (arith, length-ones, len-blocks, same_start, ones-nonzero, ends_in_full)
 

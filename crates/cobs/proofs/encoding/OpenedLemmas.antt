@@ -33,13 +33,13 @@ module _ {slice m : List ℕ} {index next : ℕ} {full : Bool} (o : Opened slice
     noted = o.noted;
   }
 
-  -- what is behind is no matter
+  -- the bytes after it don't matter
   pub Opened-same : (slice' : List ℕ) → take next slice' ≡ take next slice → Opened slice' m index next full
   Opened-same slice' same =
       let le : index ≤ next = omega arith in
       Opened-in slice' (sym (take-take index next slice' le) ∙ ap (take index) same ∙ take-take index next slice le) (ap (drop (index + 1)) same)
 
-  -- where the open block has no bytes, the byte in its code's place is no matter either
+  -- if the open block has no bytes, the byte in its code's place doesn't matter either
   pub Opened-same-empty : (slice' : List ℕ) → next ≡ index + 1 → take index slice' ≡ take index slice → Opened slice' m index next full
   Opened-same-empty slice' empty same = Opened-in slice' same (none slice' ∙ sym (none slice))
     where
@@ -73,7 +73,7 @@ module _ {slice m : List ℕ} {index next : ℕ} {full : Bool} (o : Opened slice
         noted = sym (not_full-more o.front o.bytes more some);
       }
 
-  -- the code of the open block is written, and the block behind it is open
+  -- the code of the open block is written, and the block after it is open
   pub Opened-close : (code : ℕ) → next ≤ length slice → index + code ≡ next → Opened (set slice index code) (m ++ joint (code ∷ [])) next (next + 1) (code == 255)
   Opened-close code fits is =
       let code-is : length o.bytes + 1 ≡ code = omega arith in

@@ -1,5 +1,5 @@
--- How far the core of the encoder has come with a source, and how it goes on: nonzero bytes join the open block, a zero or
--- the 254th byte closes it. By `OpenedLemmas` for the slice, and `OpenLenLemmas` for where the frame ends.
+-- How far the core of the encoder has come with a source, and how it continues: nonzero bytes join the open block, a zero or
+-- the 254th byte closes it. By `OpenedLemmas` for the slice, and `OpenLenLemmas` for the end of the frame.
 use Rattle.std.proofs.Common.{◌≡◌, ◌≢◌, ℕ, ◌+◌, ◌-◌, ◌<◌, ◌≤◌, ◌==◌, Bool, true, false, List, ◌∷◌, ◌++◌, length, drop, take, get_or, replicate, zero, suc, refl, sym, ap, ◌∙◌, arith, inl, inr, ◌⊎◌, append-nil, append_assoc, length-take-le, length-drop, take-append-drop}
 use Rattle.std.proofs.Math.ListN.{set}
 use Rattle.std.proofs.Math.Seq.{take-add}
@@ -17,7 +17,7 @@ pub Reaches-at : {s : Start} {slice slice' : List ℕ} {pos pos' index index' ne
 Reaches-at s p i n weaker r = grind arith
 
 module _ {s : Start} {slice : List ℕ} {pos index next : ℕ} {P : Bool → Type 0} (r : Reaches s slice pos index next P) where
-  -- what is left of the source needs as many bytes at the least
+  -- the rest of the source needs at least as many bytes
   pub least : next + (length s.source - pos) ≤ whole_end s
   least = grind (arith, length-drop, open_len-least)
 
@@ -109,7 +109,7 @@ module _ {s : Start} {slice : List ℕ} {pos index next : ℕ} {P : Bool → Typ
 abbrev pub IsNotFull : Bool → Type 0
 IsNotFull full = full ≡ false
 
--- n blocks of no bytes behind a closed one
+-- n blocks without bytes after a closed one
 Reaches-ones : (n : ℕ) {s : Start} {slice : List ℕ} {pos index : ℕ} (after : List ℕ) → Reaches s slice pos index (index + 1) IsNotFull → pos + n ≤ length s.source → take n (drop pos s.source) ≡ replicate n 0
     → whole_end s ≤ length slice → take (index + n) after ≡ take index slice ++ replicate n 1 → drop (whole_end s) after ≡ drop (whole_end s) s.slice → Reaches s after (pos + n) (index + n) (index + n + 1) IsNotFull
 Reaches-ones zero {s} {slice} {pos} {index} after r within zeros fits front back =
@@ -125,7 +125,7 @@ Reaches-ones (suc n) {s} {slice} {pos} {index} after r within zeros fits front b
     let front' : take (index + 1 + n) after ≡ take (index + 1) (set slice index 1) ++ replicate n 1 = grind (arith, append_assoc, take_more_set) in
     Reaches-at refl (omega arith) (omega arith) (omega arith) (λ full p. p) (Reaches-ones n after closed (omega arith) (cc) (omega arith) front' back)
 
--- zeros close the open block, and the ones behind it
+-- zeros close the open block, and those after it
 pub Reaches-zeros : (n : ℕ) {s : Start} {slice : List ℕ} {pos index next : ℕ} {P : Bool → Type 0} (after : List ℕ) → Reaches s slice pos index next P → pos + suc n ≤ length s.source → take (suc n) (drop pos s.source) ≡ replicate (suc n) 0
     → whole_end s ≤ length slice → next < index + 255 → take (next + n) after ≡ take next (set slice index (next - index)) ++ replicate n 1 → drop (whole_end s) after ≡ drop (whole_end s) s.slice
     → Reaches s after (pos + suc n) (next + n) (next + n + 1) IsNotFull

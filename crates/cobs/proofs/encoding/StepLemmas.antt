@@ -9,7 +9,7 @@ use Rattle.cobs.proofs.encoding.ByteLemmas.{fits-byte}
 use Rattle.cobs.proofs.encoding.OpenLenLemmas.{open_len-least}
 use Rattle.cobs.proofs.encoding.TakingLemmas.{after-some}
 
--- where an encoder is whose open block isn't full
+-- the state of an encoder whose open block isn't full
 pub is-place : (e : UnbufferedEncoder) (n : ℕ) → e.taken ≤ 253 → e.index + e.taken + 1 < n → IsPlaceIn n (reached_by e)
 is-place e n short room = record { some = omega arith; not_full = omega arith; fits = grind (arith, cases_Bool) }
 

@@ -38,7 +38,7 @@ reaches-start {source} {old} {r} some code short =
       taken = λ m h. (r.full, tt, rw append-nil (from_after h));
     }
 
--- a byte is written behind the open block's
+-- a byte is written after the open block's bytes
 module _ {s : Start} {slice : List ℕ} {read index next : ℕ} {P : Bool → Type 0} (byte : ℕ) (more : read < length s.source) (r : Reaches s slice read index next P) where
   pub written : Reaches s (set slice next byte) read index next P
   written = let l = least r in Reaches-same r (set slice next byte) (take-set-le next slice next byte (omega arith)) (drop-set-lt (whole_end s) slice next byte (omega arith))
@@ -103,9 +103,9 @@ front-filled {source} {old} {slice} {r} {r'} {pos} {index} {next} fits full s on
 pub front-none : (slice : List ℕ) (r : Reached) (source : List ℕ) → IsPlaceIn (length slice) r → TakesFront slice r source 0 slice r
 front-none slice r source p = record { place = p; after = λ m h. rw append-nil h; end = refl; rest = refl }
 
--- one step and then another, on what is left
+-- one step and then another, on the rest of the source
 module _ {slice slice' source left : List ℕ} {r r' : Reached} (n : ℕ) (is : left ≡ drop n source) (a : TakesFront slice r source n slice' r') where
-  -- what is left fits
+  -- the remaining bytes fit
   pub left-end : end_after r' left ≡ end_after r source
   left-end = ap (end_after r') is ∙ a.end
 

@@ -14,7 +14,7 @@ use Rattle.cobs.specs.Internal.Reaches.{HadTaken, Reaches, Start, start_with, wh
 abbrev pub start : List ℕ → List ℕ → Start
 start old source = start_with old (place_at 0 1 false) source
 
--- where its frame ends
+-- the end of its frame
 pub whole-fits : (old source : List ℕ) → 0 < length old → whole_end (start old source) ≡ encoded_len source
 whole-fits old source some = start-fits old (place_at 0 1 false) refl some source
 

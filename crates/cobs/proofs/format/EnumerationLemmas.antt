@@ -32,7 +32,7 @@ last_run-all bytes h = grind (arith, slice_split_none, no_zero)
 last_run-zero : (bytes m : List ℕ) → HasNoZero bytes → last_run (bytes ++ 0 ∷ m) ≡ last_run m
 last_run-zero bytes m h = grind (arith, slice_split_at, no_zero, some_stretch, last_number-cons)
 
--- nonzero bytes in front of a message lengthen its last run, or leave it
+-- nonzero bytes before a message lengthen its last run, or don't change it
 last-onto_parts : (bytes : List ℕ) (ps : List (List ℕ)) → ps ≢ [] → let last = last_number (map length ps) in let longer = last_number (map length (onto_parts bytes ps)) in
     (longer ≡ last) ⊎ ((longer ≡ length bytes + last) × (length (join_with_byte 0 ps) ≡ last))
 last-onto_parts bytes ps h = grind (arith, length-append)

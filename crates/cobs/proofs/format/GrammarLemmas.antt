@@ -37,7 +37,7 @@ encoded-by blocks frame message shorter = record {
   canonical = record { blocks = blocks; frame = frame; shorter = shorter };
 }
 
--- a block in front of a frame
+-- a block before a frame
 pub frame-cons : (b f : List ℕ) (bs : List (List ℕ)) → IsBlock b → IsFrameOf f bs → IsFrameOf (b ++ f) (b ∷ bs)
 frame-cons b f bs h frame = record { some = λ e. cc; each = All-cons IsBlock b bs h frame.each; whole = ap (λ x. b ++ x) frame.whole }
 

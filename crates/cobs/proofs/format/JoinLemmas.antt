@@ -1,4 +1,4 @@
--- Frames joined are a frame, and the fronts of a frame that are frames end where a block ends: by `one_frame`.
+-- Frames joined are a frame, and a front of a frame that is a frame ends at the end of a block: by `one_frame`.
 use Rattle.std.proofs.Common.{◌≡◌, ◌≢◌, ℕ, ◌↔◌, List, [], ◌∷◌, ◌++◌, All, refl, ap, ◌∙◌, length, subst, arith, append-nil, length-append, append_assoc}
 use Rattle.std.specs.List.{concat}
 use Rattle.std.proofs.lemmas.List.{nil_from_length}

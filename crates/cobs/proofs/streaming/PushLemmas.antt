@@ -22,7 +22,7 @@ no_message : (q : List ℕ) (b n k : ℕ) → result_for q b n ≡ Ok (Some k) �
 unfolding result_for
 no_message q b n k h = grind (arith, ne_eqb)
 
--- the result for the byte at this place, if the bytes are fed one by one behind the front p
+-- the result for the byte at this place, if the bytes are fed one by one after the front p
 abbrev pub result_at : List ℕ → List ℕ → ℕ → ℕ → Result (Option ℕ) DecodeError
 result_at p bytes n place = result_for (unended (p ++ take place bytes)) (get_or bytes place 0) n
 
@@ -30,7 +30,7 @@ result_at p bytes n place = result_for (unended (p ++ take place bytes)) (get_or
 abbrev pub IsQuiet : List ℕ → List ℕ → ℕ → ℕ → Type 0
 IsQuiet p bytes n i = (place : ℕ) → place < i → result_at p bytes n place ≡ Ok None
 
--- the byte behind them, which ends the push
+-- the byte after them, which ends the push
 ends_at : (p bytes : List ℕ) (n i place : ℕ) (r : Result (Option ℕ) DecodeError) → IsQuiet p bytes n i → result_at p bytes n i ≡ r → place < i + 1 → result_at p bytes n place ≡ cond (eqb (place + 1) (i + 1)) r (Ok None)
 ends_at p bytes n i place r quiet last within = ⊎_elim
     (λ (e : place ≡ i). rw (eq-eqb (place + 1) (i + 1) (omega (arith, e))) (ap (result_at p bytes n) e ∙ last))

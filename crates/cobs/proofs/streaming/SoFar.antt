@@ -53,7 +53,7 @@ nil-alike xs h = grind arith
 alike-append : (xs ys zs : List Outcome) → AreAlikeAtFirst xs ys → AreAlikeAtFirst (xs ++ zs) (ys ++ zs)
 alike-append xs ys zs h = grind arith
 
--- where nothing is in two lists joined, nothing is in the first
+-- if nothing is in two lists joined, nothing is in the first
 pub left_nothing : (xs ys : List Outcome) → xs ++ ys ≡ [] → xs ≡ []
 left_nothing [] ys e = refl
 left_nothing (x ∷ xs) ys e = cc

@@ -55,7 +55,7 @@ module _ {h old b1 : List ℕ} {tail run : ℕ} {inner : UnbufferedDecoder} (f :
       let nonzero = All-take (λ b. b ≢ 0) k h f.none in
       kept_stop h (take k h) old b1 (phase_of inner) run cut.1.1 nonzero (omega (arith, length-take k h)) (rw same at f.fed) (rw here at over)
 
-  -- all of them are fed, and some of those behind them
+  -- all of them are fed, and some of the bytes after them
   module _ (all : tail ≤ run) where
     first : FeedsQuietly old Idle p b1 (phase_of inner)
     first = rw (take_all run p (omega (arith, length-take tail h))) at f.fed

@@ -1,5 +1,5 @@
--- The bytes behind the first code are moved to the front, and a zero is written at each code: by `as_piece` that is the
--- piece's output. If the last block breaks off, the bytes that were copied beside are put back.
+-- The bytes after the first code are moved to the front, and a zero is written over each code: by `as_piece` that is the
+-- piece's output. If the last block breaks off, the bytes are put back, from a copy that was made before.
 use Rattle.std.proofs.Common.{◌≡◌, ◌≢◌, ◌-◌, ◌<◌, ◌≤◌, ◌∷◌, ◌++◌, ◌∙◌, ℕ, suc, List, Ok, length, take, drop, get_or, set, ap, refl, sym, arith, length-drop, length-take-le, take-append-drop, take_at, drop_at, append-nil, replicate}
 use Rattle.std.proofs.lemmas.List.{drop_more}
 use Rattle.std.proofs.lemmas.List.Elements.{All-cons}
@@ -17,7 +17,7 @@ use Rattle.cobs.proofs.dec.in_place.decode_span_in_place.Goals as goal
 use Rattle.cobs_bytes.proofs.bytes.XoredLemmas.{xor_each-zero}
 use Rattle.cobs_bytes.proofs.bytes.ListLemmas.{drop-later, part-nonzero}
 
--- the first byte of a buffer and those behind it, which were copied beside, are its front
+-- the first byte of a buffer and a copy of those after it are its front
 front-is : (old copied rest : List ℕ) (len : ℕ) → 1 < len → len ≤ 65 → len ≤ length old → copied ≡ xor_each 0 (take (len - 1) (drop 1 old)) ++ rest
     → take len (set (put_mid 1 64 (replicate 65 0) copied) 0 (get_or old 0 0)) ≡ take len old
 front-is old copied rest len some most within is =
@@ -26,7 +26,7 @@ front-is old copied rest len some most within is =
     let behind : take (len - 1) copied ≡ take (len - 1) (drop 1 old) = rw (is, xor_each-zero) (take_at (take (len - 1) (drop 1 old)) rest (len - 1) long) in
     grind (arith, drop_more, append-nil)
 
--- the bytes behind the first one were moved to the front; none of them is a zero
+-- the bytes after the first one were moved to the front; none of them is a zero
 record Moved (old moved : List ℕ) (len : ℕ) : Type 0 where
   some : 1 < len
   most : len ≤ 65
