@@ -6,15 +6,13 @@ use borrow.Rule.Slice.PartMut.{put_mid}
 use Rattle.std.proofs.Math.Seq.{take-append-add, take-set-lt}
 use Rattle.std.proofs.lemmas.Bool.{cases_eq}
 use Rattle.std.proofs.lemmas.List.{drop-drop, drop-take, take-take, get_or-take, get_or-drop, drop-set-lt, length-set, length-replicate, take-append-le, take-replicate, take-set}
-use lib.Count.{count_trailing_zeros}
-use Rattle.std.specs.Int.Bits.{bit_and}
 use Rattle.std.specs.Int.Count.{trailing_of_zero}
 use Rattle.cobs.specs.Grammar.{HasNoZero}
 use Rattle.cobs.specs.OpenBlock.{Reached, end_after, next_of, place_at}
 use Rattle.cobs.specs.Internal.Marks.{IsMasked, IsMaskedAt}
 use Rattle.cobs.specs.Internal.Reaches.{Reaches, Start, start_with, whole_end}
 use Rattle.cobs.specs.Internal.Taking.{TakesFront}
-use Rattle.cobs_bytes.specs.Mask.{zero_mask}
+use Rattle.cobs_bytes.specs.Mask.{lowest, without_lowest, zero_mask}
 use Rattle.cobs_bytes.proofs.bytes.ListLemmas.{behind-three, front-three, mid-three}
 use Rattle.cobs_bytes.proofs.bytes.MaskLemmas.{mask_behind, mask_behind-none, mask_behind-and, some_left, lowest_bit, lowest_left, nonzero_len, nonzero_len-lt, nonzero_len-before, nonzero_len-at, clear_front}
 use Rattle.cobs.proofs.encoding.ReachLemmas.{Reaches-at, Reaches-weaker, Reaches-same, Reaches-full, Reaches-join, Reaches-zero, Reaches-zeros, IsNotFull, least}
@@ -65,15 +63,15 @@ module _ {s : Start} {slice after : List ℕ} {read len index next zeros : ℕ} 
   window = take len (drop read s.source)
 
   -- a zero is within the window
-  pub first-within : zeros ≢ 0 → count_trailing_zeros 64 zeros < len
+  pub first-within : zeros ≢ 0 → lowest zeros < len
   first-within some =
       let l = length-row w.copied in
       let some' : zero_mask window ≢ 0 = λ none. some (w.bits ∙ none) in
-      let first = ap (count_trailing_zeros 64) w.bits ∙ lowest_bit window (omega arith) some' in
+      let first = ap lowest w.bits ∙ lowest_bit window (omega arith) some' in
       let lt = nonzero_len-lt window some' in
       omega arith
 
-  pub masked-start : min (count_trailing_zeros 64 zeros) len < index + 255 - next → IsMasked s read len next zeros index after
+  pub masked-start : min (lowest zeros) len < index + 255 - next → IsMasked s read len next zeros index after
   masked-start near =
       let l = least w.copied.reaches in
       let room = length-after w.copied in
@@ -82,13 +80,13 @@ module _ {s : Start} {slice after : List ℕ} {read len index next zeros : ℕ} 
       grind (arith, mask_behind, Reaches-at)
 
   -- no zero is near enough to keep the block from being full
-  pub filled : index + 255 - next ≤ min (count_trailing_zeros 64 zeros) len → read + (index + 255 - next) < length s.source
+  pub filled : index + 255 - next ≤ min (lowest zeros) len → read + (index + 255 - next) < length s.source
       → Reaches s (set after index 255) (read + (index + 255 - next)) (index + 255) (index + 255 + 1) (λ noted. noted ≡ true)
   filled none more =
       let until_full : ℕ = index + 255 - next in
       let sum : next + until_full ≡ index + 255 = omega arith in
       let l = length-row w.copied in
-      let near = ap (λ (n : ℕ). min (count_trailing_zeros 64 n) len) w.bits in
+      let near = ap (λ (n : ℕ). min (lowest n) len) w.bits in
       let nonzero = rw (take-take until_full len (drop read s.source) (omega arith)) at (clear_front window until_full (omega arith) (omega arith)) in
       let joined = copied-joins w.copied until_full (omega arith) (omega arith) (omega arith) nonzero in
       Reaches-full (rw sum at joined) more refl (length-after w.copied) refl
@@ -102,6 +100,10 @@ pub record WindowTaken (s : Start) (slice : List ℕ) (read len index next : ℕ
 
 -- MARKS
 
+-- no zero is left in an empty mask
+pub lowest-none : (mask : ℕ) → mask ≡ 0 → lowest mask ≡ 64
+lowest-none mask none = ap lowest none ∙ trailing_of_zero 64
+
 module _ {s : Start} {slice : List ℕ} {read len index next zeros d : ℕ} (m : IsMaskedAt s read len next zeros index slice d) where
   abbrev left : List ℕ
   left = take (len - d) (drop (read + d) s.source)
@@ -109,7 +111,7 @@ module _ {s : Start} {slice : List ℕ} {read len index next zeros d : ℕ} (m :
   -- no zero is left
   pub masked-end : zeros ≡ 0 → WindowTaken s slice read len index next
   masked-end none =
-      let all : count_trailing_zeros 64 zeros ≡ 64 = ap (count_trailing_zeros 64) none ∙ trailing_of_zero 64 in
+      let all = lowest-none zeros none in
       let nonzero = mask_behind-none d left (sym m.bits ∙ none) in
       let joined = Reaches-join m.reaches {Q = IsNotFull} m.room (len - d) (omega arith) (omega arith) nonzero m.here (λ full z p. p (omega arith)) (λ z. refl) in
       grind (arith, Reaches-at, joined)
@@ -126,15 +128,15 @@ module _ {s : Start} {slice : List ℕ} {read len index next zeros d : ℕ} (m :
     some_bits : mask_behind d left ≢ 0
     some_bits e = some (m.bits ∙ e)
 
-    first-is : count_trailing_zeros 64 zeros ≡ d + nonzero_len left
-    first-is = ap (count_trailing_zeros 64) m.bits ∙ lowest_left d left small some_bits
+    first-is : lowest zeros ≡ d + nonzero_len left
+    first-is = ap lowest m.bits ∙ lowest_left d left small some_bits
 
     first-lt : nonzero_len left < len - d
     first-lt = grind (arith, nonzero_len-lt, some_left, small, some_bits, length-take-le, length-drop)
 
-    pub masked-step : IsMasked s read len next (bit_and zeros (zeros - 1)) (next + count_trailing_zeros 64 zeros) (set slice index (next + count_trailing_zeros 64 zeros - index))
+    pub masked-step : IsMasked s read len next (without_lowest zeros) (next + lowest zeros) (set slice index (next + lowest zeros - index))
     masked-step =
-        let k : ℕ = count_trailing_zeros 64 zeros in
+        let k : ℕ = lowest zeros in
         let j : ℕ = nonzero_len left in
         let e = first-is in
         let lt = first-lt in
@@ -153,36 +155,38 @@ module _ {s : Start} {slice : List ℕ} {read len index next zeros d : ℕ} (m :
         let closed = Reaches-zero joined {Q = λ full. 0 < k + 1 → full ≡ false} m.room (omega arith) zero_at (omega arith) (λ lt. refl) in
         let code : next + d + j - index ≡ next + k - index = omega arith in
         let long = length-set slice index (next + k - index) in
-        let rest : bit_and zeros (zeros - 1) ≡ mask_behind (d + j + 1) (drop (j + 1) left) = ap (λ (n : ℕ). bit_and n (n - 1)) m.bits ∙ mask_behind-and d left small some_bits in
-        subst (IsMaskedAt s read len next (bit_and zeros (zeros - 1)) (next + k) (set slice index (next + k - index))) {x = k + 1} (omega arith) (record {
+        let others = ap without_lowest m.bits ∙ mask_behind-and d left small some_bits in
+        let coded : List ℕ = set slice index (next + k - index) in
+        let kept = drop-set-lt (next + (k + 1)) slice index (next + k - index) (omega arith) in
+        subst (IsMaskedAt s read len next (without_lowest zeros) (next + k) coded) {x = k + 1} (omega arith) (record {
           seen = omega arith;
           some = m.some;
           few = m.few;
           inside = m.inside;
           fits = m.fits;
           room = let r = m.room in omega arith;
-          here = ap (take (len - (k + 1))) (drop-set-lt (next + (k + 1)) slice index (next + k - index) (omega arith)) ∙ sym (cut slice next) ∙ ap (drop (j + 1)) m.here ∙ cut s.source read;
-          bits = rest ∙ ap (λ (m : ℕ). mask_behind m (drop (j + 1) left)) (omega arith) ∙ ap (mask_behind (k + 1)) (cut s.source read);
+          here = ap (take (len - (k + 1))) kept ∙ sym (cut slice next) ∙ ap (drop (j + 1)) m.here ∙ cut s.source read;
+          bits = others ∙ ap (λ (m : ℕ). mask_behind m (drop (j + 1) left)) (omega arith) ∙ ap (mask_behind (k + 1)) (cut s.source read);
           short = omega arith;
           reaches = Reaches-at (ap (set slice index) code) (omega arith) (omega arith) (omega arith) (λ full p. p) closed;
         })
 
   -- the place of the next code is no later than the next zero
-  pub masked-ordered : index ≤ next + count_trailing_zeros 64 zeros
+  pub masked-ordered : index ≤ next + lowest zeros
   masked-ordered = elim (cases_eq zeros 0) [
-    | inl none ↦ (let n = m.seen in let f = m.few in let o = m.reaches.ordered in let all : count_trailing_zeros 64 zeros ≡ 64 = ap (count_trailing_zeros 64) none ∙ trailing_of_zero 64 in omega arith)
-    | inr some ↦ (let o = m.reaches.ordered in let e = first-is some in omega arith)
+    | inl none ↦ omega (arith, m.seen, m.few, m.reaches.ordered, lowest-none zeros none)
+    | inr some ↦ omega (arith, m.reaches.ordered, first-is some)
   ]
 
 -- a zero is marked, if there is one left
 pub masked-first : {s : Start} {slice : List ℕ} {read len index next zeros : ℕ} → IsMasked s read len next zeros index slice → (after : List ℕ) (r : ℕ × ℕ)
-    → after ≡ set slice index ((next + count_trailing_zeros 64 zeros - index) % 256) → (zeros ≡ 0 → r ≡ (index, 0)) → (zeros ≢ 0 → r ≡ (next + count_trailing_zeros 64 zeros, bit_and zeros (zeros - 1)))
+    → after ≡ set slice index ((next + lowest zeros - index) % 256) → (zeros ≡ 0 → r ≡ (index, 0)) → (zeros ≢ 0 → r ≡ (next + lowest zeros, without_lowest zeros))
     → IsMasked s read len next r.1 r.0 after
 masked-first {s} {slice} {read} {len} {index} {next} {zeros} m after r is none some = elim (cases_eq zeros 0) [
-  | inl e ↦ (let byte : ℕ = (next + count_trailing_zeros 64 zeros - index) % 256 in
+  | inl e ↦ (let byte : ℕ = (next + lowest zeros - index) % 256 in
       let same : IsMasked s read len next zeros index (set slice index byte) = masked-code m byte in
       rw (is, none e, ← e) same)
-  | inr other ↦ (let byte : ℕ = next + count_trailing_zeros 64 zeros - index in
+  | inr other ↦ (let byte : ℕ = next + lowest zeros - index in
       let o = m.reaches.ordered in
       let first = first-is m other in
       let lt = first-lt m other in

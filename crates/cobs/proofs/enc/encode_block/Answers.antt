@@ -1,4 +1,4 @@
-use Rattle.std.proofs.Common.{◌≡◌, ◌≤◌, ◌<◌, ◌+◌, ◌++◌, ℕ, List, length, length-take-le, take, take_at, drop, ap, ◌∙◌, subst, arith}
+use Rattle.std.proofs.Common.{◌≡◌, ◌≤◌, ◌<◌, ◌+◌, ◌++◌, ℕ, List, length, length-take-le, take, take_at, drop, ◌∙◌, arith}
 use Rattle.std.proofs.lemmas.List.{length-map}
 use Rattle.std.proofs.lemmas.Slice.{drop-append-drop}
 use Rattle.std.specs.Int.Bits.{bit_xor}
@@ -25,7 +25,7 @@ returns-clause-frame c =
     let m : List ℕ = c.args.source.now in
     let long = c.encode-len.auto.dest in
     changed-back c.args.sentinel (length m + 1) coded c.xor_bytes.new.bytes m (omega (arith, c.requires.room)) c.xor_bytes.ensures.changed
-    (subst (λ (n : ℕ). IsEncodedFrame (take n coded) m) (len-is (goal.at.returns-clause-frame c).After-xor_bytes) c.encode-len.ensures.frame)
+    (rw (len-is (goal.at.returns-clause-frame c).After-xor_bytes) at c.encode-len.ensures.frame)
 
 pub returns-clause-rest : goal.returns-clause-rest
 returns-clause-rest c =
@@ -33,6 +33,6 @@ returns-clause-rest c =
     let n : ℕ = length c.args.source.now + 1 in
     let long = c.encode-len.auto.dest in
     let within : n ≤ length coded = omega (arith, c.requires.room) in
-    let len : length c.xor_bytes.new.bytes ≡ n = ap length c.xor_bytes.ensures.changed ∙ length-map (take n coded) (λ b. bit_xor b c.args.sentinel) ∙ length-take-le n coded within in
+    let len : length c.xor_bytes.new.bytes ≡ n = rw c.xor_bytes.ensures.changed (length-map (take n coded) (λ b. bit_xor b c.args.sentinel) ∙ length-take-le n coded within) in
     drop-append-drop n coded c.xor_bytes.new.bytes n (omega arith) len
-    ∙ subst (λ (k : ℕ). drop k coded ≡ drop k c.args.dest.now) (len-is (goal.at.returns-clause-rest c).After-xor_bytes) c.encode-len.ensures.rest
+    ∙ (rw (len-is (goal.at.returns-clause-rest c).After-xor_bytes) at c.encode-len.ensures.rest)

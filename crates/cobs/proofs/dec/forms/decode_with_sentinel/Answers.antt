@@ -1,4 +1,4 @@
-use Rattle.std.proofs.Common.{◌≡◌, ◌<◌, ◌-◌, ◌++◌, ℕ, List, Some, Ok, length, take, drop, ap, length-take-le, sym, ◌∙◌, arith}
+use Rattle.std.proofs.Common.{◌≡◌, ◌<◌, ◌-◌, ℕ, List, Some, Ok, length, take, ap, length-take-le, sym, ◌∙◌, arith}
 use Rattle.std.proofs.lemmas.Bool.{eqb-true, eqb-false}
 use Rattle.cobs.specs.Overwritten.{overwritten}
 use Rattle.cobs.specs.Decode.{head_result_within, result_of_sentinel_decode}
@@ -34,8 +34,7 @@ returns-then-eq c =
     let some : 0 < length source = omega (arith, d.some) in
     let returned : Ok (len - 1) ≡ result_of_sentinel_decode f n
     = ap Ok (omega (arith, d.len)) ∙ sym (whole_result h whole) ∙ result-fits h n (omega (arith, d.len)) ∙ ap (λ (l : List ℕ). head_result_within l n) is ∙ result_of_sentinel_decode-head source s n some in
-    let buffer : c.copy_from_slice.new.self ++ drop (len - 1) c.args.dest.now ≡ overwritten c.args.dest.now (kept_output (head f))
-    = whole_front h c.args.dest.now _ (len - 1) whole written (omega (arith, d.len)) (omega (arith, d.len)) ∙ ap (λ (l : List ℕ). overwritten c.args.dest.now (kept_output l)) is in
+    let buffer = rw is at (whole_front h c.args.dest.now _ (len - 1) whole written (omega (arith, d.len)) (omega (arith, d.len))) in
     let below = xored_below s source c.ranges.sentinel.fits c.type_inv.source in
     record {
       answer = returned;

@@ -1,7 +1,5 @@
-use Rattle.std.proofs.Common.{◌≡◌, ◌∙◌, ℕ, List, take, ap, sym, subst, arith, length-take-le}
+use Rattle.std.proofs.Common.{◌≡◌, ◌∙◌, ℕ, List, take, sym, arith, length-take-le}
 use Rattle.std.proofs.lemmas.Bool.{eqb-true, eqb-false}
-use Rattle.cobs.specs.Grammar.{HasNoZero}
-use Rattle.cobs.specs.Piece.{last_part, missing}
 use Rattle.cobs.specs.Stream.{head}
 use Rattle.cobs.proofs.decoding.HeadLemmas.{front_is_head, head-front, short_head}
 use Rattle.cobs.proofs.decoding.OutcomeLemmas.{head_nonzero, length-head}
@@ -25,5 +23,5 @@ returns-then-not-decode_span_in_place-clause-taken c short whole =
     let len : ℕ = c.len_without_end-len.result in
     let e = c.len_without_end-len.ensures in
     let is = short_head buf len short.2 e.within e.last (omega (arith, short.0, length-head buf)) e.stop e.other in
-    let p-is : take len buf ≡ head buf = ap (λ (k : ℕ). take k buf) is ∙ head-front buf in
-    c.if-not-decode_span_in_place.ensures.taken (omega (arith, short.0), omega (arith, short.1)) (subst HasNoZero (sym p-is) (head_nonzero buf)) (ap (λ (l : List ℕ). missing (last_part l)) p-is ∙ whole)
+    let p-is : take len buf ≡ head buf = rw is (head-front buf) in
+    c.if-not-decode_span_in_place.ensures.taken (omega (arith, short.0), omega (arith, short.1)) (rw p-is (head_nonzero buf)) (rw p-is whole)

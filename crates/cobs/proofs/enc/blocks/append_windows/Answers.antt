@@ -2,18 +2,17 @@
 -- (`row-taken`), or up to a full block (`filled`).
 use Rattle.std.proofs.Common.{◌≡◌, refl, ◌∙◌, ◌≢◌, ◌<◌, ◌≤◌, ◌+◌, ◌-◌, min, false, ap, sym, arith, length, take, drop, length-drop}
 use lib.Count.{count_trailing_zeros}
+use Rattle.cobs_bytes.specs.Mask.{lowest, without_lowest}
 use Rattle.std.proofs.lemmas.List.{length-set, take_rest}
 use Rattle.cobs.specs.Internal.Marks.{IsMasked}
 use Rattle.cobs.specs.Internal.Reaches.{start_with}
 use Rattle.std.proofs.Math.ListN.{set}
-use Rattle.std.specs.Int.Bits.{bit_and}
 use Rattle.cobs.specs.Fields.Progress.{reached_at}
 use Rattle.cobs.proofs.encoding.ReachLemmas.{Reaches-weaker}
-use Rattle.cobs.proofs.encoding.MarkLemmas.{CopiedWindow, WindowTaken, copied-reaches, filled, first-within, length-after, length-row, masked-end, masked-start, masked-step, row-taken}
+use Rattle.cobs.proofs.encoding.MarkLemmas.{CopiedWindow, WindowTaken, copied-reaches, filled, first-within, length-after, length-row, lowest-none, masked-end, masked-start, masked-step, row-taken}
 use Rattle.cobs_bytes.proofs.bytes.MaskLemmas.{window_all}
 use Rattle.cobs.proofs.encoding.TakingLemmas.{front-none, front-taken, reaches-start}
 use Rattle.cobs.proofs.enc.blocks.append_windows.Goals.{After-copy_at-window, Joined-window-eq0, After-write_codes_of_zeros-zeros, then-window-eq0+else-next-index, else-window-eq0+else-place-index-lt-FULL_CODE}
-use Rattle.std.specs.Int.Count.{trailing_of_zero}
 use Rattle.cobs.proofs.enc.blocks.append_windows.Goals as goal
 
 -- the window as it was copied
@@ -43,10 +42,10 @@ by_window-preserved-then-next-index c =
     record { more = omega arith; open' = taken.open'; reaches = Reaches-weaker taken.reaches (λ full e le. e) }
 
 -- its first zero has given way to a code
-coded : (c : After-copy_at-window) → c.copy_at-window.result ≢ 0 → c.by_window.next + count_trailing_zeros 64 c.copy_at-window.result - c.by_window.index < 255
+coded : (c : After-copy_at-window) → c.copy_at-window.result ≢ 0 → c.by_window.next + lowest c.copy_at-window.result - c.by_window.index < 255
     → IsMasked (start_with c.args.dest.now (reached_at c.args.start) c.args.source.now) c.by_window.read 32 c.by_window.next
-    (bit_and c.copy_at-window.result (c.copy_at-window.result - 1)) (c.by_window.next + count_trailing_zeros 64 c.copy_at-window.result)
-    (set c.copy_at-window.new.dest c.by_window.index (c.by_window.next + count_trailing_zeros 64 c.copy_at-window.result - c.by_window.index))
+    (without_lowest c.copy_at-window.result) (c.by_window.next + lowest c.copy_at-window.result)
+    (set c.copy_at-window.new.dest c.by_window.index (c.by_window.next + lowest c.copy_at-window.result - c.by_window.index))
 coded c some near = let o = c.by_window.invariant.reaches.ordered in masked-step (masked-start (copied c) (omega arith)) some
 
 pub mark_zeros-index-requires : goal.mark_zeros-index-requires
@@ -64,8 +63,8 @@ row c w =
     let l = length-drop c.by_window.read c.args.source.now in
     let n = length-row w.copied in
     let zeros = (window_all (take 32 (drop c.by_window.read c.args.source.now)) (omega arith) (sym w.bits ∙ c.if-window-eq-ALL_ZEROS.true)).1 in
-    let first : count_trailing_zeros 64 c.copy_at-window.result ≡ 0 = ap (count_trailing_zeros 64) c.if-window-eq-ALL_ZEROS.true in
-    let code : c.by_window.next + count_trailing_zeros 64 c.copy_at-window.result - c.by_window.index ≡ c.by_window.next - c.by_window.index = omega arith in
+    let first : lowest c.copy_at-window.result ≡ 0 = ap lowest c.if-window-eq-ALL_ZEROS.true in
+    let code : c.by_window.next + lowest c.copy_at-window.result - c.by_window.index ≡ c.by_window.next - c.by_window.index = omega arith in
     let written = rw (take_rest c.args.source.now c.by_window.read, code) at c.write_codes_of_zeros-zeros.ensures in
     let some = written.some (omega arith) zeros in
     let within = written.within in
@@ -89,11 +88,11 @@ by_window-preserved c =
     record { more = omega arith; open' = taken.open'; reaches = Reaches-weaker taken.reaches (λ full e le. e) }
 
 -- no zero is near enough to keep the block from being full
-none-near : (c : Joined-window-eq0) → (c.copy_at-window.result ≢ 0 → count_trailing_zeros 64 c.copy_at-window.result < 32)
-    → c.by_window.index + 255 - c.by_window.next ≤ min (count_trailing_zeros 64 c.copy_at-window.result) 32
+none-near : (c : Joined-window-eq0) → (c.copy_at-window.result ≢ 0 → lowest c.copy_at-window.result < 32)
+    → c.by_window.index + 255 - c.by_window.next ≤ min (lowest c.copy_at-window.result) 32
 none-near c first = elim c.if-window-eq0.branch [
-  | then-window-eq0+else-next-index b ↦ (let e = ap (count_trailing_zeros 64) b.if-window-eq0.true ∙ trailing_of_zero 64 in omega arith)
-  | else-window-eq0+else-place-index-lt-FULL_CODE b ↦ (let within = first b.if-window-eq0.false in omega arith)
+  | then-window-eq0+else-next-index b ↦ omega (arith, lowest-none _ b.if-window-eq0.true)
+  | else-window-eq0+else-place-index-lt-FULL_CODE b ↦ omega (arith, first b.if-window-eq0.false)
 ]
 
 pub returns-in-by_window-clause-within : goal.returns-in-by_window-clause-within

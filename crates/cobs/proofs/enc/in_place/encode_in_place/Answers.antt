@@ -71,14 +71,15 @@ pub returns : goal.returns
 returns c =
     let r : Reached = reached_at c.progress.result in
     let all : c.by_byte.taken ≡ c.args.len = omega arith in
-    let message : take c.by_byte.taken (drop c.max_encoding_overhead-before.result c.args.buffer.now) ≡ message_in c.args.len c.args.buffer.now =
-    ap (λ (n : ℕ). take n (drop c.max_encoding_overhead-before.result c.args.buffer.now)) all ∙ ap (λ (n : ℕ). take c.args.len (drop n c.args.buffer.now)) c.max_encoding_overhead-before.ensures.overhead in
+    let m : List ℕ = message_in c.args.len c.args.buffer.now in
+    let message : take c.by_byte.taken (drop c.max_encoding_overhead-before.result c.args.buffer.now) ≡ m = rw (all, c.max_encoding_overhead-before.ensures.overhead) refl in
     let same = c.progress.ensures.progress in
-    let after = subst (λ (r : Reached). CobsEncoderAfter c.by_byte.buffer r (message_in c.args.len c.args.buffer.now)) (sym same) (rw message at c.by_byte.invariant.after) in
-    let frame = c.close.ensures.frame (message_in c.args.len c.args.buffer.now) after in
+    let after : CobsEncoderAfter c.by_byte.buffer r m = rw (same, ← message) c.by_byte.invariant.after in
+    let frame = c.close.ensures.frame m after in
+    let end = c.close.ensures.end ∙ ap end_of same in
     record {
       frame = frame;
       no_sentinel = encoded_nonzero frame;
       len = c.close.ensures.end ∙ sym (end-is after);
-      rest = c.close.ensures.rest ∙ subst (λ (n : ℕ). drop n c.by_byte.buffer ≡ drop n c.args.buffer.now) (sym (c.close.ensures.end ∙ ap end_of same)) c.by_byte.invariant.rest;
+      rest = c.close.ensures.rest ∙ subst (λ (n : ℕ). drop n c.by_byte.buffer ≡ drop n c.args.buffer.now) (sym end) c.by_byte.invariant.rest;
     }
