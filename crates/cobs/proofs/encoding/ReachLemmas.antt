@@ -109,29 +109,24 @@ module _ {s : Start} {slice : List ℕ} {pos index next : ℕ} {P : Bool → Typ
 abbrev pub IsNotFull : Bool → Type 0
 IsNotFull full = full ≡ false
 
--- n blocks without bytes after a closed one
-Reaches-ones : (n : ℕ) {s : Start} {slice : List ℕ} {pos index : ℕ} (after : List ℕ) → Reaches s slice pos index (index + 1) IsNotFull → pos + n ≤ length s.source → take n (drop pos s.source) ≡ replicate n 0
-    → whole_end s ≤ length slice → take (index + n) after ≡ take index slice ++ replicate n 1 → drop (whole_end s) after ≡ drop (whole_end s) s.slice → Reaches s after (pos + n) (index + n) (index + n + 1) IsNotFull
-Reaches-ones zero {s} {slice} {pos} {index} after r within zeros fits front back =
-    let same : take index after ≡ take index slice = grind (arith, append-nil) in
-    Reaches-at refl (omega arith) (omega arith) (omega arith) (λ full p. p) (Reaches-same-empty r after refl same back)
-Reaches-ones (suc n) {s} {slice} {pos} {index} after r within zeros fits front back =
-    let o = least r in
-    let l = length-set slice index 1 in
-    let left = drop_more s.source pos 0 (omega arith) in
-    let first : get_or s.source pos 0 ≡ 0 = cc in
-    let code : index + 1 - index ≡ 1 = omega arith in
-    let closed = rw code at (Reaches-zero r {Q = IsNotFull} fits (omega arith) first (omega arith) refl) in
-    let front' : take (index + 1 + n) after ≡ take (index + 1) (set slice index 1) ++ replicate n 1 = grind (arith, append_assoc, take_more_set) in
-    Reaches-at refl (omega arith) (omega arith) (omega arith) (λ full p. p) (Reaches-ones n after closed (omega arith) (cc) (omega arith) front' back)
+zero-first : (n pos : ℕ) (source : List ℕ) → pos + suc n ≤ length source → take (suc n) (drop pos source) ≡ replicate (suc n) 0 → (get_or source pos 0 ≡ 0) × (take n (drop (pos + 1) source) ≡ replicate n 0)
+zero-first n pos source within zeros = let left = drop_more source pos 0 (omega arith) in (cc, cc)
 
--- zeros close the open block, and those after it
-pub Reaches-zeros : (n : ℕ) {s : Start} {slice : List ℕ} {pos index next : ℕ} {P : Bool → Type 0} (after : List ℕ) → Reaches s slice pos index next P → pos + suc n ≤ length s.source → take (suc n) (drop pos s.source) ≡ replicate (suc n) 0
-    → whole_end s ≤ length slice → next < index + 255 → take (next + n) after ≡ take next (set slice index (next - index)) ++ replicate n 1 → drop (whole_end s) after ≡ drop (whole_end s) s.slice
+-- n + 1 zeros close the open block and the ones behind it, which have no bytes
+pub Reaches-zeros : (n : ℕ) {s : Start} {slice : List ℕ} {pos index next : ℕ} {P : Bool → Type 0} (after : List ℕ) → Reaches s slice pos index next P → pos + suc n ≤ length s.source
+    → take (suc n) (drop pos s.source) ≡ replicate (suc n) 0 → whole_end s ≤ length slice → next < index + 255
+    → take (next + n) after ≡ take next (set slice index (next - index)) ++ replicate n 1 → drop (whole_end s) after ≡ drop (whole_end s) s.slice
     → Reaches s after (pos + suc n) (next + n) (next + n + 1) IsNotFull
-Reaches-zeros n {s} {slice} {pos} {index} {next} after r within zeros fits short front back =
+Reaches-zeros zero {s} {slice} {pos} {index} {next} after r within zeros fits short front back =
+    let closed = Reaches-zero r {Q = IsNotFull} fits (omega arith) (zero-first 0 pos s.source within zeros).0 short refl in
+    let same : take next after ≡ take next (set slice index (next - index)) = grind (arith, append-nil) in
+    Reaches-at refl (omega arith) (omega arith) (omega arith) (λ full p. p) (Reaches-same-empty closed after refl same back)
+Reaches-zeros (suc n) {s} {slice} {pos} {index} {next} after r within zeros fits short front back =
+    let room = least r in
+    let coded : List ℕ = set slice index (next - index) in
     let l = length-set slice index (next - index) in
-    let left = drop_more s.source pos 0 (omega arith) in
-    let first : get_or s.source pos 0 ≡ 0 = cc in
-    let closed = Reaches-zero r {Q = IsNotFull} fits (omega arith) first short refl in
-    Reaches-at refl (omega arith) refl refl (λ full p. p) (Reaches-ones n after closed (omega arith) (cc) (omega arith) front back)
+    let zero = zero-first (suc n) pos s.source within zeros in
+    let closed = Reaches-zero r {Q = IsNotFull} fits (omega arith) zero.0 short refl in
+    let one : next + 1 - next ≡ 1 = omega arith in
+    let front' : take (next + 1 + n) after ≡ take (next + 1) (set coded next (next + 1 - next)) ++ replicate n 1 = rw one (grind (arith, append_assoc, take_more_set)) in
+    Reaches-at refl (omega arith) (omega arith) (omega arith) (λ full p. p) (Reaches-zeros n after closed (omega arith) zero.1 (omega arith) (omega arith) front' back)

@@ -91,8 +91,8 @@ one_blocks : (bs cs : List (List ℕ)) → bs ≢ [] → cs ≢ [] → All IsBlo
 one_blocks [] cs p q h i s t e = absurd (p refl)
 one_blocks (b ∷ bs) [] p q h i s t e = absurd (q refl)
 one_blocks (b ∷ []) (c ∷ []) p q h i s t e = ap (λ (l : List ℕ). l ∷ []) (same_first b c [] [] h i e)
-one_blocks (b ∷ []) (c ∷ d ∷ ds) p q h i s t e = absurd (no_more c d ds i t (ap (λ (l : List ℕ). message_of (l ∷ [])) (sym (same_first b c [] (d ∷ ds) h i e)) ∙ e))
-one_blocks (b ∷ d ∷ ds) (c ∷ []) p q h i s t e = absurd (no_more b d ds h s (ap (λ (l : List ℕ). message_of (l ∷ [])) (same_first b c (d ∷ ds) [] h i e) ∙ sym e))
+one_blocks (b ∷ []) (c ∷ d ∷ ds) p q h i s t e = let first = same_first b c [] (d ∷ ds) h i e in absurd (no_more c d ds i t (rw first at e))
+one_blocks (b ∷ d ∷ ds) (c ∷ []) p q h i s t e = let first = same_first b c (d ∷ ds) [] h i e in absurd (no_more b d ds h s (sym (rw (← first) at e)))
 one_blocks (b ∷ d ∷ ds) (c ∷ k ∷ ks) p q h i s t e =
     let first = same_first b c (d ∷ ds) (k ∷ ks) h i e in
     let rest : message_of (d ∷ ds) ≡ message_of (k ∷ ks) = append_cancel_left (bytes_of c ++ joint c) _ _ (ap (λ (l : List ℕ). message_of (l ∷ d ∷ ds)) (sym first) ∙ e) in

@@ -2,7 +2,7 @@ use Rattle.std.proofs.Common.{◌≡◌, ℕ, List, [], ◌∷◌, ◌++◌, len
 use Rattle.std.proofs.lemmas.List.{take-append-drop}
 use Rattle.cobs.specs.Feed.{Phase, Idle}
 use Rattle.cobs.specs.FeedPiece.{TakesPiece, outcome_at}
-use Rattle.cobs.specs.Stream.{Outcome, stream_outcomes, unended}
+use Rattle.cobs.specs.Stream.{stream_outcomes, unended}
 use Rattle.cobs.specs.declared.dec.frame_decoder.PieceEnd.{PieceEnd}
 use Rattle.cobs.proofs.format.StreamLemmas.{stream_outcomes-append, unended-append, unended-zero}
 use Rattle.cobs.proofs.streaming.FeedLemmas.{DecoderAfter-idle}
@@ -16,13 +16,12 @@ module _ {buffer buffer' : List ℕ} {phase phase' : Phase} {end : PieceEnd} {co
   nothing_left = ap unended t.ends.taken ∙ unended-zero t.ends.front
 
   left_behind : unended bytes ≡ unended (drop count bytes)
-  left_behind = ap unended cut ∙ unended-append (take count bytes) (drop count bytes) ∙ ap (λ (x : List ℕ). unended (x ++ drop count bytes)) nothing_left
+  left_behind = cc (cut, nothing_left, unended-append (take count bytes) (drop count bytes))
 
   reported_first : phase ≡ Idle → stream_outcomes bytes (length buffer) ≡ outcome_at end buffer' ∷ stream_outcomes (drop count bytes) (length buffer)
   reported_first idle =
-      ap (λ (x : List ℕ). stream_outcomes x (length buffer)) cut ∙ stream_outcomes-append (take count bytes) (drop count bytes) (length buffer)
-      ∙ ap (λ (x : List Outcome). x ++ stream_outcomes (unended (take count bytes) ++ drop count bytes) (length buffer)) (sym (t.takes.outcomes [] (DecoderAfter-idle buffer phase idle)))
-      ∙ ap (λ (x : List ℕ). outcome_at end buffer' ∷ stream_outcomes (x ++ drop count bytes) (length buffer)) nothing_left
+      let first = t.takes.outcomes [] (DecoderAfter-idle buffer phase idle) in
+      cc (cut, nothing_left, stream_outcomes-append (take count bytes) (drop count bytes) (length buffer))
 
 pub returns : goal.returns
 returns c = record {
