@@ -3,33 +3,26 @@
 use Rattle.std.proofs.Common.{◌≡◌, ◌≢◌, ℕ, ◌+◌, ◌-◌, ◌<◌, ◌≤◌, Bool, true, false, if◌then◌else◌, List, [], ◌∷◌, ◌++◌, length, set, drop, take, get_or, All, refl, sym, ap, ◌∙◌, arith, inl, inr, ◌⊎◌, append-nil, append_assoc, take_at, drop_at, length-append, length-take-le, length-take}
 use Rattle.std.specs.List.{concat}
 use Rattle.std.proofs.lemmas.Bool.{cases_Bool, true≢false, ne_eqb}
-use Rattle.std.proofs.lemmas.List.{take-take, take-append-drop, drop_more, drop_all, set_at, set_past, same_from_push}
+use Rattle.std.proofs.lemmas.List.{take-take, take-append-drop, drop_more, drop_all, set_at, set_past, set-set, same_from_push}
+use Rattle.std.proofs.lemmas.List.Elements.{All-nil}
+use Rattle.std.proofs.Math.Seq.{take-set-lt}
 use Rattle.cobs.specs.Grammar.{IsBlock, IsFull, is_full, lone_block, last_of, message_of, IsFrameOf, IsEncodedFrame, IsOpenFrame}
 use Rattle.cobs.specs.Length.{encoded_len, open_len}
-use Rattle.cobs.proofs.encoding.OpenLenLemmas.{Opened-len}
-use Rattle.std.proofs.Math.Seq.{take-set-lt}
-use Rattle.std.proofs.lemmas.List.{set-set}
-use Rattle.std.proofs.lemmas.List.Elements.{All-nil}
 use Rattle.cobs.specs.OpenBlock.{Reached, end_after, end_of, next_of, place_at, CobsEncoderAfter, IsPlaceIn}
 use Rattle.cobs.proofs.format.GrammarLemmas.{encoded-by, one_frame}
 use Rattle.cobs.proofs.format.UniqueLemmas.{one_encoded, length-encoded}
+use Rattle.cobs.proofs.encoding.OpenLenLemmas.{Opened-len}
 use Rattle.cobs.proofs.encoding.OpenLemmas.{blocks-of, f-is, message_of-close, frame_push}
 use Rattle.cobs.proofs.format.FrameLemmas.{last_of-push}
 use Rattle.cobs.specs.Internal.Reaches.{Opened, ends_in_full}
 
-full-some : (front : List (List ℕ)) → is_full (last_of front) ≡ true → front ≢ []
-full-some front full none = grind arith
-
--- after a full block the lone block adds nothing
-message_of-lone : (front : List (List ℕ)) → is_full (last_of front) ≡ true → message_of (front ++ lone_block ∷ []) ≡ message_of front
-message_of-lone front full = let close = message_of-close front (full-some front full) in grind (arith, append-nil)
-
 no_bytes : (front : List (List ℕ)) (bytes : List ℕ) → true ≡ ends_in_full front bytes → (bytes ≡ []) × (is_full (last_of front) ≡ true)
 no_bytes front bytes h = grind (arith, true≢false)
 
--- blocks are an encoded frame unless they end in a full block and the lone block
-encoded-open : (f m : List ℕ) (front : List (List ℕ)) (code : ℕ) (bytes : List ℕ) → IsFrameOf f (front ++ (code ∷ bytes) ∷ []) → m ≡ message_of (front ++ (code ∷ bytes) ∷ []) → false ≡ ends_in_full front bytes → IsEncodedFrame f m
-encoded-open f m front code bytes frame message noted = encoded-by (front ++ (code ∷ bytes) ∷ []) frame message lone_behind
+-- blocks whose last isn't lone behind a full one are an encoded frame
+encoded-open : {f m : List ℕ} (front : List (List ℕ)) (code : ℕ) (bytes : List ℕ) → let blocks = front ++ (code ∷ bytes) ∷ [] in
+    IsFrameOf f blocks → m ≡ message_of blocks → false ≡ ends_in_full front bytes → IsEncodedFrame f m
+encoded-open front code bytes frame message noted = encoded-by (front ++ (code ∷ bytes) ∷ []) frame message lone_behind
   where
     lone_behind : (fr : List (List ℕ)) (c : List ℕ) → IsFull c → front ++ (code ∷ bytes) ∷ [] ≢ fr ++ c ∷ lone_block ∷ []
     lone_behind fr c full e =
@@ -37,22 +30,30 @@ encoded-open f m front code bytes frame message noted = encoded-by (front ++ (co
         let last = last_of-push fr c in
         grind (arith, true≢false)
 
--- and so are the blocks before a lone one that follows a full one
-full-frame : (front : List (List ℕ)) → All IsBlock front → is_full (last_of front) ≡ true → IsFrameOf (concat front) front
-full-frame front each full = record { some = full-some front full; each = each; whole = refl }
+-- and so are the blocks in front of a lone one behind a full one, which says nothing
+module _ (front : List (List ℕ)) (full : is_full (last_of front) ≡ true) where
+  some : front ≢ []
+  some none = grind arith
 
-encoded-full : (m : List ℕ) (front : List (List ℕ)) → All IsBlock front → is_full (last_of front) ≡ true → m ≡ message_of (front ++ lone_block ∷ []) → IsEncodedFrame (concat front) m
-encoded-full m front each full message = encoded-by front (full-frame front each full) (message ∙ message_of-lone front full) (λ fr c is e. ends_lone fr c e)
-  where
-    ends_lone : (fr : List (List ℕ)) (c : List ℕ) → front ≢ fr ++ c ∷ lone_block ∷ []
-    ends_lone fr c e =
-        let last = last_of-push (fr ++ c ∷ []) lone_block in
-        let same = append_assoc fr (c ∷ []) (lone_block ∷ []) in
-        grind (arith, true≢false)
+  full-frame : All IsBlock front → IsFrameOf (concat front) front
+  full-frame each = record { some = some; each = each; whole = refl }
 
-pub to_after : (slice m : List ℕ) (index next code : ℕ) (full : Bool) → index + code ≡ next → code < 255 → (if full then index else next) ≤ length slice → Opened slice m index next full → CobsEncoderAfter slice (place_at index code full) m
+  message_of-lone : message_of (front ++ lone_block ∷ []) ≡ message_of front
+  message_of-lone = let close = message_of-close front some in grind (arith, append-nil)
+
+  ends_lone : (fr : List (List ℕ)) (c : List ℕ) → front ≢ fr ++ c ∷ lone_block ∷ []
+  ends_lone fr c e =
+      let last = last_of-push (fr ++ c ∷ []) lone_block in
+      let same = append_assoc fr (c ∷ []) (lone_block ∷ []) in
+      grind (arith, true≢false)
+
+  encoded-full : {m : List ℕ} → All IsBlock front → m ≡ message_of (front ++ lone_block ∷ []) → IsEncodedFrame (concat front) m
+  encoded-full each message = encoded-by front (full-frame each) (message ∙ message_of-lone) (λ fr c is e. ends_lone fr c e)
+
+pub to_after : {slice m : List ℕ} {index next : ℕ} {full : Bool} (code : ℕ) → index + code ≡ next → code < 255 → (if full then index else next) ≤ length slice
+    → Opened slice m index next full → CobsEncoderAfter slice (place_at index code full) m
 unfolding encoded-open encoded-full
-to_after slice m index next code full is short fits o = by_end full fits o.noted
+to_after {slice} {m} {index} {next} {full} code is short fits o = by_end full fits o.noted
   where
     code-is : length o.bytes + 1 ≡ code
     code-is = omega arith
@@ -81,7 +82,7 @@ to_after slice m index next code full is short fits o = by_end full fits o.noted
         let begins : take next slice ≡ concat o.front ++ x ∷ o.bytes = cc (o.written, o.bytes_there) in
         record {
           frame = f;
-          encoded = encoded-open f m o.front code o.bytes frame message noted;
+          encoded = encoded-open o.front code o.bytes frame message noted;
           noted = sym (ap is_full (last_of-push o.front (code ∷ o.bytes)) ∙ ne_eqb code 255 (λ e. omega arith));
           follows = (f, follows);
           fits = omega arith;
@@ -92,7 +93,7 @@ to_after slice m index next code full is short fits o = by_end full fits o.noted
         let b = o.begins in
         record {
           frame = concat o.front;
-          encoded = encoded-full m o.front o.each n.1 (rw n.0 at o.message);
+          encoded = encoded-full o.front n.1 o.each (rw n.0 at o.message);
           noted = sym n.1;
           follows = (f, follows);
           fits = omega arith;
@@ -107,11 +108,11 @@ frame-is {f} {m} {o} {index} {code} e r = elim (cases_Bool (ends_in_full r.front
       let each = blocks-of r in
       let n = no_bytes r.front r.bytes (sym full) in
       let one : code ≡ 1 = each.1.0 ∙ ap (λ (x : List ℕ). length x + 1) n.0 in
-      let same = one_encoded f (concat r.front) m e (encoded-full m r.front each.0 n.1 (rw (n.0, one) at r.message)) in
-      let parse = one_frame f e.reads.blocks r.front e.reads.frame (rw same (full-frame r.front each.0 n.1)) in
+      let same = one_encoded f (concat r.front) m e (encoded-full r.front n.1 each.0 (rw (n.0, one) at r.message)) in
+      let parse = one_frame f e.reads.blocks r.front e.reads.frame (rw same (full-frame r.front n.1 each.0)) in
       rw full (ap (λ (l : List (List ℕ)). is_full (last_of l)) parse ∙ n.1, same ∙ sym (append-nil (concat r.front)))
   | inr open' ↦
-      let same = one_encoded f o m e (encoded-open o m r.front code r.bytes r.frame r.message (sym open')) in
+      let same = one_encoded f o m e (encoded-open r.front code r.bytes r.frame r.message (sym open')) in
       let parse = one_frame f e.reads.blocks (r.front ++ (code ∷ r.bytes) ∷ []) e.reads.frame (rw same r.frame) in
       let short = r.not_full in
       rw open' (

@@ -9,8 +9,8 @@ use Rattle.cobs.specs.OpenBlock.{CobsEncoderAfter, IsPlaceIn, Reached, end_after
 use Rattle.cobs.specs.Internal.Taking.{TakesFront}
 use Rattle.cobs.proofs.encoding.AfterLemmas.{after-len, after-place}
 use Rattle.cobs.proofs.encoding.OpenLenLemmas.{same_start}
-use Rattle.cobs.proofs.encoding.ReachLemmas.{IsNotFull, Reaches-weaker, Reaches-zero}
-use Rattle.cobs.proofs.encoding.TakingLemmas.{front-filled, front-taken, joined, reaches-start, short_room}
+use Rattle.cobs.proofs.encoding.ReachLemmas.{IsNotFull, Reaches-zero}
+use Rattle.cobs.proofs.encoding.TakingLemmas.{front-filled, front-open, joined, reaches-start, short_room}
 use Rattle.cobs_bytes.proofs.bytes.ListLemmas.{length-ones, ones-nonzero}
 use Rattle.cobs.specs.Internal.Reaches.{Reaches, start_with}
 
@@ -31,16 +31,16 @@ module _ {source slice : List ℕ} {r : Reached} {next : ℕ} (place : IsPlaceIn
       let closed = Reaches-zero start {Q = IsNotFull} fits some zero (omega (arith, place.not_full)) refl in
       let code-is : next - r.block.index ≡ code = omega arith in
       let n = length-set slice r.block.index code in
-      front-taken (omega arith) {full = false} (rw code-is at closed) (omega arith) (λ all. refl) refl is
+      front-open (omega arith) (rw code-is at closed) (omega arith) refl is
 
   -- another byte joins it
-  more : get_or source 0 0 ≢ 0 → Reaches (start_with slice r source) (set slice next (get_or source 0 0)) 1 r.block.index (next + 1) (λ full. 0 < 1 → full ≡ false)
+  more : get_or source 0 0 ≢ 0 → Reaches (start_with slice r source) (set slice next (get_or source 0 0)) 1 r.block.index (next + 1) IsNotFull
   more other = joined (get_or source 0 0) some start refl other (omega (arith, place.not_full)) fits
 
   pub byte-joins : {r' : Reached} {code : ℕ} → get_or source 0 0 ≢ 0 → r.block.code ≢ 254 → code ≡ r.block.code + 1 → r' ≡ place_at r.block.index code false → TakesFront slice r source 1 (set slice next (get_or source 0 0)) r'
   byte-joins other open' coded is =
       let n = length-set slice next (get_or source 0 0) in
-      front-taken (omega arith) {full = false} (Reaches-weaker (more other) (λ full p. p (omega arith))) (omega (arith, place.not_full)) (λ all. refl) (omega arith) is
+      front-open (omega arith) (more other) (omega (arith, place.not_full)) (omega arith) is
 
   -- and fills it, if it is the 254th
   pub byte-fills : {r' : Reached} → get_or source 0 0 ≢ 0 → r.block.code ≡ 254 → r' ≡ place_at (next + 1) 1 true → TakesFront slice r source 1 (set (set slice next (get_or source 0 0)) r.block.index 255) r'

@@ -16,7 +16,7 @@ use Rattle.cobs_bytes.specs.Mask.{lowest, without_lowest, zero_mask}
 use Rattle.cobs_bytes.proofs.bytes.ListLemmas.{behind-three, front-three, mid-three}
 use Rattle.cobs_bytes.proofs.bytes.MaskLemmas.{mask_behind, mask_behind-none, mask_behind-and, some_left, lowest_bit, lowest_left, nonzero_len, nonzero_len-lt, nonzero_len-before, nonzero_len-at, clear_front}
 use Rattle.cobs.proofs.encoding.ReachLemmas.{Reaches-at, Reaches-weaker, Reaches-same, Reaches-full, Reaches-join, Reaches-zero, Reaches-zeros, IsNotFull, least}
-use Rattle.cobs.proofs.encoding.TakingLemmas.{front-taken, reaches-start}
+use Rattle.cobs.proofs.encoding.TakingLemmas.{front-open, reaches-start}
 
 -- len bytes of a source at `read` were copied after the open block, and so `slice` became `after`
 pub record Copied (s : Start) (slice after : List ℕ) (read len index next : ℕ) : Type 0 where
@@ -214,7 +214,7 @@ short-copied {source} {old} {slice} {r} {mask} code some few short fits is bits 
 pub window-front : {source old slice : List ℕ} {r r' : Reached} {read len index next : ℕ} → WindowTaken (start_with old r source) slice read len index next
     → read + len ≡ length source → r' ≡ place_at index (next + len - index) false → TakesFront old r source (length source) slice r'
 window-front {source} {old} {slice} {r} {r'} w last is =
-    subst (λ (n : ℕ). TakesFront old r source n slice r') last (front-taken w.room w.reaches w.open' (λ e. refl) (let o = w.ordered in omega arith) is)
+    subst (λ (n : ℕ). TakesFront old r source n slice r') last (front-open w.room w.reaches w.open' (omega (arith, w.ordered)) is)
 
 -- WITHOUT A MASK
 

@@ -12,7 +12,7 @@ use Rattle.cobs.specs.OpenBlock.{Reached, CobsEncoderAfter, IsPlaceIn, end_after
 use Rattle.cobs.specs.Internal.Taking.{TakesFront}
 use Rattle.cobs.proofs.encoding.AfterLemmas.{after-end, after-nothing, end-is, from_after, to_after}
 use Rattle.cobs.proofs.encoding.OpenLenLemmas.{open_len-least, open_len-most}
-use Rattle.cobs.proofs.encoding.ReachLemmas.{Reaches-at, Reaches-full, Reaches-join, Reaches-same, ends, full-taken, least}
+use Rattle.cobs.proofs.encoding.ReachLemmas.{IsNotFull, Reaches-at, Reaches-full, Reaches-join, Reaches-same, ends, full-taken, least}
 use Rattle.cobs.specs.Internal.Reaches.{HadTaken, Reaches, Start, start_with, whole_end}
 
 pub after-some : (r : Reached) (bytes : List ℕ) → 0 < length bytes → end_after r bytes ≡ r.block.index + open_len r.block.code bytes
@@ -44,14 +44,14 @@ module _ {s : Start} {slice : List ℕ} {read index next : ℕ} {P : Bool → Ty
   written = let l = least r in Reaches-same r (set slice next byte) (take-set-le next slice next byte (omega arith)) (drop-set-lt (whole_end s) slice next byte (omega arith))
 
   -- and joins them, unless it is a zero
-  pub joined : get_or s.source read 0 ≡ byte → byte ≢ 0 → next < index + 255 → whole_end s ≤ length slice → Reaches s (set slice next byte) (read + 1) index (next + 1) (λ full. 0 < read + 1 → full ≡ false)
+  pub joined : get_or s.source read 0 ≡ byte → byte ≢ 0 → next < index + 255 → whole_end s ≤ length slice → Reaches s (set slice next byte) (read + 1) index (next + 1) IsNotFull
   joined is other short fits =
       let l = least r in
       let k = length-set slice next byte in
       let one : take 1 (drop read s.source) ≡ byte ∷ [] = grind (arith, drop_more) in
       let here : take 1 (drop next (set slice next byte)) ≡ take 1 (drop read s.source) = grind (arith, drop-set) in
       let nonzero : HasNoZero (take 1 (drop read s.source)) = rw one (All-cons (λ byte. byte ≢ 0) byte [] other (All-nil (λ byte. byte ≢ 0))) in
-      Reaches-join written (omega arith) 1 (omega arith) (omega arith) nonzero here (λ full z p. absurd (omega arith)) (λ z lt. refl)
+      Reaches-join written (omega arith) 1 (omega arith) (omega arith) nonzero here (λ full z p. absurd (omega arith)) (λ z. refl)
 
 -- the end of a step
 module _ {source old slice : List ℕ} {r r' : Reached} (fits : end_after r source ≤ length slice) where
@@ -75,6 +75,10 @@ module _ {source old slice : List ℕ} {r r' : Reached} (fits : end_after r sour
         rest = s.rest;
       })
 
+  pub front-open : {pos index next code : ℕ} → Reaches (start_with old r source) slice pos index next IsNotFull → next < index + 255 → index + code ≡ next
+      → r' ≡ place_at index code false → TakesFront old r source pos slice r'
+  front-open s short coded is = front-taken s short (λ all. refl) coded is
+
   -- the last byte filled its block
   front-full : {pos index : ℕ} {P : Bool → Type 0} → Reaches (start_with old r source) slice pos index (index + 255) P → pos ≡ length source
       → r' ≡ place_at (index + 255) 1 true → TakesFront old r source pos (set slice index 255) r'
@@ -84,7 +88,7 @@ module _ {source old slice : List ℕ} {r r' : Reached} (fits : end_after r sour
       let e = ends s last in
       rw is (record {
         place = record { some = omega arith; not_full = omega arith; fits = omega arith };
-        after = λ m h. to_after (set slice index 255) (m ++ take pos source) (index + 255) (index + 255 + 1) 1 true refl (omega arith) (omega arith) (full-taken s refl (omega arith) m h);
+        after = λ m h. to_after 1 refl (omega arith) (omega arith) (full-taken s refl (omega arith) m h);
         end = rw (drop_all pos source (omega arith)) (sym e);
         rest = rw (drop-set-lt (end_after r source) slice index 255 (omega arith)) s.rest;
       })

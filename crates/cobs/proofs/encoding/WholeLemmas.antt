@@ -8,7 +8,7 @@ use Rattle.cobs.specs.Length.{encoded_len}
 use Rattle.cobs.specs.OpenBlock.{place_at}
 use Rattle.cobs.proofs.encoding.AfterLemmas.{closed-full, closed-open, from_after}
 use Rattle.cobs.proofs.encoding.ReachLemmas.{IsNotFull, ends}
-use Rattle.cobs.proofs.encoding.TakingLemmas.{front-filled, front-taken, start-after, start-fits}
+use Rattle.cobs.proofs.encoding.TakingLemmas.{front-filled, front-open, start-after, start-fits}
 use Rattle.cobs.specs.Internal.Reaches.{HadTaken, Reaches, Start, start_with, whole_end}
 
 abbrev pub start : List ℕ → List ℕ → Start
@@ -45,7 +45,7 @@ module _ {old source slice : List ℕ} {pos index next : ℕ} (some : 0 < length
       let r' : Reaches (start old source) slice (length source) index next IsNotFull = rw (← last) r in
       elim (cases_lt next (index + 255)) [
         | inl open' ↦ (let sum : index + (next - index) ≡ next = omega arith in
-            let after = start-after old (place_at 0 1 false) refl some (front-taken (omega arith) {full = false} r' open' (λ all. refl) sum refl) in
+            let after = start-after old (place_at 0 1 false) refl some (front-open (omega arith) r' open' sum refl) in
             rw sum at (closed-open after refl))
         | inr full ↦ (let code : next - index ≡ 255 = omega arith in
             let after = start-after old (place_at 0 1 false) refl some (front-filled (omega arith) (omega arith) r' refl refl) in

@@ -1,3 +1,4 @@
+-- A message of fewer than 255 bytes has one code (`len-short`), and XORing its frame twice changes nothing (`xor_each-twice`).
 use Rattle.std.proofs.Common.{◌≡◌, ◌≤◌, ◌<◌, ◌+◌, ◌++◌, ℕ, List, length, length-take-le, take, take_at, drop, ◌∙◌, arith}
 use Rattle.std.proofs.lemmas.List.{length-map}
 use Rattle.std.proofs.lemmas.Slice.{drop-append-drop}

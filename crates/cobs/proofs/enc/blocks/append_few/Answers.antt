@@ -1,8 +1,8 @@
--- Each byte is written after the open block's bytes (`written`), and then joins them or, if it is a zero, closes the block.
-use Rattle.std.proofs.Common.{◌≡◌, false, ℕ, get_or, refl, arith}
+-- Each byte is written behind the open block's bytes (`written`), and then joins them or, if it is a zero, closes the block.
+use Rattle.std.proofs.Common.{◌≡◌, ℕ, get_or, refl, arith}
 use Rattle.std.proofs.lemmas.List.{length-set}
 use Rattle.cobs.proofs.encoding.ReachLemmas.{Reaches-code, Reaches-weaker, Reaches-zero}
-use Rattle.cobs.proofs.encoding.TakingLemmas.{front-taken, joined, reaches-start, written}
+use Rattle.cobs.proofs.encoding.TakingLemmas.{front-open, joined, reaches-start, written}
 use Rattle.cobs.proofs.enc.blocks.append_few.Goals.{then-byte-eq0, else-byte-eq0}
 use Rattle.cobs.proofs.enc.blocks.append_few.Goals as goal
 
@@ -17,11 +17,11 @@ by_byte-preserved c =
     let k = length-set c.by_byte.dest c.by_byte.next byte in
     elim c.if-byte-eq0.branch [
       | then-byte-eq0 b ↦ rw b.index-is (record { open' = omega arith; reaches = Reaches-zero (written byte (omega arith) r) (omega arith) (omega arith) b.if-byte-eq0.true (omega arith) (λ lt. refl) })
-      | else-byte-eq0 b ↦ rw b.index-is (record { open' = omega arith; reaches = Reaches-code (joined byte (omega arith) r refl b.if-byte-eq0.false (omega arith) (omega arith)) _ })
+      | else-byte-eq0 b ↦ rw b.index-is (record { open' = omega arith; reaches = Reaches-code (Reaches-weaker (joined byte (omega arith) r refl b.if-byte-eq0.false (omega arith) (omega arith)) (λ full p lt. p)) _ })
     ]
 
 pub returns : goal.returns
 returns c =
     let all : c.by_byte.read ≡ c.args.len = omega arith in
     let i = c.by_byte.invariant in
-    rw (← all) (front-taken (omega arith) {full = false} (Reaches-weaker i.reaches (λ full p. p (omega arith))) (omega arith) (λ all. refl) (omega arith) c.progress_at.ensures)
+    rw (← all) (front-open (omega arith) (Reaches-weaker i.reaches (λ full p. p (omega arith))) (omega arith) (omega arith) c.progress_at.ensures)

@@ -1,5 +1,5 @@
 -- Each turn takes a part of the run (`slice-joined`), which may fill its block; the zero after the run closes the last one.
-use Rattle.std.proofs.Common.{◌≡◌, ◌≤◌, ◌+◌, ◌-◌, false, ℕ, List, drop, get_or, length, refl, arith, length-drop}
+use Rattle.std.proofs.Common.{◌≡◌, ◌≤◌, ◌+◌, ◌-◌, ℕ, List, drop, get_or, length, refl, arith, length-drop}
 use borrow.Rule.Slice.PartMut.{put_mid}
 use Rattle.std.proofs.lemmas.List.{drop_more}
 use Rattle.cobs.specs.OpenBlock.{end_after, next_of}
@@ -8,7 +8,7 @@ use Rattle.cobs.specs.Fields.Progress.{reached_at}
 use Rattle.cobs.proofs.encoding.ByteLemmas.{byte-zero}
 use Rattle.cobs.proofs.encoding.ReachLemmas.{IsNotFull}
 use Rattle.cobs.proofs.encoding.MarkLemmas.{slice-joined}
-use Rattle.cobs.proofs.encoding.TakingLemmas.{front-filled, front-next, front-none, front-taken, next-least, reaches-start}
+use Rattle.cobs.proofs.encoding.TakingLemmas.{front-filled, front-next, front-none, front-open, next-least, reaches-start}
 use Rattle.cobs.proofs.enc.blocks.append_long_run.Goals.{After-min-len, After-copy_from_slice}
 use Rattle.cobs.proofs.enc.blocks.append_long_run.Goals as goal
 use Rattle.cobs_bytes.proofs.bytes.ListLemmas.{part-nonzero}
@@ -46,7 +46,7 @@ by_block-preserved c =
     let s = joined (goal.at.by_block-preserved c).After-copy_from_slice in
     let e = c.by_block.invariant.taken.end in
     let o = s.ordered in
-    let taken = front-taken (omega arith) {full = false} s (omega arith) (λ all. refl) (omega arith) c.progress_at-progress-else-next-len.ensures in
+    let taken = front-open (omega arith) s (omega arith) (omega arith) c.progress_at-progress-else-next-len.ensures in
     record { within = omega arith; taken = front-next c.by_block.read refl c.by_block.invariant.taken c.min-len.result taken }
 
 -- and may fill it

@@ -1,6 +1,6 @@
 -- Each turn takes one window: without a zero (`masked-end`), with zeros that are marked (`masked-step`), with zeros only
 -- (`row-taken`), or up to a full block (`filled`).
-use Rattle.std.proofs.Common.{◌≡◌, refl, ◌∙◌, ◌≢◌, ◌<◌, ◌≤◌, ◌+◌, ◌-◌, min, false, ap, sym, arith, length, take, drop, length-drop}
+use Rattle.std.proofs.Common.{◌≡◌, refl, ◌∙◌, ◌≢◌, ◌<◌, ◌≤◌, ◌+◌, ◌-◌, min, ap, sym, arith, length, take, drop, length-drop}
 use lib.Count.{count_trailing_zeros}
 use Rattle.cobs_bytes.specs.Mask.{lowest, without_lowest}
 use Rattle.std.proofs.lemmas.List.{length-set, take_rest}
@@ -11,7 +11,7 @@ use Rattle.cobs.specs.Fields.Progress.{reached_at}
 use Rattle.cobs.proofs.encoding.ReachLemmas.{Reaches-weaker}
 use Rattle.cobs.proofs.encoding.MarkLemmas.{CopiedWindow, WindowTaken, copied-reaches, filled, first-within, length-after, length-row, lowest-none, masked-end, masked-start, masked-step, row-taken}
 use Rattle.cobs_bytes.proofs.bytes.MaskLemmas.{window_all}
-use Rattle.cobs.proofs.encoding.TakingLemmas.{front-none, front-taken, reaches-start}
+use Rattle.cobs.proofs.encoding.TakingLemmas.{front-none, front-open, front-taken, reaches-start}
 use Rattle.cobs.proofs.enc.blocks.append_windows.Goals.{After-copy_at-window, Joined-window-eq0, After-write_codes_of_zeros-zeros, then-window-eq0+else-next-index, else-window-eq0+else-place-index-lt-FULL_CODE}
 use Rattle.cobs.proofs.enc.blocks.append_windows.Goals as goal
 
@@ -113,4 +113,4 @@ pub returns-clause-taken : goal.returns-clause-taken
 returns-clause-taken c =
     let i = c.by_window.invariant in
     let o = i.reaches.ordered in
-    front-taken (omega arith) {full = false} (Reaches-weaker i.reaches (λ full p. p (omega arith))) i.open' (λ all. refl) (omega arith) c.progress_at-2.ensures
+    front-open (omega arith) (Reaches-weaker i.reaches (λ full p. p (omega arith))) i.open' (omega arith) c.progress_at-2.ensures

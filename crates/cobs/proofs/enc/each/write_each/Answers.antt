@@ -48,7 +48,7 @@ by_byte-preserved c =
       })
       | else-byte-eq0 w ↦ rw (w.dest-is, w.index-is) (record {
         open' = omega arith;
-        reaches = Reaches-at refl (omega arith) refl refl (λ full p lt. p (omega arith)) (joined byte (omega arith) i.reaches is w.if-byte-eq0.false (omega arith) (omega arith));
+        reaches = Reaches-at refl (omega arith) refl refl (λ full p lt. p) (joined byte (omega arith) i.reaches is w.if-byte-eq0.false (omega arith) (omega arith));
       })
     ]
 

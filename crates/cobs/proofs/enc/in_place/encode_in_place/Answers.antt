@@ -1,3 +1,4 @@
+-- The frame so far ends before the bytes that are still to be read (`encoded_len-le`), so each of these is as it was (`there`).
 use Rattle.std.proofs.Common.{◌≡◌, ◌<◌, ◌≤◌, ◌+◌, ◌-◌, ◌++◌, ℕ, List, [], ◌∷◌, drop, take, get_or, refl, sym, ap, ◌∙◌, subst, arith, length, length-drop, length-take}
 use Rattle.std.proofs.lemmas.Bool.{cases_Bool}
 use Rattle.std.proofs.lemmas.List.{get_or-drop, length_push, take_more}

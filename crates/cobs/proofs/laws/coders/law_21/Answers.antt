@@ -1,3 +1,5 @@
+-- A piece that was taken ends with a zero, after which nothing is unended: so the rest of the stream has its outcomes by itself
+-- (`stream_outcomes-append`).
 use Rattle.std.proofs.Common.{◌≡◌, ℕ, List, [], ◌∷◌, ◌++◌, length, take, drop, sym, ap, ◌∙◌, Some}
 use Rattle.std.proofs.lemmas.List.{take-append-drop}
 use Rattle.cobs.specs.Feed.{Phase, Idle}

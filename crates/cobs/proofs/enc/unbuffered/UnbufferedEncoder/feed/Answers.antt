@@ -1,3 +1,4 @@
+-- The three tests say exactly that the byte has room (`room-only`, `has-room`), and then `append_byte` takes it.
 use Rattle.std.proofs.Common.{[], ◌∷◌, length, refl, arith}
 use Rattle.cobs.specs.Fields.Progress.{reached_by}
 use Rattle.cobs.specs.OpenBlock.{HasRoomFor}
