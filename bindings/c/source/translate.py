@@ -102,6 +102,14 @@ class Output:
         name = self.struct(item, function)
         return "jcobs_answered" if name == "jcobs_answer" else f"{name}_of"
 
+    def drop_uncalled(self, rest):
+        """Drops the functions that nothing calls: if `*this = new()` becomes an assignment to each member, `new` isn't called."""
+        for key, name in reversed(list(self.names.items())):
+            called = sum(len(re.findall(rf"\b{name}\(", text)) for text in [*self.texts, rest])
+            if name not in self.calls and called == 1:
+                self.texts = [text for text in self.texts if not re.search(rf"^static.*\b{name}\(", text, re.M)]
+                del self.names[key]
+
     def types(self):
         """What stands before the functions."""
         texts = "\n".join(self.texts)
@@ -137,9 +145,11 @@ def translated(crates):
         for found in names.values():
             if "cobs_small" in path.parts and found[2][0] == "fn" and any("no_mangle" in it for it in found[2][6]):
                 out.function(found)
+    rest = (HERE / "rest.c").read_text().rstrip()
+    out.drop_uncalled(rest)
     if missing := set(out.contracts) - set(out.names.values()):
         raise Unknown(f"not written: {missing}")
-    parts = [(HERE / "top.c").read_text().rstrip(), *out.types(), *out.texts, (HERE / "rest.c").read_text().rstrip()]
+    parts = [(HERE / "top.c").read_text().rstrip(), *out.types(), *out.texts, rest]
     return "\n\n".join(parts) + "\n"
 
 

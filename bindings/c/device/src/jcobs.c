@@ -85,18 +85,6 @@ typedef struct jcobs_found {
     size_t consumed; /* how many bytes it took */
 } jcobs_found;
 
-static JCOBS_INLINE jcobs_decoder jcobs_decoder_of(size_t written, unsigned char missing, unsigned char joint,
-                                                   unsigned char too_long)
-{
-    jcobs_decoder decoder;
-
-    decoder.written = written;
-    decoder.missing = missing;
-    decoder.joint = joint;
-    decoder.too_long = too_long;
-    return decoder;
-}
-
 static JCOBS_INLINE jcobs_encoder jcobs_encoder_of(size_t index, unsigned char taken, unsigned char full)
 {
     jcobs_encoder encoder;
@@ -254,12 +242,6 @@ jcobs_answer jcobs_decode(const void *source, size_t source_len, void *message, 
     default:
         return jcobs_answered(JCOBS_TOO_SMALL, found.consumed, message_len);
     }
-}
-
-/* Makes an idle decoder, for a buffer of any length, even an empty one. */
-static jcobs_decoder jcobs_decoder_new(void)
-{
-    return jcobs_decoder_of(0, 0, 0, 0);
 }
 
 /* Makes the decoder idle, even if its state is corrupt.
