@@ -14,4 +14,5 @@ pub mod PushHeadline
 pub mod TableLemmas
 pub mod ByByteLemmas
 pub mod FrameTaken
+pub mod FrontFed
 pub mod ReadPiece

@@ -1,227 +1,205 @@
--- The bytes of a piece, read one after another into a buffer, and what its first zero, the end of the source or a byte without
--- room make of them.
-use Rattle.std.proofs.Common.{◌≡◌, ◌≢◌, ◌∙◌, ◌+◌, ◌-◌, ◌<◌, ◌≤◌, ◌++◌, ℕ, zero, suc, Bool, true, false, cond, eqb, List, [], ◌∷◌, length, take, drop, get_or, set, min, Option, Some, refl, sym, ap, subst, arith, inl, inr, length-append, length-drop, length-take-le, length-set}
+-- The first piece of a source, read byte by byte into a buffer: `IsRead` says how far. A byte that has room keeps it
+-- (`read-byte`, `read-full`, `read-zero`); one without room, a zero or the source's end make it the answer (`Ended`).
+use Rattle.std.proofs.Common.{◌≡◌, ◌≢◌, ◌∙◌, ◌+◌, ◌-◌, ◌<◌, ◌≤◌, ℕ, zero, suc, Bool, true, false, cond, eqb, List, [], ◌∷◌, length, take, drop, get_or, set, min, Option, Some, None, refl, sym, ap, arith, inl, inr, length-drop, length-set}
 use Rattle.std.proofs.lemmas.Bool.{cases_eq, eq-eqb, le-leb, le-ltb, lt-leb, lt-ltb, ne_eqb}
 use Rattle.std.proofs.lemmas.List.{drop-drop, drop_more, get_or-drop}
-use Rattle.std.proofs.lemmas.List.Elements.{All-head, All-tail}
-use Rattle.cobs.specs.Decode.{first_output, leading_zeros, output_of}
+use Rattle.cobs.specs.Decode.{first_output, leading_zeros}
 use Rattle.cobs.specs.Feed.{Idle, Overlong, Phase, Within, phase_after}
-use Rattle.cobs.specs.FirstPiece.{end_by_piece, end_of_first, end_with}
-use Rattle.cobs.specs.Grammar.{HasNoZero}
+use Rattle.cobs.specs.FirstPiece.{end_of_first, end_with}
 use Rattle.cobs.specs.Internal.FeedsQuietly.{FeedsQuietly}
 use Rattle.cobs.specs.Overwritten.{overwritten}
-use Rattle.cobs.specs.Piece.{is_whole, last_part, missing, output}
+use Rattle.cobs.specs.Piece.{last_part, missing, output}
 use Rattle.cobs.specs.Step.{end_result, error_if_overlong, next_buffer, next_phase}
-use Rattle.cobs.specs.Stream.{first_piece, head, outcome_of}
+use Rattle.cobs.specs.Stream.{head, outcome_of}
 use Rattle.cobs.specs.declared.dec.frame_decoder.PieceEnd.{PieceEnd}
 use Rattle.cobs.specs.declared.dec.frame_decoder.PieceEnd.TheVariants as ends
-use Rattle.cobs.proofs.decoding.HeadLemmas.{first_piece_found, front_is_head, head_some, leading_zeros-stop}
-use Rattle.cobs.proofs.decoding.OutcomeLemmas.{head-cons, head-zero}
+use Rattle.cobs.proofs.decoding.HeadLemmas.{first_piece_found, first_piece_none, head_some, leading_zeros-stop}
+use Rattle.cobs.proofs.decoding.OutcomeLemmas.{length-head}
+use Rattle.cobs.proofs.decoding.OutcomeSteps.{overwritten-none}
 use Rattle.cobs.proofs.decoding.PieceCuts.{is_whole-of}
-use Rattle.cobs.proofs.streaming.QuietLemmas.{Quiet, quiet, quiet-full, quiet-long, quiet-piece, quiet-written}
+use Rattle.cobs.proofs.streaming.FrontFed.{FrontFed, over-count, over-long, over-written, rest, whole, whole-count}
+use Rattle.cobs.proofs.streaming.QuietLemmas.{quiet-written}
 use Rattle.cobs.proofs.streaming.SpanLemmas.{joined}
 
--- the bytes from `start` to `at` were fed, and the decoder is then in a block, full or not, of which `left` bytes are missing
-pub record IsRead (source old : List ℕ) (start at : ℕ) (new : List ℕ) (full : Bool) (left written : ℕ) : Type 0 where
+-- the bytes before `at` are read: the decoder is then in a block, full or not, of which `left` bytes are missing
+pub record IsRead (source old : List ℕ) (at : ℕ) (new : List ℕ) (full : Bool) (left written : ℕ) : Type 0 where
   pub n : ℕ
-  pub place : at ≡ start + n
+  pub place : at ≡ leading_zeros source + n
   pub within : at ≤ length source
   pub room : written ≤ length new
-  pub fed : FeedsQuietly old Idle (take n (drop start source)) new (Within full left written)
+  pub front : FrontFed (rest source) old new (Within full left written) n
 
--- a byte, fed
-one : (dest dest' : List ℕ) (phase : Phase) (b : ℕ) (full : Bool) (left count : ℕ) → b ≢ 0 → dest' ≡ next_buffer dest phase b → Within full left count ≡ next_phase (length dest) phase b
+-- the same, if the last of them is a code
+pub record IsReadToCode (source old : List ℕ) (at : ℕ) (new : List ℕ) (written : ℕ) : Type 0 where
+  pub begun : 0 < at
+  pub code : get_or source (at - 1) 0 ≢ 0
+  pub read : IsRead source old at new (eqb (get_or source (at - 1) 0) 255) (get_or source (at - 1) 0 - 1) written
+
+-- the result and the buffer are those of the source's first piece
+pub record Ended (source old new : List ℕ) (result : Option (PieceEnd × ℕ)) : Type 0 where
+  pub answer : result ≡ end_of_first source (length old)
+  pub buffer : new ≡ overwritten old (first_output source)
+
+-- one byte, fed
+one : (dest : List ℕ) (phase : Phase) {dest' : List ℕ} {b : ℕ} {full : Bool} {left count : ℕ} → b ≢ 0 → dest' ≡ next_buffer dest phase b → Within full left count ≡ next_phase (length dest) phase b
     → FeedsQuietly dest phase (b ∷ []) dest' (Within full left count)
-one dest dest' phase b full left count other is next =
+one dest phase {dest'} {b} other is next =
     (ap (λ (v : Bool). cond v (end_result (length dest) phase) (error_if_overlong (next_phase (length dest) phase b))) (ne_eqb b 0 other) ∙ ap error_if_overlong (sym next), (is, next))
 
--- the same, where the last byte is a code
-pub record IsReadToCode (source old : List ℕ) (start at : ℕ) (new : List ℕ) (written : ℕ) : Type 0 where
-  pub begun : start < at
-  pub code : get_or source (at - 1) 0 ≢ 0
-  pub read : IsRead source old start at new (eqb (get_or source (at - 1) 0) 255) (get_or source (at - 1) 0 - 1) written
+to-code : (at : ℕ) {source old new : List ℕ} {written : ℕ} → get_or source at 0 ≢ 0 → IsRead source old (at + 1) new (eqb (get_or source at 0) 255) (get_or source at 0 - 1) written
+    → IsReadToCode source old (at + 1) new written
+to-code at other s =
+    let same : at + 1 - 1 ≡ at = omega arith in
+    record { begun = omega arith; code = rw same other; read = rw same s }
 
-at-code : (source old : List ℕ) (start at : ℕ) (new : List ℕ) (written : ℕ) → start ≤ at → get_or source at 0 ≢ 0 → IsRead source old start (at + 1) new (eqb (get_or source at 0) 255) (get_or source at 0 - 1) written
-    → IsReadToCode source old start (at + 1) new written
-at-code source old start at new written after other s =
-    let same : at ≡ at + 1 - 1 = omega arith in
-    record {
-      begun = omega arith;
-      code = subst (λ (k : ℕ). get_or source k 0 ≢ 0) same other;
-      read = subst (λ (k : ℕ). IsRead source old start (at + 1) new (eqb (get_or source k 0) 255) (get_or source k 0 - 1) written) same s;
-    }
-
-pub read-first : (source old : List ℕ) (start : ℕ) → start < length source → get_or source start 0 ≢ 0 → IsReadToCode source old start (start + 1) old 0
-read-first source old start more other =
+-- the first code
+pub read-first : (source old : List ℕ) (start : ℕ) → start ≡ leading_zeros source → start < length source → IsReadToCode source old (start + 1) old 0
+read-first source old start is more =
     let b : ℕ = get_or source start 0 in
-    let here : take 1 (drop start source) ≡ b ∷ [] = ap (take 1) (drop_more source start 0 more) in
-    at-code source old start start old 0 (omega arith) other (record {
+    let long = length-drop (leading_zeros source) source in
+    let starts = leading_zeros-stop source (omega arith) in
+    let first : get_or (rest source) 0 0 ≡ b = get_or-drop (leading_zeros source) source 0 0 ∙ ap (λ (k : ℕ). get_or source k 0) (omega arith) in
+    let other : b ≢ 0 = λ e. starts (first ∙ e) in
+    let here : take 1 (rest source) ≡ b ∷ [] = ap (λ (k : ℕ). take 1 (drop k source)) (sym is) ∙ ap (take 1) (drop_more source start 0 more) in
+    to-code start other (record {
       n = 1;
-      place = refl;
+      place = omega arith;
       within = omega arith;
       room = omega arith;
-      fed = rw here (one old old Idle b (eqb b 255) (b - 1) 0 other refl (rw (ne_eqb b 0 other) refl));
+      front = record { begins = head_some (rest source) (omega arith) starts; within = omega arith; fed = rw here (one old Idle other refl (rw (ne_eqb b 0 other) refl)) };
     })
 
-module _ (source old : List ℕ) (start at : ℕ) (new : List ℕ) (more : at < length source) (other : get_or source at 0 ≢ 0) where
-  abbrev byte : ℕ
-  byte = get_or source at 0
+-- a source that has only zeros
+pub no-piece : (source old : List ℕ) (start : ℕ) → start ≡ leading_zeros source → start ≡ length source → Ended source old old None
+no-piece source old start is all =
+    let none = first_piece_none source (λ more. absurd (omega (arith, length-drop (leading_zeros source) source))) in
+    record {
+      answer = rw none refl;
+      buffer = rw none (sym (overwritten-none old));
+    }
 
-  read-more : (full : Bool) (left written : ℕ) (new' : List ℕ) (full' : Bool) (left' written' : ℕ) → IsRead source old start at new full left written → new' ≡ next_buffer new (Within full left written) byte
-      → Within full' left' written' ≡ next_phase (length new) (Within full left written) byte → written' ≤ length new' → IsRead source old start (at + 1) new' full' left' written'
-  read-more full left written new' full' left' written' s buffer next room =
-      let here : take 1 (drop s.n (drop start source)) ≡ byte ∷ [] = ap (take 1) (drop-drop s.n start source ∙ ap (λ (k : ℕ). drop k source) (sym s.place) ∙ drop_more source at 0 more) in
-      record {
-        n = s.n + 1;
-        place = omega (arith, s.place);
-        within = omega arith;
-        room = room;
-        fed = joined (drop start source) _ _ _ _ _ _ s.n 1 s.fed (rw here (one new new' (Within full left written) byte full' left' written' other buffer next));
-      }
-
-  -- one of the block's bytes
-  pub read-byte : (full : Bool) (left written : ℕ) → IsRead source old start at new full left written → left ≢ 0 → written ≢ length new → IsRead source old start (at + 1) (set new written byte) full (left - 1) (written + 1)
-  read-byte full zero written s some room = absurd (some refl)
-  read-byte full (suc left) written s some room =
-      let less : written < length new = omega (arith, s.room, room) in
-      let one_less : left ≡ suc left - 1 = omega arith in
-      subst (λ (k : ℕ). IsRead source old start (at + 1) (set new written byte) full k (written + 1)) one_less
-      (read-more full (suc left) written (set new written byte) full left (written + 1) s (rw (ne_eqb byte 0 other) refl) (rw (ne_eqb byte 0 other, lt-ltb written (length new) less) refl) (omega (arith, length-set new written byte)))
-
-  module _ (code left written : ℕ) (s : IsRead source old start at new (eqb code 255) left written) (none : left ≡ 0) where
-    at_end : (full : Bool) → eqb code 255 ≡ full → IsRead source old start at new full 0 written
-    at_end full is = subst (λ (v : Bool). IsRead source old start at new v 0 written) is (subst (λ (k : ℕ). IsRead source old start at new (eqb code 255) k written) none s)
-
-    -- the code after a full block
-    pub read-full : code ≡ 255 → IsReadToCode source old start (at + 1) new written
-    read-full full = at-code source old start at new written (omega (arith, s.place)) other (read-more true 0 written new (eqb byte 255) (byte - 1) written (at_end true (eq-eqb code 255 full)) refl (rw (ne_eqb byte 0 other) refl) s.room)
-
-    -- the code after another, with the zero before it
-    pub read-zero : code ≢ 255 → written ≢ length new → IsReadToCode source old start (at + 1) (set new written 0) (written + 1)
-    read-zero joint room =
-        let less : written < length new = omega (arith, s.room, room) in
-        at-code source old start at (set new written 0) (written + 1) (omega (arith, s.place)) other (read-more false 0 written (set new written 0) (eqb byte 255) (byte - 1) (written + 1) (at_end false (ne_eqb code 255 joint)) (rw (ne_eqb byte 0 other) refl) (rw (ne_eqb byte 0 other, lt-ltb written (length new) less) refl) (omega (arith, length-set new written 0)))
-
--- where a decoder is
+-- where the decoder is after a piece whose output fits
 within-at : (p : List ℕ) (n : ℕ) (full : Bool) (left count : ℕ) → Within full left count ≡ phase_after p n → length (output p) ≤ n → (count ≡ length (output p)) × (left ≡ missing (last_part p))
 unfolding phase_after
 within-at [] n full left count e fits = absurd (cc)
 within-at (c ∷ p) n full left count e fits = grind (arith, le-leb)
 
 -- how a piece ends whose output fits
-end_whole : (p : List ℕ) (n : ℕ) → 0 < length p → length (output p) ≤ n → missing (last_part p) ≡ 0 → end_with (outcome_of p n) ≡ ends.Message (length (output p))
+end-whole : (p : List ℕ) (n : ℕ) → 0 < length p → length (output p) ≤ n → missing (last_part p) ≡ 0 → end_with (outcome_of p n) ≡ ends.Message (length (output p))
 unfolding outcome_of
-end_whole p n some fits whole = grind (arith, is_whole-of, eq-eqb, le-leb)
+end-whole p n some fits whole = grind (arith, is_whole-of, eq-eqb, le-leb)
 
-end_broken : (p : List ℕ) (n : ℕ) → 0 < length p → length (output p) ≤ n → missing (last_part p) ≢ 0 → end_with (outcome_of p n) ≡ ends.Broken (length (output p))
+end-broken : (p : List ℕ) (n : ℕ) → 0 < length p → length (output p) ≤ n → missing (last_part p) ≢ 0 → end_with (outcome_of p n) ≡ ends.Broken (length (output p))
 unfolding outcome_of
-end_broken p n some fits broken = grind (arith, is_whole-of, ne_eqb, le-leb)
+end-broken p n some fits broken = grind (arith, is_whole-of, ne_eqb, le-leb)
 
 -- and one whose output doesn't
-end_too_long : (p : List ℕ) (n : ℕ) → n < length (output p) → end_with (outcome_of p n) ≡ ends.TooLong
+end-too-long : (p : List ℕ) (n : ℕ) → n < length (output p) → end_with (outcome_of p n) ≡ ends.TooLong
 unfolding outcome_of
-end_too_long p n long = grind (arith, lt-leb)
+end-too-long p n long = grind (arith, lt-leb)
 
--- the bytes before the first zero begin with bytes that aren't zeros
-pub head-front : (source : List ℕ) (n : ℕ) → HasNoZero (take n source) → head source ≡ take n source ++ head (drop n source)
-head-front source zero none = refl
-head-front [] (suc n) none = refl
-head-front (byte ∷ source) (suc n) none =
-    head-cons byte source (All-head (λ b. b ≢ 0) byte (take n source) none) ∙ ap (λ (l : List ℕ). byte ∷ l) (head-front source n (All-tail (λ b. b ≢ 0) byte (take n source) none))
+-- a byte of an open block, in the machine of `Step`
+module _ (written byte : ℕ) (other : byte ≢ 0) (full : Bool) where
+  buffer-byte : (new : List ℕ) (left : ℕ) → left ≢ 0 → set new written byte ≡ next_buffer new (Within full left written) byte
+  buffer-byte new zero some = absurd (some refl)
+  buffer-byte new (suc left) some = rw (ne_eqb byte 0 other) refl
 
--- and another one that is none
-pub head-at : (source : List ℕ) (n : ℕ) → HasNoZero (take n source) → n < length source → get_or source n 0 ≢ 0 → take n source ++ get_or source n 0 ∷ head (drop (n + 1) source) ≡ head source
-head-at source n none more nz = ap (λ (l : List ℕ). take n source ++ l) (sym (ap head (drop_more source n 0 more) ∙ head-cons _ _ nz)) ∙ sym (head-front source n none)
+  phase-byte : (n left : ℕ) → left ≢ 0 → written < n → Within full (left - 1) (written + 1) ≡ next_phase n (Within full left written) byte
+  phase-byte n zero some room = absurd (some refl)
+  phase-byte n (suc left) some room = let same : suc left - 1 ≡ left = omega arith in rw (same, ne_eqb byte 0 other, lt-ltb written n room) refl
 
-pub code_first : (source : List ℕ) (n : ℕ) → 0 < length (head source) → 0 < length (take n source) → get_or (take n source) 0 0 ≢ 0
-code_first source zero begins some = absurd (omega arith)
-code_first [] (suc n) begins some = absurd (omega arith)
-code_first (byte ∷ source) (suc n) begins some = λ e. omega (arith, ap (λ (x : ℕ). length (head (x ∷ source))) e, ap length (head-zero source))
+  phase-over : (n left : ℕ) → left ≢ 0 → n ≤ written → next_phase n (Within full left written) byte ≡ Overlong
+  phase-over n zero some room = absurd (some refl)
+  phase-over n (suc left) some room = rw (ne_eqb byte 0 other, le-ltb written n room) refl
 
--- a source behind its leading zeros
-module _ (source old : List ℕ) (start : ℕ) (is : start ≡ leading_zeros source) (more : start < length source) where
-  abbrev rest : List ℕ
-  rest = drop start source
+module _ {source old new : List ℕ} {at left written : ℕ} {full : Bool} (s : IsRead source old at new full left written) where
+  abbrev piece : List ℕ
+  piece = head (rest source)
 
-  pub starts : get_or source start 0 ≢ 0
-  starts e = leading_zeros-stop source (omega (arith, is, more)) (ap (λ (k : ℕ). get_or (drop k source) 0 0) (sym is) ∙ get_or-drop start source 0 0 ∙ ap (λ (k : ℕ). get_or source k 0) (omega arith) ∙ e)
+  here : get_or (rest source) s.n 0 ≡ get_or source at 0
+  here = get_or-drop (leading_zeros source) source s.n 0 ∙ ap (λ (k : ℕ). get_or source k 0) (sym s.place)
 
-  begins : 0 < length (head rest)
-  begins = head_some rest (omega (arith, length-drop start source)) (λ e. starts (ap (λ (k : ℕ). get_or source k 0) (omega arith) ∙ sym (get_or-drop start source 0 0) ∙ e))
+  -- the answer, from how the piece ends and how long it is
+  ended-by : (end : PieceEnd) (count : ℕ) → end_with (outcome_of piece (length old)) ≡ end → count ≡ min (length source) (leading_zeros source + length piece + 1)
+      → new ≡ overwritten old (output piece) → Ended source old new (Some (end, count))
+  ended-by end count is counted written-is =
+      let found = first_piece_found source (omega (arith, s.front.begins, length-head (rest source))) in
+      record {
+        answer = rw (found, is, counted) refl;
+        buffer = rw found written-is;
+      }
 
-  found : first_piece source ≡ Some (head rest)
-  found = subst (λ (k : ℕ). first_piece source ≡ Some (head (drop k source))) (sym is)
-      (first_piece_found source (omega (arith, length-drop (leading_zeros source) source)))
-
-  answer-is : (n : ℕ) (end : PieceEnd) (count : ℕ) → end_with (outcome_of (head rest) n) ≡ end → count ≡ min (length source) (start + length (head rest) + 1) → Some (end, count) ≡ end_of_first source n
-  answer-is n end count ended counted = sym (ap (λ (p : Option (List ℕ)). end_by_piece source p n) found ∙ ap (λ (e : PieceEnd). Some (e, min (length source) (leading_zeros source + length (head rest) + 1))) ended
-      ∙ ap (λ (k : ℕ). Some (end, min (length source) (k + length (head rest) + 1))) (sym is) ∙ ap (λ (k : ℕ). Some (end, k)) (sym counted))
-
-  written-is : (new : List ℕ) → new ≡ overwritten old (output (head rest)) → new ≡ overwritten old (first_output source)
-  written-is new w = w ∙ ap (λ (p : Option (List ℕ)). overwritten old (output_of p)) (sym found)
-
-  module _ (at : ℕ) (new : List ℕ) (full : Bool) (left written : ℕ) (s : IsRead source old start at new full left written) where
-    none : HasNoZero (take s.n rest)
-    none = quiet-piece (take s.n rest) old new _ (code_first rest s.n begins) s.fed
-
-    here : get_or rest s.n 0 ≡ get_or source at 0
-    here = get_or-drop start source s.n 0 ∙ ap (λ (k : ℕ). get_or source k 0) (sym s.place)
-
-    front : Quiet old new (Within full left written) (take s.n rest)
-    front = quiet (take s.n rest) old new _ none s.fed
-
-    -- up to the end of the piece
-    module _ (stop : at < length source → get_or source at 0 ≡ 0) where
-      all : take s.n rest ≡ head rest
-      all = front_is_head rest s.n (omega (arith, s.place, s.within, length-drop start source)) none (λ w. here ∙ stop (omega (arith, w, s.place, length-drop start source)))
-
-      whole : Quiet old new (Within full left written) (head rest)
-      whole = subst (Quiet old new (Within full left written)) all front
-
-      counts : (written ≡ length (output (head rest))) × (left ≡ missing (last_part (head rest)))
-      counts = within-at (head rest) (length new) full left written whole.after.phased.phase_is (omega (arith, whole.len, whole.fits))
-
-      long : s.n ≡ length (head rest)
-      long = sym (length-take-le s.n rest (omega (arith, s.place, s.within, length-drop start source))) ∙ ap length all
-
-      pub ended-buffer : new ≡ overwritten old (first_output source)
-      ended-buffer = written-is new (quiet-written old new (head rest) _ whole)
-
-      pub ended-answer : (n : ℕ) (result : Option (PieceEnd × ℕ)) (count : ℕ) → n ≡ length old → count ≡ min (length source) (at + 1)
-          → (left ≡ 0 → result ≡ Some (ends.Message written, count)) → (left ≢ 0 → result ≡ Some (ends.Broken written, count)) → result ≡ end_of_first source n
-      ended-answer n result count same counted if_whole if_broken = elim (cases_eq left 0) [
-        | inl is_whole ↦ if_whole is_whole ∙ answer-is n (ends.Message written) count
-            (end_whole (head rest) n begins (omega (arith, same, whole.fits)) (omega (arith, counts.1, is_whole)) ∙ ap (λ (k : ℕ). ends.Message k) (sym counts.0)) (omega (arith, counted, long, s.place))
-        | inr is_broken ↦ if_broken is_broken ∙ answer-is n (ends.Broken written) count
-            (end_broken (head rest) n begins (omega (arith, same, whole.fits)) (λ e. is_broken (counts.1 ∙ e)) ∙ ap (λ (k : ℕ). ends.Broken k) (sym counts.0)) (omega (arith, counted, long, s.place))
+  -- a zero, or the end of the source
+  pub ended : (at < length source → get_or source at 0 ≡ 0) → {result : Option (PieceEnd × ℕ)} {count : ℕ} → count ≡ min (length source) (at + 1)
+      → (left ≡ 0 → result ≡ Some (ends.Message written, count)) → (left ≢ 0 → result ≡ Some (ends.Broken written, count)) → Ended source old new result
+  ended stop {result} {count} counted if-whole if-broken =
+      let at-stop = λ (more : s.n < length (rest source)). here ∙ stop (omega (arith, length-drop (leading_zeros source) source)) in
+      let w = whole s.front at-stop in
+      let long = whole-count s.front at-stop in
+      let counts = within-at piece (length new) full left written w.after.phased.phase_is (omega (arith, w.len, w.fits)) in
+      let buffer = quiet-written old new piece _ w in
+      elim (cases_eq left 0) [
+        | inl none ↦ rw (if-whole none) (ended-by (ends.Message written) count
+            (end-whole piece (length old) s.front.begins w.fits (omega arith) ∙ ap (λ (k : ℕ). ends.Message k) (sym counts.0)) (omega arith) buffer)
+        | inr some ↦ rw (if-broken some) (ended-by (ends.Broken written) count
+            (end-broken piece (length old) s.front.begins w.fits (omega arith) ∙ ap (λ (k : ℕ). ends.Broken k) (sym counts.0)) (omega arith) buffer)
       ]
 
-    -- up to a byte that has no room
-    module _ (here_too : at < length source) (other : get_or source at 0 ≢ 0) (over : next_phase (length new) (Within full left written) (get_or source at 0) ≡ Overlong) where
-      goes_on : s.n < length rest
-      goes_on = omega (arith, s.place, here_too, length-drop start source)
+  -- another byte
+  module _ (more : at < length source) (other : get_or source at 0 ≢ 0) where
+    abbrev byte : ℕ
+    byte = get_or source at 0
 
-      split : take s.n rest ++ get_or source at 0 ∷ head (drop (s.n + 1) rest) ≡ head rest
-      split = ap (λ (b : ℕ). take s.n rest ++ b ∷ head (drop (s.n + 1) rest)) (sym here) ∙ head-at rest s.n none goes_on (λ e. other (sym here ∙ e))
+    read-more : {new' : List ℕ} {full' : Bool} {left' written' : ℕ} → new' ≡ next_buffer new (Within full left written) byte
+        → Within full' left' written' ≡ next_phase (length new) (Within full left written) byte → written' ≤ length new' → IsRead source old (at + 1) new' full' left' written'
+    read-more buffer next room =
+        let last : take 1 (drop s.n (rest source)) ≡ byte ∷ [] =
+        ap (take 1) (drop-drop s.n (leading_zeros source) source ∙ ap (λ (k : ℕ). drop k source) (sym s.place) ∙ drop_more source at 0 more) in
+        record {
+          n = s.n + 1;
+          place = omega (arith, s.place);
+          within = omega arith;
+          room = room;
+          front = record {
+            begins = s.front.begins;
+            within = omega (arith, s.place, length-drop (leading_zeros source) source);
+            fed = joined (rest source) _ _ _ _ _ _ s.n 1 s.front.fed (rw last (one new (Within full left written) other buffer next));
+          };
+        }
 
-      tail : head (drop (s.n + 1) rest) ≡ head (drop (at + 1) source)
-      tail = ap head (drop-drop (s.n + 1) start source ∙ ap (λ (k : ℕ). drop k source) (omega (arith, s.place)))
+    -- one for which there is no room
+    over : next_phase (length new) (Within full left written) byte ≡ Overlong → {count : ℕ} → count ≡ min (length source) (at + 1 + length (head (drop (at + 1) source)) + 1)
+        → Ended source old new (Some (ends.TooLong, count))
+    over no-room {count} counted =
+        let inside : s.n < length (rest source) = omega (arith, s.place, length-drop (leading_zeros source) source) in
+        let not-zero : get_or (rest source) s.n 0 ≢ 0 = rw here other in
+        let too-long : next_phase (length new) (Within full left written) (get_or (rest source) s.n 0) ≡ Overlong = rw here no-room in
+        let behind : drop (s.n + 1) (rest source) ≡ drop (at + 1) source = drop-drop (s.n + 1) (leading_zeros source) source ∙ ap (λ (k : ℕ). drop k source) (omega (arith, s.place)) in
+        let long = over-count s.front inside not-zero too-long in
+        ended-by ends.TooLong count (end-too-long piece (length old) (over-long s.front inside not-zero too-long))
+        (omega (arith, counted, long, ap (λ (l : List ℕ). length (head l)) behind, s.place)) (over-written s.front inside not-zero too-long)
 
-      pub over-buffer : new ≡ overwritten old (first_output source)
-      over-buffer = written-is new (subst (λ (l : List ℕ). new ≡ overwritten old (output l)) split (quiet-full old new (take s.n rest) _ front _ _ other over))
+    -- one of the block's bytes
+    pub read-byte : left ≢ 0 → written ≢ length new → IsRead source old (at + 1) (set new written byte) full (left - 1) (written + 1)
+    read-byte some room =
+        let less : written < length new = omega (arith, s.room) in
+        read-more (buffer-byte written byte other full new left some) (phase-byte written byte other full (length new) left some less) (omega (arith, length-set new written byte))
 
-      pub over-answer : (n count : ℕ) → n ≡ length old → count ≡ min (length source) (at + 1 + length (head (drop (at + 1) source)) + 1) → Some (ends.TooLong, count) ≡ end_of_first source n
-      over-answer n count same counted =
-          let longer : length old < length (output (head rest)) = subst (λ (l : List ℕ). length old < length (output l)) split (quiet-long old new (take s.n rest) _ front _ _ other over) in
-          let sizes = sym (length-append (take s.n rest) (get_or source at 0 ∷ head (drop (s.n + 1) rest))) ∙ ap length split in
-          answer-is n ends.TooLong count (end_too_long (head rest) n (omega (arith, same, longer)))
-          (omega (arith, counted, sizes, length-take-le s.n rest (omega (arith, goes_on)), ap length tail, s.place))
+    pub over-byte : left ≢ 0 → length new ≤ written → {count : ℕ} → count ≡ min (length source) (at + 1 + length (head (drop (at + 1) source)) + 1)
+        → Ended source old new (Some (ends.TooLong, count))
+    over-byte some no-room = over (phase-over written byte other full (length new) left some no-room)
 
--- a byte without room
-pub over-byte : (n left written next : ℕ) (full : Bool) → left ≢ 0 → next ≢ 0 → n ≤ written → next_phase n (Within full left written) next ≡ Overlong
-over-byte n zero written next full some other room = absurd (some refl)
-over-byte n (suc left) written next full some other room = rw (ne_eqb next 0 other, le-ltb written n room) refl
+    -- the code after a full block
+    pub read-full : left ≡ 0 → full ≡ true → IsReadToCode source old (at + 1) new written
+    read-full none is = to-code at other (read-more (rw (none, is) refl) (rw (none, is, ne_eqb byte 0 other) refl) s.room)
 
--- a zero without room, before a code
-pub over-zero : (n code left written next : ℕ) → left ≡ 0 → code ≢ 255 → next ≢ 0 → n ≤ written → next_phase n (Within (eqb code 255) left written) next ≡ Overlong
-over-zero n code left written next none joint other room = rw (none, ne_eqb code 255 joint, ne_eqb next 0 other, le-ltb written n room) refl
+    -- the code after another, with the zero before it
+    pub read-zero : left ≡ 0 → full ≡ false → written ≢ length new → IsReadToCode source old (at + 1) (set new written 0) (written + 1)
+    read-zero none is room =
+        let less : written < length new = omega (arith, s.room) in
+        to-code at other (read-more (rw (none, is, ne_eqb byte 0 other) refl) (rw (none, is, ne_eqb byte 0 other, lt-ltb written (length new) less) refl)
+        (omega (arith, length-set new written 0)))
+
+    pub over-zero : left ≡ 0 → full ≡ false → length new ≤ written → {count : ℕ} → count ≡ min (length source) (at + 1 + length (head (drop (at + 1) source)) + 1)
+        → Ended source old new (Some (ends.TooLong, count))
+    over-zero none is no-room = over (rw (none, is, ne_eqb byte 0 other, le-ltb written (length new) no-room) refl)

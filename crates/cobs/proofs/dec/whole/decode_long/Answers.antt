@@ -1,64 +1,46 @@
-use Rattle.std.proofs.Common.{◌≡◌, ◌<◌, ◌-◌, ℕ, List, length, take, drop, Some, sym, ap, ◌∙◌, arith, rules, length-drop, ◌≢◌, ◌≤◌, get_or, refl, subst, length-take-le}
-use Rattle.std.proofs.lemmas.List.{take_rest}
+-- The bytes after the leading zeros are fed, up to the end of the piece or up to a byte without room: by `FrontFed` for either.
+use Rattle.std.proofs.Common.{◌≡◌, ◌≢◌, ◌∙◌, ◌<◌, ◌-◌, ℕ, List, length, take, drop, get_or, Some, refl, ap, arith, rules, length-drop}
 use Rattle.std.proofs.lemmas.Bool.{eqb-true, eqb-false}
-use Rattle.cobs.specs.Decode.{output_of, leading_zeros, report_result}
-use Rattle.cobs.specs.Stream.{first_piece, head}
-use Rattle.cobs.proofs.decoding.HeadLemmas.{first_piece_empty, first_piece_none, first_piece_found, head_some, leading_zeros-stop, front_is_head}
-use Rattle.cobs.proofs.decoding.OutcomeSteps.{answer-by, result_of_decode-none, overwritten-none, outcome_result-too_long, result-by, always}
+use Rattle.std.proofs.lemmas.List.{take_rest}
+use Rattle.cobs.specs.Decode.{leading_zeros, report_result}
 use Rattle.cobs.specs.Fields.Decoders.{phase_of}
-use Rattle.cobs.specs.Feed.{Phase, Idle, Overlong}
-use Rattle.cobs.specs.Grammar.{HasNoZero}
-use Rattle.cobs.specs.Internal.FeedsQuietly.{FeedsQuietly}
-use Rattle.cobs.specs.Overwritten.{overwritten}
-use Rattle.cobs.specs.Piece.{output}
+use Rattle.cobs.specs.Feed.{Overlong}
 use Rattle.cobs.specs.Step.{next_phase}
-use Rattle.cobs.proofs.streaming.QuietLemmas.{Quiet, quiet, quiet-piece, quiet-at, quiet-full, quiet-long, quiet-written}
-use Rattle.cobs.proofs.streaming.ReadPiece.{code_first, head-at}
+use Rattle.cobs.specs.Stream.{first_piece, head}
+use Rattle.cobs.proofs.decoding.HeadLemmas.{first_piece_empty, first_piece_none, first_piece_found, head_some, leading_zeros-stop}
+use Rattle.cobs.proofs.decoding.OutcomeSteps.{answer-by, result_of_decode-none, overwritten-none, outcome_result-too_long, result-by, always}
+use Rattle.cobs.proofs.streaming.FrontFed.{FrontFed, over-long, over-written, rest, whole, whole-count}
+use Rattle.cobs.proofs.streaming.QuietLemmas.{quiet-at, quiet-written}
 use Rattle.cobs.proofs.dec.whole.decode_long.Goals as goal
+use Rattle.cobs.proofs.dec.whole.decode_long.Goals.{After-take_run-len}
 
--- a run of a source that begins with a code
-module _ (source old new : List ℕ) (phase : Phase) (run : ℕ) (begins : 0 < length (head source)) (fed : FeedsQuietly old Idle (take run source) new phase) where
-  none : HasNoZero (take run source)
-  none = quiet-piece (take run source) old new phase (code_first source run begins) fed
+module _ (c : After-take_run-len) where
+  abbrev source : List ℕ
+  source = c.args.source.now
 
-  front : Quiet old new phase (take run source)
-  front = quiet (take run source) old new phase none fed
+  abbrev slice : List ℕ
+  slice = take (length source - c.leading_zeros-start.result) (drop c.leading_zeros-start.result source)
 
-  -- up to a byte that has no room
-  module _ (more : run < length source) (nz : get_or source run 0 ≢ 0) (over : next_phase (length new) phase (get_or source run 0) ≡ Overlong) where
-    long : length old < length (output (head source))
-    long = subst (λ (l : List ℕ). length old < length (output l)) (head-at source run none more nz) (quiet-long old new _ phase front _ _ nz over)
+  rest-is : slice ≡ rest source
+  rest-is = take_rest source c.leading_zeros-start.result ∙ ap (λ (k : ℕ). drop k source) c.leading_zeros-start.ensures.count
 
-    full : new ≡ overwritten old (output (head source))
-    full = subst (λ (l : List ℕ). new ≡ overwritten old (output l)) (head-at source run none more nz) (quiet-full old new _ phase front _ _ nz over)
+  some : 0 < length (rest source)
+  some = omega (arith, length-drop (leading_zeros source) source)
 
-  -- or up to its end
-  module _ (within : run ≤ length source) (stop : run < length source → get_or source run 0 ≡ 0) where
-    all : take run source ≡ head source
-    all = front_is_head source run within none stop
+  found : first_piece source ≡ Some (head (rest source))
+  found = first_piece_found source some
 
-    whole : Quiet old new phase (head source)
-    whole = subst (Quiet old new phase) all front
+  -- the run
+  front : FrontFed (rest source) c.args.dest.now c.take_run-len.new.dest (phase_of c.take_run-len.new.self) c.take_run-len.result
+  front = record {
+    begins = head_some (rest source) some (leading_zeros-stop source (omega arith));
+    within = omega (arith, ap length rest-is);
+    fed = rw rest-is at c.take_run-len.ensures.fed;
+  }
 
-    count : run ≡ length (head source)
-    count = sym (length-take-le run source within) ∙ ap length all
-
--- the bytes after the leading zeros
-module _ (source : List ℕ) (start : ℕ) (is : start ≡ leading_zeros source) (more : start < length source) where
-  abbrev rest : List ℕ
-  rest = take (length source - start) (drop start source)
-
-  rest-is : rest ≡ drop (leading_zeros source) source
-  rest-is = take_rest source start ∙ ap (λ (k : ℕ). drop k source) is
-
-  rest-long : length rest ≡ length source - start
-  rest-long = ap length (take_rest source start) ∙ length-drop start source
-
-  begun : 0 < length (head rest)
-  begun = grind (arith, head_some, leading_zeros-stop, rest-is, rest-long)
-
-  found : first_piece source ≡ Some (head rest)
-  found = first_piece_found source (let l = ap length rest-is in omega (arith, rest-long)) ∙ ap (λ (x : List ℕ). Some (head x)) (sym rest-is)
+  stop : c.take_run-len.result < length (rest source) → get_or (rest source) c.take_run-len.result 0 ≢ 0
+      → next_phase (length c.take_run-len.new.dest) (phase_of c.take_run-len.new.self) (get_or (rest source) c.take_run-len.result 0) ≡ Overlong
+  stop = rw rest-is at c.take_run-len.ensures.stop
 
 pub returns-then-is_empty-clause-buffer : goal.returns-then-is_empty-clause-buffer
 returns-then-is_empty-clause-buffer c = grind (arith, first_piece_empty, eqb-true, overwritten-none)
@@ -69,51 +51,31 @@ returns-then-start-source-clause-returned c = grind (arith, first_piece_none, le
 pub returns-then-start-source-clause-buffer : goal.returns-then-start-source-clause-buffer
 returns-then-start-source-clause-buffer c = grind (arith, first_piece_none, length-drop, overwritten-none)
 
-pub returns-then-rest-len-ne0-clause-returned : goal.returns-then-rest-len-ne0-clause-returned
-returns-then-rest-len-ne0-clause-returned c =
-    let source : List ℕ = c.args.source.now in
-    let start = c.leading_zeros-start.ensures.count in
-    let fed = c.take_run-len.ensures.fed in
-    let over = c.take_run-len.ensures.stop c.if-len-rest.true c.if-rest-len-ne0.true in
-    answer-by source _ _ _ 0 _ (omega arith) (found source _ start (omega arith)) refl
-    (outcome_result-too_long _ _ (long _ _ _ _ _ (begun source _ start (omega arith)) fed c.if-len-rest.true c.if-rest-len-ne0.true over)) tt
+-- a byte without room
+pub returns-then-rest-len-ne0 : goal.returns-then-rest-len-ne0
+returns-then-rest-len-ne0 c =
+    let at = (goal.at.returns-then-rest-len-ne0 c).After-take_run-len in
+    let more = rw (rest-is at) at c.if-len-rest.true in
+    let other = rw (rest-is at) at c.if-rest-len-ne0.true in
+    let over = stop at more other in
+    let long = outcome_result-too_long _ _ (over-long (front at) more other over) in
+    record {
+      returned = answer-by _ _ _ _ 0 _ (omega arith) (found at) refl long tt;
+      buffer = rw (found at) (over-written (front at) more other over);
+    }
 
-pub returns-then-rest-len-ne0-clause-buffer : goal.returns-then-rest-len-ne0-clause-buffer
-returns-then-rest-len-ne0-clause-buffer c =
-    let source : List ℕ = c.args.source.now in
-    let start = c.leading_zeros-start.ensures.count in
-    let fed = c.take_run-len.ensures.fed in
-    let over = c.take_run-len.ensures.stop c.if-len-rest.true c.if-rest-len-ne0.true in
-    full _ _ _ _ _ (begun source _ start (omega arith)) fed c.if-len-rest.true c.if-rest-len-ne0.true over
-    ∙ ap (λ (l : _). overwritten c.args.dest.now (output_of l)) (sym (found source _ start (omega arith)))
-
--- a frame through its end
-module _ (c : goal.After-map) where
-  abbrev piece : List ℕ
-  piece = rest c.args.source.now c.leading_zeros-start.result c.leading_zeros-start.ensures.count (omega arith)
-
-  begins : 0 < length (head piece)
-  begins = begun c.args.source.now _ c.leading_zeros-start.ensures.count (omega arith)
-
-  fed : FeedsQuietly c.args.dest.now Idle (take c.take_run-len.result piece) c.take_run-len.new.dest (phase_of c.take_run-len.new.self)
-  fed = c.take_run-len.ensures.fed
-
-  stop : c.take_run-len.result < length piece → get_or piece c.take_run-len.result 0 ≡ 0
-  stop = grind arith
-
-  decoded : Quiet c.args.dest.now c.take_run-len.new.dest (phase_of c.take_run-len.new.self) (head piece)
-  decoded = whole piece _ _ _ _ begins fed (omega arith) stop
-
-  is-found : first_piece c.args.source.now ≡ Some (head piece)
-  is-found = found c.args.source.now _ c.leading_zeros-start.ensures.count (omega arith)
-
-pub returns-clause-returned : goal.returns-clause-returned
-returns-clause-returned c =
+-- a zero, or the end of the source
+pub returns : goal.returns
+returns c =
+    let at = (goal.at.returns c).After-take_run-len in
+    let none : c.take_run-len.result < length (slice at) → get_or (slice at) c.take_run-len.result 0 ≡ 0 = grind arith in
+    let end = rw (rest-is at) at none in
+    let w = whole (front at) end in
+    let counts = quiet-at _ _ _ _ w c.take_run-len.new.self refl in
     let is : c.map.result ≡ report_result c.min-parsed_size.result c.message_len-result.result = search rules in
-    let at = quiet-at _ _ _ _ (decoded c) c.take_run-len.new.self refl in
-    is ∙ answer-by _ _ _ _ _ _ (omega arith) (is-found c) (omega (arith, c.leading_zeros-start.ensures.count))
-    (result-by _ _ _ _ _ (begins c) (decoded c).fits at.0 at.1 c.message_len-result.ensures.whole c.message_len-result.ensures.broken)
-    (always _ (count (piece c) _ _ _ _ (begins c) (fed c) (omega arith) (stop c)))
-
-pub returns-clause-buffer : goal.returns-clause-buffer
-returns-clause-buffer c = quiet-written _ _ _ _ (decoded c) ∙ ap (λ (l : _). overwritten c.args.dest.now (output_of l)) (sym (is-found c))
+    let m = c.message_len-result.ensures in
+    record {
+      returned = is ∙ answer-by _ _ _ _ _ _ (omega arith) (found at) (omega (arith, c.leading_zeros-start.ensures.count))
+          (result-by _ _ _ _ _ (front at).begins w.fits counts.0 counts.1 m.whole m.broken) (always _ (whole-count (front at) end));
+      buffer = rw (found at) (quiet-written _ _ _ _ w);
+    }

@@ -1,0 +1,78 @@
+-- A source that begins with a code, the front of which was fed to an idle decoder: up to the end of the source's first piece,
+-- or up to a byte for which the buffer has no room. The front has no zero, so it is a front of that piece (`QuietLemmas`).
+use Rattle.std.proofs.Common.{◌≡◌, ◌≢◌, ◌∙◌, ◌+◌, ◌<◌, ◌≤◌, ◌++◌, ℕ, zero, suc, List, [], ◌∷◌, length, take, drop, get_or, refl, sym, ap, arith, length-append, length-take-le}
+use Rattle.std.proofs.lemmas.List.{drop_more}
+use Rattle.std.proofs.lemmas.List.Elements.{All-head, All-tail}
+use Rattle.cobs.specs.Decode.{leading_zeros}
+use Rattle.cobs.specs.Feed.{Idle, Overlong, Phase}
+use Rattle.cobs.specs.Grammar.{HasNoZero}
+use Rattle.cobs.specs.Internal.FeedsQuietly.{FeedsQuietly}
+use Rattle.cobs.specs.Overwritten.{overwritten}
+use Rattle.cobs.specs.Piece.{output}
+use Rattle.cobs.specs.Step.{next_phase}
+use Rattle.cobs.specs.Stream.{head}
+use Rattle.cobs.proofs.decoding.HeadLemmas.{front_is_head}
+use Rattle.cobs.proofs.decoding.OutcomeLemmas.{head-cons, head-zero}
+use Rattle.cobs.proofs.streaming.QuietLemmas.{Quiet, quiet, quiet-full, quiet-long, quiet-piece}
+
+-- a source after its leading zeros
+abbrev pub rest : List ℕ → List ℕ
+rest source = drop (leading_zeros source) source
+
+-- the bytes before the first zero begin with bytes that aren't zeros
+front-of-head : (source : List ℕ) (n : ℕ) → HasNoZero (take n source) → head source ≡ take n source ++ head (drop n source)
+front-of-head source zero none = refl
+front-of-head [] (suc n) none = refl
+front-of-head (byte ∷ source) (suc n) none =
+    head-cons byte source (All-head (λ b. b ≢ 0) byte (take n source) none)
+    ∙ ap (λ (l : List ℕ). byte ∷ l) (front-of-head source n (All-tail (λ b. b ≢ 0) byte (take n source) none))
+
+-- a front of a source that begins with a code begins with it
+code-first : (source : List ℕ) (n : ℕ) → 0 < length (head source) → 0 < length (take n source) → get_or (take n source) 0 0 ≢ 0
+code-first source zero begins some = absurd (omega arith)
+code-first [] (suc n) begins some = absurd (omega arith)
+code-first (byte ∷ source) (suc n) begins some =
+    λ is. omega (arith, ap (λ (x : ℕ). length (head (x ∷ source))) is, ap length (head-zero source))
+
+-- the first `run` bytes were fed
+pub record FrontFed (source old new : List ℕ) (phase : Phase) (run : ℕ) : Type 0 where
+  pub begins : 0 < length (head source)
+  pub within : run ≤ length source
+  pub fed : FeedsQuietly old Idle (take run source) new phase
+
+module _ {source old new : List ℕ} {phase : Phase} {run : ℕ} (f : FrontFed source old new phase run) where
+  none : HasNoZero (take run source)
+  none = quiet-piece (take run source) old new phase (code-first source run f.begins) f.fed
+
+  front : Quiet old new phase (take run source)
+  front = quiet (take run source) old new phase none f.fed
+
+  -- up to the end of the piece
+  module _ (stop : run < length source → get_or source run 0 ≡ 0) where
+    all : take run source ≡ head source
+    all = front_is_head source run f.within none stop
+
+    pub whole : Quiet old new phase (head source)
+    whole = rw all at front
+
+    pub whole-count : run ≡ length (head source)
+    whole-count = sym (length-take-le run source f.within) ∙ ap length all
+
+  -- up to a byte that has no room
+  module _ (more : run < length source) (other : get_or source run 0 ≢ 0) (over : next_phase (length new) phase (get_or source run 0) ≡ Overlong) where
+    abbrev tail : List ℕ
+    tail = head (drop (run + 1) source)
+
+    split : take run source ++ get_or source run 0 ∷ tail ≡ head source
+    split =
+        ap (λ (l : List ℕ). take run source ++ l) (sym (ap head (drop_more source run 0 more) ∙ head-cons _ _ other))
+        ∙ sym (front-of-head source run none)
+
+    pub over-long : length old < length (output (head source))
+    over-long = rw split at (quiet-long old new _ phase front _ tail other over)
+
+    pub over-written : new ≡ overwritten old (output (head source))
+    over-written = rw split at (quiet-full old new _ phase front _ tail other over)
+
+    pub over-count : length (head source) ≡ run + 1 + length tail
+    over-count = omega (arith, ap length split, length-append (take run source) (get_or source run 0 ∷ tail), length-take-le run source f.within)
