@@ -1,4 +1,6 @@
-use Rattle.std.proofs.Common.{◌≡◌, ◌≢◌, ◌<◌, ◌+◌, List, ℕ, zero, suc, Bool, true, false, eqb, Option, Result, None, Some, inl, inr, refl, sym, subst, arith, get_or, length, take, take_all}
+-- The bytes before a zero are fed quietly (`take_front`, `take_short`), and a zero after them ends the piece; or nothing was
+-- taken (`kept`), and the bytes are fed by the other functions.
+use Rattle.std.proofs.Common.{◌≡◌, ◌≢◌, ◌∙◌, ◌<◌, ◌+◌, List, ℕ, zero, suc, Bool, true, false, eqb, Option, Result, None, Some, refl, sym, subst, arith, get_or, length, take, take_all}
 use Rattle.std.proofs.Math.Seq.{take-length}
 use Rattle.cobs.specs.Feed.{Feeds, Phase}
 use Rattle.cobs.specs.Fields.Decoders.{phase_of, phase_with}
@@ -12,7 +14,7 @@ use Rattle.cobs.proofs.streaming.ByByteLemmas.{piece-nothing, piece-ended}
 use Rattle.cobs.proofs.streaming.RunLemmas.{piece-run}
 use Rattle.cobs.proofs.dec.unbuffered.UnbufferedDecoder.feed_piece.Goals as goal
 use Rattle.cobs_bytes.proofs.bytes.XoredLemmas.{xor_each-zero}
-use Rattle.cobs.proofs.dec.unbuffered.UnbufferedDecoder.feed_piece.Goals.{then-bytes-gt-VERY_FEW+then-is_idle+else-front-lt-WINDOW, else-front-lt-WINDOW-via-then-front-lt-WINDOW+else-take_front, else-front-lt-WINDOW-via-else-front-lt-WINDOW, then-bytes-gt-VERY_FEW+else-is_idle+else-take_short, else-bytes-gt-VERY_FEW}
+use Rattle.cobs.proofs.dec.unbuffered.UnbufferedDecoder.feed_piece.Goals.{Joined-bytes-gt-VERY_FEW, then-bytes-gt-VERY_FEW+then-is_idle+else-front-lt-WINDOW, else-front-lt-WINDOW-via-then-front-lt-WINDOW+else-take_front, else-front-lt-WINDOW-via-else-front-lt-WINDOW, then-bytes-gt-VERY_FEW+else-is_idle+else-take_short, else-bytes-gt-VERY_FEW}
 
 -- bytes were fed of which none ends a piece
 quietly : (bytes buffer buffer' : List ℕ) (phase phase' : Phase) → FeedsQuietly buffer phase bytes buffer' phase' → TakesPiece buffer phase bytes None buffer' phase'
@@ -22,22 +24,10 @@ quietly bytes buffer buffer' phase phase' fed =
 -- a zero ends a piece of which a byte is written
 ended_at : (is_full : Bool) (left count n : ℕ) (phase' : Phase) (result : Result (Option ℕ) DecodeError)
     → FeedsByTable n (phase_with is_full left (suc count)) 0 result phase' → end_reported result ≢ None
-ended_at false zero count n phase' result f none = elim (f.returned (Grab 0) refl) [
-  | inl is ↦ let e = rw is at none in cc
-  | inr is ↦ let e = rw is.0 at none in cc
-]
-ended_at false (suc left) count n phase' result f none = elim (f.returned (Grab (suc left)) refl) [
-  | inl is ↦ let e = rw is at none in cc
-  | inr is ↦ let e = rw is.0 at none in cc
-]
-ended_at true zero count n phase' result f none = elim (f.returned (GrabChain 0) refl) [
-  | inl is ↦ let e = rw is at none in cc
-  | inr is ↦ let e = rw is.0 at none in cc
-]
-ended_at true (suc left) count n phase' result f none = elim (f.returned (GrabChain (suc left)) refl) [
-  | inl is ↦ let e = rw is at none in cc
-  | inr is ↦ let e = rw is.0 at none in cc
-]
+ended_at false zero count n phase' result f none = grind (arith, f.returned (Grab 0) refl)
+ended_at false (suc left) count n phase' result f none = grind (arith, f.returned (Grab (suc left)) refl)
+ended_at true zero count n phase' result f none = grind (arith, f.returned (GrabChain 0) refl)
+ended_at true (suc left) count n phase' result f none = grind (arith, f.returned (GrabChain (suc left)) refl)
 
 ended_by : (written missing joint too_long n : ℕ) (phase' : Phase) (result : Result (Option ℕ) DecodeError) → too_long ≡ 0 → 0 < written
     → FeedsByTable n (phase_of (record { written = written; missing = missing; joint = joint; too_long = too_long })) 0 result phase' → end_reported result ≢ None
@@ -81,38 +71,27 @@ returns-then-take_front c =
 pub returns-then-take_short : goal.returns-then-take_short
 returns-then-take_short c = record { takes = quietly _ _ _ _ _ (c.take_short.ensures.fed c.if-take_short.true) }
 
+-- no byte was taken before
+kept : (c : Joined-bytes-gt-VERY_FEW) → (c.if-bytes-gt-VERY_FEW.dest ≡ c.args.dest.now) × (c.if-bytes-gt-VERY_FEW.self ≡ c.args.self.now)
+kept c = elim c.if-bytes-gt-VERY_FEW.branch [
+  | then-bytes-gt-VERY_FEW+then-is_idle+else-front-lt-WINDOW w ↦ elim w.else-front-lt-WINDOW.branch [
+    | else-front-lt-WINDOW-via-then-front-lt-WINDOW+else-take_front v ↦
+        let same = v.take_front.ensures.kept v.if-take_front.false in
+        (w.dest-is ∙ v.dest-is ∙ same.0, w.self-is ∙ v.self-is ∙ same.1)
+    | else-front-lt-WINDOW-via-else-front-lt-WINDOW v ↦ (w.dest-is ∙ v.dest-is, w.self-is ∙ v.self-is)
+  ]
+  | then-bytes-gt-VERY_FEW+else-is_idle+else-take_short w ↦
+      let same = w.take_short.ensures.kept w.if-take_short.false in
+      (w.dest-is ∙ same.0, w.self-is ∙ same.1)
+  | else-bytes-gt-VERY_FEW w ↦ (w.dest-is, w.self-is)
+]
+
 pub returns-then-bytes-le-FEW : goal.returns-then-bytes-le-FEW
 returns-then-bytes-le-FEW c =
-    let taken = rw (xor_each-zero c.args.bytes.now) at c.feed_each-then-bytes-le-FEW.ensures.takes in
-    elim c.if-bytes-gt-VERY_FEW.branch [
-      | then-bytes-gt-VERY_FEW+then-is_idle+else-front-lt-WINDOW w ↦
-          let rest = rw (w.dest-is, w.self-is) at taken in
-          elim w.else-front-lt-WINDOW.branch [
-            | else-front-lt-WINDOW-via-then-front-lt-WINDOW+else-take_front v ↦
-                let kept = v.take_front.ensures.kept v.if-take_front.false in
-                record { takes = rw (v.dest-is, v.self-is, kept.0, kept.1) at rest }
-            | else-front-lt-WINDOW-via-else-front-lt-WINDOW v ↦ record { takes = rw (v.dest-is, v.self-is) at rest }
-          ]
-      | then-bytes-gt-VERY_FEW+else-is_idle+else-take_short w ↦
-          let kept = w.take_short.ensures.kept w.if-take_short.false in
-          record { takes = rw (w.dest-is, w.self-is, kept.0, kept.1) at taken }
-      | else-bytes-gt-VERY_FEW w ↦ record { takes = rw (w.dest-is, w.self-is) at taken }
-    ]
+    let same = kept (goal.at.returns-then-bytes-le-FEW c).Joined-bytes-gt-VERY_FEW in
+    record { takes = rw (same.0, same.1, xor_each-zero c.args.bytes.now) at c.feed_each-then-bytes-le-FEW.ensures.takes }
 
 pub returns : goal.returns
 returns c =
-    let taken = c.feed_piece_long.ensures.takes in
-    elim c.if-bytes-gt-VERY_FEW.branch [
-      | then-bytes-gt-VERY_FEW+then-is_idle+else-front-lt-WINDOW w ↦
-          let rest = rw (w.dest-is, w.self-is) at taken in
-          elim w.else-front-lt-WINDOW.branch [
-            | else-front-lt-WINDOW-via-then-front-lt-WINDOW+else-take_front v ↦
-                let kept = v.take_front.ensures.kept v.if-take_front.false in
-                record { takes = rw (v.dest-is, v.self-is, kept.0, kept.1) at rest }
-            | else-front-lt-WINDOW-via-else-front-lt-WINDOW v ↦ record { takes = rw (v.dest-is, v.self-is) at rest }
-          ]
-      | then-bytes-gt-VERY_FEW+else-is_idle+else-take_short w ↦
-          let kept = w.take_short.ensures.kept w.if-take_short.false in
-          record { takes = rw (w.dest-is, w.self-is, kept.0, kept.1) at taken }
-      | else-bytes-gt-VERY_FEW w ↦ record { takes = rw (w.dest-is, w.self-is) at taken }
-    ]
+    let same = kept (goal.at.returns c).Joined-bytes-gt-VERY_FEW in
+    record { takes = rw (same.0, same.1) at c.feed_piece_long.ensures.takes }
