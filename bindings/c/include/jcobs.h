@@ -107,7 +107,7 @@
 extern "C" {
 #endif
 
-/* The version of this header. The library's own is jcobs_version(). */
+/* The version of this header. jcobs_version() returns the version of the library. */
 #define JCOBS_VERSION_MAJOR 1
 #define JCOBS_VERSION_MINOR 0
 #define JCOBS_VERSION_PATCH 0
@@ -299,7 +299,7 @@ JCOBS_API jcobs_answer jcobs_decoder_push(jcobs_decoder *decoder, void *buffer, 
  *          status TOO_SMALL, consumed the same, length buffer_len: the output is longer, and its first bytes are there
  *          status MORE, consumed len, length of what the buffer has of an unfinished message */
 
-/* Takes one byte, as jcobs_decoder_push of that byte does. In the library for hosts it is faster than a push. */
+/* Takes one byte, as jcobs_decoder_push of that byte does. In the built library it is faster than a push. */
 JCOBS_API jcobs_answer jcobs_decoder_feed(jcobs_decoder *decoder, void *buffer, size_t buffer_len,
                                           unsigned char byte) JCOBS_STATE JCOBS_WRITES(2, 3) JCOBS_CHECKED;
 /* returns: as jcobs_decoder_push, consumed 1 */
@@ -371,8 +371,8 @@ JCOBS_API size_t jcobs_strerror(unsigned int status, char *text, size_t text_len
 /* Returns the version of the library, as JCOBS_VERSION. */
 JCOBS_API unsigned int jcobs_version(void);
 
-/* Returns 1. A library of another major version has no function of this name, so a program that refers to it can't be
- * linked with one. */
+/* Returns 1. A library of another major version has no function of this name, so a program that calls this function
+ * can't be linked with such a library. */
 JCOBS_API unsigned int jcobs_abi_1(void);
 
 #ifdef __cplusplus

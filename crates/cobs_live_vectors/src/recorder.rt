@@ -26,8 +26,10 @@ pub struct Recorder<'a> {
 impl LiveInput<Vec<u8>> for Recorder<'_> {
     ghost use Rattle.std.specs.Prelude.{◌≡◌, None};
 
+    // Nothing is claimed about the bytes that reads will return.
     ghost remaining = { λ _. None };
 
+    // After a read, `written` is the number of bytes that the output held when this read began.
     ghost step = { λ from read to. to.written ≡ len_of read.written };
 
     fn read_beside(&mut self, output: &BufWriter<Vec<u8>>, chunk: &mut [u8]) -> io::Result<Came> {
@@ -42,8 +44,10 @@ impl LiveInput<Vec<u8>> for Recorder<'_> {
 impl LiveLines<Vec<u8>> for Recorder<'_> {
     ghost use Rattle.std.specs.Prelude.{◌≡◌, None};
 
+    // Nothing is claimed about the bytes that reads will return.
     ghost remaining = { λ _. None };
 
+    // After a read, `written` is the number of bytes that the output held when this read began.
     ghost step = { λ from read to. to.written ≡ len_of read.written };
 
     fn read_line_beside(

@@ -253,7 +253,8 @@ fn settings(alloc: Global, style: Style, stamp: Stamp) -> Settings {
     }
 }
 
-/// Returns how many bytes of the text are written after this many bytes of the stream were read.
+/// Returns how many bytes of the text of `Style::Hex` are written after this many bytes of `STREAM` were read: the lines of
+/// all pieces that have ended. Its pieces end after 5, 8, 15 and 19 bytes, and their lines have 15, 9, 9 and 15.
 fn written_after(read: usize) -> usize {
     match read {
         0..5 => 0,

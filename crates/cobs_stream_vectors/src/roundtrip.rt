@@ -96,6 +96,7 @@ impl Check for Pieces<'_> {
 #[test]
 fn pieces_of_any_size_give_the_message_or_overflow(rt: HostRuntime) -> Result<(), Fail> {
     let mut frame = joined(rt.alloc(), LONG_FRAME)?;
+    // The message has 2,001 bytes, so it fits the first buffer, and the second is too short by one. The frame has 2,008.
     for (room, returned) in [
         (2001, CallResult::Length(2001)),
         (2000, CallResult::TooSmall),

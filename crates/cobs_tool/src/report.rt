@@ -47,6 +47,7 @@ pub fn report_of(alloc: Global, stream: &[u8]) -> Result<String, AllocError>
     }
 }
 
+/// Appends the line of a message.
 fn push_message(alloc: Global, report: &mut String, message: &[u8]) -> Result<(), AllocError>
     ensures { OnOk result (string_bytes report.new
         ≡ string_bytes report.old ++ outcome_line (Message message.now)) }
@@ -59,6 +60,7 @@ fn push_message(alloc: Global, report: &mut String, message: &[u8]) -> Result<()
     writeln!(report, "message {len} {digits}")
 }
 
+/// Appends the line of a broken piece, which decodes to `count` bytes.
 fn push_broken(report: &mut String, count: usize) -> Result<(), AllocError>
     ensures { OnOk result (string_bytes report.new
         ≡ string_bytes report.old ++ outcome_line (Broken count)) }

@@ -174,7 +174,8 @@ pub struct Port {
 }
 
 impl Port {
-    /// Handles a byte. Returns the length of the message that it ended.
+    /// Handles a byte. Returns the length of the message that it ended, and otherwise 0. The message is taken from the buffer,
+    /// because that is proved to stay within it.
     pub fn on_byte(&mut self, byte: u8) -> usize
         ensures { result ≤ 64 }
     {

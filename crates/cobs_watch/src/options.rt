@@ -74,6 +74,7 @@ pub(crate) fn task_of<'a>(
     let command = with_show_options(alloc, Command::new(alloc, "cobs_watch"))?
         .about("Watch COBS frames on a live line")
         .version(VERSION)
+        // Without a subcommand the program shows. So that no option is ignored, those of `show` can't precede a subcommand.
         .args_conflicts_with_subcommands(true)
         .subcommand(show)?
         .subcommand(send)?;

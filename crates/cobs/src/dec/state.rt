@@ -22,10 +22,10 @@ pub enum DecoderState {
     /// No nonzero byte has come since the last sentinel.
     Idle,
 
-    /// Inside a block with a code from 1 to 254, of which this many bytes are missing.
+    /// Inside a block with a code from 1 to 254. This many of its bytes are missing.
     Grab(u8),
 
-    /// Inside a full block, whose code is 255, of which this many bytes are missing.
+    /// Inside a full block, whose code is 255. This many of its bytes are missing.
     GrabChain(u8),
 }
 

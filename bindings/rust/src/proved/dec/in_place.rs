@@ -105,7 +105,7 @@ fn decode_span_in_place(buffer: &mut [u8], len: usize) -> bool {
 ///   it, which ends with the zero that joins them to the broken block, unless the last of them is full. `decoded_bytes`
 ///   is the length of this output, and every other byte is as it was.
 ///
-/// That the bytes after the decoded ones are kept, after an error too, is a choice of this library.
+/// The bytes after the decoded ones are kept, after an error too.
 ///
 /// ```
 /// # use jcobs::proved::*;

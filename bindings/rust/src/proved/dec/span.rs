@@ -59,9 +59,9 @@ pub(crate) fn decode_span(source: &[u8], dest: &mut [u8], sentinel: u8) -> Optio
     Some(left)
 }
 
-/// Returns how many of a piece's last bytes to decode, and whether the piece is whole. If it is whole, these are all of
-/// them. Otherwise they end with the code of the broken last block, whose bytes aren't kept. The first `left` of the
-/// last bytes belong to a block that began before them. Each byte is XORed with the sentinel.
+/// Returns how many of these bytes, the last ones of a piece, to decode, and whether the piece is whole. A whole piece is
+/// decoded to its end. A broken one is decoded up to the code of its last block, and with this code: the bytes of that block
+/// aren't kept. The first `left` bytes belong to a block that began before `bytes`. Each byte is XORed with the sentinel.
 pub(crate) fn kept_len(bytes: &[u8], left: usize, sentinel: u8) -> (usize, bool) {
     let mut at = left;
     'by_block: while at < bytes.len() {
