@@ -184,7 +184,8 @@ pub fn decode_vec_with_sentinel(
     Ok(decoded)
 }
 
-/// Returns whether the bytes are a frame, and which one of its message. The crate `cobs` doesn't have this call.
+/// Returns whether the bytes are a frame, and whether they are the one that encoders write for its message. The crate `cobs`
+/// doesn't have this call.
 ///
 /// ```
 /// use jcobs::{FrameKind, frame_kind};

@@ -85,8 +85,8 @@ impl<R: BufRead> MessageReader<R> {
     ///   affects another frame.
     /// - `Ok(None)`: the source has ended, after a zero or before its first byte. If it grows, read on.
     ///
-    /// Zeros without a frame between them are skipped. The source is read until a zero comes, however many bytes that
-    /// are; those of a message that is too long are dropped.
+    /// Zeros without a frame between them are skipped. The source is read until a zero comes, however many bytes come before
+    /// it. The bytes of a message that is too long are dropped.
     ///
     /// ```
     /// use jcobs::{DecodeError, MessageReader};

@@ -1,4 +1,4 @@
-//! Vectors of bytes as `std::simd` has them, on stable Rust and for any target: what the proved source uses of it.
+//! Vectors of bytes, on stable Rust and for any target. Types and methods are those of `std::simd` that the proved source uses.
 //!
 //! The crate's only `unsafe` code is here: the calls of SSE2 and NEON. The tests compare every operation with the same on
 //! single bytes, for each width from 1 to 64.
@@ -126,7 +126,7 @@ fn widened(bytes: &[u8]) -> [u8; 16] {
     wide
 }
 
-/// One bit of each byte, of 16 at a time.
+/// Returns one bit for each byte. `sixteen` returns those of 16 bytes.
 #[inline(always)]
 fn bits_by(mask: &[u8], sixteen: impl Fn(&[u8; 16]) -> u64) -> u64 {
     let (mut bits, mut done) = (0, 0);

@@ -159,7 +159,7 @@ impl Times {
         self.next = timer.read(self.last);
     }
 
-    /// Makes the next piece the last one, after it was shown.
+    /// Notes that the next piece was shown: its time becomes that of the last one.
     pub fn advance(&mut self)
         ensures last { self.new.last ≡ self.old.next }
         ensures next { self.new.next ≡ self.old.next }

@@ -144,8 +144,8 @@ impl Composed {
         true
     }
 
-    /// Composes the text of a piece with this number and these times in a view, if the piece is a short message that is
-    /// shown as JSON, without colour, number and time, and if there is room. Returns whether it did.
+    /// Composes the text of a short message, if the view shows JSON without colour, number and time, and if there is room.
+    /// Returns whether it did. If the view's filter holds the message back, the text is empty.
     #[inline(always)]
     pub fn compose(&mut self, view: &View, number: u64, times: &Times, piece: &Sight<'_>) -> bool
         ensures shown { IsTrue result → take self.new.len self.new.bytes

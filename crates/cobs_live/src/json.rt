@@ -11,8 +11,8 @@ use cobs_lines::write_digits;
 use std::io::{self, Write};
 use std::str;
 
-/// Writes the piece with this number as a JSON object on a line. Its member `time` is the one of `times` that `stamp` asks
-/// for.
+/// Writes the piece with this number as a JSON object on a line. `stamp` says which of `times` is its member `time`, if
+/// any.
 pub fn write_json<W: Write>(
     output: &mut W,
     number: u64,

@@ -63,7 +63,7 @@ pub struct Filter {
     pub min: usize,
     pub max: usize,
 
-    /// The bytes with which each shown piece begins. If there are any, pieces whose bytes aren't shown are held back.
+    /// A piece is shown only if its bytes begin with these. If there are any, a piece whose bytes aren't shown is held back.
     pub prefix: Vec<u8>,
 }
 

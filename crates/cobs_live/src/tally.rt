@@ -27,7 +27,7 @@ pub struct Tally {
 /// When the tally is written to standard error.
 #[derive(Debug, PartialEq, Eq, Clone, Copy)]
 pub struct Counting {
-    /// Whether it is written at the end of the input, or when a fault ends the program.
+    /// Whether it is written when the program ends: at the end of the input, or after a fault.
     pub at_end: bool,
 
     /// If there is a number, the tally is also written when bytes arrive and this many milliseconds have passed since it was

@@ -80,7 +80,7 @@
  * Below each prototype is what it returns, for each status that it can have:
  *
  * - consumed is how many bytes were taken of the message, the source or the bytes pushed;
- * - length is how many bytes at the front of the buffer the result is about. Bytes after these are as they were before
+ * - length is how many bytes at the front of the buffer belong to the result. Bytes after these are as they were before
  *   the call, or for a streaming call as they were before the frame or message began. The only exception is
  *   jcobs_decode_in_place_with_sentinel.
  *
@@ -145,12 +145,12 @@ typedef JCOBS_ENUM(jcobs_status){
 
 /* The result of a call. */
 typedef struct jcobs_answer {
-    JCOBS_STATUS status; /* what became of it: a jcobs_status */
+    JCOBS_STATUS status; /* how the call ended: a jcobs_status */
     size_t consumed;     /* how many bytes were taken */
-    size_t length;       /* how many bytes at the front of the buffer it is about */
+    size_t length;       /* how many bytes at the front of the buffer belong to it */
 } jcobs_answer;
 
-/* Whether bytes are a frame, and which one of their message. No sentinels are around them. */
+/* Whether bytes, without a sentinel around them, are a frame, and whether they are the one that encoders write. */
 enum jcobs_kind {
     JCOBS_NOT_A_FRAME = 0, /* there are none, one is 0, or they break off inside a block */
     JCOBS_CANONICAL = 1,   /* the frame that encoders write for its message */
@@ -278,7 +278,7 @@ JCOBS_API jcobs_answer jcobs_decode_in_place_with_sentinel(void *buffer, size_t 
     JCOBS_CHANGES(1, 2) JCOBS_CHECKED;
 /* returns: as jcobs_decode_in_place, with the sentinel for the zero */
 
-/* Returns whether the bytes are a frame for the sentinel 0, and which one of its message. */
+/* Returns whether the bytes are a frame for the sentinel 0, and whether they are the one that encoders write. */
 JCOBS_API unsigned int jcobs_frame_kind(const void *bytes, size_t len) JCOBS_READS(1, 2) JCOBS_CHECKED;
 /* returns: one of enum jcobs_kind */
 

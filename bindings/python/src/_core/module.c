@@ -204,7 +204,7 @@ static const char decode_document[] =
     "b'hello'";
 static const char frame_kind_document[] =
     "frame_kind(frame, *, sentinel=0)\n--\n\n"
-    "Returns whether bytes are a frame, without sentinels around it, and which one of its message.\n\n"
+    "Returns whether bytes, without a sentinel around them, are a frame, and whether `encode` returns it.\n\n"
     "\"canonical\" is the frame that `encode` returns for its message. \"longer\" is that frame with one needless "
     "block\n"
     "after it, which decoders accept too. Anything else is \"not_a_frame\".\n\n"

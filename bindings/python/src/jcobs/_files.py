@@ -126,7 +126,7 @@ def read_port_at_a_socket(port: Any, timeout: Optional[float], kept: Kept) -> bo
 
 
 def keep_some(kept: Kept, port: Any, waiting: int) -> bool:
-    """Reads as many bytes as wait, or 1, and keeps them. None are the timeout of a port, which has no end."""
+    """Reads the bytes that wait, or waits for 1, and keeps them. No byte means that the port timed out: it has no end."""
     keep(kept, port.read, min(max(waiting, 1), CHUNK), in_python=True)
     if kept[-1]:
         return True

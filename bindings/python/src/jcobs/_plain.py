@@ -142,7 +142,7 @@ def decode(frame: ReadableBuffer, *, sentinel: int = 0) -> bytes:
 
 
 def frame_kind(frame: ReadableBuffer, *, sentinel: int = 0) -> FrameKind:
-    """Returns whether bytes are a frame, without sentinels around it, and which one of its message.
+    """Returns whether bytes, without a sentinel around them, are a frame, and whether `encode` returns it.
 
     "canonical" is the frame that `encode` returns for its message. "longer" is that frame with one needless block
     after it, which decoders accept too. Anything else is "not_a_frame".

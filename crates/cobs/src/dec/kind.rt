@@ -1,4 +1,4 @@
-//! The kind of a frame: whether bytes are a frame, and which frame of their message.
+//! The kind of a frame: whether bytes are a frame, and whether they are the one that encoders write for its message.
 ghost use Rattle.std.specs.Prelude.{◌≡◌, ◌↔◌};
 ghost use Rattle.cobs.specs.Grammar.{HasNoZero, IsCanonical, IsFrame};
 

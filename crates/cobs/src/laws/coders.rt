@@ -75,8 +75,8 @@ pub fn law_16()
 
 /// A decoder of your own, byte by byte.
 ///
-/// The table's step for a byte is that of the streaming decoders, in any phase. If bytes are taken one by one, through
-/// the first zero that ends a piece or, if there is none, to the end, the result is that of one `feed_piece`.
+/// The table's step for a byte is that of the streaming decoders, in any phase. Bytes that are fed one by one have the
+/// result of one `feed_piece`: both end with the zero that ends the first piece, or with the last byte.
 ///
 /// So your own decoder with this step decodes as the streaming decoders do, and a loop over `feed_byte` is a
 /// `feed_piece`.

@@ -1,5 +1,5 @@
 // Made by bindings/rust/translate.py from `crates/cobs/src/dec/kind.rt`: change that file, and run it again.
-//! The kind of a frame: whether bytes are a frame, and which frame of their message.
+//! The kind of a frame: whether bytes are a frame, and whether they are the one that encoders write for its message.
 
 use crate::proved::block::FULL_CODE;
 use crate::proved::find::zero_or_len;

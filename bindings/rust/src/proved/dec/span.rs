@@ -21,7 +21,7 @@ pub(crate) fn write_zeros_at_codes(dest: &mut [u8], first: usize) -> (u8, u8) {
 }
 
 /// Does what [`write_zeros_at_codes`] does for bytes that were copied to `dest`, each XORed with the sentinel. It reads the codes
-/// from where they were copied, because a load from `dest` would have to wait until the copy is stored.
+/// from `copied`, because a load from `dest` would have to wait until the copy is stored.
 #[inline(always)]
 pub(crate) fn write_zeros_at_copied(
     dest: &mut [u8],
