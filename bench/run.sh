@@ -12,8 +12,8 @@
 # --docs:         writes them into docs/PERFORMANCE.md, README.md and bindings/rust/README.md, and writes every figure into
 #                 bench/results/ and docs/images/performance.svg.
 #
-# It needs rustc, cc, and the crate `memchr` (Debian's librust-memchr-dev); --old needs valgrind. It takes five minutes, with
-# --quick half of one, on a machine with no other load. C is built with -O3 for x86-64-v2, for which libjcobs is, jcobs.c with
+# It needs rustc, cc, and the crate `memchr` (Debian's librust-memchr-dev); --old needs valgrind. It took seven minutes on a
+# machine with other load, and takes half a minute with --quick. C is built with -O3 for x86-64-v2, for which libjcobs is, jcobs.c with
 # -O2 for any x86-64, and Rust as `cargo build --release` does it. The driver is built at four places in memory: on some
 # processors a loop is half as fast where one of its jumps crosses a multiple of 32 bytes. The best place counts, for each implementation, in three rounds.
 set -eu

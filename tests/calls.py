@@ -62,6 +62,11 @@ def rows(page, section=None):
     return text.splitlines()
 
 
+def required():
+    """The rows of the table in PROMISES that lists the calls with a `requires`."""
+    return (TOP / "docs/PROMISES.md").read_text().partition("| call | requires |")[2].partition("\n\n")[0].splitlines()
+
+
 def is_named(line, name):
     """Whether a line has the name in backticks, alone or before its clauses or its arguments."""
     return any(re.search(rf"(?<![\w:]){re.escape(name)}(?!\w)(?!::)", code) for code in re.findall(r"`([^`]+)`", line))
@@ -73,10 +78,31 @@ def has(lines, owner, name):
     return any(is_named(line, call) or owner and is_named(line, owner) and is_named(line, name) for line in lines)
 
 
+def with_requires():
+    """The public calls whose contract has a `requires`, as (TYPE or "", NAME). Methods of a trait are those of the trait."""
+    public, found = set(public_calls()), set()
+    for path in prose.tracked(r"crates/cobs/src/.*\.rt"):
+        owner = function = ""
+        for line in path.read_text().splitlines():
+            head = re.match(r"(?:pub )?(?:impl|trait)\b(?:<[^{]*?>)? *(?:\w+(?:<.*>)? for )?(\w+).*\{$", line)
+            begun = re.match(r" *(?:pub )?fn (\w+)", line)
+            if head or line == "}":
+                owner, function = head[1] if head else "", ""
+            elif begun:
+                function = begun[1]
+            elif re.match(r" *requires\b", line) and (owner, function) in public:
+                found.add((owner, function))
+    return sorted(found)
+
+
 def without_row():
     """A line for each public call that a document has no row for."""
     promised, chosen = rows("docs/PROMISES.md"), rows("crates/cobs/CALLING.md", "Which call")
     added = rows("docs/DIFFERENCES.md", "What this library has in addition")
+    for owner, name in with_requires():
+        call = f"{owner}::{name}" if owner else name
+        if not any(is_named(line, call) or is_named(line, name) for line in required()):
+            yield f"docs/PROMISES.md: “Safe and total” has no `requires` of {call}"
     for owner, name in public_calls():
         call = f"{owner}::{name}" if owner else name
         if not has(promised, owner, name):
