@@ -173,7 +173,7 @@ impl UnbufferedDecoder {
     pub fn is_idle(&self) -> bool
         ensures idle { IsTrue result ↔ (phase_of self.now ≡ Idle) }
     {
-        (self.written | self.missing as usize | self.joint as usize | self.too_long as usize) == 0
+        self.written == 0 && self.missing == 0 && self.joint == 0 && self.too_long == 0
     }
 
     /// Makes the decoder idle, so that the next byte begins a new piece.
