@@ -257,7 +257,7 @@ void jcobs_decoder_reset(jcobs_decoder *decoder)
 /* Returns whether no piece has begun, so that the next byte that isn't a zero begins one. */
 static JCOBS_INLINE int jcobs_decoder_is_idle_inside(const jcobs_decoder *decoder)
 {
-    return (decoder->written | (size_t)decoder->missing | (size_t)decoder->joint | (size_t)decoder->too_long) == 0;
+    return decoder->written == 0 && decoder->missing == 0 && decoder->joint == 0 && decoder->too_long == 0;
 }
 
 /* Returns 1 if no piece is open, and 0 otherwise.

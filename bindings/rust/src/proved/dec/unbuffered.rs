@@ -174,7 +174,7 @@ impl UnbufferedDecoder {
     /// ```
     #[inline(always)]
     pub fn is_idle(&self) -> bool {
-        (self.written | self.missing as usize | self.joint as usize | self.too_long as usize) == 0
+        self.written == 0 && self.missing == 0 && self.joint == 0 && self.too_long == 0
     }
 
     /// Makes the decoder idle, so that the next byte begins a new piece.
