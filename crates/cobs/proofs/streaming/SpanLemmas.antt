@@ -15,7 +15,7 @@ use Rattle.cobs.specs.Internal.Walk.{walked}
 use Rattle.cobs.specs.Sentinel.{xor_each}
 use Rattle.cobs.specs.Step.{next_phase, next_buffer}
 use Rattle.cobs.proofs.streaming.RunLemmas.{over, over-nil, over-cons, begun}
-use Rattle.cobs.proofs.streaming.WalkLemmas.{length-walked, row_ones, walked-any, walked-past}
+use Rattle.cobs.proofs.streaming.WalkLemmas.{length-walked, walked-past, walked-any}
 use Rattle.cobs_bytes.proofs.bytes.ListLemmas.{ones-nonzero}
 
 -- the bytes are fed in two parts
@@ -134,6 +134,10 @@ block_fed inner (suc run) dest bytes new going most room within nz is =
     rw (is ∙ ap (λ (k : ℕ). take inner.written dest ++ (xs ++ drop (inner.written + k) dest)) (sym long))
     (open_fed inner (suc run) dest xs room long going (λ _. most) nz (omega arith) (λ h. absurd (omega arith)) xs code (inner.missing - suc run) inner.joint
     (ap (λ (k : ℕ). (xs, code, inner.missing - k)) (sym long) ∙ sym (walked-past code inner.missing xs (omega arith))) (code_by-full inner.joint))
+
+row_ones : (n : ℕ) → walked 1 0 (replicate n 1) ≡ (replicate n 0, 1, 0)
+row_ones zero = refl
+row_ones (suc n) = ap (λ (t : List ℕ × ℕ × ℕ). (0 ∷ t.0, t.1, t.2)) (row_ones n)
 
 -- a row of n blocks without bytes
 pub row_fed : (n : ℕ) (inner : UnbufferedDecoder) (dest bytes new : List ℕ) → 0 < n → n < 254 → inner.too_long ≡ 0 → inner.missing ≡ 0 → inner.joint ≢ 0 → inner.written + n ≤ length dest → take n bytes ≡ replicate n 1

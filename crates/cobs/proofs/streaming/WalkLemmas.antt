@@ -1,7 +1,6 @@
 -- Bytes read from code to code: their output as a piece, in two parts, and up to their last code. By induction on `walked`.
-use Rattle.std.proofs.Common.{◌≡◌, ◌≢◌, ℕ, zero, suc, ◌+◌, ◌-◌, ◌<◌, ◌≤◌, if◌then◌else◌, Bool, List, [], ◌∷◌, ◌++◌, length, take, drop, get_or, set, refl, sym, ap, ◌∙◌, arith, append_assoc, append-nil, length-append, length-set, length-drop, length-take-le, take-append-drop, take_all, replicate}
-use Rattle.std.proofs.lemmas.List.{drop_all, drop_more, drop-set-lt, length-replicate, take_more_set, take_rest}
-use Rattle.std.proofs.Math.Seq.{drop-append_seam, take-append_seam}
+use Rattle.std.proofs.Common.{◌≡◌, ◌≢◌, ℕ, zero, suc, ◌+◌, ◌-◌, ◌<◌, ◌≤◌, if◌then◌else◌, Bool, List, [], ◌∷◌, ◌++◌, length, take, drop, get_or, set, refl, sym, ap, ◌∙◌, arith, append_assoc, append-nil, length-append, length-set, length-drop, length-take-le, take-append-drop, take_all}
+use Rattle.std.proofs.lemmas.List.{drop_all, drop_more, drop-set-lt, take_more_set}
 use Rattle.std.proofs.lemmas.List.Elements.{All-head, All-tail}
 use Rattle.std.proofs.lemmas.Bool.{ne_eqb}
 use borrow.Rule.Slice.PartMut.{put_mid}
@@ -90,30 +89,6 @@ module _ (first : ℕ) (bytes : List ℕ) (some : 0 < first) (more : first ≤ l
       ap (λ (l : List ℕ). (l, code, left)) put ∙ ap (λ (t : List ℕ × ℕ × ℕ). (take (first - 1) bytes ++ (0 ∷ t.0), t.1, t.2)) e
       ∙ sym (ap (walked first (first - 1)) (sym (take-append-drop (first - 1) bytes) ∙ ap (λ (l : List ℕ). take (first - 1) bytes ++ l) cut) ∙ walked-append first (first - 1) (take (first - 1) bytes) (next ∷ drop first bytes)
       ∙ ap (λ (t : List ℕ × ℕ × ℕ). let v = walked t.1 t.2 (next ∷ drop first bytes) in (t.0 ++ v.0, v.1, v.2)) front)
-
--- a row of codes of 1
-pub row_ones : (n : ℕ) → walked 1 0 (replicate n 1) ≡ (replicate n 0, 1, 0)
-row_ones zero = refl
-row_ones (suc n) = ap (λ (t : List ℕ × ℕ × ℕ). (0 ∷ t.0, t.1, t.2)) (row_ones n)
-
--- the bytes after it, once it is a row of zeros
-module _ (bytes zeroed : List ℕ) (n : ℕ) (ones : take n bytes ≡ replicate n 1) (is : zeroed ≡ replicate n 0 ++ drop n bytes) where
-  long : length (replicate {A = ℕ} n 0) ≡ n
-  long = length-replicate {A = ℕ} n 0
-
-  rest : drop n zeroed ≡ drop n bytes
-  rest = ap (drop n) is ∙ ap (λ (k : ℕ). drop k (replicate n 0 ++ drop n bytes)) (sym long) ∙ drop-append_seam (replicate n 0) (drop n bytes)
-
-  pub behind-row : take (length zeroed - n) (drop n zeroed) ≡ drop n bytes
-  behind-row = take_rest zeroed n ∙ rest
-
-  pub row_walked : (ys : List ℕ) (code left : ℕ) → ◌≡◌ {A = List ℕ × ℕ × ℕ} (ys, code, left) (walked 1 0 (drop n bytes)) → ◌≡◌ {A = List ℕ × ℕ × ℕ} (put_mid n (length zeroed - n) zeroed ys, code, left) (walked 1 0 bytes)
-  row_walked ys code left e =
-      let begins : take n zeroed ≡ replicate n 0 = ap (take n) is ∙ ap (λ (k : ℕ). take k (replicate n 0 ++ drop n bytes)) (sym long) ∙ take-append_seam (replicate n 0) (drop n bytes) in
-      let past : drop (length zeroed - n) (drop n zeroed) ≡ [] = drop_all (length zeroed - n) (drop n zeroed) (omega (arith, length-drop n zeroed)) in
-      let after : List ℕ × ℕ × ℕ → List ℕ × ℕ × ℕ = λ t. let v = walked t.1 t.2 (drop n bytes) in (t.0 ++ v.0, v.1, v.2) in
-      ap (λ (l : List ℕ). (l, code, left)) (rw (begins, past, append-nil ys) refl) ∙ ap (λ (t : List ℕ × ℕ × ℕ). (replicate n 0 ++ t.0, t.1, t.2)) e
-      ∙ sym (ap (walked 1 0) (sym (take-append-drop n bytes) ∙ ap (λ (l : List ℕ). l ++ drop n bytes) ones) ∙ walked-append 1 0 (replicate n 1) (drop n bytes) ∙ ap after (row_ones n))
 
 -- with one byte more
 walked-nil : (code n : ℕ) → walked code n [] ≡ ([], code, n)

@@ -8,12 +8,37 @@ ghost use Rattle.cobs.specs.Internal.FeedsQuietly.{FeedsQuietly};
 ghost use Rattle.cobs.specs.Sentinel.{xor_each};
 ghost use Rattle.cobs.specs.Step.{next_phase};
 
-use crate::dec::span::{SPAN_MAX, write_rows, write_zeros_at_codes, write_zeros_in_span};
+use crate::block::FULL_BLOCK_BYTES;
+use crate::dec::span::{write_zeros_at_codes, write_zeros_at_copied};
 use crate::dec::step::joint_after;
 use crate::dec::unbuffered::{START, UnbufferedDecoder};
 use crate::find::zero_or_len;
 use cobs_bytes::lanes::{copy_xored, copy_xored_short};
-use cobs_bytes::window::{WIDE_WINDOW, WINDOW, copy_window, has_vectors};
+use cobs_bytes::window::{WIDE_WINDOW, WINDOW, copy_window, has_vectors, is_all, write_row};
+
+/// The most bytes of one span: so short that no code in it can be followed by a whole full block.
+pub(crate) const SPAN_MAX: usize = FULL_BLOCK_BYTES - 1;
+
+/// Writes a zero for each byte of the rows of 32 such bytes with which `bytes` begins, from `at` on. It stops before a row that
+/// has another byte or no room, and after at most seven rows. Returns how many zeros it wrote.
+// A function of its own, so that the walk keeps its registers.
+#[inline(never)]
+fn write_rows(dest: &mut [u8], at: usize, bytes: &[u8], byte: u8) -> usize
+    ensures within { result ≤ length bytes.now }
+    ensures few { result < 254 }
+    ensures room { 0 < result → at + result ≤ length dest.old }
+    ensures rows { take result bytes.now ≡ replicate result byte }
+    ensures written { dest.new ≡ take at dest.old ++ (replicate result 0 ++ drop (at + result) dest.old) }
+    ensures kept { result ≡ 0 → dest.new ≡ dest.old }
+{
+    let most = bytes.len().min(dest.len().saturating_sub(at)).min(SPAN_MAX);
+    let mut len = 0;
+    'by_row: while WINDOW <= most - len && is_all(bytes, len, byte) {
+        write_row(dest, at + len, 0);
+        len += WINDOW;
+    }
+    len
+}
 
 impl UnbufferedDecoder {
     /// Takes the code of the block after a whole one, and writes the zero that joins the two, unless the first is full.
@@ -137,7 +162,7 @@ impl UnbufferedDecoder {
             return;
         }
         // As in `take_moved`.
-        let ends = write_zeros_in_span(&mut dest[at..at + len], copied, missing + 1, sentinel);
+        let ends = write_zeros_at_copied(&mut dest[at..at + len], copied, missing + 1, sentinel);
         self.joint = joint_after(ends.0);
         self.missing = ends.1;
     }

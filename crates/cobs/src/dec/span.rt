@@ -1,39 +1,14 @@
 //! Walks from code to code.
-ghost use Rattle.std.specs.Prelude.{◌≡◌, ◌+◌, ◌-◌, ◌<◌, ◌≤◌, ◌∷◌, ◌++◌, ◌↔◌, length, take, drop, replicate, false, IsTrue, IfSome, IsSome, List, None, Ok, Err, ℕ};
+ghost use Rattle.std.specs.Prelude.{◌≡◌, ◌+◌, ◌-◌, ◌<◌, ◌≤◌, ◌∷◌, ◌++◌, ◌↔◌, length, take, drop, false, IsTrue, IfSome, IsSome, List, None, Ok, Err, ℕ};
 ghost use Rattle.cobs.specs.Grammar.{HasNoZero};
 ghost use Rattle.cobs.specs.Internal.Walk.{walked};
 ghost use Rattle.cobs.specs.Piece.{kept_output, last_part, missing, output};
 ghost use Rattle.cobs.specs.Sentinel.{xor_each};
 ghost use Rattle.cobs.specs.declared.error.DecodeError.TheVariants.{InvalidFrame};
 
-use crate::block::FULL_BLOCK_BYTES;
 use crate::error::DecodeError;
 use cobs_bytes::lanes::copy_xored_short;
-use cobs_bytes::window::{WIDE_WINDOW, WINDOW, is_all, write_row};
-
-/// The most bytes of one span: so short that no code in it can be followed by a whole full block.
-pub(crate) const SPAN_MAX: usize = FULL_BLOCK_BYTES - 1;
-
-/// Writes a zero for each byte of the rows of 32 such bytes with which `bytes` begins, from `at` on. It stops before a row that
-/// has another byte or no room, and after at most seven rows. Returns how many zeros it wrote.
-// A function of its own, so that the walk keeps its registers.
-#[inline(never)]
-pub(crate) fn write_rows(dest: &mut [u8], at: usize, bytes: &[u8], byte: u8) -> usize
-    ensures within { result ≤ length bytes.now }
-    ensures few { result < 254 }
-    ensures room { 0 < result → at + result ≤ length dest.old }
-    ensures rows { take result bytes.now ≡ replicate result byte }
-    ensures written { dest.new ≡ take at dest.old ++ (replicate result 0 ++ drop (at + result) dest.old) }
-    ensures kept { result ≡ 0 → dest.new ≡ dest.old }
-{
-    let most = bytes.len().min(dest.len().saturating_sub(at)).min(SPAN_MAX);
-    let mut len = 0;
-    'by_row: while WINDOW <= most - len && is_all(bytes, len, byte) {
-        write_row(dest, at + len, 0);
-        len += WINDOW;
-    }
-    len
-}
+use cobs_bytes::window::{WIDE_WINDOW, WINDOW, is_all};
 
 /// Writes a zero over each code in `dest`, which has the bytes that follow the code `first`. The caller ensures that no code
 /// among them follows a full block, since no zero belongs there. Returns the code of the last part, and how many of its
@@ -82,27 +57,6 @@ pub(crate) fn write_zeros_at_copied(
     )
 }
 
-/// Does what [`write_zeros_at_copied`] does. Rows of 32 codes of 1 at the front, as in a short message of zeros, become rows of
-/// zeros first.
-#[inline(always)]
-pub(crate) fn write_zeros_in_span(
-    dest: &mut [u8],
-    copied: &[u8],
-    first: usize,
-    sentinel: u8,
-) -> (u8, u8)
-    requires byte { first < 256 }
-    requires copied { dest.old ≡ xor_each sentinel copied.now }
-    requires nonzero { HasNoZero (first ∷ dest.old) }
-    ensures { (dest.new, result.0, result.1) ≡ walked first (first - 1) dest.old }
-{
-    if first != 1 || copied.len() < WINDOW {
-        return write_zeros_at_copied(dest, copied, first, sentinel);
-    }
-    let rows = write_rows(dest, 0, copied, 1 ^ sentinel);
-    write_zeros_at_copied(&mut dest[rows..], &copied[rows..], 1, sentinel)
-}
-
 /// Decodes 2 to 65 bytes for a sentinel, if none of them is the sentinel and `dest` has room for one byte fewer. Returns
 /// how many bytes of the last block are missing. The bytes of `dest` after the output stay.
 #[inline(always)]
@@ -127,7 +81,7 @@ pub(crate) fn decode_span(source: &[u8], dest: &mut [u8], sentinel: u8) -> Optio
         return None;
     }
     let first = (source[0] ^ sentinel) as usize;
-    let (_, left) = write_zeros_in_span(&mut dest[..len - 1], &source[1..], first, sentinel);
+    let (_, left) = write_zeros_at_copied(&mut dest[..len - 1], &source[1..], first, sentinel);
     Some(left)
 }
 

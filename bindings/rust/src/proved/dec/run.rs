@@ -2,12 +2,32 @@
 //! The walk of every decoder over the bytes before a sentinel. A step takes a long block, 32 codes of blocks without bytes,
 //! or a *span*: bytes that are copied at once, with the codes among them, before a zero is written over each code.
 
+use crate::proved::block::FULL_BLOCK_BYTES;
 use crate::proved::cobs_bytes::lanes::{copy_xored, copy_xored_short};
-use crate::proved::cobs_bytes::window::{WIDE_WINDOW, WINDOW, copy_window, has_vectors};
-use crate::proved::dec::span::{SPAN_MAX, write_rows, write_zeros_at_codes, write_zeros_in_span};
+use crate::proved::cobs_bytes::window::{
+    WIDE_WINDOW, WINDOW, copy_window, has_vectors, is_all, write_row,
+};
+use crate::proved::dec::span::{write_zeros_at_codes, write_zeros_at_copied};
 use crate::proved::dec::step::joint_after;
 use crate::proved::dec::unbuffered::{START, UnbufferedDecoder};
 use crate::proved::find::zero_or_len;
+
+/// The most bytes of one span: so short that no code in it can be followed by a whole full block.
+pub(crate) const SPAN_MAX: usize = FULL_BLOCK_BYTES - 1;
+
+/// Writes a zero for each byte of the rows of 32 such bytes with which `bytes` begins, from `at` on. It stops before a row that
+/// has another byte or no room, and after at most seven rows. Returns how many zeros it wrote.
+// A function of its own, so that the walk keeps its registers.
+#[inline(never)]
+fn write_rows(dest: &mut [u8], at: usize, bytes: &[u8], byte: u8) -> usize {
+    let most = bytes.len().min(dest.len().saturating_sub(at)).min(SPAN_MAX);
+    let mut len = 0;
+    'by_row: while WINDOW <= most - len && is_all(bytes, len, byte) {
+        write_row(dest, at + len, 0);
+        len += WINDOW;
+    }
+    len
+}
 
 impl UnbufferedDecoder {
     /// Takes the code of the block after a whole one, and writes the zero that joins the two, unless the first is full.
@@ -81,7 +101,7 @@ impl UnbufferedDecoder {
             return;
         }
         // As in `take_moved`.
-        let ends = write_zeros_in_span(&mut dest[at..at + len], copied, missing + 1, sentinel);
+        let ends = write_zeros_at_copied(&mut dest[at..at + len], copied, missing + 1, sentinel);
         self.joint = joint_after(ends.0);
         self.missing = ends.1;
     }

@@ -36,11 +36,11 @@ returns-then-not-copy_xored_short-clause-taken c few room nz =
     c.if-not-copy_xored_short.ensures.taken (rw (rest_xored c.args.source.now c.args.sentinel 1) (All-drop (λ b. b ≢ 0) 1 (xor_each c.args.sentinel c.args.source.now) nz))
 
 module _ (c : goal.After-slice_known-3-1) where
-  whole : (c.write_zeros_in_span-left.new.dest ≡ output (xor_each c.args.sentinel c.args.source.now)) × (c.write_zeros_in_span-left.result.1 ≡ missing (last_part (xor_each c.args.sentinel c.args.source.now)))
-  whole = piece c.args.source.now c.copy_xored_short.new.dest _ c.args.sentinel (omega arith) (c.if-not-copy_xored_short.ensures.copied refl) (omega arith) c.if-source-sentinel.false (c.if-not-copy_xored_short.ensures.nonzero refl) c.write_zeros_in_span-left.ensures
+  whole : (c.write_zeros_at_copied-left.new.dest ≡ output (xor_each c.args.sentinel c.args.source.now)) × (c.write_zeros_at_copied-left.result.1 ≡ missing (last_part (xor_each c.args.sentinel c.args.source.now)))
+  whole = piece c.args.source.now c.copy_xored_short.new.dest _ c.args.sentinel (omega arith) (c.if-not-copy_xored_short.ensures.copied refl) (omega arith) c.if-source-sentinel.false (c.if-not-copy_xored_short.ensures.nonzero refl) c.write_zeros_at_copied-left.ensures
 
-  len-is : length c.write_zeros_in_span-left.new.dest ≡ length c.args.source.now - 1
-  len-is = ap (λ (t : List ℕ × ℕ × ℕ). length t.0) c.write_zeros_in_span-left.ensures ∙ length-walked _ _ _ ∙ long c.args.source.now c.copy_xored_short.new.dest _ c.args.sentinel (omega arith) (c.if-not-copy_xored_short.ensures.copied refl)
+  len-is : length c.write_zeros_at_copied-left.new.dest ≡ length c.args.source.now - 1
+  len-is = ap (λ (t : List ℕ × ℕ × ℕ). length t.0) c.write_zeros_at_copied-left.ensures ∙ length-walked _ _ _ ∙ long c.args.source.now c.copy_xored_short.new.dest _ c.args.sentinel (omega arith) (c.if-not-copy_xored_short.ensures.copied refl)
 
 pub returns-clause-len : goal.returns-clause-len
 returns-clause-len c = omega (arith, ap length (whole c).0, len-is c)
@@ -49,4 +49,4 @@ pub returns-clause-left : goal.returns-clause-left
 returns-clause-left c = (whole c).1
 
 pub returns-clause-begins : goal.returns-clause-begins
-returns-clause-begins c = ap (λ (k : ℕ). take k (c.write_zeros_in_span-left.new.dest ++ drop k c.copy_xored_short.new.dest)) (sym (len-is c)) ∙ take-append_seam c.write_zeros_in_span-left.new.dest _ ∙ (whole c).0
+returns-clause-begins c = ap (λ (k : ℕ). take k (c.write_zeros_at_copied-left.new.dest ++ drop k c.copy_xored_short.new.dest)) (sym (len-is c)) ∙ take-append_seam c.write_zeros_at_copied-left.new.dest _ ∙ (whole c).0

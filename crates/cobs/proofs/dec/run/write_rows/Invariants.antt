@@ -1,5 +1,5 @@
 use Rattle.std.proofs.Common.{◌≡◌, ◌≤◌, ◌+◌, ◌-◌, ◌++◌, take, drop, replicate}
-use Rattle.cobs.proofs.dec.span.write_rows.Given as goal
+use Rattle.cobs.proofs.dec.run.write_rows.Given as goal
 
 -- the rows before `len` are written
 abbrev pub invariant-by_row : goal.invariant-by_row
