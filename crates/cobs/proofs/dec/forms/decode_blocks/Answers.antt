@@ -93,17 +93,17 @@ fed-first c = record {
   tail-is = omega (arith, length-map {A = ℕ} {B = ℕ});
   none = c.requires;
   below = xored_below c.args.sentinel c.args.source.now c.ranges.sentinel.fits c.type_inv.source;
-  fed = rw (front_xored c.args.source.now c.args.sentinel c.saturating_sub-tail.result) at c.take_blocks.ensures.fed;
+  fed = rw front_xored at c.take_blocks.ensures.fed;
 }
 
 pub take_blocks-requires-clause-nonzero : goal.take_blocks-requires-clause-nonzero
-take_blocks-requires-clause-nonzero c = rw (front_xored c.args.source.now c.args.sentinel c.saturating_sub-tail.result) (All-take (λ b. b ≢ 0) c.saturating_sub-tail.result _ c.requires)
+take_blocks-requires-clause-nonzero c = rw front_xored (All-take (λ b. b ≢ 0) c.saturating_sub-tail.result _ c.requires)
 
 pub take_blocks-requires-2-clause-nonzero : goal.take_blocks-requires-2-clause-nonzero
 take_blocks-requires-2-clause-nonzero c =
     let tail : ℕ = c.saturating_sub-tail.result in
     let behind = All-drop (λ b. b ≢ 0) tail _ c.requires in
-    rw (slice_xored c.args.source.now c.args.sentinel tail c.kept_len-len.result.0) (All-take (λ b. b ≢ 0) c.kept_len-len.result.0 _ behind)
+    rw slice_xored (All-take (λ b. b ≢ 0) c.kept_len-len.result.0 _ behind)
 
 pub kept_len-len-requires-clause-left : goal.kept_len-len-requires-clause-left
 kept_len-len-requires-clause-left c =
@@ -111,11 +111,11 @@ kept_len-len-requires-clause-left c =
     omega (arith, fits, length-map {A = ℕ} {B = ℕ}, length-take {A = ℕ}, length-drop {A = ℕ})
 
 pub kept_len-len-requires-clause-nonzero : goal.kept_len-len-requires-clause-nonzero
-kept_len-len-requires-clause-nonzero c = rw (rest_xored c.args.source.now c.args.sentinel c.saturating_sub-tail.result) (All-drop (λ b. b ≢ 0) c.saturating_sub-tail.result _ c.requires)
+kept_len-len-requires-clause-nonzero c = rw rest_xored (All-drop (λ b. b ≢ 0) c.saturating_sub-tail.result _ c.requires)
 
 pub returns-then-take_blocks-tail : goal.returns-then-take_blocks-tail
 returns-then-take_blocks-tail c =
-    let stop = rw (front_xored c.args.source.now c.args.sentinel c.saturating_sub-tail.result) at (c.take_blocks.ensures.stop (omega (arith, length-take {A = ℕ}))) in
+    let stop = rw front_xored at (c.take_blocks.ensures.stop (omega (arith, length-take {A = ℕ}))) in
     let stopped = first_stop (fed-first (goal.at.returns-then-take_blocks-tail c).After-take_blocks) c.if-take_blocks-tail.true stop in
     record { returned = stopped.0; buffer = stopped.1 }
 
@@ -129,10 +129,10 @@ module _ (c : After-take_blocks-2)
   missed = left-is f c.if-take_blocks-tail.false
 
   kept : output (p f ++ take n (q f)) ≡ kept_output (p f ++ q f)
-  kept = rw (rest_xored c.args.source.now c.args.sentinel c.saturating_sub-tail.result) at (c.kept_len-len.ensures.kept _ missed)
+  kept = rw rest_xored at (c.kept_len-len.ensures.kept _ missed)
 
   fed : FeedsQuietly c.take_blocks.new.dest (phase_of c.take_blocks.new.self) (take c.take_blocks-2.result (take n (q f))) c.take_blocks-2.new.dest (phase_of c.take_blocks-2.new.self)
-  fed = rw (slice_xored c.args.source.now c.args.sentinel c.saturating_sub-tail.result n) at c.take_blocks-2.ensures.fed
+  fed = rw slice_xored at c.take_blocks-2.ensures.fed
 
   within : n ≤ length (q f)
   within = omega (arith, c.kept_len-len.ensures.within, length-map {A = ℕ} {B = ℕ}, length-take {A = ℕ}, length-drop {A = ℕ})
@@ -143,7 +143,7 @@ returns-then-take_blocks-len c =
     let f = fed-first at.After-take_blocks in
     let c' = at.After-take_blocks-2 in
     let short = c.take_blocks-2.ensures.stop (omega (arith, c.kept_len-len.ensures.within, length-take {A = ℕ}, length-drop {A = ℕ})) in
-    let stop = rw (slice_xored c.args.source.now c.args.sentinel c.saturating_sub-tail.result c.kept_len-len.result.0) at short in
+    let stop = rw slice_xored at short in
     let stopped = second_stop f c.if-take_blocks-tail.false c.take_blocks-2.new.self _ (kept c' f) (fed c' f) (within c' f) c.if-take_blocks-len.true stop in
     record { returned = stopped.0; buffer = stopped.1 }
 
@@ -152,6 +152,6 @@ returns c =
     let at = goal.at.returns c in
     let f = fed-first at.After-take_blocks in
     let c' = at.After-take_blocks-2 in
-    let whole = rw (rest_xored c.args.source.now c.args.sentinel c.saturating_sub-tail.result) at (c.kept_len-len.ensures.whole _ (missed c' f)) in
+    let whole = rw rest_xored at (c.kept_len-len.ensures.whole _ (missed c' f)) in
     let both = done f c.if-take_blocks-tail.false c.take_blocks-2.new.self _ (kept c' f) (fed c' f) (within c' f) _ _ c.if-take_blocks-len.false whole c.message_len.ensures.whole c.message_len.ensures.broken in
     record { returned = both.0; buffer = both.1 }

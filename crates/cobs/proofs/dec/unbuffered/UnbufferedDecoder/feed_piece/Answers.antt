@@ -1,13 +1,12 @@
 -- The bytes before a zero are fed quietly (`take_front`, `take_short`), and a zero after them ends the piece; or nothing was
 -- taken (`kept`), and the bytes are fed by the other functions.
-use Rattle.std.proofs.Common.{◌≡◌, ◌≢◌, ◌∙◌, ◌<◌, ◌+◌, List, ℕ, zero, suc, Bool, true, false, eqb, Option, Result, None, Some, refl, sym, subst, arith, get_or, length, take, take_all}
+use Rattle.std.proofs.Common.{◌≡◌, ◌≢◌, ◌∙◌, ◌<◌, ◌+◌, List, ℕ, zero, suc, Bool, true, false, eqb, Option, Result, None, refl, sym, arith, get_or, length, take, take_all}
 use Rattle.std.proofs.Math.Seq.{take-length}
 use Rattle.cobs.specs.Feed.{Feeds, Phase}
 use Rattle.cobs.specs.Fields.Decoders.{phase_of, phase_with}
 use Rattle.cobs.specs.FeedPiece.{TakesPiece, end_reported}
 use Rattle.cobs.specs.Table.{FeedsByTable}
 use Rattle.cobs.specs.Internal.FeedsQuietly.{FeedsQuietly}
-use Rattle.cobs.specs.declared.dec.frame_decoder.PieceEnd.{PieceEnd}
 use Rattle.cobs.specs.declared.dec.state.DecoderState.TheVariants.{Grab, GrabChain}
 use Rattle.cobs.specs.declared.error.DecodeError.{DecodeError}
 use Rattle.cobs.proofs.streaming.ByByteLemmas.{piece-nothing, piece-ended}
@@ -34,20 +33,6 @@ ended_by : (written missing joint too_long n : ℕ) (phase' : Phase) (result : R
 ended_by zero missing joint too_long n phase' result going some f = absurd (omega arith)
 ended_by (suc count) missing joint too_long n phase' result going some f = ended_at (eqb joint 0) missing count n phase' result (rw going at f)
 
--- the first bytes were fed, none of which ends a piece, and then a zero
-module _ (bytes buffer between buffer' : List ℕ) (phase phase_between phase' : Phase) (result : Result (Option ℕ) DecodeError) (len : ℕ) (within : len < length bytes) (zero : get_or bytes len 0 ≡ 0)
-    (fed : FeedsQuietly buffer phase (take len bytes) between phase_between) (feeds : Feeds between phase_between 0 result buffer' phase') where
-  before : TakesPiece buffer phase (take len bytes) None between phase_between
-  before =
-      let same : 0 + len ≡ len = omega arith in
-      subst (λ (k : ℕ). TakesPiece buffer phase (take k bytes) None between phase_between) same (piece-run bytes 0 len (omega arith) (piece-nothing _ _) fed)
-
-  last : Feeds between phase_between (get_or bytes len 0) result buffer' phase'
-  last = subst (λ (b : ℕ). Feeds between phase_between b result buffer' phase') (sym zero) feeds
-
-  ended : (end : PieceEnd) → end_reported result ≡ Some end → TakesPiece buffer phase bytes (Some (end, len + 1)) buffer' phase'
-  ended end is = piece-ended bytes _ within before last end zero is
-
 pub returns-then-not-has_vectors : goal.returns-then-not-has_vectors
 returns-then-not-has_vectors c = record { takes = rw (xor_each-zero c.args.bytes.now) at c.feed_each.ensures.takes }
 
@@ -64,9 +49,15 @@ returns-in_err-end c =
 
 pub returns-then-take_front : goal.returns-then-take_front
 returns-then-take_front c =
-    let e = c.front_len-front.ensures in
-    let within : c.front_len-front.result < length c.args.bytes.now = omega (arith, c.if-is_all.false, e.within) in
-    record { takes = ended _ _ _ _ _ _ _ _ _ within (e.stop within) (c.take_front.ensures.fed c.if-take_front.true) c.feed.ensures.feeds _ (sym c.in_ok-end.ensures.end) }
+    let bytes : List ℕ = c.args.bytes.now in
+    let len : ℕ = c.front_len-front.result in
+    let between : Phase = phase_of c.take_front.new.self in
+    let within : len < length bytes = omega (arith, c.if-is_all.false, c.front_len-front.ensures.within) in
+    let zero = c.front_len-front.ensures.stop within in
+    let front : TakesPiece c.args.dest.now (phase_of c.args.self.now) (take len bytes) None c.take_front.new.dest between =
+    quietly _ _ _ _ _ (c.take_front.ensures.fed c.if-take_front.true) in
+    let last : Feeds c.take_front.new.dest between (get_or bytes len 0) c.feed.result c.feed.new.dest (phase_of c.feed.new.self) = rw zero c.feed.ensures.feeds in
+    record { takes = piece-ended _ _ within front last _ zero (sym c.in_ok-end.ensures.end) }
 
 pub returns-then-take_short : goal.returns-then-take_short
 returns-then-take_short c = record { takes = quietly _ _ _ _ _ (c.take_short.ensures.fed c.if-take_short.true) }
