@@ -1,6 +1,6 @@
 -- The block at a place of bytes without a zero, by its code.
-use Rattle.std.proofs.Common.{◌≡◌, ◌≢◌, ℕ, ◌+◌, ◌-◌, ◌<◌, ◌≤◌, List, ◌∷◌, ◌++◌, length, take, drop, get_or, sym, ap, ◌∙◌, arith, append-nil, length-drop, length-take-le, take-append-drop}
-use Rattle.std.proofs.lemmas.List.{drop-drop, drop_all, drop_more}
+use Rattle.std.proofs.Common.{◌≡◌, ◌≢◌, ℕ, ◌+◌, ◌-◌, ◌<◌, ◌≤◌, List, ◌∷◌, ◌++◌, length, take, drop, get_or, sym, ap, ◌∙◌, arith, length-drop, length-take-le, take-append-drop}
+use Rattle.std.proofs.lemmas.List.{drop-drop, drop_more}
 use Rattle.std.proofs.lemmas.List.Elements.{All-drop, All-get_or, All-take}
 use Rattle.cobs.specs.Grammar.{HasNoZero, IsBlock}
 
@@ -37,6 +37,3 @@ module _ (bytes : List ℕ) (read code : ℕ) (c : IsCodeAt bytes read code) whe
         let s = code-some in
         left-is ∙ ap (λ (x : List ℕ). code ∷ x) (sym (take-append-drop (code - 1) (drop (read + 1) bytes)) ∙ ap (λ (x : List ℕ). take (code - 1) (drop (read + 1) bytes) ++ x)
         (drop-drop (code - 1) (read + 1) bytes ∙ ap (λ (k : ℕ). drop k bytes) (omega arith)))
-
-    pub last-is : length bytes ≤ read + code → drop read bytes ≡ block_at bytes read code
-    last-is far = split ∙ ap (λ (x : List ℕ). block_at bytes read code ++ x) (drop_all (read + code) bytes far) ∙ append-nil (block_at bytes read code)
