@@ -1,3 +1,5 @@
+-- Each iteration moves one block. `InPlaceLemmas` has a lemma for a block with a zero after it, for one without, and for one that
+-- breaks off.
 use Rattle.std.proofs.Common.{◌<◌, ℕ, [], get_or, arith, refl, inl, inr}
 use Rattle.cobs.proofs.decoding.BlockLemmas.{code-some}
 use Rattle.cobs.proofs.decoding.InPlaceLemmas.{all-read, at, broken, stepped-plain, stepped-zero}

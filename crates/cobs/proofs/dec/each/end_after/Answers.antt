@@ -1,4 +1,5 @@
-use Rattle.std.proofs.Common.{◌≡◌, ◌≢◌, ◌∙◌, ◌+◌, ◌-◌, ◌<◌, ◌≤◌, ℕ, List, length, drop, take, get_or, ap, sym, subst, arith, length-drop, length-take-le}
+-- No byte from `at` to `end` is a zero, so the loop stops where the bytes before the first zero end (`front_is_head`).
+use Rattle.std.proofs.Common.{◌≡◌, ◌≢◌, ◌∙◌, ◌+◌, ◌-◌, ◌<◌, ◌≤◌, ℕ, List, length, drop, take, get_or, ap, arith, length-drop, length-take-le}
 use Rattle.std.proofs.lemmas.List.{get_or-drop, take_more}
 use Rattle.std.proofs.lemmas.List.Elements.{All-push}
 use Rattle.cobs.specs.Grammar.{HasNoZero}
@@ -16,34 +17,37 @@ module _ (source : List ℕ) (at end : ℕ) (after : at ≤ end) (none : HasNoZe
   -- one more byte that isn't a zero
   next : end < length source → get_or source end 0 ≢ 0 → HasNoZero (take (end + 1 - at) rest)
   next more other =
-      let one : end - at + 1 ≡ end + 1 - at = omega arith in
-      subst (λ (k : ℕ). HasNoZero (take k rest)) one
-      (subst HasNoZero (sym (take_more rest (end - at) 0 (omega (arith, length-drop at source)))) (All-push (λ b. b ≢ 0) (take (end - at) rest) (get_or rest (end - at) 0) none (λ e. other (sym here ∙ e))))
+      let one : end + 1 - at ≡ end - at + 1 = omega arith in
+      rw (one, take_more rest (end - at) 0 (omega (arith, length-drop at source))) (All-push (λ b. b ≢ 0) (take (end - at) rest) _ none (rw here other))
 
   -- the place of the first zero, or the end
   place : end ≤ length source → (end < length source → get_or source end 0 ≡ 0) → end ≡ at + length (head rest)
   place within stop =
-      let all : take (end - at) rest ≡ head rest = front_is_head rest (end - at) (omega (arith, length-drop at source)) none (λ more. here ∙ stop (omega (arith, more, length-drop at source))) in
-      omega (arith, ap length all, length-take-le (end - at) rest (omega (arith, length-drop at source)))
+      let long = length-drop at source in
+      let all = front_is_head rest (end - at) (omega arith) none (λ more. here ∙ stop (omega arith)) in
+      omega (arith, ap length all, length-take-le (end - at) rest (omega arith))
 
 pub by_byte-preserved : goal.by_byte-preserved
 by_byte-preserved c =
     let i = c.by_byte.invariant in
-    let same : c.by_byte.end ≡ c.by_byte.end + 1 - 1 = omega arith in
+    let same : c.by_byte.end + 1 - 1 ≡ c.by_byte.end = omega arith in
+    let other = rw same at c.if-source-end-eq0.false in
     record {
-      after = omega (arith, i.after);
-      within = omega (arith, c.by_byte-test.true);
-      before = next c.args.source.now c.args.at c.by_byte.end i.after i.before c.by_byte-test.true (λ e. c.if-source-end-eq0.false (ap (λ (k : ℕ). get_or c.args.source.now k 0) (sym same) ∙ e));
+      after = omega arith;
+      within = omega arith;
+      before = next c.args.source.now c.args.at c.by_byte.end i.after i.before c.by_byte-test.true other;
     }
 
 pub returns-after-by_byte : goal.returns-after-by_byte
 returns-after-by_byte c =
     let i = c.by_byte.invariant in
-    record { end = omega (arith, place c.args.source.now c.args.at c.by_byte.end i.after i.before i.within (λ more. absurd (omega (arith, more, c.by_byte-test.false))), c.by_byte-test.false, i.within) }
+    let end = place c.args.source.now c.args.at c.by_byte.end i.after i.before i.within (λ more. absurd (omega arith)) in
+    record { end = omega arith }
 
 pub returns-then-source-end-eq0 : goal.returns-then-source-end-eq0
 returns-then-source-end-eq0 c =
     let i = c.by_byte.invariant in
-    let same : c.by_byte.end ≡ c.by_byte.end + 1 - 1 = omega arith in
-    let zero : get_or c.args.source.now c.by_byte.end 0 ≡ 0 = ap (λ (k : ℕ). get_or c.args.source.now k 0) same ∙ c.if-source-end-eq0.true in
-    record { end = omega (arith, place c.args.source.now c.args.at c.by_byte.end i.after i.before i.within (λ more. zero), c.by_byte-test.true) }
+    let same : c.by_byte.end + 1 - 1 ≡ c.by_byte.end = omega arith in
+    let zero = rw same at c.if-source-end-eq0.true in
+    let end = place c.args.source.now c.args.at c.by_byte.end i.after i.before i.within (λ more. zero) in
+    record { end = omega arith }

@@ -1,3 +1,5 @@
+-- The invariant compares the bytes that the frame still needs (`open_len`) with those that are left. `len-full` and `len-byte`
+-- say how a full block and a byte change the first number, and `len-end` what it is at the end.
 use Rattle.std.proofs.Common.{◌≡◌, ◌<◌, ◌+◌, arith, drop, length-drop, refl}
 use Rattle.cobs.specs.Length.{open_len}
 use Rattle.cobs.proofs.encoding.OpenLenLemmas.{len-full, len-end, len-byte, len-zero, open_len-least}

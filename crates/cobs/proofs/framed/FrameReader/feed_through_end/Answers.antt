@@ -1,3 +1,5 @@
+-- By the clause of `feed_piece`: a piece that ended is the first one that was read (`EndsFirstIn-taken`); if none ended, the
+-- decoder has taken all bytes.
 use Rattle.std.proofs.Common.{ℕ, List, [], length, refl, sym}
 use Rattle.std.proofs.Math.Bridge.{le_prop}
 use Rattle.std.proofs.Math.Logic.{∥∥₁_elim, ∥∥₁_map}

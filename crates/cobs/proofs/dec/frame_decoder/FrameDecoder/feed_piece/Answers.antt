@@ -1,3 +1,4 @@
+-- Each byte continues the piece (`piece-more`) or ends it (`piece-ended`).
 use Rattle.std.proofs.lemmas.List.{take_all}
 use Rattle.std.proofs.Common.{arith, ◌∙◌, refl, sym}
 use Rattle.cobs.proofs.streaming.ByByteLemmas.{piece-nothing, piece-more, piece-ended}

@@ -1,3 +1,5 @@
+-- Each byte, XORed with the sentinel, is fed to the machine of `Step`: it continues the piece (`piece-more`), or it is a zero
+-- that ends the piece (`piece-ended`).
 use Rattle.std.proofs.Common.{◌≡◌, ◌≢◌, ◌≤◌, ◌<◌, ◌∙◌, ℕ, List, Result, Option, length, get_or, sym, ap, refl, arith}
 use Rattle.std.proofs.lemmas.List.{get_or-map, length-map, take_all}
 use Rattle.std.specs.Int.Bits.{bit_xor}

@@ -1,3 +1,4 @@
+-- The bytes from `read` to `at` are fed, and their output ends before the next byte that is read.
 use Rattle.std.proofs.Common.{◌≡◌, ◌≢◌, ◌<◌, ◌≤◌, ◌-◌, take, drop}
 use Rattle.cobs.specs.Fields.Decoders.{phase_of}
 use Rattle.cobs.specs.Internal.FeedsQuietly.{FeedsQuietly}
