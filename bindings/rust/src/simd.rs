@@ -52,7 +52,7 @@ pub type u8x32 = Simd<u8, 32>;
 pub struct Mask<const N: usize>([u8; N]);
 
 impl<const N: usize> Simd<u8, N> {
-    /// Makes a vector of this byte alone.
+    /// Makes a vector with this byte at each place.
     #[inline(always)]
     pub fn splat(byte: u8) -> Self {
         Self([byte; N])

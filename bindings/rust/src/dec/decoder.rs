@@ -144,7 +144,7 @@ macro_rules! decoder_reset {
     };
 }
 
-/// A decoder as the readers of streams take it.
+/// Implements the trait through which readers of streams use a decoder.
 macro_rules! frame_decoder {
     ($decoder:ty, $($generics:tt)*) => {
         impl $($generics)* FrameDecoder for $decoder {

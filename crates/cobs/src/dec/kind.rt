@@ -5,7 +5,7 @@ ghost use Rattle.cobs.specs.Grammar.{HasNoZero, IsCanonical, IsFrame};
 use crate::block::FULL_CODE;
 use crate::find::zero_or_len;
 
-/// Whether bytes are a frame, and which frame of their message. (The names are this library's own.)
+/// Whether bytes are a frame, and whether they are the one that encoders write for its message. (The names are this library's own.)
 ///
 /// ```
 /// assert_eq!(rt; frame_kind(&[]), FrameKind::NotAFrame);

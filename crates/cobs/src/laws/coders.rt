@@ -132,9 +132,9 @@ pub fn law_18()
 
 /// The kind of a frame, block by block.
 ///
-/// A block without bytes after it is a canonical frame. With bytes after it, it is a frame exactly if these bytes are
-/// one. It is then canonical exactly if they are, unless the block is full and they are the lone block. Bytes that are
-/// fewer than their first code says are no frame.
+/// One block is a canonical frame. A block and the bytes after it are a frame exactly if these bytes are a frame, and
+/// they are canonical exactly if these bytes are, unless the block is full and these bytes are the lone block, 01. Bytes
+/// that are fewer than their first code says are no frame.
 ///
 /// So your own reader that goes from code to code learns whether it has a frame, and which one.
 ///

@@ -4,7 +4,7 @@
 use crate::proved::block::FULL_CODE;
 use crate::proved::find::zero_or_len;
 
-/// Whether bytes are a frame, and which frame of their message.
+/// Whether bytes are a frame, and whether they are the one that encoders write for its message.
 ///
 /// ```
 /// use jcobs::{FrameKind, frame_kind};
