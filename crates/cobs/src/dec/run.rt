@@ -19,8 +19,8 @@ use cobs_bytes::window::{WIDE_WINDOW, WINDOW, copy_window, has_vectors, is_all, 
 /// The most bytes of one span: so short that no code in it can be followed by a whole full block.
 pub(crate) const SPAN_MAX: usize = FULL_BLOCK_BYTES - 1;
 
-/// Writes a zero for each byte of the rows of 32 such bytes with which `bytes` begins, from `at` on. It stops before a row that
-/// has another byte or no room, and after at most seven rows. Returns how many zeros it wrote.
+/// Takes rows of 32 bytes from the front of `bytes`, as long as each byte of a row is `byte`, and writes a row of zeros for
+/// each, from `at` on. It stops if there is no room for a row, and after at most seven rows. Returns how many zeros it wrote.
 // A function of its own, so that the walk keeps its registers.
 #[inline(never)]
 fn write_rows(dest: &mut [u8], at: usize, bytes: &[u8], byte: u8) -> usize
