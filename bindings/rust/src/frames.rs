@@ -12,8 +12,8 @@ use alloc::vec::Vec;
 /// Returns an iterator over the frames of a recorded stream, in order and still encoded: the nonempty pieces that a
 /// zero ends, without that zero.
 ///
-/// Whether a piece is a frame is not looked at. [`decode`](crate::decode) says that, into a buffer of the caller's.
-/// The crate `cobs` doesn't have this call.
+/// A piece may be damaged: [`decode`](crate::decode) returns an error if it isn't a frame. The crate `cobs` doesn't have
+/// this call.
 ///
 /// ```
 /// use jcobs::frames;

@@ -1,7 +1,8 @@
 """Which code does the work: the extension `_core` if it can be loaded, or else `_plain`, which is in Python.
 
-With "python" in the environment variable JCOBS_BACKEND it is the latter. With anything else there, an extension that
-can't be loaded is an ImportError. One of another version, which an installation may have left behind, isn't used.
+If the environment variable JCOBS_BACKEND is "python", it is `_plain`. If the variable has any other value, an extension
+that can't be loaded raises ImportError. An extension of another version, which an installation may have left behind,
+isn't used.
 """
 
 from __future__ import annotations
