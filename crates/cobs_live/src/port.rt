@@ -176,7 +176,7 @@ fn is_hang_up(given: &io::Result<usize>) -> bool {
     }
 }
 
-/// A writer with a log, to which the bytes are written that the writer has accepted.
+/// A writer with a log. Bytes that the writer has accepted are written to the log too.
 #[derive(Drop)]
 pub struct Logged<W, L> {
     inner: W,
