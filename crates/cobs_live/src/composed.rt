@@ -37,8 +37,8 @@ const ROOM: usize = 2_048;
 #[derive(Debug, PartialEq, Eq, Clone, Copy)]
 struct Full;
 
-/// A text that is composed before it is written. A call of a writer, which may fail, costs more than the bytes of a
-/// short message, so each message makes at most one.
+/// A text that is composed in memory and then written at once. A write may fail, and testing that costs more than composing
+/// a short message, so there is at most one write for each message.
 #[derive(Drop)]
 pub struct Composed {
     bytes: [u8; ROOM],
@@ -87,9 +87,8 @@ impl Composed {
         ROOM - LINE - 2 * SHORT_LEN < self.len
     }
 
-    /// Adds the text of a piece in a view, if the piece is a short message that is shown as digits or raw, without
-    /// colour, number and time, and if there is room. Returns whether it did. So one write can contain the text of many
-    /// messages.
+    /// Adds the text of a short message, if the view shows digits or raw messages without colour, number and time, and if
+    /// there is room. Returns whether it did. So one write can contain the text of many messages.
     #[inline(always)]
     pub fn keep(&mut self, view: &View, piece: &Sight<'_>) -> bool
         ensures kept { IsTrue result → (number : ℕ) (times : Times) → take self.new.len self.new.bytes

@@ -79,8 +79,8 @@ impl Crc {
 /// The lowest value that has the highest bit of a register.
 const HIGH: u32 = 0x8000_0000;
 
-/// Returns, for each byte, the register eight bits later, if at first it has that byte in its high bits and zeros
-/// below.
+/// Returns a table with an entry for each byte: the register eight bits later, if it begins with this byte in its high bits
+/// and zeros below.
 pub(crate) fn table_of(poly: u32) -> [u32; 256]
     ensures table { IsTable poly result }
 {
@@ -91,7 +91,7 @@ pub(crate) fn table_of(poly: u32) -> [u32; 256]
     words
 }
 
-/// Returns the register eight bits later, if at first it has this byte in its high bits and zeros below.
+/// Returns the register eight bits later, if it begins with this byte in its high bits and zeros below.
 fn word_of(poly: u32, byte: u32) -> u32
     requires byte { byte < 256 }
     ensures word { result ≡ word_of poly byte }
