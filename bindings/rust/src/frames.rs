@@ -128,7 +128,8 @@ impl<'a> Iterator for MessagesInPlace<'a> {
 
 impl FusedIterator for MessagesInPlace<'_> {}
 
-/// Encodes messages as a stream: the frame of each one and a zero after it, in order. No message makes an empty stream.
+/// Encodes messages as a stream: the frame of each one and a zero after it, in order. If there are no messages, the stream is
+/// empty.
 ///
 /// A decoder whose buffer holds each message returns exactly these messages. The crate `cobs` doesn't have this call.
 ///

@@ -1,8 +1,8 @@
 //! Consistent Overhead Byte Stuffing (COBS) with the names and signatures of the crate `cobs` 0.5.1, in proved code.
 //!
 //! COBS encodes a message, any bytes, as a frame that never contains one byte value, the sentinel. So the sentinel,
-//! mostly 0, can mark where frames end on a serial line, in a stream or in a file. A frame is 1 byte longer than a
-//! message of up to 254 bytes, and at most 1 byte more for each 254 bytes after these.
+//! mostly 0, can mark where frames end on a serial line, in a stream or in a file. The frame of a message of
+//! up to 254 bytes is 1 byte longer than the message. Each further 254 bytes, or part of them, add at most 1 byte.
 //!
 //! # Switching from `cobs`
 //!

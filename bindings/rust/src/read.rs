@@ -146,7 +146,7 @@ impl<R> MessageReader<R> {
         &self.inner
     }
 
-    /// Returns the source, to be changed: for example to set its timeout. What is read from it directly is missing in
+    /// Returns the source for changes, for example to set its timeout. Bytes that are read from it directly are missing in
     /// the next message.
     pub fn get_mut(&mut self) -> &mut R {
         &mut self.inner

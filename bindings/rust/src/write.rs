@@ -53,8 +53,8 @@ impl<W: Write> MessageWriter<W> {
 
     /// Writes the frame of `message` and a zero. It doesn't flush.
     ///
-    /// After a write that failed it first writes 256 bytes. They end what may have been written of that frame, in such a
-    /// way that it can't be taken for a message: the receiver meets one frame that is broken, or too long for it.
+    /// After a write that failed it first writes 256 bytes. They end the part of that frame that may have been
+    /// written, so that no decoder takes it for a message: the receiver gets one frame that is broken or too long for it.
     ///
     /// # Errors
     ///
@@ -97,7 +97,7 @@ impl<W> MessageWriter<W> {
         &self.inner
     }
 
-    /// Returns what the messages are written to, to be changed. What is written to it directly comes between two
+    /// Returns what the messages are written to, for changes. Bytes that are written to it directly come between two
     /// frames.
     pub fn get_mut(&mut self) -> &mut W {
         &mut self.inner

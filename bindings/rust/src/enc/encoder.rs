@@ -22,8 +22,8 @@ pub struct CobsEncoder<'a> {
 }
 
 impl<'a> CobsEncoder<'a> {
-    /// Makes an encoder that has taken nothing yet, and that writes to `out_buf`. No frame fits an empty slice, so over one
-    /// each push is an error.
+    /// Makes an encoder that has taken nothing yet, and that writes to `out_buf`. No frame fits an empty slice, so an
+    /// encoder over an empty slice returns an error for each push.
     #[inline]
     pub fn new(out_buf: &'a mut [u8]) -> CobsEncoder<'a> {
         CobsEncoder {
