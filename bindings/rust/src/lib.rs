@@ -158,7 +158,7 @@ pub use crate::read::MessageReader;
 #[cfg(feature = "std")]
 pub use crate::write::MessageWriter;
 
-/// The greatest number of bytes by which a frame is longer than its message of `source_len` bytes: 1 for each 254
+/// Returns the greatest number of bytes by which a frame is longer than its message of `source_len` bytes: 1 for each 254
 /// bytes, rounded up, and 1 for the empty message.
 ///
 /// ```

@@ -35,7 +35,7 @@ impl Progress {
         }
     }
 
-    /// Does what `push` does, without a question of its own for one byte.
+    /// Does what `push` does, without a separate test for one byte.
     #[inline]
     fn push_more(
         &mut self,
