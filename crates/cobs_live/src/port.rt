@@ -36,8 +36,8 @@ impl<'a, C: Clock + Drop, F: Drop> Port<'a, C, F> {
         }
     }
 
-    /// If the call would have blocked, waits for a pause and returns true: the call is then tried again. For any other
-    /// error it notes the system's number, except for an interruption, after which callers try again.
+    /// Returns true after a pause if the call would have blocked: the call is then tried again. For any other error it notes
+    /// the system's number, except for an interruption, after which callers try again.
     fn tries_again(&self, done: &io::Result<usize>) -> bool
         ensures failed { IsOk done.now → result ≡ false }
     {

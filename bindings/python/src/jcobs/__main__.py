@@ -61,7 +61,7 @@ def text_of(message: bytes) -> str:
 
 
 def members_of(outcome: Outcome) -> Dict[str, Any]:
-    """Returns the members of an outcome's JSON object except its kind. For a damaged frame they tell of the bytes decoded."""
+    """Returns the members of an outcome's JSON object except its kind. For a damaged frame they describe the bytes decoded."""
     members = {"length": len(outcome.data), "hex": outcome.data.hex()}
     if not isinstance(outcome, Message):
         return members
