@@ -93,11 +93,11 @@ fi
 if has cargo cargo 'Rust'; then
     if ! missing=$("$root/bindings/rust/tests/offline.sh" "$work"); then
         skip 'Rust' "$missing"
-    elif [ "$(rustc --version | sed -n 's/^rustc 1\.\([0-9]*\)\..*/\1/p')" -ge 83 ]; then
+    elif [ "$(rustc --version 2>/dev/null | sed -n 's/^rustc 1\.\([0-9]*\)\..*/\1/p' | grep . || echo 0)" -ge 83 ]; then
         part 'Rust: the first frame' first_in_rust
         part 'Rust: the tests of the crate, with all cases' tests_in_rust
     else
-        skip 'Rust' "it needs Rust 1.83: this is $(rustc --version)"
+        skip 'Rust' "it needs Rust 1.83: this is $(rustc --version 2>&1 | head -n 1)"
     fi
 fi
 python=${PYTHON:-/usr/bin/python3}
@@ -123,7 +123,11 @@ if has "$node" nodejs 'Node'; then
 fi
 if has python3 python3 'the documents'; then
     part 'C: jcobs.c is translated from the proved module' "$c/source/translate.py" --check
-    part 'Rust: its functions are the proved ones' "$root/bindings/rust/tests/proved.py"
+    if rustfmt --version >/dev/null 2>&1; then
+        part 'Rust: its functions are the proved ones' "$root/bindings/rust/tests/proved.py"
+    else
+        skip 'Rust: its functions are the proved ones' "needs rustfmt"
+    fi
     part 'Rust: no call codes by hand' "$root/bindings/rust/tests/by_hand.py"
     part 'what is built is of these sources' "$root/tests/prebuilt.py"
     part 'the documents' "$root/tests/docs.py"
