@@ -3,16 +3,21 @@ use Rattle.std.proofs.Common.{length, refl, arith}
 use Rattle.cobs.specs.OpenBlock.{next_of}
 use Rattle.cobs.specs.Fields.Progress.{reached_at}
 use Rattle.cobs.specs.Internal.Marks.{IsMasked}
-use Rattle.cobs.specs.Internal.Reaches.{start_with}
+use Rattle.cobs.specs.Internal.Reaches.{Start, start_with}
 use Rattle.cobs.proofs.encoding.MarkLemmas.{WindowTaken, masked-end, short-copied, window-front}
 use Rattle.cobs.proofs.enc.blocks.append_short.Goals.{After-copy_window-mask, After-mark_zeros-index}
 use Rattle.cobs.proofs.enc.blocks.append_short.Goals as goal
 
 -- the source as it was copied
-copied : (c : After-copy_window-mask)
-    → IsMasked (start_with c.args.dest.now (reached_at c.args.progress) c.args.source.now) 0 (length c.args.source.now) (next_of (reached_at c.args.progress))
-    c.copy_window-mask.result c.args.progress.index c.copy_window-mask.new.dest
-copied c = short-copied c.requires.code c.requires.some c.requires.few c.requires.open_block c.requires.fits c.copy_window-mask.ensures.copied c.copy_window-mask.ensures.zeros
+module _ (c : After-copy_window-mask) where
+  abbrev start : Start
+  start = start_with c.args.dest.now (reached_at c.args.progress) c.args.source.now
+
+  copied : IsMasked start 0 (length c.args.source.now) (next_of (reached_at c.args.progress)) c.copy_window-mask.result c.args.progress.index c.copy_window-mask.new.dest
+  copied =
+      let r = c.requires in
+      let copy = c.copy_window-mask.ensures in
+      short-copied r.code r.some r.few r.open_block r.fits copy.copied copy.zeros
 
 pub mark_first-first-requires : goal.mark_first-first-requires
 mark_first-first-requires c = (_, _, _, copied (goal.at.mark_first-first-requires c).After-copy_window-mask)
@@ -24,10 +29,9 @@ pub mark_zeros-index-requires : goal.mark_zeros-index-requires
 mark_zeros-index-requires c = (_, _, _, c.mark_first-index.ensures.marks _ _ _ (c.mark_first-first.ensures.marks _ _ _ (copied (goal.at.mark_zeros-index-requires c).After-copy_window-mask)))
 
 -- all its zeros are marked
-marked : (c : After-mark_zeros-index)
-    → IsMasked (start_with c.args.dest.now (reached_at c.args.progress) c.args.source.now) 0 (length c.args.source.now) (next_of (reached_at c.args.progress))
-    c.copy_window-mask.result c.args.progress.index c.copy_window-mask.new.dest
-    → WindowTaken (start_with c.args.dest.now (reached_at c.args.progress) c.args.source.now) c.mark_zeros-index.new.dest 0 (length c.args.source.now) c.mark_zeros-index.result (next_of (reached_at c.args.progress))
+marked : (c : After-mark_zeros-index) → let r = reached_at c.args.progress in let s = start_with c.args.dest.now r c.args.source.now in
+    IsMasked s 0 (length c.args.source.now) (next_of r) c.copy_window-mask.result c.args.progress.index c.copy_window-mask.new.dest
+    → WindowTaken s c.mark_zeros-index.new.dest 0 (length c.args.source.now) c.mark_zeros-index.result (next_of r)
 marked c w = masked-end (c.mark_zeros-index.ensures _ _ _ (c.mark_first-index.ensures.marks _ _ _ (c.mark_first-first.ensures.marks _ _ _ w))) refl
 
 pub progress_at-requires-2 : goal.progress_at-requires-2

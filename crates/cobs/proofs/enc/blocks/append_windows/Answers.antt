@@ -1,11 +1,11 @@
 -- Each turn takes one window: without a zero (`masked-end`), with zeros that are marked (`masked-step`), with zeros only
 -- (`row-taken`), or up to a full block (`filled`).
-use Rattle.std.proofs.Common.{◌≡◌, refl, ◌∙◌, ◌≢◌, ◌<◌, ◌≤◌, ◌+◌, ◌-◌, min, ap, sym, arith, length, take, drop, length-drop}
+use Rattle.std.proofs.Common.{ℕ, ◌≡◌, refl, ◌∙◌, ◌≢◌, ◌<◌, ◌≤◌, ◌+◌, ◌-◌, min, ap, sym, arith, length, take, drop, length-drop}
 use lib.Count.{count_trailing_zeros}
 use Rattle.cobs_bytes.specs.Mask.{lowest, without_lowest}
 use Rattle.std.proofs.lemmas.List.{length-set, take_rest}
 use Rattle.cobs.specs.Internal.Marks.{IsMasked}
-use Rattle.cobs.specs.Internal.Reaches.{start_with}
+use Rattle.cobs.specs.Internal.Reaches.{Start, start_with}
 use Rattle.std.proofs.Math.ListN.{set}
 use Rattle.cobs.specs.Fields.Progress.{reached_at}
 use Rattle.cobs.proofs.encoding.ReachLemmas.{Reaches-weaker}
@@ -16,15 +16,29 @@ use Rattle.cobs.proofs.enc.blocks.append_windows.Goals.{After-copy_at-window, Jo
 use Rattle.cobs.proofs.enc.blocks.append_windows.Goals as goal
 
 -- the window as it was copied
-copied : (c : After-copy_at-window)
-    → CopiedWindow (start_with c.args.dest.now (reached_at c.args.start) c.args.source.now) c.by_window.dest c.copy_at-window.new.dest c.by_window.read 32 c.by_window.index c.by_window.next c.copy_at-window.result
-copied c = record {
-  some = omega arith;
-  few = omega arith;
-  short = c.by_window.invariant.open';
-  copied = record { inside = omega arith; fits = omega arith; reaches = Reaches-weaker c.by_window.invariant.reaches (λ noted p. tt); is = c.copy_at-window.ensures.copied };
-  bits = c.copy_at-window.ensures.zeros;
-}
+module _ (c : After-copy_at-window) where
+  abbrev start : Start
+  start = start_with c.args.dest.now (reached_at c.args.start) c.args.source.now
+
+  abbrev zeros : ℕ
+  zeros = c.copy_at-window.result
+
+  copied : CopiedWindow start c.by_window.dest c.copy_at-window.new.dest c.by_window.read 32 c.by_window.index c.by_window.next zeros
+  copied = record {
+    some = omega arith;
+    few = omega arith;
+    short = c.by_window.invariant.open';
+    copied = record { inside = omega arith; fits = omega arith; reaches = Reaches-weaker c.by_window.invariant.reaches (λ noted p. tt); is = c.copy_at-window.ensures.copied };
+    bits = c.copy_at-window.ensures.zeros;
+  }
+
+  -- its first zero has given way to a code
+  abbrev first : ℕ
+  first = c.by_window.next + lowest zeros
+
+  coded : zeros ≢ 0 → first - c.by_window.index < 255
+      → IsMasked start c.by_window.read 32 c.by_window.next (without_lowest zeros) first (set c.copy_at-window.new.dest c.by_window.index (first - c.by_window.index))
+  coded some near = let o = c.by_window.invariant.reaches.ordered in masked-step (masked-start copied (omega arith)) some
 
 pub returns-then-source-le-WINDOW-clause-taken : goal.returns-then-source-le-WINDOW-clause-taken
 returns-then-source-le-WINDOW-clause-taken c = front-none c.args.dest.now (reached_at c.args.start) c.args.source.now c.requires.place
@@ -41,22 +55,13 @@ by_window-preserved-then-next-index c =
     let taken = masked-end (masked-start w (omega arith)) c.if-window-eq0.true in
     record { more = omega arith; open' = taken.open'; reaches = Reaches-weaker taken.reaches (λ full e le. e) }
 
--- its first zero has given way to a code
-coded : (c : After-copy_at-window) → c.copy_at-window.result ≢ 0 → c.by_window.next + lowest c.copy_at-window.result - c.by_window.index < 255
-    → IsMasked (start_with c.args.dest.now (reached_at c.args.start) c.args.source.now) c.by_window.read 32 c.by_window.next
-    (without_lowest c.copy_at-window.result) (c.by_window.next + lowest c.copy_at-window.result)
-    (set c.copy_at-window.new.dest c.by_window.index (c.by_window.next + lowest c.copy_at-window.result - c.by_window.index))
-coded c some near = let o = c.by_window.invariant.reaches.ordered in masked-step (masked-start (copied c) (omega arith)) some
-
 pub mark_zeros-index-requires : goal.mark_zeros-index-requires
 mark_zeros-index-requires c = (_, _, _, coded (goal.at.mark_zeros-index-requires c).After-copy_at-window c.if-window-eq0.false (omega arith))
 
 -- a row of zeros is taken
-row : (c : After-write_codes_of_zeros-zeros)
-    → CopiedWindow (start_with c.args.dest.now (reached_at c.args.start) c.args.source.now) c.by_window.dest c.copy_at-window.new.dest c.by_window.read 32 c.by_window.index c.by_window.next c.copy_at-window.result
-    → WindowTaken (start_with c.args.dest.now (reached_at c.args.start) c.args.source.now) c.write_codes_of_zeros-zeros.new.dest
-    c.by_window.read c.write_codes_of_zeros-zeros.result (c.by_window.next + c.write_codes_of_zeros-zeros.result - 1) c.by_window.next
-    × (0 < c.write_codes_of_zeros-zeros.result) × (c.by_window.read + c.write_codes_of_zeros-zeros.result < length c.args.source.now)
+row : (c : After-write_codes_of_zeros-zeros) → let s = start_with c.args.dest.now (reached_at c.args.start) c.args.source.now in let n = c.write_codes_of_zeros-zeros.result in
+    CopiedWindow s c.by_window.dest c.copy_at-window.new.dest c.by_window.read 32 c.by_window.index c.by_window.next c.copy_at-window.result
+    → WindowTaken s c.write_codes_of_zeros-zeros.new.dest c.by_window.read n (c.by_window.next + n - 1) c.by_window.next × (0 < n) × (c.by_window.read + n < length c.args.source.now)
 unfolding count_trailing_zeros
 row c w =
     let fits = length-after w.copied in

@@ -19,8 +19,8 @@ end-le r = grind (arith, cases_Bool)
 
 there : (a k : ℕ) (x y : List ℕ) → a ≤ k → drop a x ≡ drop a y → get_or x k 0 ≡ get_or y k 0
 there a k x y le e =
-    let s : a + (k - a) ≡ k = omega arith in
-    subst (λ (n : ℕ). get_or x n 0 ≡ get_or y n 0) s (grind (arith, get_or-drop))
+    let s : k ≡ a + (k - a) = omega arith in
+    grind (arith, get_or-drop)
 
 -- the frame with one byte more is within the slice
 fits-one : {slice m : List ℕ} {r : Reached} (byte n : ℕ) → CobsEncoderAfter slice r m → length m < n → max_encoded_len n ≤ length slice → end_after r (byte ∷ []) ≤ length slice
@@ -51,10 +51,9 @@ by_byte-preserved c =
     let r : Reached = reached_by c.by_byte.encoder in
     let r' : Reached = reached_by c.append_byte.new.self in
     let i = c.by_byte.invariant in
-    let some = length-take c.by_byte.taken (drop before old) in
+    let taken = length-take c.by_byte.taken (drop before old) in
     let e = c.append_byte.ensures [] (fits-one _ c.args.len i.after (omega arith) (omega arith)) in
     let long = length-drop before old in
-    let taken = length-take c.by_byte.taken (drop before old) in
     let end = end-is i.after in
     let most = encoded_len-le (take c.by_byte.taken (drop before old)) in
     let byte : get_or c.by_byte.buffer at 0 ≡ get_or (drop before old) c.by_byte.taken 0 =
