@@ -958,26 +958,6 @@ static JCOBS_NOINLINE size_t jcobs_len_to_zero(const unsigned char *bytes, size_
     return bytes_len - rest_len;
 }
 
-/* Moves len bytes of the buffer, which begin at from, to to, and returns where they end. */
-static JCOBS_INLINE size_t jcobs_move_bytes(unsigned char *buffer, size_t from, size_t to, size_t len)
-{
-    if (len == 0) {
-        return to;
-    }
-    size_t at = from;
-    size_t end = to;
-    size_t left = len;
-    for (;;) {
-        buffer[end] = buffer[at];
-        end++;
-        at++;
-        left--;
-        if (left == 0) {
-            return end;
-        }
-    }
-}
-
 /* Decodes the blocks in the first end bytes of the buffer in their own place, one byte after another, and returns
  * the message's length. Every byte after the message is as it was. It is small, and uses no vectors. (A choice of
  * this library.) */
@@ -991,8 +971,19 @@ static JCOBS_NOINLINE jcobs_outcome jcobs_decode_blocks_each(unsigned char *buff
         if (end - read < code) {
             return jcobs_outcome_of(JCOBS_IS_INVALID_FRAME, written);
         }
-        written = jcobs_move_bytes(buffer, read + 1, written, code - 1);
-        read += code;
+        size_t next = read + code;
+        read++;
+        /* The test is at the end of the loop, because compilers that keep code small leave it there. */
+        if (read != next) {
+            for (;;) {
+                buffer[written] = buffer[read];
+                written++;
+                read++;
+                if (read == next) {
+                    break;
+                }
+            }
+        }
         if (code != JCOBS_FULL_CODE && read < end) {
             buffer[written] = 0;
             written++;

@@ -7,26 +7,6 @@ use crate::proved::dec::step::FULL;
 use crate::proved::error::{DecodeError, DecodeReport};
 use crate::proved::find::{leading_zeros, len_to_zero};
 
-/// Moves `len` bytes of the buffer, which begin at `from`, to `to`, and returns where they end.
-#[inline(always)]
-fn move_bytes(buffer: &mut [u8], from: usize, to: usize, len: usize) -> usize {
-    if len == 0 {
-        return to;
-    }
-    let mut at = from;
-    let mut end = to;
-    let mut left = len;
-    'by_byte: loop {
-        buffer[end] = buffer[at];
-        end += 1;
-        at += 1;
-        left -= 1;
-        if left == 0 {
-            return end;
-        }
-    }
-}
-
 /// Decodes the blocks in the first `end` bytes of the buffer in their own place, one byte after another, and returns the
 /// message's length. Every byte after the message is as it was. It is small, and uses no vectors.
 ///
@@ -55,8 +35,19 @@ pub fn decode_blocks_each(buffer: &mut [u8], end: usize) -> Result<usize, Decode
                 decoded_bytes: written,
             });
         }
-        written = move_bytes(buffer, read + 1, written, code - 1);
-        read += code;
+        let next = read + code;
+        read += 1;
+        // The test is at the end of the loop, because compilers that keep code small leave it there.
+        if read != next {
+            'by_byte: loop {
+                buffer[written] = buffer[read];
+                written += 1;
+                read += 1;
+                if read == next {
+                    break;
+                }
+            }
+        }
         if code != FULL_CODE && read < end {
             buffer[written] = 0;
             written += 1;
