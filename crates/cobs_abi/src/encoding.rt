@@ -45,10 +45,10 @@ pub fn encode_byte(encoder: &mut UnbufferedEncoder, buffer: &mut [u8], byte: u8)
         encoder.new buffer.new }
 {
     law_13();
-    if encoder.feed(buffer, byte).is_err() {
-        return too_small();
+    match encoder.feed_len(buffer, byte) {
+        Ok(length) => done(1, length),
+        Err(_) => too_small(),
     }
-    done(1, end_of(encoder))
 }
 
 /// Ends the message, if its frame fits the buffer.

@@ -240,6 +240,16 @@ fn unbuffered_encoder_feed_example(rt: HostRuntime) {
 }
 
 #[test]
+fn unbuffered_encoder_feed_len_example(rt: HostRuntime) {
+    let mut buffer = [170; 3];
+    let mut encoder = UnbufferedEncoder::new();
+    assert_eq!(rt; encoder.feed_len(&mut buffer, 7), Ok(2));
+    assert_eq!(rt; encoder.feed_len(&mut buffer, 0), Ok(3));
+    assert_eq!(rt; encoder.finalize(&mut buffer), Ok(3));
+    assert_eq!(rt; buffer, [2, 7, 1]);
+}
+
+#[test]
 fn unbuffered_encoder_push_few_example(rt: HostRuntime) {
     let mut buffer = [170; 7];
     let mut encoder = UnbufferedEncoder::new();

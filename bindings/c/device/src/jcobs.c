@@ -809,28 +809,55 @@ jcobs_answer jcobs_encoder_push(jcobs_encoder *encoder, void *buffer, size_t buf
     return jcobs_encode_each(encoder, (unsigned char *)buffer, buffer_len, (const unsigned char *)bytes, len);
 }
 
-/* Takes the next byte of the message. */
-static JCOBS_INLINE int jcobs_encoder_feed_inside(jcobs_encoder *encoder, unsigned char *dest, size_t dest_len,
-                                                  unsigned char byte)
+/* Takes the next byte of the message, for which there is room, and returns the length of the frame so far. */
+static JCOBS_INLINE size_t jcobs_encoder_append_one(jcobs_encoder *encoder, unsigned char *dest, unsigned char byte)
+{
+    size_t index = encoder->index;
+    size_t code = (size_t)encoder->taken + 1;
+    size_t next = index + code;
+
+    encoder->full = 0;
+    if (byte == 0) {
+        dest[index] = (unsigned char)code;
+        encoder->index = next;
+        code = 0;
+    } else {
+        dest[next] = byte;
+        if (code == JCOBS_FULL_BLOCK_BYTES) {
+            dest[index] = JCOBS_FULL_CODE;
+            encoder->index = next + 1;
+            encoder->full = 1;
+            code = 0;
+        }
+    }
+    encoder->taken = (unsigned char)code;
+    return next + 1;
+}
+
+/* Takes the next byte of the message, as feed does, and returns the length that the frame has if the message ends
+ * with this byte. (A choice of this library.) */
+static JCOBS_INLINE jcobs_outcome jcobs_encoder_feed_len(jcobs_encoder *encoder, unsigned char *dest, size_t dest_len,
+                                                         unsigned char byte)
 {
     size_t room = dest_len;
-    unsigned char taken = encoder->taken;
+    size_t code = (size_t)encoder->taken + 1;
 
-    if (253 < taken || room < encoder->index || room - encoder->index <= (size_t)taken + 1) {
-        return 0;
+    if (JCOBS_FULL_BLOCK_BYTES < code || room < encoder->index || room - encoder->index <= code) {
+        return jcobs_outcome_of(JCOBS_IS_DEST_BUF_TOO_SMALL_ERROR, 0);
     }
-    jcobs_encoder_append_byte(encoder, dest, byte);
-    return 1;
+    return jcobs_outcome_of(JCOBS_IS_OK, jcobs_encoder_append_one(encoder, dest, byte));
 }
 
 /* Takes the next byte of a message, if the frame of all bytes so far fits the buffer. */
 static jcobs_answer jcobs_encode_byte(jcobs_encoder *encoder, unsigned char *buffer, size_t buffer_len,
                                       unsigned char byte)
 {
-    if (!jcobs_encoder_feed_inside(encoder, buffer, buffer_len, byte)) {
-        return jcobs_too_small();
+    jcobs_outcome found = jcobs_encoder_feed_len(encoder, buffer, buffer_len, byte);
+
+    if (found.kind == JCOBS_IS_OK) {
+        return jcobs_done(1, found.count);
     }
-    return jcobs_done(1, jcobs_end_of(encoder));
+    return jcobs_too_small();
 }
 
 /* Takes the next byte of a message, as a push of that byte does.

@@ -1,5 +1,5 @@
 //! The encoder byte by byte: the step for a byte of the message, and a piece as a loop of steps.
-ghost use Rattle.std.specs.Prelude.{◌≡◌, ◌<◌, ◌≤◌, ◌+◌, ◌++◌, ◌↔◌, [], ◌∷◌, ℕ, List, length, drop, IsOk, IsTrue, OnOk, OnErr, false};
+ghost use Rattle.std.specs.Prelude.{◌≡◌, ◌<◌, ◌≤◌, ◌+◌, ◌++◌, ◌↔◌, [], ◌∷◌, ℕ, List, length, drop, IsOk, IsTrue, IfOk, OnOk, OnErr, false};
 ghost use Rattle.cobs.specs.Length.{encoded_len};
 ghost use Rattle.cobs.specs.OpenBlock.{CobsEncoderAfter, HasRoomFor, IsPlaceIn, end_after, end_of};
 ghost use Rattle.cobs.specs.Fields.Progress.{reached_by};
@@ -42,6 +42,36 @@ impl UnbufferedEncoder {
         }
     }
 
+    /// Takes the next byte of the message, for which there is room, and returns the length of the frame so far.
+    // It does what `append_byte` does, in fewer instructions for a call with one byte, and in more for a loop of bytes.
+    #[inline(always)]
+    fn append_one(&mut self, dest: &mut [u8], byte: u8) -> usize
+        requires open_block { self.old.taken ≤ 253 }
+        requires room { self.old.index + self.old.taken + 1 < length dest.old }
+        ensures taken { TakesFront dest.old (reached_by self.old) (byte ∷ []) 1 dest.new (reached_by self.new) }
+        ensures end { result ≡ end_of (reached_by self.new) }
+    {
+        let index = self.index;
+        let mut code = self.taken as usize + 1;
+        let next = index + code;
+        self.full = 0;
+        if byte == 0 {
+            dest[index] = code as u8;
+            self.index = next;
+            code = 0;
+        } else {
+            dest[next] = byte;
+            if code == FULL_BLOCK_BYTES {
+                dest[index] = FULL_CODE as u8;
+                self.index = next + 1;
+                self.full = 1;
+                code = 0;
+            }
+        }
+        self.taken = code as u8;
+        next + 1
+    }
+
     /// Takes the next byte of the message.
     ///
     /// It does what [`push`](UnbufferedEncoder::push) of this one byte does.
@@ -78,6 +108,43 @@ impl UnbufferedEncoder {
         }
         self.append_byte(dest, byte);
         Ok(())
+    }
+
+    /// Takes the next byte of the message, as [`feed`](UnbufferedEncoder::feed) does, and returns the length that the frame has
+    /// if the message ends with this byte. (A choice of this library.)
+    ///
+    /// # Errors
+    /// Those of [`feed`](UnbufferedEncoder::feed).
+    ///
+    /// ```
+    /// let mut buffer = [170; 3];
+    /// let mut encoder = UnbufferedEncoder::new();
+    /// assert_eq!(rt; encoder.feed_len(&mut buffer, 7), Ok(2));
+    /// assert_eq!(rt; encoder.feed_len(&mut buffer, 0), Ok(3));
+    /// assert_eq!(rt; encoder.finalize(&mut buffer), Ok(3));
+    /// assert_eq!(rt; buffer, [2, 7, 1]);
+    /// ```
+    #[inline(always)]
+    #[tactic(auto, using(crate::proofs::encoding::TakingLemmas::encoder_steps))]
+    pub fn feed_len(&mut self, dest: &mut [u8], byte: u8) -> Result<usize, DestBufTooSmallError>
+        ensures room { IsOk result ↔ HasRoomFor (length dest.old) (reached_by self.old) (byte ∷ []) }
+        ensures fits { (m : List ℕ) → CobsEncoderAfter dest.old (reached_by self.old) m
+            → (IsOk result ↔ (encoded_len (m ++ byte ∷ []) ≤ length dest.old)) }
+        ensures taken { OnOk result ((m : List ℕ)
+            → CobsEncoderAfter dest.old (reached_by self.old) m
+            → CobsEncoderAfter dest.new (reached_by self.new) (m ++ byte ∷ [])) }
+        ensures rest { OnOk result (let end = end_of (reached_by self.new) in drop end dest.new ≡ drop end dest.old) }
+        ensures within { OnOk result (IsPlaceIn (length dest.new) (reached_by self.new)) }
+        ensures len { length dest.new ≡ length dest.old }
+        ensures refused { OnErr result ((dest.new ≡ dest.old) × (self.new ≡ self.old)) }
+        ensures end { IfOk result (λ n. n ≡ end_of (reached_by self.new)) }
+    {
+        let room = dest.len();
+        let code = self.taken as usize + 1;
+        if FULL_BLOCK_BYTES < code || room < self.index || room - self.index <= code {
+            return Err(DestBufTooSmallError);
+        }
+        Ok(self.append_one(dest, byte))
     }
 
     /// Takes up to 8 bytes of the message if they fit and can't fill the open block, and returns whether it did. Otherwise

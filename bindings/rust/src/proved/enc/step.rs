@@ -33,6 +33,31 @@ impl UnbufferedEncoder {
         }
     }
 
+    /// Takes the next byte of the message, for which there is room, and returns the length of the frame so far.
+    // It does what `append_byte` does, in fewer instructions for a call with one byte, and in more for a loop of bytes.
+    #[inline(always)]
+    fn append_one(&mut self, dest: &mut [u8], byte: u8) -> usize {
+        let index = self.index;
+        let mut code = self.taken as usize + 1;
+        let next = index + code;
+        self.full = 0;
+        if byte == 0 {
+            dest[index] = code as u8;
+            self.index = next;
+            code = 0;
+        } else {
+            dest[next] = byte;
+            if code == FULL_BLOCK_BYTES {
+                dest[index] = FULL_CODE as u8;
+                self.index = next + 1;
+                self.full = 1;
+                code = 0;
+            }
+        }
+        self.taken = code as u8;
+        next + 1
+    }
+
     /// Takes the next byte of the message.
     ///
     /// It does what [`push`](UnbufferedEncoder::push) of this one byte does.
@@ -59,6 +84,32 @@ impl UnbufferedEncoder {
         }
         self.append_byte(dest, byte);
         Ok(())
+    }
+
+    /// Takes the next byte of the message, as [`feed`](UnbufferedEncoder::feed) does, and returns the length that the frame has
+    /// if the message ends with this byte.
+    ///
+    /// # Errors
+    /// Those of [`feed`](UnbufferedEncoder::feed).
+    ///
+    /// ```
+    /// use jcobs::UnbufferedEncoder;
+    ///
+    /// let mut buffer = [170; 3];
+    /// let mut encoder = UnbufferedEncoder::new();
+    /// assert_eq!(encoder.feed_len(&mut buffer, 7), Ok(2));
+    /// assert_eq!(encoder.feed_len(&mut buffer, 0), Ok(3));
+    /// assert_eq!(encoder.finalize(&mut buffer), Ok(3));
+    /// assert_eq!(buffer, [2, 7, 1]);
+    /// ```
+    #[inline(always)]
+    pub fn feed_len(&mut self, dest: &mut [u8], byte: u8) -> Result<usize, DestBufTooSmallError> {
+        let room = dest.len();
+        let code = self.taken as usize + 1;
+        if FULL_BLOCK_BYTES < code || room < self.index || room - self.index <= code {
+            return Err(DestBufTooSmallError);
+        }
+        Ok(self.append_one(dest, byte))
     }
 
     /// Takes up to 8 bytes of the message if they fit and can't fill the open block, and returns whether it did. Otherwise

@@ -1,0 +1,17 @@
+-- A zero closes the open block, and any other byte joins or fills it: the three steps of `ByteLemmas`, as in `append_byte`.
+use Rattle.std.proofs.Common.{length, refl, arith}
+use Rattle.cobs.specs.Fields.Progress.{reached_by}
+use Rattle.cobs.proofs.encoding.ByteLemmas.{byte-fills, byte-joins, byte-zero, fits-byte}
+use Rattle.cobs.proofs.encoding.StepLemmas.{is-place}
+use Rattle.cobs.proofs.enc.unbuffered.UnbufferedEncoder.append_one.Goals.{then-byte-eq0, else-byte-eq0+then-code-eq-FULL_BLOCK_BYTES, else-byte-eq0+else-code-eq-FULL_BLOCK_BYTES}
+use Rattle.cobs.proofs.enc.unbuffered.UnbufferedEncoder.append_one.Goals as goal
+
+pub returns-clause-taken : goal.returns-clause-taken
+returns-clause-taken c =
+    let place = is-place c.args.self.now (length c.args.dest.now) c.requires.open_block c.requires.room in
+    let fits = fits-byte c.args.dest.now (reached_by c.args.self.now) c.args.byte (omega arith) (omega arith) (omega arith) in
+    elim c.if-byte-eq0.branch [
+      | then-byte-eq0 w ↦ rw (w.self-is, w.dest-is, w.code-is) (byte-zero place fits (omega arith) (omega arith) w.if-byte-eq0.true (omega arith) refl)
+      | else-byte-eq0+then-code-eq-FULL_BLOCK_BYTES w ↦ rw (w.self-is, w.dest-is, w.code-is) (byte-fills place fits (omega arith) (omega arith) w.if-byte-eq0.false (omega arith) refl)
+      | else-byte-eq0+else-code-eq-FULL_BLOCK_BYTES w ↦ rw (w.self-is, w.dest-is, w.code-is) (byte-joins place fits (omega arith) (omega arith) w.if-byte-eq0.false (omega arith) (omega arith) refl)
+    ]
