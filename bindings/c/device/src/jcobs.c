@@ -148,7 +148,7 @@ static size_t jcobs_leading_zeros(const unsigned char *source, size_t source_len
 }
 
 /* Returns the result for a piece that ended after this many bytes of output, with this many bytes of its last
- * block missing. */
+ * block missing, and after at bytes of the source. */
 static JCOBS_INLINE jcobs_found jcobs_ended(size_t written, size_t missing, size_t at)
 {
     if (missing == 0) {
@@ -157,7 +157,7 @@ static JCOBS_INLINE jcobs_found jcobs_ended(size_t written, size_t missing, size
     return jcobs_found_of(JCOBS_IS_BROKEN, written, at);
 }
 
-/* Returns where a piece ends that goes on at at: after its zero, or with the source. */
+/* Returns where the piece ends whose next byte is at at: after its zero, or at the end of the source. */
 static JCOBS_NOINLINE size_t jcobs_end_after(const unsigned char *source, size_t source_len, size_t at)
 {
     size_t end = at;

@@ -69,7 +69,7 @@ pub(crate) fn decode_in_place_each(buf: &mut [u8]) -> Result<DecodeReport, Decod
     })
 }
 
-/// Returns where a piece ends that goes on at `at`: after its zero, or with the source.
+/// Returns where the piece ends whose next byte is at `at`: after its zero, or at the end of the source.
 // A function of its own, so that the loops of its caller have all registers of a small processor.
 #[inline(never)]
 fn end_after(source: &[u8], at: usize) -> usize {
@@ -83,7 +83,8 @@ fn end_after(source: &[u8], at: usize) -> usize {
     end
 }
 
-/// Returns the result for a piece that ended after this many bytes of output, with this many bytes of its last block missing.
+/// Returns the result for a piece that ended after this many bytes of output, with this many bytes of its last block missing,
+/// and after `at` bytes of the source.
 #[inline(always)]
 fn ended(written: usize, missing: usize, at: usize) -> Option<(PieceEnd, usize)> {
     if missing == 0 {

@@ -54,7 +54,7 @@ fn mark_zeros(dest: &mut [u8], index: usize, next: usize, zeros: u64) -> usize {
     index
 }
 
-/// Takes the first `len` bytes of a source, which can't fill the open block, one by one. The code of the next block is written
+/// Takes the first `len` bytes of a source one by one. They can't fill the open block. The code of the next block is written
 /// over each zero. No branch tests for zeros, since a processor may predict it wrong. So the open block's code is written
 /// after each byte.
 #[inline(always)]
@@ -219,7 +219,7 @@ pub(crate) fn append_rest(
     progress
 }
 
-/// Appends `source` to the frame in `dest`, which is as far as `progress` says, and returns the progress after it.
+/// Continues the frame in `dest` with `source`, from `progress` on, and returns the progress after it.
 /// [`close`] writes the code of the open block: the byte in its place before that doesn't matter.
 ///
 /// [`append_windows`] takes most bytes. Those after them are usually few; [`append_rest`] takes them if they are more than a

@@ -102,6 +102,8 @@ pub(crate) fn try_append(source: &[u8], dest: &mut [u8], progress: &mut EncoderP
     let start = EncoderProgress { ..*progress };
     let room = dest.len() - start.index;
     let code = start.code as usize;
+    // The length from the open block's code on, if no block becomes full. At most (most - 2) / 254 full blocks are followed by
+    // another byte.
     let most = code + source.len();
     let mut run = 0;
     if room < most + (most - 2) / FULL_BLOCK_BYTES {

@@ -60,8 +60,7 @@ pub fn try_encode_with_sentinel(
 
 /// Writes 0, the encoded frame of `source` and 0 to the front of `dest`, and returns the length of the three in bytes.
 ///
-/// The bytes of `dest` after them stay as they were. Writing a sentinel on each side of a frame is as in the crate
-/// `cobs`.
+/// The bytes of `dest` after them stay as they were. As in the crate `cobs`, there is a sentinel on each side of the frame.
 ///
 /// Precondition: the frame and 2 bytes fit `dest`. They always fit
 /// [`max_encoding_length`](crate::max_encoding_length) of the message's length, plus 2.

@@ -77,12 +77,7 @@ impl UnbufferedEncoder {
     /// ```
     #[inline(always)]
     pub fn feed(&mut self, dest: &mut [u8], byte: u8) -> Result<(), DestBufTooSmallError> {
-        let room = dest.len();
-        let taken = self.taken;
-        if 253 < taken || room < self.index || room - self.index <= taken as usize + 1 {
-            return Err(DestBufTooSmallError);
-        }
-        self.append_byte(dest, byte);
+        self.feed_len(dest, byte)?;
         Ok(())
     }
 
