@@ -75,26 +75,38 @@ module _ (c : After-zeros_at-later) where
     wide_more : 64 < length source → get_or source 64 0 ≢ 0 → HasNoZero (take 65 source)
     wide_more more other = All-more (λ b. b ≢ 0) source 64 0 more (wide (omega arith)) other
 
-pub returns-then-zeros-ne0 : goal.returns-then-zeros-ne0
-returns-then-zeros-ne0 c =
-    let w = first-window (goal.at.returns-then-zeros-ne0 c).After-zeros_at-zeros in
-    let some = c.if-zeros-ne0.true in
-    let few = within w some in
-    record { within = omega (arith, w.long); near = λ _. omega arith; before = λ _. before w some; stop = λ _. stop w some }
+pub returns-then-zeros-ne0-clause-within : goal.returns-then-zeros-ne0-clause-within
+returns-then-zeros-ne0-clause-within c =
+    let w = first-window (goal.at.returns-then-zeros-ne0-clause-within c).After-zeros_at-zeros in
+    let few = within w c.if-zeros-ne0.true in
+    omega (arith, w.long)
 
-pub returns-then-later-ne0 : goal.returns-then-later-ne0
-returns-then-later-ne0 c =
-    let after = (goal.at.returns-then-later-ne0 c).After-zeros_at-later in
-    let w = later after in
-    let some = c.if-later-ne0.true in
-    let few = within w some in
+pub returns-then-zeros-ne0-clause-before : goal.returns-then-zeros-ne0-clause-before
+returns-then-zeros-ne0-clause-before c _ = before (first-window (goal.at.returns-then-zeros-ne0-clause-before c).After-zeros_at-zeros) c.if-zeros-ne0.true
+
+pub returns-then-zeros-ne0-clause-stop : goal.returns-then-zeros-ne0-clause-stop
+returns-then-zeros-ne0-clause-stop c _ = stop (first-window (goal.at.returns-then-zeros-ne0-clause-stop c).After-zeros_at-zeros) c.if-zeros-ne0.true
+
+pub returns-then-later-ne0-clause-within : goal.returns-then-later-ne0-clause-within
+returns-then-later-ne0-clause-within c =
+    let after = (goal.at.returns-then-later-ne0-clause-within c).After-zeros_at-later in
+    let few = within (later after) c.if-later-ne0.true in
     let i = inside after in
-    record {
-      within = omega arith;
-      near = λ _. omega (arith, c.min-at.ensures);
-      before = λ _. both after _ (before w some);
-      stop = λ _. sym (get_or-drop c.min-at.result c.args.source.now _ 0) ∙ stop w some;
-    }
+    omega arith
+
+pub returns-then-later-ne0-clause-near : goal.returns-then-later-ne0-clause-near
+returns-then-later-ne0-clause-near c _ =
+    let few = within (later (goal.at.returns-then-later-ne0-clause-near c).After-zeros_at-later) c.if-later-ne0.true in
+    omega (arith, c.min-at.ensures)
+
+pub returns-then-later-ne0-clause-before : goal.returns-then-later-ne0-clause-before
+returns-then-later-ne0-clause-before c _ =
+    let after = (goal.at.returns-then-later-ne0-clause-before c).After-zeros_at-later in
+    both after _ (before (later after) c.if-later-ne0.true)
+
+pub returns-then-later-ne0-clause-stop : goal.returns-then-later-ne0-clause-stop
+returns-then-later-ne0-clause-stop c _ =
+    sym (get_or-drop c.min-at.result c.args.source.now _ 0) ∙ stop (later (goal.at.returns-then-later-ne0-clause-stop c).After-zeros_at-later) c.if-later-ne0.true
 
 pub returns-then-source-eq0-clause-before : goal.returns-then-source-eq0-clause-before
 returns-then-source-eq0-clause-before c _ = wide (goal.at.returns-then-source-eq0-clause-before c).After-zeros_at-later c.if-later-ne0.false (omega arith)

@@ -5,12 +5,14 @@ use Rattle.std.proofs.lemmas.List.{take_rest}
 use Rattle.cobs.specs.Decode.{leading_zeros, report_result}
 use Rattle.cobs.specs.Fields.Decoders.{phase_of}
 use Rattle.cobs.specs.Feed.{Overlong}
+use Rattle.cobs.specs.Overwritten.{overwritten}
+use Rattle.cobs.specs.Piece.{output}
 use Rattle.cobs.specs.Step.{next_phase}
 use Rattle.cobs.specs.Stream.{first_piece, head}
 use Rattle.cobs.proofs.decoding.HeadLemmas.{first_piece_empty, first_piece_none, first_piece_found, head_some, leading_zeros-stop}
 use Rattle.cobs.proofs.decoding.OutcomeSteps.{answer-by, result_of_decode-none, overwritten-none, outcome_result-too_long, result-by, always}
 use Rattle.cobs.proofs.streaming.FrontFed.{FrontFed, over-long, over-written, rest, whole, whole-count}
-use Rattle.cobs.proofs.streaming.QuietLemmas.{quiet-at, quiet-written}
+use Rattle.cobs.proofs.streaming.QuietLemmas.{Quiet, quiet-at, quiet-written}
 use Rattle.cobs.proofs.dec.whole.decode_long.Goals as goal
 use Rattle.cobs.proofs.dec.whole.decode_long.Goals.{After-take_run-len}
 
@@ -42,6 +44,23 @@ module _ (c : After-take_run-len) where
       → next_phase (length c.take_run-len.new.dest) (phase_of c.take_run-len.new.self) (get_or (rest source) c.take_run-len.result 0) ≡ Overlong
   stop = rw rest-is at c.take_run-len.ensures.stop
 
+  -- a byte without room
+  module _ (more : c.take_run-len.result < length slice) (other : get_or slice c.take_run-len.result 0 ≢ 0) where
+    too-long : (length c.args.dest.now < length (output (head (rest source)))) × (c.take_run-len.new.dest ≡ overwritten c.args.dest.now (output (head (rest source))))
+    too-long =
+        let inside = rw rest-is at more in
+        let some' = rw rest-is at other in
+        let full = stop inside some' in
+        (over-long front inside some' full, over-written front inside some' full)
+
+  -- a zero, or the end of the source
+  module _ (end : c.take_run-len.result < length slice → get_or slice c.take_run-len.result 0 ≡ 0) where
+    decoded : Quiet c.args.dest.now c.take_run-len.new.dest (phase_of c.take_run-len.new.self) (head (rest source))
+    decoded = whole front (rw rest-is at end)
+
+    count : c.take_run-len.result ≡ length (head (rest source))
+    count = whole-count front (rw rest-is at end)
+
 pub returns-then-is_empty-clause-buffer : goal.returns-then-is_empty-clause-buffer
 returns-then-is_empty-clause-buffer c = grind (arith, first_piece_empty, eqb-true, overwritten-none)
 
@@ -51,31 +70,30 @@ returns-then-start-source-clause-returned c = grind (arith, first_piece_none, le
 pub returns-then-start-source-clause-buffer : goal.returns-then-start-source-clause-buffer
 returns-then-start-source-clause-buffer c = grind (arith, first_piece_none, length-drop, overwritten-none)
 
--- a byte without room
-pub returns-then-rest-len-ne0 : goal.returns-then-rest-len-ne0
-returns-then-rest-len-ne0 c =
-    let at = (goal.at.returns-then-rest-len-ne0 c).After-take_run-len in
-    let more = rw (rest-is at) at c.if-len-rest.true in
-    let other = rw (rest-is at) at c.if-rest-len-ne0.true in
-    let over = stop at more other in
-    let long = outcome_result-too_long _ _ (over-long (front at) more other over) in
-    record {
-      returned = answer-by _ _ _ _ 0 _ (omega arith) (found at) refl long tt;
-      buffer = rw (found at) (over-written (front at) more other over);
-    }
+pub returns-then-rest-len-ne0-clause-returned : goal.returns-then-rest-len-ne0-clause-returned
+returns-then-rest-len-ne0-clause-returned c =
+    let at = (goal.at.returns-then-rest-len-ne0-clause-returned c).After-take_run-len in
+    let long = too-long at c.if-len-rest.true c.if-rest-len-ne0.true in
+    answer-by _ _ _ _ 0 _ (omega arith) (found at) refl (outcome_result-too_long _ _ long.0) tt
 
--- a zero, or the end of the source
-pub returns : goal.returns
-returns c =
-    let at = (goal.at.returns c).After-take_run-len in
-    let none : c.take_run-len.result < length (slice at) → get_or (slice at) c.take_run-len.result 0 ≡ 0 = grind arith in
-    let end = rw (rest-is at) at none in
-    let w = whole (front at) end in
+pub returns-then-rest-len-ne0-clause-buffer : goal.returns-then-rest-len-ne0-clause-buffer
+returns-then-rest-len-ne0-clause-buffer c =
+    let at = (goal.at.returns-then-rest-len-ne0-clause-buffer c).After-take_run-len in
+    rw (found at) (too-long at c.if-len-rest.true c.if-rest-len-ne0.true).1
+
+pub returns-clause-returned : goal.returns-clause-returned
+returns-clause-returned c =
+    let at = (goal.at.returns-clause-returned c).After-take_run-len in
+    let end : c.take_run-len.result < length (slice at) → get_or (slice at) c.take_run-len.result 0 ≡ 0 = grind arith in
+    let w = decoded at end in
     let counts = quiet-at _ _ _ _ w c.take_run-len.new.self refl in
     let is : c.map.result ≡ report_result c.min-parsed_size.result c.message_len-result.result = search rules in
     let m = c.message_len-result.ensures in
-    record {
-      returned = is ∙ answer-by _ _ _ _ _ _ (omega arith) (found at) (omega (arith, c.leading_zeros-start.ensures.count))
-          (result-by _ _ _ _ _ (front at).begins w.fits counts.0 counts.1 m.whole m.broken) (always _ (whole-count (front at) end));
-      buffer = rw (found at) (quiet-written _ _ _ _ w);
-    }
+    is ∙ answer-by _ _ _ _ _ _ (omega arith) (found at) (omega (arith, c.leading_zeros-start.ensures.count))
+    (result-by _ _ _ _ _ (front at).begins w.fits counts.0 counts.1 m.whole m.broken) (always _ (count at end))
+
+pub returns-clause-buffer : goal.returns-clause-buffer
+returns-clause-buffer c =
+    let at = (goal.at.returns-clause-buffer c).After-take_run-len in
+    let end : c.take_run-len.result < length (slice at) → get_or (slice at) c.take_run-len.result 0 ≡ 0 = grind arith in
+    rw (found at) (quiet-written _ _ _ _ (decoded at end))
