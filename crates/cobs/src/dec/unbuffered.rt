@@ -81,7 +81,7 @@ pub struct UnbufferedDecoder {
 const FEW: usize = 16;
 
 /// Up to this many bytes, a step for each byte is faster than the tests before a copy in vectors.
-const VERY_FEW: usize = 4;
+const VERY_FEW: usize = 3;
 
 /// No piece has begun.
 pub(crate) const START: UnbufferedDecoder = UnbufferedDecoder {
