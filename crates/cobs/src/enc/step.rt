@@ -101,7 +101,12 @@ impl UnbufferedEncoder {
         ensures len { length dest.new ≡ length dest.old }
         ensures refused { OnErr result ((dest.new ≡ dest.old) × (self.new ≡ self.old)) }
     {
-        self.feed_len(dest, byte)?;
+        let room = dest.len();
+        let taken = self.taken;
+        if 253 < taken || room < self.index || room - self.index <= taken as usize + 1 {
+            return Err(DestBufTooSmallError);
+        }
+        self.append_byte(dest, byte);
         Ok(())
     }
 

@@ -1,0 +1,51 @@
+-- The three tests say exactly that the byte has room (`room-only`, `has-room`), and then `append_byte` takes it.
+use Rattle.std.proofs.Common.{[], ◌∷◌, length, refl, arith}
+use Rattle.cobs.specs.Fields.Progress.{reached_by}
+use Rattle.cobs.specs.OpenBlock.{HasRoomFor}
+use Rattle.cobs.specs.Internal.Taking.{TakesFront}
+use Rattle.cobs.proofs.encoding.StepLemmas.{has-room, room-only}
+use Rattle.cobs.proofs.encoding.TakingLemmas.{all-after, all-rest}
+use Rattle.cobs.proofs.encoding.AfterLemmas.{after-end, after-place}
+use Rattle.cobs.proofs.enc.unbuffered.UnbufferedEncoder.feed.Goals.{Joined-then-taken-gt253, After-append_byte, then-taken-gt253-via-then-taken-gt253, then-taken-gt253-via-else-taken-gt253+then-room-self, then-taken-gt253-via-else-taken-gt253+else-room-self+then-room-self-2}
+use Rattle.cobs.proofs.enc.unbuffered.UnbufferedEncoder.feed.Goals as goal
+
+none : (c : Joined-then-taken-gt253) → HasRoomFor (length c.args.dest.now) (reached_by c.args.self.now) (c.args.byte ∷ []) → ⊥
+none c h =
+    let room = room-only c.args.self.now (length c.args.dest.now) c.args.byte h in
+    elim c.then-taken-gt253.branch [
+      | then-taken-gt253-via-then-taken-gt253 w ↦ omega (arith, w.if-taken-gt253.true)
+      | then-taken-gt253-via-else-taken-gt253+then-room-self w ↦ omega (arith, w.if-room-self.true)
+      | then-taken-gt253-via-else-taken-gt253+else-room-self+then-room-self-2 w ↦ omega (arith, w.if-room-self-2.true)
+    ]
+
+pub returns-then-taken-gt253-clause-room : goal.returns-then-taken-gt253-clause-room
+returns-then-taken-gt253-clause-room c = (λ t. cc, λ h. absurd (none c h))
+
+pub returns-then-taken-gt253-clause-fits : goal.returns-then-taken-gt253-clause-fits
+returns-then-taken-gt253-clause-fits c = λ m h.
+    let e = after-end h (c.args.byte ∷ []) in
+    (λ t. cc, λ le. absurd (none c (record { place = after-place h; fits = omega arith })))
+
+room : (c : After-append_byte) → HasRoomFor (length c.args.dest.now) (reached_by c.args.self.now) (c.args.byte ∷ [])
+room c = has-room c.args.self.now c.args.dest.now c.args.byte c.if-taken-gt253.false (omega (arith, c.if-room-self.false, c.if-room-self-2.false))
+
+taken : (c : After-append_byte) → TakesFront c.args.dest.now (reached_by c.args.self.now) (c.args.byte ∷ []) 1 c.append_byte.new.dest (reached_by c.append_byte.new.self)
+taken c = c.append_byte.ensures [] (room c).fits
+
+pub returns-clause-room : goal.returns-clause-room
+returns-clause-room c = (λ t. room (goal.at.returns-clause-room c).After-append_byte, λ h. refl)
+
+pub returns-clause-fits : goal.returns-clause-fits
+returns-clause-fits c = λ m h.
+    let e = after-end h (c.args.byte ∷ []) in
+    let fits = (room (goal.at.returns-clause-fits c).After-append_byte).fits in
+    (λ t. omega arith, λ le. refl)
+
+pub returns-clause-taken : goal.returns-clause-taken
+returns-clause-taken c = all-after (taken (goal.at.returns-clause-taken c).After-append_byte)
+
+pub returns-clause-rest : goal.returns-clause-rest
+returns-clause-rest c = all-rest (taken (goal.at.returns-clause-rest c).After-append_byte)
+
+pub returns-clause-within : goal.returns-clause-within
+returns-clause-within c = (taken (goal.at.returns-clause-within c).After-append_byte).place
