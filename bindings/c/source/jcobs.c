@@ -63,9 +63,9 @@ enum jcobs_frame_kind { JCOBS_FRAME_KIND_NOT_A_FRAME, JCOBS_FRAME_KIND_CANONICAL
 /* What a step came to. */
 enum {
     JCOBS_IS_NONE,
+    JCOBS_IS_TOO_LONG,
     JCOBS_IS_MESSAGE,
     JCOBS_IS_BROKEN,
-    JCOBS_IS_TOO_LONG,
     JCOBS_IS_EMPTY_FRAME,
     JCOBS_IS_SOME,
     JCOBS_IS_INVALID_FRAME,
@@ -147,16 +147,6 @@ static size_t jcobs_leading_zeros(const unsigned char *source, size_t source_len
     return source_len;
 }
 
-/* Returns the result for a piece that ended after this many bytes of output, with this many bytes of its last
- * block missing, and after at bytes of the source. */
-static JCOBS_INLINE jcobs_found jcobs_ended(size_t written, size_t missing, size_t at)
-{
-    if (missing == 0) {
-        return jcobs_found_of(JCOBS_IS_MESSAGE, written, at);
-    }
-    return jcobs_found_of(JCOBS_IS_BROKEN, written, at);
-}
-
 /* Returns where the piece ends whose next byte is at at: after its zero, or at the end of the source. */
 static JCOBS_NOINLINE size_t jcobs_end_after(const unsigned char *source, size_t source_len, size_t at)
 {
@@ -169,6 +159,16 @@ static JCOBS_NOINLINE size_t jcobs_end_after(const unsigned char *source, size_t
         }
     }
     return end;
+}
+
+/* Returns the result for a piece that ended after this many bytes of output, with this many bytes of its last
+ * block missing, and after at bytes of the source. */
+static JCOBS_INLINE jcobs_found jcobs_ended(size_t written, size_t missing, size_t at)
+{
+    if (missing == 0) {
+        return jcobs_found_of(JCOBS_IS_MESSAGE, written, at);
+    }
+    return jcobs_found_of(JCOBS_IS_BROKEN, written, at);
 }
 
 /* Decodes the first piece of the source into dest, one byte after another, and returns how it ended, and how many
@@ -184,36 +184,34 @@ static JCOBS_INLINE jcobs_found jcobs_decode_piece(const unsigned char *source, 
     }
     size_t at = start + 1;
     size_t written = 0;
-    for (;;) {
-        unsigned char code = source[at - 1];
-        size_t left = (size_t)code - 1;
-        for (;;) {
-            if (at == source_len) {
-                return jcobs_ended(written, left, at);
-            }
-            unsigned char byte = source[at];
-            at++;
-            if (byte == 0) {
-                return jcobs_ended(written, left, at);
-            }
-            if (left == 0) {
-                break;
-            }
+    unsigned char code = source[start];
+    size_t left = (size_t)code - 1;
+    while (at < source_len) {
+        unsigned char byte = source[at];
+        at++;
+        if (byte == 0) {
+            break;
+        }
+        if (left != 0) {
             if (written == dest_len) {
                 return jcobs_found_of(JCOBS_IS_TOO_LONG, 0, jcobs_end_after(source, source_len, at));
             }
             dest[written] = byte;
             written++;
             left--;
-        }
-        if (code != JCOBS_FULL) {
-            if (written == dest_len) {
-                return jcobs_found_of(JCOBS_IS_TOO_LONG, 0, jcobs_end_after(source, source_len, at));
+        } else {
+            if (code != JCOBS_FULL) {
+                if (written == dest_len) {
+                    return jcobs_found_of(JCOBS_IS_TOO_LONG, 0, jcobs_end_after(source, source_len, at));
+                }
+                dest[written] = 0;
+                written++;
             }
-            dest[written] = 0;
-            written++;
+            code = byte;
+            left = (size_t)code - 1;
         }
     }
+    return jcobs_ended(written, left, at);
 }
 
 /* Returns the result of a call that succeeded: this many bytes were taken, and this many are at the front of the

@@ -29,12 +29,6 @@ pub record IsRead (source old : List ℕ) (at : ℕ) (new : List ℕ) (full : Bo
   pub room : written ≤ length new
   pub front : FrontFed (rest source) old new (Within full left written) n
 
--- the same, if the last of them is a code
-pub record IsReadToCode (source old : List ℕ) (at : ℕ) (new : List ℕ) (written : ℕ) : Type 0 where
-  pub begun : 0 < at
-  pub code : get_or source (at - 1) 0 ≢ 0
-  pub read : IsRead source old at new (eqb (get_or source (at - 1) 0) 255) (get_or source (at - 1) 0 - 1) written
-
 -- the result and the buffer are those of the source's first piece
 pub record Ended (source old new : List ℕ) (result : Option (PieceEnd × ℕ)) : Type 0 where
   pub answer : result ≡ end_of_first source (length old)
@@ -46,28 +40,25 @@ one : (dest : List ℕ) (phase : Phase) {dest' : List ℕ} {b : ℕ} {full : Boo
 one dest phase {dest'} {b} other is next =
     (ap (λ (v : Bool). cond v (end_result (length dest) phase) (error_if_overlong (next_phase (length dest) phase b))) (ne_eqb b 0 other) ∙ ap error_if_overlong (sym next), (is, next))
 
-to-code : (at : ℕ) {source old new : List ℕ} {written : ℕ} → get_or source at 0 ≢ 0 → IsRead source old (at + 1) new (eqb (get_or source at 0) 255) (get_or source at 0 - 1) written
-    → IsReadToCode source old (at + 1) new written
-to-code at other s =
-    let same : at + 1 - 1 ≡ at = omega arith in
-    record { begun = omega arith; code = rw same other; read = rw same s }
+-- after the leading zeros there is a code
+pub first-code : (source : List ℕ) (start : ℕ) → start ≡ leading_zeros source → start < length source → get_or source start 0 ≢ 0
+first-code source start is more e =
+    leading_zeros-stop source (omega arith) (get_or-drop (leading_zeros source) source 0 0 ∙ ap (λ (k : ℕ). get_or source k 0) (omega arith) ∙ e)
 
--- the first code
-pub read-first : (source old : List ℕ) (start : ℕ) → start ≡ leading_zeros source → start < length source → IsReadToCode source old (start + 1) old 0
+pub read-first : (source old : List ℕ) (start : ℕ) → start ≡ leading_zeros source → start < length source → IsRead source old (start + 1) old (eqb (get_or source start 0) 255) (get_or source start 0 - 1) 0
 read-first source old start is more =
     let b : ℕ = get_or source start 0 in
     let long = length-drop (leading_zeros source) source in
     let starts = leading_zeros-stop source (omega arith) in
-    let first : get_or (rest source) 0 0 ≡ b = get_or-drop (leading_zeros source) source 0 0 ∙ ap (λ (k : ℕ). get_or source k 0) (omega arith) in
-    let other : b ≢ 0 = λ e. starts (first ∙ e) in
+    let other : b ≢ 0 = first-code source start is more in
     let here : take 1 (rest source) ≡ b ∷ [] = ap (λ (k : ℕ). take 1 (drop k source)) (sym is) ∙ ap (take 1) (drop_more source start 0 more) in
-    to-code start other (record {
+    record {
       n = 1;
       place = omega arith;
       within = omega arith;
       room = omega arith;
       front = record { begins = head_some (rest source) (omega arith) starts; within = omega arith; fed = rw here (one old Idle other refl (rw (ne_eqb b 0 other) refl)) };
-    })
+    }
 
 -- a source that has only zeros
 pub no-piece : (source old : List ℕ) (start : ℕ) → start ≡ leading_zeros source → start ≡ length source → Ended source old old None
@@ -190,15 +181,15 @@ module _ {source old new : List ℕ} {at left written : ℕ} {full : Bool} (s : 
     over-byte some no-room = over (phase-over written byte other full (length new) left some no-room)
 
     -- the code after a full block
-    pub read-full : left ≡ 0 → full ≡ true → IsReadToCode source old (at + 1) new written
-    read-full none is = to-code at other (read-more (rw (none, is) refl) (rw (none, is, ne_eqb byte 0 other) refl) s.room)
+    pub read-full : left ≡ 0 → full ≡ true → IsRead source old (at + 1) new (eqb byte 255) (byte - 1) written
+    read-full none is = read-more (rw (none, is) refl) (rw (none, is, ne_eqb byte 0 other) refl) s.room
 
     -- the code after another, with the zero before it
-    pub read-zero : left ≡ 0 → full ≡ false → written ≢ length new → IsReadToCode source old (at + 1) (set new written 0) (written + 1)
+    pub read-zero : left ≡ 0 → full ≡ false → written ≢ length new → IsRead source old (at + 1) (set new written 0) (eqb byte 255) (byte - 1) (written + 1)
     read-zero none is room =
         let less : written < length new = omega (arith, s.room) in
-        to-code at other (read-more (rw (none, is, ne_eqb byte 0 other) refl) (rw (none, is, ne_eqb byte 0 other, lt-ltb written (length new) less) refl)
-        (omega (arith, length-set new written 0)))
+        read-more (rw (none, is, ne_eqb byte 0 other) refl) (rw (none, is, ne_eqb byte 0 other, lt-ltb written (length new) less) refl)
+        (omega (arith, length-set new written 0))
 
     pub over-zero : left ≡ 0 → full ≡ false → length new ≤ written → {count : ℕ} → count ≡ min (length source) (at + 1 + length (head (drop (at + 1) source)) + 1)
         → Ended source old new (Some (ends.TooLong, count))

@@ -137,36 +137,34 @@ pub fn decode_piece(source: &[u8], dest: &mut [u8]) -> Option<(PieceEnd, usize)>
     }
     let mut at = start + 1;
     let mut written = 0;
-    'by_block: loop {
-        let code = source[at - 1];
-        let mut left = code as usize - 1;
-        'by_byte: loop {
-            if at == source.len() {
-                return ended(written, left, at);
-            }
-            let byte = source[at];
-            at += 1;
-            if byte == 0 {
-                return ended(written, left, at);
-            }
-            if left == 0 {
-                break;
-            }
+    let mut code = source[start];
+    let mut left = code as usize - 1;
+    'by_byte: while at < source.len() {
+        let byte = source[at];
+        at += 1;
+        if byte == 0 {
+            break;
+        }
+        if left != 0 {
             if written == dest.len() {
                 return Some((PieceEnd::TooLong, end_after(source, at)));
             }
             dest[written] = byte;
             written += 1;
             left -= 1;
-        }
-        if code != FULL {
-            if written == dest.len() {
-                return Some((PieceEnd::TooLong, end_after(source, at)));
+        } else {
+            if code != FULL {
+                if written == dest.len() {
+                    return Some((PieceEnd::TooLong, end_after(source, at)));
+                }
+                dest[written] = 0;
+                written += 1;
             }
-            dest[written] = 0;
-            written += 1;
+            code = byte;
+            left = code as usize - 1;
         }
     }
+    ended(written, left, at)
 }
 
 /// Does what [`decode`](crate::decode) does, one byte after another.

@@ -77,7 +77,12 @@ impl UnbufferedEncoder {
     /// ```
     #[inline(always)]
     pub fn feed(&mut self, dest: &mut [u8], byte: u8) -> Result<(), DestBufTooSmallError> {
-        self.feed_len(dest, byte)?;
+        let room = dest.len();
+        let taken = self.taken;
+        if 253 < taken || room < self.index || room - self.index <= taken as usize + 1 {
+            return Err(DestBufTooSmallError);
+        }
+        self.append_byte(dest, byte);
         Ok(())
     }
 
