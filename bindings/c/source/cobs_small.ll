@@ -13,113 +13,101 @@ join.5.i:                                         ; preds = %loop.2.i
   %r20.i = load i8, ptr %r18.i, align 1
   %r22.not.i = icmp eq i8 %r20.i, 0
   %r29.i = add i64 %r3.0.i, 1
-  br i1 %r22.not.i, label %loop.2.i, label %loop.5.i
+  br i1 %r22.not.i, label %loop.2.i, label %loop.5.i.outer
 
-loop.5.i:                                         ; preds = %join.5.i, %loop.5.i.backedge
-  %r7.0.i = phi i64 [ %r7.0.i.be, %loop.5.i.backedge ], [ 0, %join.5.i ]
-  %r6.0.i = phi i64 [ %r95.i, %loop.5.i.backedge ], [ %r29.i, %join.5.i ]
-  %0 = getelementptr i8, ptr %a1, i64 %r6.0.i
-  %r59.i = getelementptr i8, ptr %0, i64 -1
-  %r61.i = load i8, ptr %r59.i, align 1
-  %r64.i = zext i8 %r61.i to i64
-  br label %loop.7.i
-
-loop.7.i:                                         ; preds = %join.19.i, %loop.5.i
-  %indvars.iv.in = phi i64 [ %indvars.iv, %join.19.i ], [ %r6.0.i, %loop.5.i ]
-  %r9.0.in.i = phi i64 [ %r9.0.i, %join.19.i ], [ %r64.i, %loop.5.i ]
-  %r7.1.i = phi i64 [ %r161.i, %join.19.i ], [ %r7.0.i, %loop.5.i ]
-  %r6.1.i = phi i64 [ %r95.i, %join.19.i ], [ %r6.0.i, %loop.5.i ]
-  %indvars.iv = add i64 %indvars.iv.in, 1
-  %r9.0.i = add i64 %r9.0.in.i, -1
-  %r71.i = icmp eq i64 %r6.1.i, %a2
-  br i1 %r71.i, label %arm.1, label %join.10.i
-
-join.10.i:                                        ; preds = %loop.7.i
-  %r90.i = getelementptr inbounds nuw i8, ptr %a1, i64 %r6.1.i
-  %r92.i = load i8, ptr %r90.i, align 1
-  %r95.i = add i64 %r6.1.i, 1
-  %r97.i = icmp eq i8 %r92.i, 0
-  br i1 %r97.i, label %arm.1, label %join.13.i
-
-join.13.i:                                        ; preds = %join.10.i
-  %r115.i = icmp eq i64 %r9.0.i, 0
-  br i1 %r115.i, label %after.6.i, label %join.16.i
-
-join.16.i:                                        ; preds = %join.13.i
-  %r123.i = icmp eq i64 %r7.1.i, %a4
-  br i1 %r123.i, label %loop.2.i41.preheader, label %join.19.i
-
-loop.2.i41.preheader:                             ; preds = %join.16.i
-  %umax = tail call i64 @llvm.umax.i64(i64 %a2, i64 %indvars.iv)
-  br label %loop.2.i41
-
-loop.2.i41:                                       ; preds = %loop.2.i41.preheader, %join.5.i45
-  %r3.0.i42 = phi i64 [ %r17.i46, %join.5.i45 ], [ %r95.i, %loop.2.i41.preheader ]
-  %r12.i43 = icmp ult i64 %r3.0.i42, %a2
-  br i1 %r12.i43, label %join.5.i45, label %common.ret
-
-join.5.i45:                                       ; preds = %loop.2.i41
-  %r17.i46 = add nuw i64 %r3.0.i42, 1
-  %r22.i47 = getelementptr inbounds nuw i8, ptr %a1, i64 %r3.0.i42
-  %r24.i48 = load i8, ptr %r22.i47, align 1
-  %r26.i49 = icmp eq i8 %r24.i48, 0
-  br i1 %r26.i49, label %common.ret, label %loop.2.i41
-
-join.19.i:                                        ; preds = %join.16.i
-  %r157.i = getelementptr inbounds nuw i8, ptr %a3, i64 %r7.1.i
-  store i8 %r92.i, ptr %r157.i, align 1
-  %r161.i = add i64 %r7.1.i, 1
-  br label %loop.7.i
-
-after.6.i:                                        ; preds = %join.13.i
-  %r165.not.i = icmp eq i8 %r61.i, -1
-  br i1 %r165.not.i, label %loop.5.i.backedge, label %then.20.i
-
-then.20.i:                                        ; preds = %after.6.i
-  %r173.i = icmp eq i64 %r7.1.i, %a4
-  br i1 %r173.i, label %loop.2.i37.preheader, label %join.25.i
-
-loop.2.i37.preheader:                             ; preds = %then.20.i
-  %umax127 = tail call i64 @llvm.umax.i64(i64 %a2, i64 %indvars.iv)
-  br label %loop.2.i37
-
-loop.2.i37:                                       ; preds = %loop.2.i37.preheader, %join.5.i40
-  %r3.0.i38 = phi i64 [ %r17.i, %join.5.i40 ], [ %r95.i, %loop.2.i37.preheader ]
-  %r12.i39 = icmp ult i64 %r3.0.i38, %a2
-  br i1 %r12.i39, label %join.5.i40, label %common.ret
-
-join.5.i40:                                       ; preds = %loop.2.i37
-  %r17.i = add nuw i64 %r3.0.i38, 1
-  %r22.i = getelementptr inbounds nuw i8, ptr %a1, i64 %r3.0.i38
-  %r24.i = load i8, ptr %r22.i, align 1
-  %r26.i = icmp eq i8 %r24.i, 0
-  br i1 %r26.i, label %common.ret, label %loop.2.i37
-
-join.25.i:                                        ; preds = %then.20.i
-  %r207.i = getelementptr inbounds nuw i8, ptr %a3, i64 %r7.1.i
-  store i8 0, ptr %r207.i, align 1
-  %r210.i = add i64 %r7.1.i, 1
-  br label %loop.5.i.backedge
-
-loop.5.i.backedge:                                ; preds = %join.25.i, %after.6.i
-  %r7.0.i.be = phi i64 [ %r7.1.i, %after.6.i ], [ %r210.i, %join.25.i ]
+loop.5.i.outer:                                   ; preds = %join.5.i, %join.20.i
+  %r8.0.i.ph = phi i8 [ %r79.i, %join.20.i ], [ %r20.i, %join.5.i ]
+  %r7.0.i.ph = phi i64 [ %r7.2.i, %join.20.i ], [ 0, %join.5.i ]
+  %r6.0.i.ph = phi i64 [ %r82.i, %join.20.i ], [ %r29.i, %join.5.i ]
+  %r9.0.in.i.ph = zext i8 %r8.0.i.ph to i64
   br label %loop.5.i
 
-arm.1:                                            ; preds = %join.10.i, %loop.7.i
-  %r9.sroa.19.0.ph = phi i64 [ %a2, %loop.7.i ], [ %r95.i, %join.10.i ]
-  %r9.sroa.7.sroa.0.0.ph.in.not = icmp eq i64 %r9.0.i, 0
-  %spec.select106 = select i1 %r9.sroa.7.sroa.0.0.ph.in.not, i32 0, i32 3
+loop.5.i:                                         ; preds = %loop.5.i.outer, %join.17.i
+  %r9.0.in.i = phi i64 [ %r9.0.i, %join.17.i ], [ %r9.0.in.i.ph, %loop.5.i.outer ]
+  %r7.0.i = phi i64 [ %r135.i, %join.17.i ], [ %r7.0.i.ph, %loop.5.i.outer ]
+  %r6.0.i = phi i64 [ %r82.i, %join.17.i ], [ %r6.0.i.ph, %loop.5.i.outer ]
+  %r9.0.i = add nsw i64 %r9.0.in.i, -1
+  %r71.i = icmp ult i64 %r6.0.i, %a2
+  br i1 %r71.i, label %join.8.i, label %after.4.i
+
+join.8.i:                                         ; preds = %loop.5.i
+  %r77.i = getelementptr inbounds nuw i8, ptr %a1, i64 %r6.0.i
+  %r79.i = load i8, ptr %r77.i, align 1
+  %r82.i = add nuw i64 %r6.0.i, 1
+  %r84.i = icmp eq i8 %r79.i, 0
+  br i1 %r84.i, label %after.4.i, label %join.11.i
+
+join.11.i:                                        ; preds = %join.8.i
+  %r89.not.i = icmp eq i64 %r9.0.i, 0
+  br i1 %r89.not.i, label %else.13.i, label %then.12.i
+
+then.12.i:                                        ; preds = %join.11.i
+  %r97.i = icmp eq i64 %r7.0.i, %a4
+  br i1 %r97.i, label %loop.2.i26, label %join.17.i
+
+loop.2.i26:                                       ; preds = %then.12.i, %join.5.i30
+  %r3.0.i27 = phi i64 [ %r17.i31, %join.5.i30 ], [ %r82.i, %then.12.i ]
+  %exitcond105.not = icmp eq i64 %r3.0.i27, %a2
+  br i1 %exitcond105.not, label %common.ret, label %join.5.i30
+
+join.5.i30:                                       ; preds = %loop.2.i26
+  %r17.i31 = add i64 %r3.0.i27, 1
+  %r22.i32 = getelementptr inbounds nuw i8, ptr %a1, i64 %r3.0.i27
+  %r24.i33 = load i8, ptr %r22.i32, align 1
+  %r26.i34 = icmp eq i8 %r24.i33, 0
+  br i1 %r26.i34, label %common.ret, label %loop.2.i26
+
+join.17.i:                                        ; preds = %then.12.i
+  %r131.i = getelementptr inbounds nuw i8, ptr %a3, i64 %r7.0.i
+  store i8 %r79.i, ptr %r131.i, align 1
+  %r135.i = add i64 %r7.0.i, 1
+  br label %loop.5.i
+
+else.13.i:                                        ; preds = %join.11.i
+  %r139.not.i = icmp eq i8 %r8.0.i.ph, -1
+  br i1 %r139.not.i, label %join.20.i, label %then.18.i
+
+then.18.i:                                        ; preds = %else.13.i
+  %r147.i = icmp eq i64 %r7.0.i, %a4
+  br i1 %r147.i, label %loop.2.i22, label %join.23.i
+
+loop.2.i22:                                       ; preds = %then.18.i, %join.5.i25
+  %r3.0.i23 = phi i64 [ %r17.i, %join.5.i25 ], [ %r82.i, %then.18.i ]
+  %exitcond106.not = icmp eq i64 %r3.0.i23, %a2
+  br i1 %exitcond106.not, label %common.ret, label %join.5.i25
+
+join.5.i25:                                       ; preds = %loop.2.i22
+  %r17.i = add i64 %r3.0.i23, 1
+  %r22.i = getelementptr inbounds nuw i8, ptr %a1, i64 %r3.0.i23
+  %r24.i = load i8, ptr %r22.i, align 1
+  %r26.i = icmp eq i8 %r24.i, 0
+  br i1 %r26.i, label %common.ret, label %loop.2.i22
+
+join.23.i:                                        ; preds = %then.18.i
+  %r181.i = getelementptr inbounds nuw i8, ptr %a3, i64 %r7.0.i
+  store i8 0, ptr %r181.i, align 1
+  %r184.i = add i64 %r7.0.i, 1
+  br label %join.20.i
+
+join.20.i:                                        ; preds = %join.23.i, %else.13.i
+  %r7.2.i = phi i64 [ %r184.i, %join.23.i ], [ %r7.0.i, %else.13.i ]
+  br label %loop.5.i.outer
+
+after.4.i:                                        ; preds = %join.8.i, %loop.5.i
+  %r6.1.i = phi i64 [ %r82.i, %join.8.i ], [ %r6.0.i, %loop.5.i ]
+  %r6.i = icmp eq i64 %r9.0.i, 0
+  %spec.select = select i1 %r6.i, i32 0, i32 3
   br label %common.ret
 
-common.ret:                                       ; preds = %loop.2.i, %loop.2.i41, %join.5.i45, %join.5.i40, %loop.2.i37, %arm.1
-  %r13.sroa.0.0.sink = phi i32 [ 2, %join.5.i40 ], [ %spec.select106, %arm.1 ], [ 2, %loop.2.i41 ], [ 2, %loop.2.i37 ], [ 2, %join.5.i45 ], [ 4, %loop.2.i ]
-  %r9.sroa.19.0.ph103.sink = phi i64 [ %r17.i, %join.5.i40 ], [ %r9.sroa.19.0.ph, %arm.1 ], [ %r17.i46, %join.5.i45 ], [ %umax127, %loop.2.i37 ], [ %umax, %loop.2.i41 ], [ %a2, %loop.2.i ]
-  %r13.sroa.11.0.sink = phi i64 [ %a4, %join.5.i40 ], [ %r7.1.i, %arm.1 ], [ %a4, %loop.2.i41 ], [ %a4, %loop.2.i37 ], [ %a4, %join.5.i45 ], [ 0, %loop.2.i ]
+common.ret:                                       ; preds = %loop.2.i, %loop.2.i26, %join.5.i30, %join.5.i25, %loop.2.i22, %after.4.i
+  %r13.sroa.0.0.sink = phi i32 [ 2, %join.5.i25 ], [ %spec.select, %after.4.i ], [ 2, %loop.2.i26 ], [ 2, %loop.2.i22 ], [ 2, %join.5.i30 ], [ 4, %loop.2.i ]
+  %r9.sroa.16.0.ph83.sink = phi i64 [ %r17.i, %join.5.i25 ], [ %r6.1.i, %after.4.i ], [ %r17.i31, %join.5.i30 ], [ %a2, %loop.2.i22 ], [ %a2, %loop.2.i26 ], [ %a2, %loop.2.i ]
+  %r13.sroa.11.0.sink = phi i64 [ %a4, %join.5.i25 ], [ %r7.0.i, %after.4.i ], [ %a4, %loop.2.i26 ], [ %a4, %loop.2.i22 ], [ %a4, %join.5.i30 ], [ 0, %loop.2.i ]
   store i32 %r13.sroa.0.0.sink, ptr %a0, align 1
   %r0.sroa.5.0.a0.sroa_idx9 = getelementptr inbounds nuw i8, ptr %a0, i64 4
   store i32 0, ptr %r0.sroa.5.0.a0.sroa_idx9, align 1
   %r0.sroa.511.0.a0.sroa_idx13 = getelementptr inbounds nuw i8, ptr %a0, i64 8
-  store i64 %r9.sroa.19.0.ph103.sink, ptr %r0.sroa.511.0.a0.sroa_idx13, align 1
+  store i64 %r9.sroa.16.0.ph83.sink, ptr %r0.sroa.511.0.a0.sroa_idx13, align 1
   %r0.sroa.6.0.a0.sroa_idx16 = getelementptr inbounds nuw i8, ptr %a0, i64 16
   store i64 %r13.sroa.11.0.sink, ptr %r0.sroa.6.0.a0.sroa_idx16, align 1
   ret void
