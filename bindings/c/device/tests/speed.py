@@ -44,10 +44,10 @@ CALLS = {
 RECEIVE_AND_SEND = (["decoder_feed", "encode_terminated"], ["decoder_feed", "encode"])
 # Hundredths of hand.c that jcobs.c may take: of its instructions or cycles, and of its flash to receive by byte and send.
 LIMITS = {
-    "Cortex-M4": {"feed": 160, "encoder-feed": 210, "others": 140, "flash": 210},
-    "Cortex-M0+": {"feed": 160, "encoder-feed": 190, "others": 135, "flash": 220},
-    "RV32IMAC": {"feed": 160, "encoder-feed": 190, "others": 135, "flash": 235},
-    "ATmega1284P": {"feed": 230, "encoder-feed": 280, "others": 165, "flash": 290},
+    "Cortex-M4": {"feed": 160, "encoder-feed": 175, "others": 140, "flash": 210},
+    "Cortex-M0+": {"feed": 160, "encoder-feed": 175, "others": 135, "flash": 220},
+    "RV32IMAC": {"feed": 160, "encoder-feed": 165, "others": 135, "flash": 235},
+    "ATmega1284P": {"feed": 230, "encoder-feed": 240, "others": 190, "flash": 290},
 }
 
 
