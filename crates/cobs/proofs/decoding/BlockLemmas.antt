@@ -16,18 +16,18 @@ pub record IsCodeAt (bytes : List ℕ) (read code : ℕ) : Type 0 where
 
 module _ (bytes : List ℕ) (read code : ℕ) (c : IsCodeAt bytes read code) where
   pub code-some : 0 < code
-  code-some = let is = c.is in let other = All-get_or (λ byte. byte ≢ 0) bytes read 0 c.here c.nonzero in omega arith
+  code-some = grind (arith, All-get_or)
 
   pub left-is : drop read bytes ≡ code ∷ drop (read + 1) bytes
-  left-is = drop_more bytes read 0 c.here ∙ ap (λ (k : ℕ). k ∷ drop (read + 1) bytes) (sym c.is)
+  left-is = grind (arith, drop_more)
 
   pub short : length bytes - read < code → length (drop (read + 1) bytes) + 1 < code
-  short fewer = let h = c.here in omega (arith, length-drop (read + 1) bytes)
+  short fewer = grind (arith, length-drop)
 
   -- the code's block is whole
   module _ (fits : code ≤ length bytes - read) where
     pub bytes-long : length (take (code - 1) (drop (read + 1) bytes)) ≡ code - 1
-    bytes-long = length-take-le (code - 1) (drop (read + 1) bytes) (omega (arith, length-drop (read + 1) bytes))
+    bytes-long = grind (arith, length-take-le, length-drop)
 
     pub block-is : IsBlock (block_at bytes read code)
     block-is = (omega (arith, bytes-long, code-some), c.below, All-take (λ byte. byte ≢ 0) (code - 1) (drop (read + 1) bytes) (All-drop (λ byte. byte ≢ 0) (read + 1) bytes c.nonzero))

@@ -1,6 +1,6 @@
 -- The bytes of a list before its first zero, and the first piece after its leading zeros: by induction on the zeros, and by
 -- `first_piece_head` for a list that begins with a code.
-use Rattle.std.proofs.Common.{◌≡◌, ◌≢◌, ℕ, zero, suc, ◌+◌, ◌-◌, ◌<◌, ◌≤◌, Bool, cond, List, [], ◌∷◌, length, take, drop, get_or, Some, None, refl, sym, ap, ◌∙◌, arith, inl, inr, length-drop}
+use Rattle.std.proofs.Common.{◌≡◌, ◌≢◌, ℕ, zero, suc, ◌+◌, ◌-◌, ◌<◌, ◌≤◌, List, [], ◌∷◌, length, take, drop, get_or, Some, None, refl, sym, ap, ◌∙◌, arith, inl, inr, length-drop}
 use Rattle.std.proofs.lemmas.Bool.{cases_eq, cases_lt, ne_eqb}
 use Rattle.std.proofs.lemmas.List.Elements.{All-head, All-tail}
 use Rattle.cobs.specs.Grammar.{HasNoZero}
@@ -60,7 +60,7 @@ head_some [] some other = absurd (omega arith)
 head_some (byte ∷ t) some other = omega (arith, ap length (head-cons byte t other))
 
 leading_zeros-none : (b : ℕ) (t : List ℕ) → b ≢ 0 → leading_zeros (b ∷ t) ≡ 0
-leading_zeros-none b t some = ap (λ (v : Bool). cond v (1 + leading_zeros t) 0) (ne_eqb b 0 some)
+leading_zeros-none b t some = grind (arith, ne_eqb)
 
 -- the first piece is the bytes before the first zero after the leading ones
 pub first_piece_behind : (t : List ℕ) → first_piece t ≡ first_piece (drop (leading_zeros t) t)
@@ -92,11 +92,11 @@ module _ (source : List ℕ) where
   rest = drop (leading_zeros source) source
 
   pub first_piece_found : 0 < length rest → first_piece source ≡ Some (head rest)
-  first_piece_found some = first_piece_behind source ∙ first_piece_nonzero rest some (leading_zeros-stop source (omega (arith, length-drop (leading_zeros source) source)))
+  first_piece_found some = grind (arith, first_piece_behind, first_piece_nonzero, rest, leading_zeros-stop, length-drop)
 
   pub first_piece_none : (0 < length rest → get_or rest 0 0 ≡ 0) → first_piece source ≡ None
   first_piece_none stop = grind (arith, length-drop, leading_zeros-stop, first_piece_behind, first_piece_empty)
 
   -- as far as its first zero
   pub first_piece_some : (len : ℕ) → 0 < len → len ≤ length rest → HasNoZero (take len rest) → (len < length rest → get_or rest len 0 ≡ 0) → first_piece source ≡ Some (take len rest)
-  first_piece_some len some within nonzero stop = first_piece_found (omega arith) ∙ ap Some (sym (front_is_head rest len within nonzero stop))
+  first_piece_some len some within nonzero stop = grind (arith, first_piece_found, front_is_head, rest)

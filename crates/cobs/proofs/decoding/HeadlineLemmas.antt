@@ -155,7 +155,7 @@ module _ (f : List ℕ) (result : Result DecodeReport DecodeError) (buffer' : Li
       (reports (length (head f)) (result_in_place f) buffer' m _ (source_reported f f (result_in_place f) buffer' (in_place-source f) after below piece m))
 
   pub in_place_reads : (m : List ℕ) → Reads f m → ReportsMessage result buffer' m
-  in_place_reads m r = (in_place_reported (frame_piece r) m).1 (r, omega (arith, ap length (frame_output f m r), output_within f))
+  in_place_reads m r = grind (arith, in_place_reported, frame_piece, frame_output, output_within)
 
   pub in_place_only : IsPiece f → (m : List ℕ) → ReportsMessage result buffer' m → Reads f m
   in_place_only piece m stated = ((in_place_reported piece m).0 stated).0

@@ -60,12 +60,7 @@ module _ (old : List ℕ) (end : ℕ) (buffer : List ℕ) (read written : ℕ) (
   -- the result and the buffer once nothing that is left is kept
   ended : (left : List ℕ) (whole : Bool) → drop read h ≡ left → kept_output left ≡ [] → whole_left left ≡ whole
       → (cond whole (Ok written) (Err (InvalidFrame written)) ≡ head_result h) × (buffer ≡ overwritten old (kept_output h))
-  ended left whole is nothing w =
-      let kept : kept_output h ≡ s.done = s.kept ∙ ap (λ (x : List ℕ). s.done ++ kept_output x) is ∙ ap (λ (x : List ℕ). s.done ++ x) nothing ∙ append-nil s.done in
-      let all : take (length old) s.done ≡ s.done = take_all (length old) s.done (let c = s.count in let o = s.order in let w = s.within in let f = s.fits in omega arith) in (
-        ap (λ (n : ℕ). cond whole (Ok n) (Err (InvalidFrame n))) (sym (ap length kept ∙ s.count)) ∙ sym (result-equals h whole (s.whole ∙ ap whole_left is ∙ w)),
-        s.holds ∙ sym (ap (overwritten old) kept ∙ ap (λ (x : List ℕ). x ++ drop (length s.done) old) all ∙ ap (λ (n : ℕ). s.done ++ drop n old) s.count),
-      )
+  ended left whole is nothing w = grind (arith, h, append-nil, take_all, result-equals, whole_left)
 
   pub all-read : end ≤ read → (Ok written ≡ head_result h) × (buffer ≡ overwritten old (kept_output h))
   all-read past = ended [] true (drop_all read h (let l = long in omega arith)) kept_output-empty refl
@@ -113,11 +108,7 @@ module _ (old : List ℕ) (end : ℕ) (buffer : List ℕ) (read written : ℕ) (
           ∙ sym (ap (λ (n : ℕ). take (code - 1) (drop (read + 1) (take n old))) (sym left) ∙ ap (take (code - 1)) (drop-take (read + 1) (end - (read + 1)) old) ∙ take-take (code - 1) (end - (read + 1)) (drop (read + 1) old) (omega arith))
 
       after-is : after ≡ front ++ drop w old
-      after-is =
-          sym (take-append-drop (written + (code - 1)) after)
-          ∙ ap (λ (x : List ℕ). x ++ drop (written + (code - 1)) after)
-          (begins ∙ ap (λ (x : List ℕ). take written buffer ++ x) bytes-are ∙ ap (λ (x : List ℕ). x ++ bytes) (ap (take written) s.holds ∙ take_at s.done (drop written old) written s.count))
-          ∙ ap (λ (x : List ℕ). front ++ x) (rest ∙ behind (written + (code - 1)) (omega arith) ∙ ap (λ (n : ℕ). drop n old) (sym w-is))
+      after-is = grind (arith, take-append-drop, code, bytes-are, bytes, take_at, front, behind)
 
       -- with the zero that is due after them
       stepped : (due next : List ℕ) (e : ℕ) → (drop (read + code) h ≢ [] → joint (block_at h read code) ≡ due) → (drop (read + code) h ≡ [] → due ≡ [])

@@ -1,5 +1,5 @@
 -- Bytes of a buffer that are moved towards its front, one at a time.
-use Rattle.std.proofs.Common.{◌≡◌, ◌+◌, ◌-◌, ◌<◌, ◌≤◌, ◌++◌, ◌∷◌, [], ℕ, List, length, take, drop, get_or, set, refl, sym, ap, ◌∙◌, arith, append_assoc, append-nil, length-drop}
+use Rattle.std.proofs.Common.{◌≡◌, ◌+◌, ◌-◌, ◌<◌, ◌≤◌, ◌++◌, ◌∷◌, [], ℕ, List, length, take, drop, get_or, set, sym, ap, ◌∙◌, arith, append_assoc, append-nil, length-drop}
 use Rattle.std.proofs.lemmas.List.{drop-drop, drop-set-lt, get_or-drop, take_more, take_more_set}
 
 -- n bytes of the old buffer, which begin at `from`, are in their new place, which begins at `to`
@@ -8,7 +8,7 @@ pub record Moved (old : List ℕ) (from to n : ℕ) (now : List ℕ) : Type 0 wh
   pub rest : drop (to + n) now ≡ drop (to + n) old
 
 pub moved-none : (old : List ℕ) (from to : ℕ) → Moved old from to 0 old
-moved-none old from to = let none : to + 0 ≡ to = omega arith in record { front = ap (λ (i : ℕ). take i old) none ∙ sym (append-nil (take to old)); rest = refl }
+moved-none old from to = grind (arith, append-nil)
 
 -- one more
 module _ (old : List ℕ) (from to n : ℕ) (now : List ℕ) (m : Moved old from to n now) (order : to ≤ from) (within : from + n < length old) (len : length now ≡ length old) where

@@ -42,7 +42,7 @@ parts_nonempty zero (c ∷ p) = All-cons (λ part. part ≢ []) _ _ (λ e. cc) (
 
 pub output_within : (p : List ℕ) → length (output p) ≤ length p
 unfolding output parts
-output_within p = let l = length-message_of (parts p) (parts_nonempty 0 p) in omega (arith, ap length (concat-parts p))
+output_within p = grind (arith, length-message_of, parts_nonempty, concat-parts)
 
 -- A PIECE COMES TO A MESSAGE WHERE IT READS AS IT
 

@@ -1,10 +1,10 @@
 -- What `decode` returns follows from the counts that a decoder has: the output's length, and the missing bytes of the last
 -- part. By the definition of `outcome_of`, case by case.
-use Rattle.std.proofs.Common.{◌≡◌, ◌≢◌, ℕ, ◌+◌, ◌<◌, ◌≤◌, Bool, false, IsTrue, eqb, List, [], ◌∷◌, length, take, drop, min, Option, None, Some, Result, Ok, Err, if◌then◌else◌, sym, ap, arith, length-take-le, take-append-drop, take_all}
+use Rattle.std.proofs.Common.{◌≡◌, ◌≢◌, ℕ, ◌+◌, ◌<◌, ◌≤◌, false, IsTrue, eqb, List, [], ◌∷◌, length, take, drop, min, Option, None, Some, Result, Ok, Err, arith, length-take-le, take-append-drop, take_all}
 use Rattle.std.specs.Prelude.{IfOk}
 use Rattle.std.proofs.lemmas.Bool.{cases_eq, le-leb, lt-leb, ne_eqb, eq-eqb}
-use Rattle.cobs.specs.Piece.{output, last_part, missing, is_whole}
-use Rattle.cobs.specs.Stream.{Message, Broken, TooLong, outcome_of, first_piece, head}
+use Rattle.cobs.specs.Piece.{output, last_part, missing}
+use Rattle.cobs.specs.Stream.{outcome_of, first_piece, head}
 use Rattle.cobs.specs.Overwritten.{overwritten}
 use Rattle.cobs.specs.Decode.{leading_zeros, len_through_piece, outcome_result, report_result, result_of_decode, head_result, in_place_report}
 use Rattle.cobs.specs.declared.error.DecodeReport.{DecodeReport}
@@ -16,7 +16,7 @@ module _ (p : List ℕ) (n : ℕ) where
   -- a piece whose output is too long for the buffer
   pub outcome_result-too_long : n < length (output p) → Err TargetBufTooSmall ≡ outcome_result (outcome_of p n)
   unfolding outcome_of
-  outcome_result-too_long long = ap (λ (t : Bool). outcome_result (if t then (if is_whole p then Message (output p) else Broken (length (output p))) else TooLong)) (sym (lt-leb (length (output p)) n long))
+  outcome_result-too_long long = grind (arith, lt-leb)
 
   -- a whole piece
   pub outcome_result_whole : 0 < length p → length (output p) ≤ n → missing (last_part p) ≡ 0 → (k : ℕ) → k ≡ length (output p) → Ok k ≡ outcome_result (outcome_of p n)

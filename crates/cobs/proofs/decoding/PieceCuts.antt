@@ -1,6 +1,6 @@
 -- A piece is its first part and what follows it, so its output and its last part are known from those of the rest: by the
 -- definition of `parts_after`.
-use Rattle.std.proofs.Common.{◌≡◌, ℕ, ◌-◌, ◌<◌, ◌≤◌, eqb, List, [], ◌∷◌, ◌++◌, length, take, drop, if◌then◌else◌, ◌==◌, refl, ap, ◌∙◌, arith, take_all, length-drop}
+use Rattle.std.proofs.Common.{◌≡◌, ℕ, ◌-◌, ◌<◌, ◌≤◌, eqb, List, [], ◌∷◌, ◌++◌, length, take, drop, if◌then◌else◌, ◌==◌, refl, arith, take_all, length-drop}
 use Rattle.cobs.specs.Grammar.{bytes_of, joint, message_of, last_of}
 use Rattle.cobs.specs.Piece.{last_part, is_whole, missing, parts, parts_after, output}
 use Rattle.cobs.proofs.format.FrameLemmas.{parts_after-drop, parts_after-past}
@@ -16,8 +16,7 @@ message_of-cons part parts h = grind arith
 -- the last part
 pub output-last : (code : ℕ) (bytes : List ℕ) → length bytes ≤ code - 1 → output (code ∷ bytes) ≡ bytes
 unfolding output parts parts_after
-output-last code bytes short =
-    ap (λ (x : List (List ℕ)). message_of ((code ∷ take (code - 1) bytes) ∷ x)) (parts_after-past (code - 1) bytes short) ∙ take_all (code - 1) bytes short
+output-last code bytes short = grind (arith, parts_after-past, take_all)
 
 abbrev pub joint_of : ℕ → List ℕ
 joint_of code = if code == 255 then [] else 0 ∷ []

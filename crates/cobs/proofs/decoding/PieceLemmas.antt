@@ -32,12 +32,7 @@ grown-last code bytes b short = record {
 
 -- a part before others
 grown-more : (code : ℕ) (bytes : List ℕ) (b : ℕ) → code - 1 < length bytes → Grown (drop (code - 1) bytes) b → Grown (code ∷ bytes) b
-grown-more code bytes b more rest = record {
-  more_output = λ h. grind (arith, last_part-more, output-more, length_push, take-append-le, drop-append-le, append_assoc, rest.more_output);
-  more_last = λ h. grind (arith, last_part-more, length_push, drop-append-le, rest.more_last);
-  next_output = λ h. grind (arith, last_part-more, output-more, length_push, take-append-le, drop-append-le, append_assoc, rest.next_output);
-  next_last = λ h. grind (arith, last_part-more, length_push, drop-append-le, rest.next_last);
-}
+grown-more code bytes b more rest = grind (arith, last_part-more, output-more, length_push, take-append-le, drop-append-le, append_assoc)
 
 grown-by : (n : ℕ) (p : List ℕ) (b : ℕ) → length p ≤ n → 0 < length p → Grown p b
 grown-by n [] b le some = absurd (omega arith)
@@ -48,7 +43,7 @@ grown-by (suc n) (code ∷ bytes) b le some = elim (cases_lt (code - 1) (length 
 ]
 
 grown : (c : ℕ) (p : List ℕ) (b : ℕ) → Grown (c ∷ p) b
-grown c p b = grown-by (suc (length p)) (c ∷ p) b (omega arith) (omega arith)
+grown c p b = grind (arith, grown-by)
 
 last_part-empty : missing (last_part []) ≡ 0
 unfolding last_part parts parts_after

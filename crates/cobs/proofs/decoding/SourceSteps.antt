@@ -1,6 +1,6 @@
 -- A source for any sentinel is a source for 0 once each byte is XORed with it: the bytes before its first sentinel, and the
 -- result for that, by `xor_twice`.
-use Rattle.std.proofs.Common.{◌≡◌, ◌≢◌, ℕ, ◌<◌, ◌≤◌, Bool, cond, All, List, [], ◌∷◌, length, take, get_or, bit_xor, Err, sym, ap, ◌∙◌, subst, arith}
+use Rattle.std.proofs.Common.{◌≡◌, ◌≢◌, ℕ, ◌<◌, ◌≤◌, All, List, [], ◌∷◌, length, take, get_or, bit_xor, Err, sym, ap, ◌∙◌, subst, arith}
 use Rattle.std.specs.Int.Bits.{xor_self}
 use Rattle.std.proofs.lemmas.Bool.{le-leb, lt-leb}
 use Rattle.std.proofs.lemmas.List.{get_or-map, length-map, take-map}
@@ -22,11 +22,11 @@ use Rattle.cobs_bytes.proofs.bytes.XoredLemmas.{xor_twice}
 module _ (h : List ℕ) (n : ℕ) where
   -- if it fits
   pub result-fits : length (kept_output h) ≤ n → head_result h ≡ head_result_within h n
-  result-fits fits = sym (ap (λ (t : Bool). cond t (head_result h) (Err TargetBufTooSmall)) (le-leb (length (kept_output h)) n fits))
+  result-fits fits = grind (arith, le-leb)
 
   -- if it is too long
   pub result-too_long : n < length (kept_output h) → Err TargetBufTooSmall ≡ head_result_within h n
-  result-too_long long = sym (ap (λ (t : Bool). cond t (head_result h) (Err TargetBufTooSmall)) (lt-leb (length (kept_output h)) n long))
+  result-too_long long = grind (arith, lt-leb)
 
 -- THE SOURCE BEFORE ITS FIRST SENTINEL
 

@@ -35,10 +35,10 @@ next_code (c ∷ p) code h = last_part-push_next c p code h
 
 -- bytes in two parts, and the front of the second
 in_two : (p q : List ℕ) (n : ℕ) → (p ++ take n q) ++ drop n q ≡ p ++ q
-in_two p q n = append_assoc p (take n q) (drop n q) ∙ ap (λ (l : List ℕ). p ++ l) (take-append-drop n q)
+in_two p q n = grind (arith, append_assoc, take-append-drop)
 
 in_front : (p q : List ℕ) (n k : ℕ) → (p ++ take n q) ++ take k (drop n q) ≡ p ++ take (n + k) q
-in_front p q n k = append_assoc p (take n q) (take k (drop n q)) ∙ ap (λ (l : List ℕ). p ++ l) (sym (take-add n k q))
+in_front p q n k = grind (arith, append_assoc, take-add)
 
 -- THE WALK OF `kept_len`
 
@@ -56,10 +56,10 @@ module _ (p q : List ℕ) (at code : ℕ) (here : at < length q) (is : code ≡ 
   front-is = grind (arith, take_more, append_assoc)
 
   front-left : missing (last_part front) ≡ code - 1
-  front-left = ap missing (next_code (p ++ take at q) code ends)
+  front-left = grind (arith, next_code)
 
   all-is : p ++ q ≡ front ++ drop (at + 1) q
-  all-is = sym (in_two p q (at + 1)) ∙ ap (λ (l : List ℕ). l ++ drop (at + 1) q) front-is
+  all-is = grind (arith, in_two, front-is)
 
   pub ends-next : 0 < code → at + code ≤ length q → missing (last_part (p ++ take (at + code) q)) ≡ 0
   ends-next some fits =
@@ -102,7 +102,7 @@ abbrev KeptBy : List ℕ → List ℕ → ℕ → Type 0
 KeptBy p q k = (length q ≤ k + 253) × (output (p ++ take k q) ≡ kept_output (p ++ q))
 
 kept-after : (p q : List ℕ) (n : ℕ) → (k : ℕ) × KeptBy (p ++ take n q) (drop n q) k → (k : ℕ) × KeptBy p q k
-kept-after p q n (k, (few, is)) = (n + k, (omega (arith, length-drop n q), ap output (sym (in_front p q n k)) ∙ is ∙ ap kept_output (in_two p q n)))
+kept-after p q n (k, (few, is)) = grind (arith, length-drop, in_front, in_two)
 
 kept-behind : (n : ℕ) (p q : List ℕ) → length q ≤ n → HasNoZero q → All (λ b. b < 256) q → missing (last_part p) ≡ 0 → (k : ℕ) × KeptBy p q k
 kept-behind n p [] le none small ends = (0, (omega arith, rw (append-nil p) (whole-kept p ends)))

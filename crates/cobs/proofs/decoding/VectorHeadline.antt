@@ -1,5 +1,5 @@
 -- A vector form that found memory returns the message m exactly if the list reads as m, and holds m: by `HeadlineLemmas`.
-use Rattle.std.proofs.Common.{◌≡◌, ℕ, ◌<◌, ◌↔◌, Bool, true, false, cond, List, [], ◌∷◌, length, All, Result, Ok, Err, ◌++◌, take, drop, take_at, refl, sym, ap, ◌∙◌, subst, ⊎_elim}
+use Rattle.std.proofs.Common.{arith, ◌≡◌, ℕ, ◌<◌, ◌↔◌, Bool, true, false, cond, List, [], ◌∷◌, length, All, Result, Ok, Err, ◌++◌, take, drop, take_at, refl, sym, ap, ◌∙◌, subst, ⊎_elim}
 use Rattle.std.proofs.lemmas.Bool.{cases_Bool}
 use Rattle.cobs.specs.Grammar.{Reads}
 use Rattle.cobs.specs.Piece.{output, kept_output, is_whole}
@@ -41,7 +41,7 @@ module _ (f : List ℕ) (below : All (λ b. b < 256) f) (m : List ℕ) where
 
 -- a vector that is overwritten, and then cut off
 pub truncated : (new items : List ℕ) (k len : ℕ) → length new ≡ len → take k (take len (new ++ drop (length new) items)) ≡ take k new
-truncated new items k len same = ap (take k) (take_at new (drop (length new) items) len same)
+truncated new items k len same = grind (arith, take_at)
 
 -- a result is one message, or an error
 pub one_message : {returned : Result (List ℕ) DecodeError} {items m : List ℕ} → returned ≡ Ok items → returned ≡ Ok m → items ≡ m

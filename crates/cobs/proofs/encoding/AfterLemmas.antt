@@ -36,10 +36,10 @@ module _ (front : List (List ℕ)) (full : is_full (last_of front) ≡ true) whe
   some none = grind arith
 
   full-frame : All IsBlock front → IsFrameOf (concat front) front
-  full-frame each = record { some = some; each = each; whole = refl }
+  full-frame each = grind arith
 
   message_of-lone : message_of (front ++ lone_block ∷ []) ≡ message_of front
-  message_of-lone = let close = message_of-close front some in grind (arith, append-nil)
+  message_of-lone = grind (arith, message_of-close, append-nil)
 
   ends_lone : (fr : List (List ℕ)) (c : List ℕ) → front ≢ fr ++ c ∷ lone_block ∷ []
   ends_lone fr c e =
@@ -48,7 +48,7 @@ module _ (front : List (List ℕ)) (full : is_full (last_of front) ≡ true) whe
       grind (arith, true≢false)
 
   encoded-full : {m : List ℕ} → All IsBlock front → m ≡ message_of (front ++ lone_block ∷ []) → IsEncodedFrame (concat front) m
-  encoded-full each message = encoded-by front (full-frame each) (message ∙ message_of-lone) (λ fr c is e. ends_lone fr c e)
+  encoded-full each message = grind (arith, encoded-by, full-frame, message_of-lone, ends_lone)
 
 pub to_after : {slice m : List ℕ} {index next : ℕ} {full : Bool} (code : ℕ) → index + code ≡ next → code < 255 → (if full then index else next) ≤ length slice
     → Opened slice m index next full → CobsEncoderAfter slice (place_at index code full) m
@@ -59,7 +59,7 @@ to_after {slice} {m} {index} {next} {full} code is short fits o = by_end full fi
     code-is = omega arith
 
     message : m ≡ message_of (o.front ++ (code ∷ o.bytes) ∷ [])
-    message = rw (← code-is) o.message
+    message = grind arith
 
     f : List ℕ
     f = concat o.front ++ code ∷ o.bytes
@@ -190,7 +190,7 @@ module _ {slice m : List ℕ} {r : Reached} (h : CobsEncoderAfter slice r m) whe
   after-fits = let l = length-frame in let e = end-is in let f = h.fits in omega arith
 
   pub after-place : IsPlaceIn (length slice) r
-  after-place = record { some = omega (arith, parts.1.0); not_full = o.not_full; fits = omega (arith, end-is, after-fits) }
+  after-place = grind (arith, parts, o, end-is, after-fits)
 
   -- how long it is once the encoder has taken these bytes too
   pub after-len : (bytes : List ℕ) → bytes ≢ [] → encoded_len (m ++ bytes) ≡ r.block.index + open_len r.block.code bytes

@@ -56,7 +56,7 @@ module _ {slice m : List ℕ} {r : Reached} (h : CobsEncoderAfter slice r m) (ro
   place = after-place h
 
   fits : (byte : ℕ) → end_after r (byte ∷ []) ≤ length slice
-  fits byte = fits-byte slice r byte place.some place.not_full room
+  fits byte = grind (arith, fits-byte, place)
 
   pub after-byte : (byte : ℕ) → byte ≢ 0 → r.block.code < 254 → CobsEncoderAfter (set slice (next_of r) byte) (place_at r.block.index (r.block.code + 1) false) (m ++ byte ∷ [])
   after-byte byte other short = (byte-joins {source = byte ∷ []} place (fits byte) (omega arith) refl other (omega arith) refl refl).after m h

@@ -30,7 +30,7 @@ module _ {s : Start} {slice after : List ℕ} {read len index next : ℕ} (c : C
   row = take len (drop read s.source)
 
   pub length-row : length row ≡ len
-  length-row = length-take-le len (drop read s.source) (let l = length-drop read s.source in omega arith)
+  length-row = grind (arith, length-take-le, length-drop)
 
   pub length-after : whole_end s ≤ length after
   length-after = let l = least c.reaches in grind (arith, length-row, length-append, length-take-le, length-drop)

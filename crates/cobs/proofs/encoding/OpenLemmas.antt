@@ -33,7 +33,7 @@ append-some (x ∷ bs) b cs e = cc
 
 -- the blocks before the last, and the last
 pub All-front : (bs : List (List ℕ)) (b : List ℕ) → All IsBlock (bs ++ b ∷ []) → All IsBlock bs × IsBlock b
-All-front bs b h = let both = All-apart IsBlock bs (b ∷ []) h in (both.0, All-head IsBlock b [] both.1)
+All-front bs b h = grind (arith, All-apart, All-head)
 
 -- the frame of blocks with one more
 pub frame_push : (bs : List (List ℕ)) (b : List ℕ) → All IsBlock bs → IsBlock b → IsFrameOf (concat bs ++ b) (bs ++ b ∷ [])
@@ -49,7 +49,7 @@ module _ {m f : List ℕ} {index code : ℕ} (o : IsOpenFrame f m index code) wh
   blocks-of = All-front o.front (code ∷ o.bytes) o.frame.each
 
   pub f-is : f ≡ concat o.front ++ code ∷ o.bytes
-  f-is = o.frame.whole ∙ concat-push o.front (code ∷ o.bytes)
+  f-is = grind (arith, concat-push)
 
   -- after a block that is closed a new one is open, whatever byte is in the place of its code
   closed : {k g : List ℕ} (block : List ℕ) (next x : ℕ) → IsBlock block → length (concat o.front ++ block) ≡ next → message_of (o.front ++ block ∷ []) ++ joint block ≡ k
@@ -74,7 +74,7 @@ module _ {m f g : List ℕ} {index code : ℕ} (o : IsOpenFrame f m index code) 
 
   -- g with another code
   set-g : (y : ℕ) → set g index y ≡ concat o.front ++ y ∷ o.bytes
-  set-g y = rw g-is (set_at (concat o.front) same.0 o.bytes y index (sym o.begins))
+  set-g y = grind (arith, g-is, set_at)
 
   -- the right code makes g that frame
   pub completed : set g index code ≡ f

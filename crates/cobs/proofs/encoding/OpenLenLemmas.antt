@@ -78,12 +78,12 @@ Opened-len {full = full} t more o = grind (arith, length-ones, len-blocks, same_
 module _ (bytes : List ℕ) (i : ℕ) where
   -- the bytes are all taken
   pub len-end : (code : ℕ) → 0 < code → code ≤ 255 → length bytes ≤ i → open_len code (drop i bytes) ≡ code
-  len-end code some short last = rw (drop_all i bytes last) (open_len-end code some short)
+  len-end code some short last = grind (arith, drop_all, open_len-end)
 
   module _ (more : i < length bytes) where
     -- a full block is closed
     pub len-full : (code : ℕ) → code ≡ 255 → open_len code (drop i bytes) ≡ 255 + open_len 1 (drop i bytes)
-    len-full code is = rw is (open_len-full (drop i bytes) (λ e. omega (arith, length-drop i bytes, ap length e)))
+    len-full code is = grind (arith, open_len-full, length-drop)
 
     -- a byte joins the block
     pub len-byte : (code : ℕ) → 0 < code → get_or bytes i 0 ≢ 0 → open_len code (drop i bytes) ≡ open_len (code + 1) (drop (i + 1) bytes)
@@ -93,4 +93,4 @@ module _ (bytes : List ℕ) (i : ℕ) where
 
     -- a zero closes it
     pub len-zero : (code : ℕ) → 0 < code → code < 255 → get_or bytes i 0 ≡ 0 → open_len code (drop i bytes) ≡ code + open_len 1 (drop (i + 1) bytes)
-    len-zero code some short is = rw (drop_more bytes i 0 more, is) (open_len-zero code (drop (i + 1) bytes) some short)
+    len-zero code some short is = grind (arith, drop_more, open_len-zero)

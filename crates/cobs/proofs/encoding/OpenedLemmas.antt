@@ -19,19 +19,7 @@ not_full-more front (b ∷ bytes) more some = refl
 module _ {slice m : List ℕ} {index next : ℕ} {full : Bool} (o : Opened slice m index next full) where
   -- the same blocks in another slice
   Opened-in : (slice' : List ℕ) → take index slice' ≡ take index slice → drop (index + 1) (take next slice') ≡ drop (index + 1) (take next slice) → Opened slice' m index next full
-  Opened-in slice' front behind = record {
-    front = o.front;
-    bytes = o.bytes;
-    each = o.each;
-    nonzero = o.nonzero;
-    few = o.few;
-    message = o.message;
-    begins = o.begins;
-    place = o.place;
-    written = front ∙ o.written;
-    bytes_there = behind ∙ o.bytes_there;
-    noted = o.noted;
-  }
+  Opened-in slice' front behind = grind arith
 
   -- the bytes after it don't matter
   pub Opened-same : (slice' : List ℕ) → take next slice' ≡ take next slice → Opened slice' m index next full
@@ -48,9 +36,7 @@ module _ {slice m : List ℕ} {index next : ℕ} {full : Bool} (o : Opened slice
 
   -- nor is the byte in its code's place
   pub Opened-code : (x : ℕ) → Opened (set slice index x) m index next full
-  Opened-code x =
-      Opened-in (set slice index x) (take-set-le index slice index x (omega arith))
-      (ap (drop (index + 1)) (take-set-lt next slice index x (omega arith)) ∙ drop-set-lt (index + 1) (take next slice) index x (omega arith))
+  Opened-code x = grind (arith, Opened-in, set, take-set-le, take-set-lt, drop-set-lt)
 
   -- nonzero bytes that are there already join the open block
   pub Opened-join : (more : List ℕ) → more ≢ [] → HasNoZero more → next + length more ≤ index + 255 → next + length more ≤ length slice → take (length more) (drop next slice) ≡ more

@@ -23,7 +23,7 @@ module _ {s : Start} {slice : List ℕ} {pos index next : ℕ} {P : Bool → Typ
 
   -- less said of the last block
   pub Reaches-weaker : {Q : Bool → Type 0} → ((full : Bool) → P full → Q full) → Reaches s slice pos index next Q
-  Reaches-weaker weaker = Reaches-at refl refl refl refl weaker r
+  Reaches-weaker weaker = grind (arith, Reaches-at)
 
   -- other bytes after it
   pub Reaches-same : (slice' : List ℕ) → take next slice' ≡ take next slice → drop (whole_end s) slice' ≡ drop (whole_end s) slice → Reaches s slice' pos index next P
@@ -34,7 +34,7 @@ module _ {s : Start} {slice : List ℕ} {pos index next : ℕ} {P : Bool → Typ
 
   -- another byte in the place of the open block's code
   pub Reaches-code : (x : ℕ) → Reaches s (set slice index x) pos index next P
-  Reaches-code x = let l = least in grind (arith, drop-set-lt, Opened-code)
+  Reaches-code x = grind (arith, least, drop-set-lt, Opened-code)
 
   module _ {Q : Bool → Type 0} (fits : whole_end s ≤ length slice) where
     -- k bytes that are in place join the open block

@@ -1,5 +1,5 @@
 -- Whether an encoder has room for a byte, by its plain numbers: a code below 255 is one more than the bytes taken.
-use Rattle.std.proofs.Common.{◌≡◌, ℕ, ◌+◌, ◌<◌, ◌≤◌, List, [], ◌∷◌, length, ap, ◌∙◌, arith}
+use Rattle.std.proofs.Common.{◌≡◌, ℕ, ◌+◌, ◌<◌, ◌≤◌, List, [], ◌∷◌, length, arith}
 use Rattle.std.proofs.lemmas.Bool.{cases_Bool}
 use Rattle.cobs.specs.Fields.Progress.{reached_by}
 use Rattle.cobs.specs.Length.{open_len}
@@ -11,22 +11,18 @@ use Rattle.cobs.proofs.encoding.TakingLemmas.{after-some}
 
 -- the state of an encoder whose open block isn't full
 pub is-place : (e : UnbufferedEncoder) (n : ℕ) → e.taken ≤ 253 → e.index + e.taken + 1 < n → IsPlaceIn n (reached_by e)
-is-place e n short room = record { some = omega arith; not_full = omega arith; fits = grind (arith, cases_Bool) }
+is-place e n short room = grind (arith, cases_Bool)
 
 -- there is room for a byte exactly if the place after the open block's bytes isn't the last
 pub has-room : (e : UnbufferedEncoder) (slice : List ℕ) (byte : ℕ) → e.taken ≤ 253 → e.index + e.taken + 1 < length slice → HasRoomFor (length slice) (reached_by e) (byte ∷ [])
 has-room e slice byte short room = record { place = is-place e (length slice) short room; fits = fits-byte slice (reached_by e) byte (omega arith) (omega arith) (omega arith) }
 
 pub place-short : (e : UnbufferedEncoder) (n : ℕ) → IsPlaceIn n (reached_by e) → e.taken ≤ 253
-place-short e n p = let some = p.some in let not_full = p.not_full in omega arith
+place-short e n p = grind arith
 
 pub room-only : (e : UnbufferedEncoder) (n byte : ℕ) → HasRoomFor n (reached_by e) (byte ∷ []) → (e.taken ≤ 253) × (e.index + e.taken + 1 < n)
-room-only e n byte h =
-    let short = place-short e n h.place in
-    let least = open_len-least (reached_by e).block.code (byte ∷ []) h.place.some in
-    let fits = h.fits in
-    (short, omega arith)
+room-only e n byte h = grind (arith, place-short, open_len-least)
 
 -- the end of the frame with some bytes more
 pub end-with : (e : UnbufferedEncoder) (bytes : List ℕ) → e.taken ≤ 253 → 0 < length bytes → end_after (reached_by e) bytes ≡ e.index + open_len (e.taken + 1) bytes
-end-with e bytes short some = after-some (reached_by e) bytes some ∙ ap (λ (n : ℕ). e.index + open_len n bytes) (omega arith)
+end-with e bytes short some = grind (arith, after-some)

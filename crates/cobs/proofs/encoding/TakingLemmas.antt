@@ -23,20 +23,11 @@ pub ruleset short_room = (after-some, open_len-most, cases_Bool)
 
 -- a source has room for its bytes at the least
 pub next-least : (r : Reached) (source : List ℕ) → 0 < r.block.code → 0 < length source → next_of r + length source ≤ end_after r source
-next-least r source code some = let e = after-some r source some in let l = open_len-least r.block.code source code in omega arith
+next-least r source code some = grind (arith, after-some, open_len-least)
 
 pub reaches-start : {source old : List ℕ} {r : Reached} → 0 < length source → 0 < r.block.code → r.block.code < 255 → Reaches (start_with old r source) old 0 r.block.index (next_of r) (λ _. Unit {0})
 unfolding HadTaken
-reaches-start {source} {old} {r} some code short =
-    let coded : next_of r - r.block.index ≡ r.block.code = omega arith in
-    record {
-      ordered = omega arith;
-      short = omega arith;
-      within = omega arith;
-      room = grind (arith, after-some);
-      rest = refl;
-      taken = λ m h. (r.full, tt, rw append-nil (from_after h));
-    }
+reaches-start {source} {old} {r} some code short = grind (arith, after-some, append-nil, from_after)
 
 -- a byte is written after the open block's bytes
 module _ {s : Start} {slice : List ℕ} {read index next : ℕ} {P : Bool → Type 0} (byte : ℕ) (more : read < length s.source) (r : Reaches s slice read index next P) where
@@ -105,23 +96,16 @@ front-filled {source} {old} {slice} {r} {r'} {pos} {index} {next} fits full s on
 
 -- nothing is taken
 pub front-none : (slice : List ℕ) (r : Reached) (source : List ℕ) → IsPlaceIn (length slice) r → TakesFront slice r source 0 slice r
-front-none slice r source p = record { place = p; after = λ m h. rw append-nil h; end = refl; rest = refl }
+front-none slice r source p = grind (arith, append-nil)
 
 -- one step and then another, on the rest of the source
 module _ {slice slice' source left : List ℕ} {r r' : Reached} (n : ℕ) (is : left ≡ drop n source) (a : TakesFront slice r source n slice' r') where
   -- the remaining bytes fit
   pub left-end : end_after r' left ≡ end_after r source
-  left-end = ap (end_after r') is ∙ a.end
+  left-end = grind arith
 
   pub front-next : {slice'' : List ℕ} {r'' : Reached} (k : ℕ) → TakesFront slice' r' left k slice'' r'' → TakesFront slice r source (n + k) slice'' r''
-  front-next {slice''} {r''} k b =
-      let taken : take (n + k) source ≡ take n source ++ take k left = rw is (take-add n k source) in
-      record {
-        place = b.place;
-        after = λ m h. rw (taken, ← append_assoc) (b.after (m ++ take n source) (a.after m h));
-        end = ap (end_after r'') (sym (drop-drop k n source) ∙ ap (drop k) (sym is)) ∙ b.end ∙ left-end;
-        rest = (rw left-end at b.rest) ∙ a.rest;
-      }
+  front-next {slice''} {r''} k b = grind (arith, take-add, append_assoc, drop-drop, left-end)
 
   -- with that the whole source is taken
   pub front-last : {slice'' : List ℕ} {r'' : Reached} → n ≤ length source → TakesFront slice' r' left (length left) slice'' r'' → TakesFront slice r source (length source) slice'' r''
@@ -130,10 +114,10 @@ module _ {slice slice' source left : List ℕ} {r r' : Reached} (n : ℕ) (is : 
 -- the whole source is taken
 module _ {slice slice' source : List ℕ} {r r' : Reached} (t : TakesFront slice r source (length source) slice' r') where
   pub all-after : (m : List ℕ) → CobsEncoderAfter slice r m → CobsEncoderAfter slice' r' (m ++ source)
-  all-after m h = rw (take_all (length source) source (omega arith)) at (t.after m h)
+  all-after m h = grind (arith, take_all)
 
   pub all-end : end_of r' ≡ end_after r source
-  all-end = sym (ap (end_after r') (drop_all (length source) source (omega arith))) ∙ t.end
+  all-end = grind (arith, drop_all)
 
   pub all-rest : drop (end_of r') slice' ≡ drop (end_of r') slice
   all-rest = rw all-end t.rest
@@ -144,7 +128,7 @@ module _ (slice : List ℕ) (r : Reached) (is : r ≡ place_at 0 1 false) (some 
   start-fits source = grind arith
 
   pub start-place : IsPlaceIn (length slice) r
-  start-place = rw is (record { some = omega arith; not_full = omega arith; fits = omega arith })
+  start-place = grind arith
 
   pub start-taken : CobsEncoderAfter slice r []
   start-taken = rw is (after-nothing slice some)

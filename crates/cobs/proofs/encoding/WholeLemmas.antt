@@ -16,7 +16,7 @@ start old source = start_with old (place_at 0 1 false) source
 
 -- the end of its frame
 pub whole-fits : (old source : List ℕ) → 0 < length old → whole_end (start old source) ≡ encoded_len source
-whole-fits old source some = start-fits old (place_at 0 1 false) refl some source
+whole-fits old source some = grind (arith, start-fits)
 
 pub whole-start : {old source : List ℕ} → 0 < length old → Reaches (start old source) old 0 0 1 IsNotFull
 unfolding HadTaken

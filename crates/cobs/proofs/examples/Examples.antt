@@ -26,10 +26,10 @@ lengths_before_zero = refl
 
 -- a zero between two runs
 first_block : IsBlock (3 ∷ 10 ∷ 11 ∷ [])
-first_block = (refl, omega arith, grind (arith, All-cons, All-nil))
+first_block = grind (arith, All-cons, All-nil)
 
 last_block : IsBlock (2 ∷ 12 ∷ [])
-last_block = (refl, omega arith, grind (arith, All-cons, All-nil))
+last_block = grind (arith, All-cons, All-nil)
 
 frame_between : IsEncodedFrame (3 ∷ 10 ∷ 11 ∷ 2 ∷ 12 ∷ []) (10 ∷ 11 ∷ 0 ∷ 12 ∷ [])
 frame_between = record {
@@ -45,11 +45,11 @@ ones_block : IsBlock block_of_ones
 ones_block = (refl, omega arith, All-replicate (λ byte. byte ≢ 0) 254 1 (λ e. omega arith))
 
 longer_blocks : IsFrameOf (block_of_ones ++ lone_block) (block_of_ones ∷ lone_block ∷ [])
-longer_blocks = frame-cons block_of_ones lone_block (lone_block ∷ []) ones_block (block-frame lone_block lone_block-is_block)
+longer_blocks = grind (arith, frame-cons, block_of_ones, ones_block, block-frame, lone_block-is_block)
 
 -- with the lone block after it, it reads as the 254 ones too
 longer_reads : Reads (block_of_ones ++ lone_block) (replicate 254 1)
-longer_reads = record { blocks = block_of_ones ∷ lone_block ∷ []; frame = longer_blocks; message = refl }
+longer_reads = grind (arith, block_of_ones, longer_blocks)
 
 -- but that frame isn't canonical
 longer_not_canonical : IsCanonical (block_of_ones ++ lone_block) → ⊥

@@ -68,7 +68,7 @@ unfolding parts parts_after
 parts-blocks blocks h = ap parts (sym (append-nil (concat blocks))) ∙ parts-append blocks [] h ∙ append-nil blocks
 
 pub parts-frame : (f : List ℕ) (blocks : List (List ℕ)) → IsFrameOf f blocks → parts f ≡ blocks
-parts-frame f blocks frame = ap parts frame.whole ∙ parts-blocks blocks frame.each
+parts-frame f blocks frame = grind (arith, parts-blocks)
 
 -- the last of some blocks is whole
 missing-last : (blocks : List (List ℕ)) → All IsBlock blocks → missing (last_of blocks) ≡ 0
@@ -114,11 +114,11 @@ concat_some ((c ∷ bytes) ∷ blocks) some h = λ e. cc
 module _ (f m : List ℕ) (r : Reads f m) where
   -- no frame is empty
   pub frame_some : f ≢ []
-  frame_some e = concat_some r.blocks r.frame.some r.frame.each (sym r.frame.whole ∙ e)
+  frame_some e = grind (arith, concat_some)
 
   -- no byte of a frame is zero
   pub frame_nonzero : HasNoZero f
-  frame_nonzero = subst HasNoZero (sym r.frame.whole) (concat_nonzero r.blocks r.frame.each)
+  frame_nonzero = grind (arith, concat_nonzero)
 
   -- the last part of a frame is whole
   pub frame_whole : IsWhole f
@@ -128,7 +128,7 @@ module _ (f m : List ℕ) (r : Reads f m) where
   -- it reads as its output
   pub frame_output : m ≡ output f
   unfolding output
-  frame_output = r.message ∙ ap message_of (sym (parts-frame f r.blocks r.frame))
+  frame_output = grind (arith, parts-frame)
 
 -- and a whole piece without a zero is a frame
 pub reads_output : (f : List ℕ) → f ≢ [] → HasNoZero f → All (λ b. b < 256) f → IsWhole f → Reads f (output f)

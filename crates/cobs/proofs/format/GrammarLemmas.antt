@@ -39,28 +39,24 @@ encoded-by blocks frame message shorter = record {
 
 -- a block before a frame
 pub frame-cons : (b f : List ℕ) (bs : List (List ℕ)) → IsBlock b → IsFrameOf f bs → IsFrameOf (b ++ f) (b ∷ bs)
-frame-cons b f bs h frame = record { some = λ e. cc; each = All-cons IsBlock b bs h frame.each; whole = ap (λ x. b ++ x) frame.whole }
+frame-cons b f bs h frame = grind (arith, All-cons)
 
 pub Reads-cons : (b f m : List ℕ) → IsBlock b → Reads f m → Reads (b ++ f) (bytes_of b ++ joint b ++ m)
 Reads-cons b f m h r = grind (arith, frame-cons)
 
 -- a block before a canonical frame, which isn't the lone block if the block is full
 pub IsCanonical-cons : (b f : List ℕ) → IsBlock b → (IsFull b → f ≢ lone_block) → IsCanonical f → IsCanonical (b ++ f)
-IsCanonical-cons b f h apart r = record {
-  blocks = b ∷ r.blocks;
-  frame = frame-cons b f r.blocks h r.frame;
-  shorter = IsShorter-cons b r.blocks (λ full e. apart full (r.frame.whole ∙ ap concat e)) r.shorter;
-}
+IsCanonical-cons b f h apart r = grind (arith, frame-cons, IsShorter-cons)
 
 -- a block alone is a canonical frame
 pub block-frame : (b : List ℕ) → IsBlock b → IsFrameOf b (b ∷ [])
-block-frame b h = record { some = λ e. cc; each = All-cons IsBlock b [] h (All-nil IsBlock); whole = sym (append-nil b) }
+block-frame b h = grind (arith, All-cons, All-nil, append-nil)
 
 pub IsCanonical-block : (b : List ℕ) → IsBlock b → IsCanonical b
-IsCanonical-block b h = record { blocks = b ∷ []; frame = block-frame b h; shorter = IsShorter-single b }
+IsCanonical-block b h = grind (arith, block-frame, IsShorter-single)
 
 pub lone_block-is_block : IsBlock lone_block
-lone_block-is_block = (refl, omega arith, All-nil (λ byte. byte ≢ 0))
+lone_block-is_block = grind (arith, All-nil)
 
 -- the lone block reads as the empty message
 pub lone_block-reads : Reads lone_block []

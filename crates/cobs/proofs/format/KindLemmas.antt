@@ -37,7 +37,7 @@ pub record BlocksBehind (f rest : List ℕ) (after_full : Bool) : Type 0 where
   pub canonical : IsCanonical f ↔ (IsCanonical rest × (after_full ≡ true → rest ≢ lone_block))
 
 pub behind-start : (f : List ℕ) → HasNoZero f → All (λ b. b < 256) f → BlocksBehind f f false
-behind-start f nonzero below = record { nonzero = nonzero; below = below; frame = (λ h. h, λ h. h); canonical = (λ h. (h, λ full. absurd (cc)), λ h. h.0) }
+behind-start f nonzero below = grind arith
 
 -- nothing is after them, or a broken block
 pub broken-kind : (f rest : List ℕ) (t : Bool) → BlocksBehind f rest t → (0 < length rest → length rest < get_or rest 0 0) → IsKindOf NotAFrame f
@@ -78,12 +78,12 @@ lone-is (code ∷ x ∷ bytes) last one = absurd (omega arith)
 
 module _ (f rest : List ℕ) (t : Bool) (i : BlocksBehind f rest t) (some : 0 < length rest) (last : length rest ≡ get_or rest 0 0) where
   canonical : IsCanonical rest
-  canonical = IsCanonical-block rest (last-block rest i.nonzero i.below some last)
+  canonical = grind (arith, IsCanonical-block, last-block)
 
   -- the lone block after a full one
   pub longer-kind : t ≡ true → length rest ≡ 1 → IsKindOf Longer f
-  longer-kind full one = (i.frame.1 (frame_of rest canonical), λ c. (i.canonical.0 c).1 full (lone-is rest last one))
+  longer-kind full one = grind (arith, frame_of, canonical, lone-is)
 
   -- another block, or not after a full one
   pub canonical-kind : (t ≡ true → length rest ≢ 1) → IsKindOf Canonical f
-  canonical-kind other = i.canonical.1 (canonical, λ full lone. other full (ap length lone))
+  canonical-kind other = grind (arith, canonical)

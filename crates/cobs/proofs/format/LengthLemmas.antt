@@ -12,7 +12,7 @@ use Rattle.cobs.specs.Length.{runs, full_blocks, encoded_len, max_overhead, max_
 
 -- no byte passes the test by which stretches are cut
 pub no_zero : (bytes : List ℕ) → HasNoZero bytes → All (λ b. (b == 0) ≡ false) bytes
-no_zero bytes h = All-weaker (λ b. b ≢ 0) (λ b. (b == 0) ≡ false) (λ b ne. ne_eqb b 0 ne) bytes h
+no_zero bytes h = grind (arith, All-weaker, ne_eqb)
 
 pub some_stretch : (m : List ℕ) → stretches m ≢ []
 some_stretch m e = let n = length-slice_split (λ b. b == 0) m in let l = ap length e in omega arith

@@ -52,7 +52,7 @@ written dest new behind end len within room =
 
 -- such a list is as long as what was written
 pub length-written : (dest new : List ℕ) (end part : ℕ) → end ≤ length dest → end + length new ≤ length (put_mid end part dest new)
-length-written dest new end part within = simp length-append (omega (arith, length-take end dest))
+length-written dest new end part within = grind (arith, length-append, length-take)
 
 -- WHAT COMES BACK
 
@@ -73,4 +73,4 @@ outcomes_of_frames (f ∷ frames) (m ∷ messages) n h fits =
 
 -- the frames of messages that a buffer holds come out as exactly these messages
 pub AreFrames-outcomes : (messages : List (List ℕ)) (bytes : List ℕ) (n : ℕ) → AreFrames messages bytes → All (λ m. length m ≤ n) messages → stream_outcomes bytes n ≡ map Message messages
-AreFrames-outcomes messages bytes n h fits = ap (λ (x : List ℕ). stream_outcomes x n) h.joined ∙ outcomes_of_frames h.frames messages n h.each fits
+AreFrames-outcomes messages bytes n h fits = grind (arith, outcomes_of_frames)

@@ -17,15 +17,13 @@ xor_each-twice s (b ∷ f) = rw (xor_twice b s, xor_each-twice s f) refl
 -- parts of some bytes, XORed
 module _ (bytes : List ℕ) (s : ℕ) where
   pub front_xored : (n : ℕ) → xor_each s (take n bytes) ≡ take n (xor_each s bytes)
-  front_xored n = sym (take-map (λ b. bit_xor b s) n bytes)
+  front_xored n = grind (arith, take-map)
 
   pub rest_xored : (i : ℕ) → xor_each s (take (length bytes - i) (drop i bytes)) ≡ drop i (xor_each s bytes)
-  rest_xored i = ap (xor_each s) (take_rest bytes i) ∙ sym (drop-map (λ b. bit_xor b s) i bytes)
+  rest_xored i = grind (arith, take_rest, drop-map)
 
   pub slice_xored : (i n : ℕ) → xor_each s (take (i + n - i) (drop i bytes)) ≡ take n (drop i (xor_each s bytes))
-  slice_xored i n =
-      ap (λ (k : ℕ). xor_each s (take k (drop i bytes))) {x = i + n - i} {y = n} (omega arith)
-      ∙ sym (take-map (λ b. bit_xor b s) n (drop i bytes)) ∙ ap (take n) (sym (drop-map (λ b. bit_xor b s) i bytes))
+  slice_xored i n = grind (arith, take-map, drop-map)
 
   pub ones_xored : (n : ℕ) → take n bytes ≡ replicate n (bit_xor 1 s) → take n (xor_each s bytes) ≡ replicate n 1
   ones_xored n e = sym (front_xored n) ∙ ap (xor_each s) e ∙ xored_ones n

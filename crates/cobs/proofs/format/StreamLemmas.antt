@@ -1,5 +1,5 @@
 -- A stream in two parts, and one more byte of it: the ended pieces, and the unended bytes. By std's lemmas on `slice_split`.
-use Rattle.std.proofs.Common.{◌≡◌, ◌≢◌, ℕ, zero, suc, ◌+◌, ◌-◌, ◌<◌, ◌==◌, Bool, true, cond, eqb, List, [], ◌∷◌, ◌++◌, length, take, map, refl, sym, ap, ◌∙◌, arith, append_assoc, length-append, filter, not, get_or, inl, inr}
+use Rattle.std.proofs.Common.{◌≡◌, ◌≢◌, ℕ, zero, suc, ◌+◌, ◌-◌, ◌<◌, ◌==◌, true, cond, eqb, List, [], ◌∷◌, ◌++◌, length, take, refl, sym, ap, ◌∙◌, arith, append_assoc, length-append, filter, not, get_or, inl, inr}
 use Rattle.std.proofs.lemmas.List.{map-append, take_all, take_more}
 use Rattle.std.proofs.lemmas.List.Elements.{All-push, All-nil, All-cons, filter-append}
 use Rattle.std.proofs.lemmas.List.Splits.{slice_split-cons_no, slice_split_at, slice_split_none, length-slice_split}
@@ -15,12 +15,12 @@ use Rattle.cobs.proofs.format.LengthLemmas.{no_zero}
 
 -- a byte that is no zero joins the front
 pub fed-nonzero : (p : List ℕ) (b : ℕ) → b ≢ 0 → fed p b ≡ p ++ b ∷ []
-fed-nonzero p b h = ap (λ (x : Bool). cond x [] (p ++ b ∷ [])) (ne_eqb b 0 h)
+fed-nonzero p b h = grind (arith, ne_eqb)
 
 -- STRETCHES OF A STREAM IN TWO PARTS
 
 stretches-nonzero : (b : ℕ) (t : List ℕ) → b ≢ 0 → stretches (b ∷ t) ≡ onto_first b (stretches t)
-stretches-nonzero b t h = slice_split-cons_no (λ byte. byte == 0) b t (ne_eqb b 0 h)
+stretches-nonzero b t h = grind (arith, slice_split-cons_no, ne_eqb)
 
 -- a stream has a stretch
 pub length-stretches : (t : List ℕ) → 0 < length (stretches t)
@@ -55,22 +55,22 @@ unended-append t u = grind (arith, stretches-append, last_of-append, length-stre
 -- a stream cut in two: the outcomes of the first part, then those of the second after the unended bytes of the first
 pub stream_outcomes-append : (t u : List ℕ) (n : ℕ) → stream_outcomes (t ++ u) n ≡ stream_outcomes t n ++ stream_outcomes (unended t ++ u) n
 unfolding stream_outcomes
-stream_outcomes-append t u n = rw (ended_pieces-append t u) (map-append (λ p. outcome_of p n) (ended_pieces t) (ended_pieces (unended t ++ u)))
+stream_outcomes-append t u n = grind (arith, ended_pieces-append, map-append)
 
 -- A PIECE AT THE FRONT OF A STREAM
 
 -- the zero after a piece ends its stretch
 pub stretches-piece : (p u : List ℕ) → HasNoZero p → stretches (p ++ 0 ∷ u) ≡ p ∷ stretches u
-stretches-piece p u h = slice_split_at (λ byte. byte == 0) p 0 u (no_zero p h) refl
+stretches-piece p u h = grind (arith, slice_split_at, no_zero)
 
 -- a list without a zero is one stretch
 pub stretches-no_zero : (p : List ℕ) → HasNoZero p → stretches p ≡ p ∷ []
-stretches-no_zero p h = slice_split_none (λ byte. byte == 0) p (no_zero p h)
+stretches-no_zero p h = grind (arith, slice_split_none, no_zero)
 
 -- nothing has ended in a list without a zero
 pub ended_pieces-no_zero : (p : List ℕ) → HasNoZero p → ended_pieces p ≡ []
 unfolding ended_pieces but_last
-ended_pieces-no_zero p h = ap (λ (x : List (List ℕ)). filter is_nonempty (but_last x)) (stretches-no_zero p h)
+ended_pieces-no_zero p h = grind (arith, stretches-no_zero)
 
 pub unended-no_zero : (p : List ℕ) → HasNoZero p → unended p ≡ p
 unfolding unended
@@ -78,7 +78,7 @@ unended-no_zero p h = ap last_of (stretches-no_zero p h)
 
 pub stream_outcomes-no_zero : (p : List ℕ) (n : ℕ) → HasNoZero p → stream_outcomes p n ≡ []
 unfolding stream_outcomes
-stream_outcomes-no_zero p n h = ap (map (λ p. outcome_of p n)) (ended_pieces-no_zero p h)
+stream_outcomes-no_zero p n h = grind (arith, ended_pieces-no_zero)
 
 -- the outcome for a byte after a front of a piece
 abbrev pub outcomes_at : List ℕ → ℕ → ℕ → List Outcome
@@ -129,7 +129,7 @@ stream_outcomes-push t b n = grind (arith, stream_outcomes-append, push_outcomes
 
 -- the unended bytes
 pub unended-push : (t : List ℕ) (b : ℕ) → unended (t ++ b ∷ []) ≡ fed (unended t) b
-unended-push t b = unended-append t (b ∷ []) ∙ push_unended (unended t) b (unended_no_zero t)
+unended-push t b = grind (arith, unended-append, push_unended, unended_no_zero)
 
 -- after a zero nothing is unended
 pub unended-zero : (t : List ℕ) → unended (t ++ 0 ∷ []) ≡ []

@@ -27,7 +27,7 @@ message-first c a (b ∷ bs) = (joint (c ∷ a) ++ message_of (b ∷ bs), append
 
 -- and if there are more blocks, the joint and the rest follow them
 pub message-rest : (b : List ℕ) (d : List ℕ) (ds : List (List ℕ)) (t : Bool) → is_full b ≡ t → message_of (b ∷ d ∷ ds) ≡ bytes_of b ++ ((if t then [] else 0 ∷ []) ++ message_of (d ∷ ds))
-message-rest b d ds t e = rw (← e) (append_assoc (bytes_of b) (joint b) (message_of (d ∷ ds)))
+message-rest b d ds t e = grind (arith, append_assoc)
 
 -- after a full block of canonical blocks something is left
 pub full-more : (b d : List ℕ) (ds : List (List ℕ)) → All IsBlock (b ∷ d ∷ ds) → IsShorter (b ∷ d ∷ ds) → is_full b ≡ true → message_of (d ∷ ds) ≢ []
@@ -100,7 +100,7 @@ one_blocks (b ∷ d ∷ ds) (c ∷ k ∷ ks) p q h i s t e =
     cc
 
 pub IsEncodedFrame-shorter : (f m : List ℕ) (e : IsEncodedFrame f m) → IsShorter e.reads.blocks
-IsEncodedFrame-shorter f m e = subst IsShorter (one_frame f e.canonical.blocks e.reads.blocks e.canonical.frame e.reads.frame) e.canonical.shorter
+IsEncodedFrame-shorter f m e = grind (arith, IsShorter, one_frame)
 
 -- a message has one encoded frame
 pub one_encoded : (f g m : List ℕ) → IsEncodedFrame f m → IsEncodedFrame g m → f ≡ g

@@ -1,5 +1,5 @@
 -- A piece that is taken byte by byte: each byte continues or ends the piece, by `SoFar-more` and `TakesBytes-byte`.
-use Rattle.std.proofs.Common.{◌≡◌, ◌≢◌, ℕ, ◌+◌, ◌<◌, ◌≤◌, List, [], ◌∷◌, ◌++◌, length, take, drop, get_or, Option, Some, None, Result, refl, sym, ap, ◌∙◌, subst, arith, append_assoc, inl, inr, IfOk, IfSome}
+use Rattle.std.proofs.Common.{◌≡◌, ◌≢◌, ℕ, ◌+◌, ◌<◌, ◌≤◌, List, [], ◌∷◌, ◌++◌, length, take, drop, get_or, Option, Some, None, Result, refl, ap, ◌∙◌, subst, arith, append_assoc, inl, inr, IfOk, IfSome}
 use Rattle.std.proofs.lemmas.Bool.{cases_eq, eq-eqb, ne_eqb}
 use Rattle.std.proofs.lemmas.List.{append-nil, take_more}
 use Rattle.cobs.specs.Feed.{Phase, PhaseAfter, DecoderAfter, Feeds}
@@ -47,20 +47,18 @@ module _ {buffer₀ buffer buffer' : List ℕ} {phase₀ phase phase' : Phase} {
   none_before p h = nil-alike _ (t.takes.alike p h)
 
   stream_on : (p : List ℕ) → p ++ take (i + 1) bytes ≡ (p ++ take i bytes) ++ get_or bytes i 0 ∷ []
-  stream_on p = ap (λ (x : List ℕ). p ++ x) (take_more bytes i 0 inside) ∙ sym (append_assoc p (take i bytes) (get_or bytes i 0 ∷ []))
+  stream_on p = grind (arith, take_more, append_assoc, get_or)
 
   -- the piece that was read last
   last_zero : get_or bytes i 0 ≡ 0 → (p : List ℕ) → PhaseAfter (length buffer₀) phase₀ p → last_piece (p ++ take (i + 1) bytes) ≡ unended (p ++ take i bytes)
-  last_zero z p h = ap last_piece (stream_on p ∙ ap (λ (b : ℕ). (p ++ take i bytes) ++ b ∷ []) z) ∙ last_piece-zero (p ++ take i bytes) (no_outcomes _ _ (none_before p h))
+  last_zero z p h = grind (arith, stream_on, last_piece-zero, no_outcomes, none_before)
 
   last_nonzero : get_or bytes i 0 ≢ 0 → (p : List ℕ) → PhaseAfter (length buffer₀) phase₀ p → last_piece (p ++ take (i + 1) bytes) ≡ unended (p ++ take i bytes) ++ get_or bytes i 0 ∷ []
-  last_nonzero nz p h =
-      let t = p ++ take i bytes in
-      ap last_piece (stream_on p) ∙ last_piece-unended (t ++ get_or bytes i 0 ∷ []) (ended_pieces-nonzero t _ nz ∙ no_outcomes _ _ (none_before p h)) ∙ unended-push t _ ∙ fed-nonzero _ _ nz
+  last_nonzero nz p h = grind (arith, stream_on, last_piece-unended, get_or, ended_pieces-nonzero, no_outcomes, none_before, unended-push, fed-nonzero)
 
   -- the bytes after its output stay
   left_so_far : (p : List ℕ) → PhaseAfter (length buffer₀) phase₀ p → drop (length (output (unended (p ++ take i bytes)))) buffer ≡ drop (length (output (unended (p ++ take i bytes)))) buffer₀
-  left_so_far p h = rw (last_piece-unended (p ++ take i bytes) (no_outcomes _ _ (none_before p h))) at (t.untouched p h)
+  left_so_far p h = grind (arith, last_piece-unended, no_outcomes, none_before)
 
   pub untouched_behind : (p : List ℕ) → PhaseAfter (length buffer₀) phase₀ p
       → drop (length (output (last_piece (p ++ take (i + 1) bytes)))) buffer' ≡ drop (length (output (last_piece (p ++ take (i + 1) bytes)))) buffer₀
@@ -77,7 +75,7 @@ module _ {buffer₀ buffer buffer' : List ℕ} {phase₀ phase phase' : Phase} {
   ]
 
   pub holds_behind : (p : List ℕ) → DecoderAfter buffer₀ phase₀ p → buffer' ≡ overwritten buffer₀ (output (last_piece (p ++ take (i + 1) bytes)))
-  holds_behind p h = begun (output (last_piece (p ++ take (i + 1) bytes))) buffer₀ buffer' (f.len ∙ t.takes.len) (begins_behind p h) (untouched_behind p h.phased)
+  holds_behind p h = grind (arith, begun, begins_behind, untouched_behind)
 
   pub takes_behind : TakesBytes buffer₀ phase₀ (take (i + 1) bytes) (reported_by (get_or bytes i 0) result buffer') buffer' phase'
   takes_behind = rw (take_more bytes i 0 inside) (SoFar-more t.takes (TakesBytes-byte f))

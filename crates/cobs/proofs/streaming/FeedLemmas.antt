@@ -1,6 +1,6 @@
 -- The machine of `Step` feeds a byte (`Feeds-step`): its phase, buffer and result after a front of a piece are those of the
 -- front with the byte. By `PieceLemmas`, one case for each phase.
-use Rattle.std.proofs.Common.{◌≡◌, ◌≢◌, ℕ, zero, suc, ◌+◌, ◌<◌, ◌≤◌, Bool, true, false, cond, leb, eqb, List, [], ◌∷◌, ◌++◌, length, take, drop, set, refl, sym, ap, ◌∙◌, arith, length-append, Option, None, Result, Ok, Err, add-one}
+use Rattle.std.proofs.Common.{◌≡◌, ◌≢◌, ℕ, zero, suc, ◌+◌, ◌<◌, ◌≤◌, Bool, true, false, cond, leb, eqb, List, [], ◌∷◌, ◌++◌, length, take, drop, set, refl, sym, arith, length-append, Option, None, Result, Ok, Err, add-one}
 use Rattle.std.proofs.lemmas.List.{take_all, take-append-le, append-nil, length_push, take_more_set, set_past, drop-set-lt, length-set}
 use Rattle.std.proofs.lemmas.List.Elements.{All-push, All-nil}
 use Rattle.std.proofs.lemmas.Bool.{cases_lt, cond-true, cond-false, ne_eqb, le-leb, leb-true, lt-leb}
@@ -22,7 +22,7 @@ use Rattle.cobs.proofs.decoding.PieceLemmas.{output-one, last_part-one, output-p
 
 -- a decoder whose output was too long is in that phase, whatever its other numbers are
 pub over_is : (decoder : UnbufferedDecoder) → decoder.too_long ≢ 0 → phase_of decoder ≡ Overlong
-over_is decoder nz = rw (ne_eqb decoder.too_long 0 nz) refl
+over_is decoder nz = grind (arith, ne_eqb)
 
 -- the phase after a piece, from what is known about the piece
 phase_after-is : (c : ℕ) (q : List ℕ) (n : ℕ) (full : Bool) (left count : ℕ) → is_full (last_part (c ∷ q)) ≡ full → missing (last_part (c ∷ q)) ≡ left → length (output (c ∷ q)) ≡ count
@@ -100,7 +100,7 @@ abbrev pub Begins : List ℕ → List ℕ → Type 0
 Begins buffer o = take (length o) buffer ≡ take (length buffer) o
 
 begins-nil : (buffer : List ℕ) → Begins buffer []
-begins-nil buffer = sym (take_all (length buffer) [] (omega arith))
+begins-nil buffer = grind (arith, take_all)
 
 begins-over : (buffer o more : List ℕ) → length buffer ≤ length o → Begins buffer o → Begins buffer (o ++ more)
 begins-over buffer o more h e = grind (arith, take_all, length-append, take-append-le)
@@ -133,10 +133,10 @@ piece-fed p (suc b) h = rw (fed-nonzero p (suc b) (λ e. omega arith)) (All-push
 -- THE STEP, for `PhaseAfter` and `DecoderAfter`
 
 pub PhaseAfter-step : (n : ℕ) (phase : Phase) (p : List ℕ) (b : ℕ) → PhaseAfter n phase p → PhaseAfter n (next_phase n phase b) (fed p b)
-PhaseAfter-step n phase p b h = record { piece = piece-fed p b h.piece; phase_is = ap (λ (x : Phase). next_phase n x b) h.phase_is ∙ phase-step n p b }
+PhaseAfter-step n phase p b h = grind (arith, piece-fed, phase-step)
 
 pub PhaseAfter-result_for : (n : ℕ) (phase : Phase) (p : List ℕ) (b : ℕ) → PhaseAfter n phase p → next_result n phase b ≡ result_for p b n
-PhaseAfter-result_for n phase p b h = ap (λ (x : Phase). next_result n x b) h.phase_is ∙ result_for-step n p b
+PhaseAfter-result_for n phase p b h = grind (arith, result_for-step)
 
 pub DecoderAfter-step : (buffer : List ℕ) (phase : Phase) (p : List ℕ) (b : ℕ) → DecoderAfter buffer phase p → DecoderAfter (next_buffer buffer phase b) (next_phase (length buffer) phase b) (fed p b)
 DecoderAfter-step buffer phase p b h =
@@ -156,7 +156,7 @@ untouched-step buffer p b h = grind (arith, cases_lt, over_phase, fits_phase, un
 -- the bytes after the output stay
 pub PhaseAfter-untouched : (buffer : List ℕ) (phase : Phase) (p : List ℕ) (b : ℕ) → PhaseAfter (length buffer) phase p → b ≢ 0
     → drop (length (output (p ++ b ∷ []))) (next_buffer buffer phase b) ≡ drop (length (output (p ++ b ∷ []))) buffer
-PhaseAfter-untouched buffer phase p b h nz = rw h.phase_is (untouched-step buffer p b (omega (arith, nz)))
+PhaseAfter-untouched buffer phase p b h nz = grind (arith, untouched-step)
 
 -- an idle decoder has taken nothing of a piece, whatever its buffer holds
 pub DecoderAfter-idle : (buffer : List ℕ) (phase : Phase) → phase ≡ Idle → DecoderAfter buffer phase []
@@ -183,7 +183,7 @@ Feeds-step buffer phase b = record {
 -- a function that does the machine's step feeds the byte
 pub Feeds-as : {buffer buffer' : List ℕ} {phase phase' : Phase} {b : ℕ} {result : Result (Option ℕ) DecodeError} → result ≡ next_result (length buffer) phase b → phase' ≡ next_phase (length buffer) phase b
     → buffer' ≡ next_buffer buffer phase b → Feeds buffer phase b result buffer' phase'
-Feeds-as {buffer} {buffer'} {phase} {phase'} {b} returned phase_is buffer_is = rw (returned, phase_is, buffer_is) (Feeds-step buffer phase b)
+Feeds-as {buffer} {buffer'} {phase} {phase'} {b} returned phase_is buffer_is = grind (arith, Feeds-step)
 
 -- a zero leaves the buffer, and the decoder idle
 pub Feeds-zero : (buffer : List ℕ) (phase : Phase) → Feeds buffer phase 0 (end_result (length buffer) phase) buffer Idle

@@ -5,7 +5,7 @@ use Rattle.std.proofs.lemmas.Bool.{cases_lt}
 use Rattle.std.proofs.lemmas.List.{take-append-le, take-take}
 use Rattle.std.proofs.lemmas.List.Elements.{All-take}
 use Rattle.cobs.specs.Grammar.{Reads}
-use Rattle.cobs.specs.Stream.{Outcome, Message, outcome_of, stream_outcomes, unended}
+use Rattle.cobs.specs.Stream.{Message, outcome_of, stream_outcomes, unended}
 use Rattle.cobs.specs.Feed.{Phase, Idle, DecoderAfter, Feeds, result_at_end, result_for, fed_result}
 use Rattle.cobs.specs.FeedPiece.{IsWithin, TakesPiece, outcome_at}
 use Rattle.cobs.specs.Headline.{IsPiece}
@@ -44,7 +44,7 @@ module _ {buffer buffer' f : List ℕ} {phase phase' : Phase} {result : Result (
       grind (arith, take_all)
 
   pub fed-reads : (m : List ℕ) → Reads f m → length m ≤ length buffer → (result ≡ Ok (Some (length m))) × (take (length m) buffer' ≡ m)
-  fed-reads m r fits = (w.returned f h.phased ∙ result_is f m (length buffer) r fits, bytes_there m r fits)
+  fed-reads m r fits = grind (arith, result_is, bytes_there)
 
   pub fed-only : (n : ℕ) → result ≡ Ok (Some n) → All (λ b. b < 256) f → Reads f (take n buffer')
   fed-only n is below = grind (arith, message_reported, message_reads, bytes_there, message_fits)
@@ -59,10 +59,10 @@ module _ (buffer buffer' f more : List ℕ) (phase phase' : Phase) (idle : phase
   cut = sym (append_assoc f (0 ∷ []) more)
 
   front_is : take (length f + 1) (f ++ 0 ∷ more) ≡ f ++ 0 ∷ []
-  front_is = ap (take (length f + 1)) cut ∙ take_at (f ++ 0 ∷ []) more (length f + 1) (length-append f (0 ∷ []))
+  front_is = grind (arith, cut, take_at, length-append)
 
   one : (n : ℕ) (u : List ℕ) → stream_outcomes ((f ++ 0 ∷ []) ++ u) n ≡ outcome_of f n ∷ stream_outcomes (unended (f ++ 0 ∷ []) ++ u) n
-  one n u = stream_outcomes-append (f ++ 0 ∷ []) u n ∙ ap (λ (x : List Outcome). x ++ stream_outcomes (unended (f ++ 0 ∷ []) ++ u) n) (stream_outcomes-one f n piece.0 piece.1)
+  one n u = grind (arith, stream_outcomes-append, stream_outcomes-one)
 
   -- it ends with the zero after f
   count_is : (end : PieceEnd) (count : ℕ) → TakesPiece buffer phase (f ++ 0 ∷ more) (Some (end, count)) buffer' phase' → count ≡ length f + 1

@@ -42,7 +42,7 @@ pub record FrontFed (source old new : List ℕ) (phase : Phase) (run : ℕ) : Ty
 
 module _ {source old new : List ℕ} {phase : Phase} {run : ℕ} (f : FrontFed source old new phase run) where
   none : HasNoZero (take run source)
-  none = quiet-piece (take run source) old new phase (code-first source run f.begins) f.fed
+  none = grind (arith, quiet-piece, code-first)
 
   front : Quiet old new phase (take run source)
   front = quiet (take run source) old new phase none f.fed
@@ -56,7 +56,7 @@ module _ {source old new : List ℕ} {phase : Phase} {run : ℕ} (f : FrontFed s
     whole = rw all at front
 
     pub whole-count : run ≡ length (head source)
-    whole-count = sym (length-take-le run source f.within) ∙ ap length all
+    whole-count = grind (arith, length-take-le, all)
 
   -- up to a byte that has no room
   module _ (more : run < length source) (other : get_or source run 0 ≢ 0) (over : next_phase (length new) phase (get_or source run 0) ≡ Overlong) where
@@ -69,10 +69,10 @@ module _ {source old new : List ℕ} {phase : Phase} {run : ℕ} (f : FrontFed s
         ∙ sym (front-of-head source run none)
 
     pub over-long : length old < length (output (head source))
-    over-long = rw split at (quiet-long old new _ phase front _ tail other over)
+    over-long = grind (arith, split, quiet-long, front, tail)
 
     pub over-written : new ≡ overwritten old (output (head source))
-    over-written = rw split at (quiet-full old new _ phase front _ tail other over)
+    over-written = grind (arith, split, quiet-full, front, tail)
 
     pub over-count : length (head source) ≡ run + 1 + length tail
     over-count = omega (arith, ap length split, length-append (take run source) (get_or source run 0 ∷ tail), length-take-le run source f.within)

@@ -1,6 +1,6 @@
 -- The bytes before a zero, decoded up to the last ones that are kept: the result, and the contents of the buffer. By
 -- `quiet` for the bytes that are fed, and `TailLemmas` for those that aren't.
-use Rattle.std.proofs.Common.{◌≡◌, ◌≢◌, ℕ, zero, suc, ◌-◌, ◌<◌, ◌≤◌, ◌↔◌, IsTrue, Bool, true, false, cond, get_or, List, [], ◌∷◌, ◌++◌, length, take, drop, refl, sym, ap, ◌∙◌, subst, arith, inl, inr, length-drop, take_all, Result, Ok, Err}
+use Rattle.std.proofs.Common.{◌≡◌, ◌≢◌, ℕ, zero, suc, ◌-◌, ◌<◌, ◌≤◌, ◌↔◌, IsTrue, Bool, true, false, get_or, List, [], ◌∷◌, ◌++◌, length, take, drop, refl, sym, ap, ◌∙◌, arith, inl, inr, length-drop, take_all, Result, Ok, Err}
 use Rattle.std.specs.List.{All}
 use Rattle.std.proofs.lemmas.List.Elements.{All-head, All-tail, All-drop, All-take, All-append}
 use Rattle.std.proofs.lemmas.Bool.{cases_lt, eq-eqb, le-leb, lt-leb, ne_eqb}
@@ -49,7 +49,7 @@ pub whole_result : (h : List ℕ) → missing (last_part h) ≡ 0 → head_resul
 whole_result h whole = sym (head_by h (length (output h)) true (Ok (length (output h))) (λ _. refl) (λ f. absurd (cc)) (ap length (whole-kept h whole)) ((λ _. whole), (λ _. refl)))
 
 pub whole_front : (h old front : List ℕ) (n : ℕ) → missing (last_part h) ≡ 0 → front ≡ output h → length front ≤ length old → n ≡ length front → front ++ drop n old ≡ overwritten old (kept_output h)
-whole_front h old front n whole is fits count = subst (λ (l : List ℕ). front ++ drop n old ≡ overwritten old l) (is ∙ whole-kept h whole) (grind (arith, take_all))
+whole_front h old front n whole is fits count = grind (arith, whole-kept, take_all)
 
 -- the bytes p are fed, and the first of the bytes q after them: their output is the kept output of all
 module _ (p q old b1 b2 : List ℕ) (phase : Phase) (inner : UnbufferedDecoder) (len : ℕ) (whole : Bool) (result : Result ℕ DecodeError) (nz : HasNoZero p) (nz' : HasNoZero q)
@@ -66,16 +66,9 @@ module _ (p q old b1 b2 : List ℕ) (phase : Phase) (inner : UnbufferedDecoder) 
 
   -- if the buffer isn't the source, it has room
   pub kept_fits : (result ≡ head_result_within (p ++ q) (length old)) × (b2 ≡ overwritten old (kept_output (p ++ q)))
-  kept_fits = (
-    kept_fed.0 ∙ sym (ap (λ (t : Bool). cond t (head_result (p ++ q)) (Err TargetBufTooSmall)) (le-leb (length (kept_output (p ++ q))) (length old) (omega (arith, run.fits, ap length kept)))),
-    kept_fed.1,
-  )
+  kept_fits = grind (arith, kept_fed, le-leb, run)
 
 -- or one of these bytes has no room
 pub kept_stop : (h p old new : List ℕ) (phase : Phase) (run : ℕ) → output p ≡ kept_output h → HasNoZero p → run < length p → FeedsQuietly old Idle (take run p) new phase → next_phase (length new) phase (get_or p run 0) ≡ Overlong
     → (Err TargetBufTooSmall ≡ head_result_within h (length old)) × (new ≡ overwritten old (kept_output h))
-kept_stop h p old new phase run kept none more f over =
-    let s = quiet-stop p old new phase run none more f over in (
-      sym (ap (λ (t : Bool). cond t (head_result h) (Err TargetBufTooSmall)) (lt-leb (length (kept_output h)) (length old) (omega (arith, s.0, ap length kept)))),
-      s.1 ∙ ap (overwritten old) kept,
-    )
+kept_stop h p old new phase run kept none more f over = grind (arith, quiet-stop, run, lt-leb)

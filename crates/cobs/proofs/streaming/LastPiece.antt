@@ -31,11 +31,11 @@ last_piece-unended t none = grind (arith, pieces, filter)
 
 ended_at : (q : List ℕ) → HasNoZero q → ended_pieces (q ++ 0 ∷ []) ≡ filter is_nonempty (q ∷ [])
 unfolding ended_pieces but_last
-ended_at q h = ap (λ (z : List (List ℕ)). filter is_nonempty (but_last z)) (stretches-piece q [] h)
+ended_at q h = grind (arith, stretches-piece)
 
 -- the pieces that have ended after one more byte
 ended_pieces-zero : (t : List ℕ) → ended_pieces (t ++ 0 ∷ []) ≡ ended_pieces t ++ filter is_nonempty (unended t ∷ [])
-ended_pieces-zero t = ended_pieces-append t (0 ∷ []) ∙ ap (λ (z : List (List ℕ)). ended_pieces t ++ z) (ended_at (unended t) (unended_no_zero t))
+ended_pieces-zero t = grind (arith, ended_pieces-append, ended_at, unended_no_zero)
 
 pub ended_pieces-nonzero : (t : List ℕ) (b : ℕ) → b ≢ 0 → ended_pieces (t ++ b ∷ []) ≡ ended_pieces t
 ended_pieces-nonzero t b h =

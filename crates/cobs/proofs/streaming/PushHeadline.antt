@@ -44,7 +44,7 @@ module _ (f : List ℕ) (n : ℕ) (piece : IsPiece f) where
 
   -- all of it has one
   one_outcome : (k : ℕ) → length f < k → stream_outcomes (take k (f ++ 0 ∷ [])) n ≡ outcome_of f n ∷ []
-  one_outcome k all = let l = length-append f (0 ∷ []) in ap (λ (x : List ℕ). stream_outcomes x n) (take_all k (f ++ 0 ∷ []) (omega arith)) ∙ stream_outcomes-one f n piece.0 piece.1
+  one_outcome k all = grind (arith, length-append, take_all, stream_outcomes-one)
 
 pushed-no_message : (bytes : List ℕ) (failure : PushError) (buffer m : List ℕ) → Message m ∷ [] ≡ pushed_outcomes bytes (Err failure) buffer → ⊥
 pushed-no_message bytes failure buffer m e = grind (arith, cases_Bool)

@@ -57,7 +57,7 @@ Pushed-start buffer phase bytes = record { piece = piece-nothing buffer phase; q
 module _ {buffer₀ buffer buffer' : List ℕ} {phase₀ phase phase' : Phase} {result : Result (Option ℕ) DecodeError} (bytes : List ℕ) (i : ℕ) (within : i < length bytes)
     (s : Pushed buffer₀ phase₀ buffer phase bytes i) (f : Feeds buffer phase (get_or bytes i 0) result buffer' phase') where
   result_here : (p : List ℕ) → PhaseAfter (length buffer₀) phase₀ p → result_at p bytes (length buffer₀) i ≡ result
-  result_here p h = ap (result_for (unended (p ++ take i bytes)) (get_or bytes i 0)) (sym s.piece.takes.len) ∙ sym (f.returned _ (here s.piece.takes p h))
+  result_here p h = grind (arith, get_or, here)
 
   zero_behind : (front : List ℕ) → take (i + 1) bytes ≡ front ++ 0 ∷ [] → phase' ≡ Idle
   zero_behind front e = f.zero_idle (same_from_push (take i bytes) front (get_or bytes i 0) 0 (sym (take_more bytes i 0 within) ∙ e)).1

@@ -96,7 +96,7 @@ at-by (c ∷ p) n going full left count e fits = grind (arith, le-leb)
 
 module _ (old new p : List ℕ) (phase : Phase) (s : Quiet old new phase p) where
   pub quiet-written : new ≡ overwritten old (output p)
-  quiet-written = begun (output p) old new s.len s.after.begins s.rest
+  quiet-written = grind (arith, begun)
 
   -- the next byte has no room
   module _ (x : ℕ) (tail : List ℕ) (nz : x ≢ 0) (over : next_phase (length new) phase x ≡ Overlong) where
@@ -108,11 +108,7 @@ module _ (old new p : List ℕ) (phase : Phase) (s : Quiet old new phase p) wher
         omega (arith, s.len, output-grows q tail, ap (λ (l : List ℕ). length (output l)) (append_assoc p (x ∷ []) tail))
 
     pub quiet-full : new ≡ overwritten old (output (p ++ x ∷ tail))
-    quiet-full =
-        let full = full-by p (length new) x nz (omega (arith, s.len, s.fits)) (ap (λ (t : Phase). next_phase (length new) t x) (sym s.after.phased.phase_is) ∙ over) in
-        let same : length (output p) ≡ length old = omega (arith, s.len, s.fits) in
-        let long = quiet-long in
-        grind (arith, quiet-written, output-begins, take_all, drop_all, append-nil)
+    quiet-full = grind (arith, full-by, quiet-long, quiet-written, output-begins, take_all, drop_all, append-nil)
 
   -- the phase of the decoder
   pub quiet-at : (inner : UnbufferedDecoder) → phase_of inner ≡ phase → (inner.written ≡ length (output p)) × (inner.missing ≡ missing (last_part p))

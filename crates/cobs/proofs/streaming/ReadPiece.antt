@@ -1,6 +1,6 @@
 -- The first piece of a source, read byte by byte into a buffer: `IsRead` says how far. A byte that has room keeps it
 -- (`read-byte`, `read-full`, `read-zero`); one without room, a zero or the source's end make it the answer (`Ended`).
-use Rattle.std.proofs.Common.{◌≡◌, ◌≢◌, ◌∙◌, ◌+◌, ◌-◌, ◌<◌, ◌≤◌, ℕ, zero, suc, Bool, true, false, cond, eqb, List, [], ◌∷◌, length, take, drop, get_or, set, min, Option, Some, None, refl, sym, ap, arith, inl, inr, length-drop, length-set}
+use Rattle.std.proofs.Common.{◌≡◌, ◌≢◌, ◌∙◌, ◌+◌, ◌-◌, ◌<◌, ◌≤◌, ℕ, zero, suc, Bool, true, false, eqb, List, [], ◌∷◌, length, take, drop, get_or, set, min, Option, Some, None, refl, sym, ap, arith, inl, inr, length-drop, length-set}
 use Rattle.std.proofs.lemmas.Bool.{cases_eq, eq-eqb, le-leb, le-ltb, lt-leb, lt-ltb, ne_eqb}
 use Rattle.std.proofs.lemmas.List.{drop-drop, drop_more, get_or-drop}
 use Rattle.cobs.specs.Decode.{first_output, leading_zeros}
@@ -9,7 +9,7 @@ use Rattle.cobs.specs.FirstPiece.{end_of_first, end_with}
 use Rattle.cobs.specs.Internal.FeedsQuietly.{FeedsQuietly}
 use Rattle.cobs.specs.Overwritten.{overwritten}
 use Rattle.cobs.specs.Piece.{last_part, missing, output}
-use Rattle.cobs.specs.Step.{end_result, error_if_overlong, next_buffer, next_phase}
+use Rattle.cobs.specs.Step.{next_buffer, next_phase}
 use Rattle.cobs.specs.Stream.{head, outcome_of}
 use Rattle.cobs.specs.declared.dec.frame_decoder.PieceEnd.{PieceEnd}
 use Rattle.cobs.specs.declared.dec.frame_decoder.PieceEnd.TheVariants as ends
@@ -37,13 +37,11 @@ pub record Ended (source old new : List ℕ) (result : Option (PieceEnd × ℕ))
 -- one byte, fed
 one : (dest : List ℕ) (phase : Phase) {dest' : List ℕ} {b : ℕ} {full : Bool} {left count : ℕ} → b ≢ 0 → dest' ≡ next_buffer dest phase b → Within full left count ≡ next_phase (length dest) phase b
     → FeedsQuietly dest phase (b ∷ []) dest' (Within full left count)
-one dest phase {dest'} {b} other is next =
-    (ap (λ (v : Bool). cond v (end_result (length dest) phase) (error_if_overlong (next_phase (length dest) phase b))) (ne_eqb b 0 other) ∙ ap error_if_overlong (sym next), (is, next))
+one dest phase {dest'} {b} other is next = grind (arith, ne_eqb)
 
 -- after the leading zeros there is a code
 pub first-code : (source : List ℕ) (start : ℕ) → start ≡ leading_zeros source → start < length source → get_or source start 0 ≢ 0
-first-code source start is more e =
-    leading_zeros-stop source (omega arith) (get_or-drop (leading_zeros source) source 0 0 ∙ ap (λ (k : ℕ). get_or source k 0) (omega arith) ∙ e)
+first-code source start is more e = grind (arith, leading_zeros-stop, get_or-drop, get_or)
 
 pub read-first : (source old : List ℕ) (start : ℕ) → start ≡ leading_zeros source → start < length source → IsRead source old (start + 1) old (eqb (get_or source start 0) 255) (get_or source start 0 - 1) 0
 read-first source old start is more =
@@ -62,12 +60,7 @@ read-first source old start is more =
 
 -- a source that has only zeros
 pub no-piece : (source old : List ℕ) (start : ℕ) → start ≡ leading_zeros source → start ≡ length source → Ended source old old None
-no-piece source old start is all =
-    let none = first_piece_none source (λ more. absurd (omega (arith, length-drop (leading_zeros source) source))) in
-    record {
-      answer = rw none refl;
-      buffer = rw none (sym (overwritten-none old));
-    }
+no-piece source old start is all = grind (arith, first_piece_none, length-drop, overwritten-none)
 
 -- where the decoder is after a piece whose output fits
 within-at : (p : List ℕ) (n : ℕ) (full : Bool) (left count : ℕ) → Within full left count ≡ phase_after p n → length (output p) ≤ n → (count ≡ length (output p)) × (left ≡ missing (last_part p))
@@ -108,17 +101,12 @@ module _ {source old new : List ℕ} {at left written : ℕ} {full : Bool} (s : 
   piece = head (rest source)
 
   here : get_or (rest source) s.n 0 ≡ get_or source at 0
-  here = get_or-drop (leading_zeros source) source s.n 0 ∙ ap (λ (k : ℕ). get_or source k 0) (sym s.place)
+  here = grind (arith, get_or-drop, get_or)
 
   -- the answer, from how the piece ends and how long it is
   ended-by : (end : PieceEnd) (count : ℕ) → end_with (outcome_of piece (length old)) ≡ end → count ≡ min (length source) (leading_zeros source + length piece + 1)
       → new ≡ overwritten old (output piece) → Ended source old new (Some (end, count))
-  ended-by end count is counted written-is =
-      let found = first_piece_found source (omega (arith, s.front.begins, length-head (rest source))) in
-      record {
-        answer = rw (found, is, counted) refl;
-        buffer = rw found written-is;
-      }
+  ended-by end count is counted written-is = grind (arith, first_piece_found, length-head, rest)
 
   -- a zero, or the end of the source
   pub ended : (at < length source → get_or source at 0 ≡ 0) → {result : Option (PieceEnd × ℕ)} {count : ℕ} → count ≡ min (length source) (at + 1)
@@ -172,24 +160,19 @@ module _ {source old new : List ℕ} {at left written : ℕ} {full : Bool} (s : 
 
     -- one of the block's bytes
     pub read-byte : left ≢ 0 → written ≢ length new → IsRead source old (at + 1) (set new written byte) full (left - 1) (written + 1)
-    read-byte some room =
-        let less : written < length new = omega (arith, s.room) in
-        read-more (buffer-byte written byte other full new left some) (phase-byte written byte other full (length new) left some less) (omega (arith, length-set new written byte))
+    read-byte some room = grind (arith, read-more, buffer-byte, byte, phase-byte, length-set)
 
     pub over-byte : left ≢ 0 → length new ≤ written → {count : ℕ} → count ≡ min (length source) (at + 1 + length (head (drop (at + 1) source)) + 1)
         → Ended source old new (Some (ends.TooLong, count))
-    over-byte some no-room = over (phase-over written byte other full (length new) left some no-room)
+    over-byte some no-room = grind (arith, over, phase-over, byte)
 
     -- the code after a full block
     pub read-full : left ≡ 0 → full ≡ true → IsRead source old (at + 1) new (eqb byte 255) (byte - 1) written
-    read-full none is = read-more (rw (none, is) refl) (rw (none, is, ne_eqb byte 0 other) refl) s.room
+    read-full none is = grind (arith, read-more, ne_eqb, byte)
 
     -- the code after another, with the zero before it
     pub read-zero : left ≡ 0 → full ≡ false → written ≢ length new → IsRead source old (at + 1) (set new written 0) (eqb byte 255) (byte - 1) (written + 1)
-    read-zero none is room =
-        let less : written < length new = omega (arith, s.room) in
-        read-more (rw (none, is, ne_eqb byte 0 other) refl) (rw (none, is, ne_eqb byte 0 other, lt-ltb written (length new) less) refl)
-        (omega (arith, length-set new written 0))
+    read-zero none is room = grind (arith, read-more, ne_eqb, byte, lt-ltb, length-set)
 
     pub over-zero : left ≡ 0 → full ≡ false → length new ≤ written → {count : ℕ} → count ≡ min (length source) (at + 1 + length (head (drop (at + 1) source)) + 1)
         → Ended source old new (Some (ends.TooLong, count))

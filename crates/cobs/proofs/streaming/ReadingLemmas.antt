@@ -45,9 +45,7 @@ unfolding outcome_of
 long-exceeds p n e = grind (arith, leb-false, cases_Bool)
 
 written-fits : (out buffer : List ℕ) (count : ℕ) → length out ≤ length buffer → count ≡ length out → (count ≤ length (overwritten buffer out)) × (take count (overwritten buffer out) ≡ out)
-written-fits out buffer count fits is =
-    let e : overwritten buffer out ≡ out ++ drop (length out) buffer = ap (λ (x : List ℕ). x ++ drop (length out) buffer) (take_all (length buffer) out fits) in
-    (omega (arith, ap length e, length-append out (drop (length out) buffer)), ap (take count) e ∙ take-append-le count out (drop (length out) buffer) (omega arith) ∙ take_all count out (omega arith))
+written-fits out buffer count fits is = grind (arith, take_all, length-append, take-append-le)
 
 written-long : (out buffer : List ℕ) → length buffer < length out → overwritten buffer out ≡ take (length (overwritten buffer out)) out
 written-long out buffer long =
@@ -111,11 +109,11 @@ Runs-push step a [] b c read r s = (c, subst (λ x. step x read c) (sym r) s, re
 Runs-push step a (first ∷ reads) b c read r s = (r.0, r.1, Runs-push step r.0 reads b c read r.2 s)
 
 given-push : (front : List ℕ) (reads : List Read) (read : Read) → front ++ all_given (reads ++ read ∷ []) ≡ front ++ all_given reads ++ bytes_given read
-given-push front reads read = sym (flat_map_more bytes_given front reads read)
+given-push front reads read = grind (arith, flat_map_more)
 
 -- the last read is the one that was made last
 last_read : (reads : List Read) (read last : Read) → EndsIn (reads ++ read ∷ []) last → read ≡ last
-last_read reads read last e = (same_from_push reads e.0 read last e.1).1
+last_read reads read last e = grind (arith, same_from_push)
 
 -- the reads before one of some reads and one more
 earlier_reads : (reads earlier later : List Read) (last read : Read) → reads ++ last ∷ [] ≡ earlier ++ read ∷ later → reads ≡ earlier ++ drop (length earlier) reads
@@ -174,15 +172,15 @@ some_is_none bytes e = cc
 
 module _ {S : Type 0} {step : S → Read → S → Type 0} {from to : S} {reader₀ reader : ReaderState} {unfinished : Bool} {count : ℕ} where
   more_called_for : count < 65536 → (g : Going step from to reader₀ reader unfinished count) → (p : List ℕ) → ReaderAfter reader₀ p → CallsForMore (p ++ reader₀.kept) (length reader₀.buffer) g.reads
-  more_called_for few g p b = record { few = omega (arith, g.count_is); gave = g.gave; none_ended = ap (stream_outcomes (p ++ reader₀.kept ++ all_given g.reads)) (sym g.len) ∙ (g.at_end p b).none_ended }
+  more_called_for few g p b = grind arith
 
   -- a read that gave nothing leaves the stream as it is
   nothing_more : (g : Going step from to reader₀ reader unfinished count) (read : Read) → bytes_given read ≡ [] → (p : List ℕ) → p ++ reader₀.kept ++ all_given (g.reads ++ read ∷ []) ≡ p ++ reader₀.kept ++ all_given g.reads
-  nothing_more g read none p = given-push (p ++ reader₀.kept) g.reads read ∙ ap (λ (x : List ℕ). p ++ reader₀.kept ++ all_given g.reads ++ x) none ∙ append-nil _
+  nothing_more g read none p = grind (arith, given-push, append-nil)
 
   -- the stream is at its end, and the chunk is empty
   emptied : (kept : List ℕ) → kept ≡ [] → (g : Going step from to reader₀ reader unfinished count) → (p : List ℕ) → ReaderAfter reader₀ p → AtStreamEnd (p ++ reader₀.kept ++ all_given g.reads) (record reader { kept = kept })
-  emptied kept e g p b = let end = g.at_end p b in record { none_ended = end.none_ended; after = end.after; nothing_kept = e }
+  emptied kept e g p b = grind arith
 
   -- WHERE THE SOURCE GIVES NO MORE
 
@@ -293,7 +291,7 @@ ReadsNext-too_many {reader₀} {reader} all g = record {
 
 -- the bytes of a chunk that a read gave aren't none
 pub front_nonempty : (xs : List ℕ) (n : ℕ) → n ≤ length xs → n ≢ 0 → take n xs ≢ []
-front_nonempty xs n within some = λ e. some (omega (arith, ap length e, length-take n xs, within))
+front_nonempty xs n within some = grind (arith, length-take)
 
 -- the rest of them after the first
 pub front_rest : (xs : List ℕ) (n count : ℕ) → count ≤ n → drop count (take n xs) ≡ take (n - count) (drop count xs)
@@ -303,8 +301,8 @@ front_rest xs n count h =
 
 -- a range that ends at its start is empty
 pub empty_range : (xs : List ℕ) (from to : ℕ) → from ≡ to → take (to - from) (drop from xs) ≡ []
-empty_range xs from to e = let none : to - from ≡ 0 = omega (arith, e) in ap (λ (k : ℕ). take k (drop from xs)) none
+empty_range xs from to e = grind arith
 
 -- the rest of a range after its first n bytes
 pub left_of_range : (xs : List ℕ) (from to n : ℕ) → n + from ≤ to → drop n (take (to - from) (drop from xs)) ≡ take (to - (from + n)) (drop (from + n) xs)
-left_of_range xs from to n h = front_rest (drop from xs) (to - from) n (omega arith) ∙ ap (λ (k : ℕ). take k (drop n (drop from xs))) (omega arith) ∙ ap (take (to - (from + n))) (drop-drop n from xs)
+left_of_range xs from to n h = grind (arith, front_rest, drop-drop)

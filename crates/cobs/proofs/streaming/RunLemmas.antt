@@ -21,14 +21,14 @@ abbrev pub over : ℕ → List ℕ → List ℕ → List ℕ
 over count buffer xs = take count buffer ++ (xs ++ drop (count + length xs) buffer)
 
 pub over-nil : (count : ℕ) (buffer : List ℕ) → over count buffer [] ≡ buffer
-over-nil count buffer = ap (λ (k : ℕ). take count buffer ++ drop k buffer) (omega arith) ∙ take-append-drop count buffer
+over-nil count buffer = grind (arith, take-append-drop)
 
 pub over-cons : (count x : ℕ) (xs buffer : List ℕ) → count < length buffer → over (count + 1) (set buffer count x) xs ≡ over count buffer (x ∷ xs)
 over-cons count x xs buffer room = grind (arith, take_more_set, append_assoc, drop-set-lt)
 
 -- the first of the bytes after a place
 from_here : (bytes : List ℕ) (i r : ℕ) → i < length bytes → take (suc r) (drop i bytes) ≡ get_or bytes i 0 ∷ take r (drop (i + 1) bytes)
-from_here bytes i r within = ap (take (suc r)) (drop_more bytes i 0 within)
+from_here bytes i r within = grind (arith, drop_more)
 
 -- a fact that stays with each byte that returns `Ok(None)` stays with the r bytes after the place i, fed in turn
 pub ran-on : (P : List ℕ → Phase → ℕ → Type 0) (bytes : List ℕ)
@@ -81,7 +81,7 @@ written_by : (inner : UnbufferedDecoder) → written_in (phase_of inner) ≤ inn
 written_by inner = grind arith
 
 pub rest_kept : (xs buffer buffer' : List ℕ) (inner inner' : UnbufferedDecoder) (k : ℕ) → HasNoZero xs → FeedsQuietly buffer (phase_of inner) xs buffer' (phase_of inner') → inner'.written ≤ k → drop k buffer' ≡ drop k buffer
-rest_kept xs buffer buffer' inner inner' k nz f past = (quiet_rest xs buffer buffer' (phase_of inner) (phase_of inner') nz f).1 k (omega (arith, written_by inner'))
+rest_kept xs buffer buffer' inner inner' k nz f past = grind (arith, quiet_rest, written_by)
 
 -- so do those from a place on, when a decoder has read those before it, from another place on
 pub rest_read : (buffer buffer' : List ℕ) (inner inner' : UnbufferedDecoder) (read at end : ℕ) → read ≤ at → at ≤ end → HasNoZero (take (end - read) (drop read buffer))

@@ -75,7 +75,7 @@ fits-map (p ∷ ps) count n e = fits-outcome p count n cc
 
 fits-stream : (t : List ℕ) (count n : ℕ) → Broken count ∷ [] ≡ stream_outcomes t n → count ≤ n
 unfolding stream_outcomes
-fits-stream t count n e = fits-map (ended_pieces t) count n e
+fits-stream t count n e = grind (arith, fits-map)
 
 -- so the count of a result is within it
 pub count-within : (end : PieceEnd) (buffer t : List ℕ) (n : ℕ) → AreAlikeAtFirst (outcome_at end buffer ∷ []) (stream_outcomes t n) → IsWithin n end → IsCountWithin n end
@@ -97,7 +97,7 @@ SoFar-start buffer phase = grind (arith, append-nil, unended-no_zero, stream_out
 
 module _ {buffer buffer' : List ℕ} {phase phase' : Phase} {byte : ℕ} {result : Result (Option ℕ) DecodeError} (f : Feeds buffer phase byte result buffer' phase') where
   unended_byte : (p : List ℕ) → HasNoZero p → unended (p ++ byte ∷ []) ≡ fed p byte
-  unended_byte p h = unended-push p byte ∙ ap (λ (q : List ℕ). fed q byte) (unended-no_zero p h)
+  unended_byte p h = grind (arith, unended-push, unended-no_zero)
 
   outcomes_byte : (p : List ℕ) → HasNoZero p → stream_outcomes (p ++ byte ∷ []) (length buffer) ≡ outcomes_at p byte (length buffer)
   outcomes_byte p h = grind (arith, stream_outcomes-push, stream_outcomes-no_zero, unended-no_zero)
@@ -124,20 +124,20 @@ module _ {buffer buffer' : List ℕ} {phase phase' : Phase} {byte : ℕ} {result
 -- the front that the decoder has taken, over its own buffer
 pub here : {buffer₀ buffer : List ℕ} {phase₀ phase : Phase} {done : List ℕ} {found : List Outcome} → SoFar buffer₀ phase₀ buffer phase done found
     → (p : List ℕ) → PhaseAfter (length buffer₀) phase₀ p → PhaseAfter (length buffer) phase (unended (p ++ done))
-here {buffer₀} {buffer} {phase₀} {phase} {done} s p h = subst (λ n. PhaseAfter n phase (unended (p ++ done))) (sym s.len) (s.phased p h)
+here {buffer₀} {buffer} {phase₀} {phase} {done} s p h = grind arith
 
 -- MORE BYTES AT ONCE
 
 unended_more : (p done more : List ℕ) → unended (p ++ (done ++ more)) ≡ unended (unended (p ++ done) ++ more)
-unended_more p done more = ap unended (sym (append_assoc p done more)) ∙ unended-append (p ++ done) more
+unended_more p done more = grind (arith, append_assoc, unended-append)
 
 outcomes_more : (p done more : List ℕ) (n : ℕ) → stream_outcomes (p ++ (done ++ more)) n ≡ stream_outcomes (p ++ done) n ++ stream_outcomes (unended (p ++ done) ++ more) n
-outcomes_more p done more n = ap (λ (x : List ℕ). stream_outcomes x n) (sym (append_assoc p done more)) ∙ stream_outcomes-append (p ++ done) more n
+outcomes_more p done more n = grind (arith, append_assoc, stream_outcomes-append)
 
 module _ {buffer₀ buffer buffer' : List ℕ} {phase₀ phase phase' : Phase} {done more : List ℕ} {found stated : List Outcome} where
   reported_more : SoFar buffer₀ phase₀ buffer phase done found → TakesBytes buffer phase more stated buffer' phase' → (p : List ℕ) → DecoderAfter buffer phase (unended (p ++ done))
       → stated ≡ stream_outcomes (unended (p ++ done) ++ more) (length buffer₀)
-  reported_more s t p w = t.outcomes _ w ∙ ap (stream_outcomes (unended (p ++ done) ++ more)) s.len
+  reported_more s t p w = grind arith
 
   -- bytes taken after those so far
   pub SoFar-more : SoFar buffer₀ phase₀ buffer phase done found → TakesBytes buffer phase more stated buffer' phase' → SoFar buffer₀ phase₀ buffer' phase' (done ++ more) (found ++ stated)

@@ -54,16 +54,14 @@ part_put at n dest ys xs is = grind (arith, drop_all, length-drop, take_rest, dr
 -- the same of a part that was copied, each byte XORed
 pub copied_put : (at n s : ℕ) (dest ys part xs : List ℕ) → ys ≡ xor_each s part ++ drop (length part) (take (length dest - at) (drop at dest)) → xor_each s part ≡ xs → length part ≡ n
     → put_mid at (length dest - at) dest ys ≡ take at dest ++ (xs ++ drop (at + n) dest)
-copied_put at n s dest ys part xs is same long =
-    let rest : List ℕ = take (length dest - at) (drop at dest) in
-    part_put at n dest ys xs (is ∙ ap (λ (l : List ℕ). l ++ drop (length part) rest) same ∙ ap (λ (k : ℕ). xs ++ drop k rest) long)
+copied_put at n s dest ys part xs is same long = grind (arith, part_put)
 
 module _ (base : ℕ) (buffer xs : List ℕ) (room : base + length xs ≤ length buffer) where
   front-of : length (take base buffer) ≡ base
-  front-of = length-take-le base buffer (omega arith)
+  front-of = grind (arith, length-take-le)
 
   behind : drop base (over base buffer xs) ≡ xs ++ drop (base + length xs) buffer
-  behind = ap (λ (k : ℕ). drop k (over base buffer xs)) (sym front-of) ∙ drop-append_seam (take base buffer) (xs ++ drop (base + length xs) buffer)
+  behind = grind (arith, over, front-of, drop-append_seam)
 
   -- bytes that were copied to the end of the output so far
   over-span : take (base + length xs - base) (drop base (over base buffer xs)) ≡ xs
@@ -119,8 +117,7 @@ module _ (inner : UnbufferedDecoder) (len : ℕ) (before xs : List ℕ) (room : 
 
   -- written over a copy of them
   pub written_over : (dest : List ℕ) → dest ≡ over inner.written before xs → put_mid inner.written (inner.written + len - inner.written) dest ys ≡ over inner.written before ys
-  written_over dest is = ap (λ (l : List ℕ). put_mid inner.written (inner.written + len - inner.written) l ys) is ∙ ap (λ (k : ℕ). put_mid inner.written (inner.written + k - inner.written) (over inner.written before xs) ys) (sym long)
-      ∙ over-over inner.written before xs (omega arith) ys (ap (λ (t : List ℕ × ℕ × ℕ). length t.0) w ∙ length-walked (code_by inner.joint) inner.missing xs)
+  written_over dest is = grind (arith, over, over-over, length-walked, code_by)
 
 -- bytes of the open block
 pub block_fed : (inner : UnbufferedDecoder) (run : ℕ) (dest bytes new : List ℕ) → inner.too_long ≡ 0 → run ≤ inner.missing → inner.written + run ≤ length dest → run ≤ length bytes
@@ -164,22 +161,21 @@ module _ (inner : UnbufferedDecoder) (len : ℕ) (dest : List ℕ) (nz : HasNoZe
   code = code_by inner.joint
 
   part-is : part ≡ xs
-  part-is = ap (λ (k : ℕ). take k (drop inner.written dest)) (omega arith) ∙ copied-there inner.written len before dest xs room long is
+  part-is = grind (arith, copied-there)
 
   nonzero : HasNoZero xs
-  nonzero = subst HasNoZero (copied-there inner.written len before dest xs room long is) nz
+  nonzero = grind (arith, copied-there)
 
   -- with a code after it, a code of one more than its missing bytes is as good as its own
   own : inner.missing < len → walked (inner.missing + 1) (inner.missing + 1 - 1) part ≡ walked code inner.missing xs
   own more = ap (λ (k : ℕ). walked (inner.missing + 1) k part) (omega arith) ∙ ap (walked (inner.missing + 1) inner.missing) part-is ∙ walked-any (inner.missing + 1) code inner.missing xs (omega arith)
 
   dest-is : dest ≡ take inner.written before ++ (xs ++ drop (inner.written + length xs) before)
-  dest-is = is ∙ ap (λ (k : ℕ). take inner.written before ++ (xs ++ drop (inner.written + k) before)) (sym long)
+  dest-is = grind arith
 
   -- fed, as they were left there
   pub kept : len ≤ inner.missing → FeedsQuietly before (phase_of inner) xs dest (phase_of (record { written = inner.written + len; missing = inner.missing - len; joint = inner.joint; too_long = inner.too_long }))
-  kept most = rw dest-is (open_fed inner len before xs room long going full nonzero few.0 (λ _. few.1) xs code (inner.missing - len) inner.joint
-      (ap (λ (k : ℕ). (xs, code, inner.missing - k)) (sym long) ∙ sym (walked-past code inner.missing xs (omega arith))) (code_by-full inner.joint))
+  kept most = grind (arith, dest-is, open_fed, nonzero, code, walked-past, code_by-full)
 
   -- fed, as they were written over
   pub marked : inner.missing < len → (ys : List ℕ) (last left joint : ℕ) → ◌≡◌ {A = List ℕ × ℕ × ℕ} (ys, last, left) (walked (inner.missing + 1) (inner.missing + 1 - 1) part) → eqb joint 0 ≡ eqb last 255

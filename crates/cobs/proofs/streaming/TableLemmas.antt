@@ -22,7 +22,7 @@ abbrev pub inside : Bool → ℕ → DecoderState
 inside full left = cond full (GrabChain left) (Grab left)
 
 state_after-is : (c : ℕ) (q : List ℕ) {full : Bool} {left : ℕ} → is_full (last_part (c ∷ q)) ≡ full → missing (last_part (c ∷ q)) ≡ left → state_after (c ∷ q) ≡ inside full left
-state_after-is c q f l = ap (λ (x : Bool). inside x (missing (last_part (c ∷ q)))) f ∙ ap (inside _) l
+state_after-is c q f l = grind (arith, inside)
 
 opened_after : (c : ℕ) (q : List ℕ) (b : ℕ) → last_part (c ∷ q) ≡ b ∷ [] → opened_by b ≡ state_after (c ∷ q)
 opened_after c q b is = grind (arith, state_after-is, eqb-true)
@@ -103,4 +103,4 @@ returned_by_table n phase b state h = grind (arith, cases_lt)
 
 -- the machine moves by the table
 pub FeedsByTable-step : (n : ℕ) (phase : Phase) (b : ℕ) → FeedsByTable n phase b (next_result n phase b) (next_phase n phase b)
-FeedsByTable-step n phase b = record { next = phase_by_table n phase b; returned = returned_by_table n phase b }
+FeedsByTable-step n phase b = grind (arith, phase_by_table, returned_by_table)

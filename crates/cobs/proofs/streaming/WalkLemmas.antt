@@ -78,7 +78,7 @@ module _ (first : ℕ) (bytes : List ℕ) (some : 0 < first) (more : first ≤ l
   behind-code = grind (arith, length-set, length-drop, drop-set-lt, take_all)
 
   front : walked first (first - 1) (take (first - 1) bytes) ≡ (take (first - 1) bytes, first, 0)
-  front = walked-past first (first - 1) (take (first - 1) bytes) (omega (arith, length-take-le (first - 1) bytes)) ∙ ap (λ (k : ℕ). (take (first - 1) bytes, first, k)) (omega (arith, length-take-le (first - 1) bytes))
+  front = grind (arith, walked-past, length-take-le)
 
   pub walked-next : (ys : List ℕ) (code left : ℕ) → ◌≡◌ {A = List ℕ × ℕ × ℕ} (ys, code, left) (walked next (next - 1) (drop first bytes)) → ◌≡◌ {A = List ℕ × ℕ × ℕ} (put_mid first (length marked - first) marked ys, code, left) (walked first (first - 1) bytes)
   walked-next ys code left e =

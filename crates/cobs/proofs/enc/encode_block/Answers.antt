@@ -18,7 +18,7 @@ changed-back : (s n : ℕ) (coded changed m : List ℕ) → n ≤ length coded �
 changed-back s n coded changed m le is frame = grind (arith, length-map, length-take-le, take_at, xor_each-twice)
 
 len-is : (c : After-xor_bytes) → c.encode-len.result ≡ length c.args.source.now + 1
-len-is c = c.encode-len.ensures.len ∙ len-short c.args.source.now c.requires.short
+len-is c = grind (arith, len-short)
 
 pub returns-clause-frame : goal.returns-clause-frame
 returns-clause-frame c =

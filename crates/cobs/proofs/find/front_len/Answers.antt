@@ -40,7 +40,7 @@ module _ {bytes : List ℕ} {zeros : ℕ} (w : Window bytes zeros) (some : zeros
   stop = sym (get_or-take 32 bytes first 0 within) ∙ ap (λ (k : ℕ). get_or window k 0) place ∙ nonzero_len-at window window_some
 
 first-window : (c : After-zeros_at-zeros) → Window c.args.source.now c.zeros_at-zeros.result
-first-window c = record { long = omega (arith, c.if-source-lt-WINDOW.false); is = c.zeros_at-zeros.ensures }
+first-window c = grind arith
 
 -- the first window has no zero
 module _ (c : After-zeros_at-later) where
@@ -54,7 +54,7 @@ module _ (c : After-zeros_at-later) where
   inside = omega (arith, c.min-at.ensures, c.if-source-lt-WINDOW.false)
 
   later : Window (drop at source) c.zeros_at-later.result
-  later = record { long = omega (arith, inside, length-drop at source); is = c.zeros_at-later.ensures }
+  later = grind (arith, inside, length-drop, at, source)
 
   both : (k : ℕ) → HasNoZero (take k (drop at source)) → HasNoZero (take (at + k) source)
   both k after =
@@ -65,7 +65,7 @@ module _ (c : After-zeros_at-later) where
   -- nor has the second
   module _ (none : c.zeros_at-later.result ≡ 0) where
     windows : HasNoZero (take (at + 32) source)
-    windows = both 32 (zero_mask-none (take 32 (drop at source)) (sym later.is ∙ none))
+    windows = grind (arith, both, zero_mask-none, at, source, later)
 
     wide : 64 ≤ length source → HasNoZero (take 64 source)
     wide long =
@@ -76,16 +76,13 @@ module _ (c : After-zeros_at-later) where
     wide_more more other = All-more (λ b. b ≢ 0) source 64 0 more (wide (omega arith)) other
 
 pub returns-then-zeros-ne0-clause-within : goal.returns-then-zeros-ne0-clause-within
-returns-then-zeros-ne0-clause-within c =
-    let w = first-window (goal.at.returns-then-zeros-ne0-clause-within c).After-zeros_at-zeros in
-    let few = within w c.if-zeros-ne0.true in
-    omega (arith, w.long)
+returns-then-zeros-ne0-clause-within c = grind (arith, first-window, at, After-zeros_at-zeros, within)
 
 pub returns-then-zeros-ne0-clause-before : goal.returns-then-zeros-ne0-clause-before
-returns-then-zeros-ne0-clause-before c _ = before (first-window (goal.at.returns-then-zeros-ne0-clause-before c).After-zeros_at-zeros) c.if-zeros-ne0.true
+returns-then-zeros-ne0-clause-before c _ = grind (arith, before, first-window, at, After-zeros_at-zeros)
 
 pub returns-then-zeros-ne0-clause-stop : goal.returns-then-zeros-ne0-clause-stop
-returns-then-zeros-ne0-clause-stop c _ = stop (first-window (goal.at.returns-then-zeros-ne0-clause-stop c).After-zeros_at-zeros) c.if-zeros-ne0.true
+returns-then-zeros-ne0-clause-stop c _ = grind (arith, stop, first-window, at, After-zeros_at-zeros)
 
 pub returns-then-later-ne0-clause-within : goal.returns-then-later-ne0-clause-within
 returns-then-later-ne0-clause-within c =

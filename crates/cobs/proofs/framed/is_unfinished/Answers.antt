@@ -7,4 +7,4 @@ pub returns-in-empty : goal.returns-in-empty
 returns-in-empty c = grind (arith, nil_from_length, append-nil, unended-no_zero)
 
 pub returns-in-len1-up : goal.returns-in-len1-up
-returns-in-len1-up c = record { unfinished = λ p e z. nonempty-unended_last p c.args.bytes.now (omega arith) }
+returns-in-len1-up c = grind (arith, nonempty-unended_last)

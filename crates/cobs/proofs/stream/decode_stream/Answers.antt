@@ -31,7 +31,7 @@ by_piece-preserved g c = record {
 }
 
 pub by_piece-smaller : goal.by_piece-smaller
-by_piece-smaller g c = let some = piece_count _ _ _ _ c.by_piece.invariant.within c.in-Some.ensures.takes in omega (arith, some.0, some.1)
+by_piece-smaller g c = grind (arith, piece_count)
 
 pub returns-clause-outcomes : goal.returns-clause-outcomes
 returns-clause-outcomes g c = (SoFar-all _ _ c.by_piece.invariant.so_far c.in_default.ensures.takes).outcomes

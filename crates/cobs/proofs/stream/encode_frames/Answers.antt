@@ -4,4 +4,4 @@ use Rattle.cobs.proofs.format.MessagesLemmas.{AreFrames-outcomes}
 use Rattle.cobs.proofs.stream.encode_frames.Goals as goal
 
 pub returns-clause-comes_back : goal.returns-clause-comes_back
-returns-clause-comes_back c = λ n fits. grind (arith, common_steps, AreFrames-outcomes)
+returns-clause-comes_back c = grind (arith, common_steps, AreFrames-outcomes)

@@ -21,18 +21,16 @@ fits : (c : After-encode-len) → (c.by_message.end + (c.encode-len.result + 1) 
 fits c = grind (arith, room-step, room-some, encoded_len-le, length-take, length-drop)
 
 pub overflow_add-dest : goal.overflow_add-dest
-overflow_add-dest c = let f = fits (goal.at.overflow_add-dest c).After-encode-len in omega arith
+overflow_add-dest c = grind (arith, fits, After-encode-len)
 
 pub bounds-dest-end : goal.bounds-dest-end
-bounds-dest-end c =
-    let f = fits (goal.at.bounds-dest-end c).After-encode-len in
-    omega (arith, length-written c.by_message.dest c.encode-len.new.dest c.by_message.end (length c.by_message.dest - c.by_message.end) c.by_message.invariant.in_dest)
+bounds-dest-end c = grind (arith, fits, After-encode-len, length-written)
 
 pub overflow_add-end : goal.overflow_add-end
-overflow_add-end c = let f = fits (goal.at.overflow_add-end c).After-encode-len in omega arith
+overflow_add-end c = grind (arith, fits, After-encode-len)
 
 pub overflow_add-end-in-by_message : goal.overflow_add-end-in-by_message
-overflow_add-end-in-by_message c = let f = fits (goal.at.overflow_add-end-in-by_message c).After-encode-len in omega arith
+overflow_add-end-in-by_message c = grind (arith, fits, After-encode-len)
 
 pub by_message-preserved : goal.by_message-preserved
 by_message-preserved c =

@@ -1,6 +1,6 @@
 -- The loop over a block's bytes has moved as many as it has read. `InPlaceLemmas` has a lemma for a block with a zero after it, for
 -- one without, and for one that breaks off.
-use Rattle.std.proofs.Common.{◌≡◌, ◌≢◌, ◌+◌, ◌-◌, ◌<◌, ◌≤◌, ◌⊎◌, ℕ, List, [], length, get_or, set, arith, refl, inl, inr}
+use Rattle.std.proofs.Common.{◌≡◌, ◌≢◌, ◌+◌, ◌-◌, ◌<◌, ◌≤◌, ◌⊎◌, ℕ, List, length, get_or, set, arith, inl, inr}
 use Rattle.cobs.proofs.decoding.BlockLemmas.{code-some}
 use Rattle.cobs.proofs.decoding.InPlaceLemmas.{DecodedInPlace, all-read, at, broken, stepped-plain, stepped-zero}
 use Rattle.cobs.proofs.decoding.MoveLemmas.{Moved, moved-more, moved-none}
@@ -25,24 +25,18 @@ none-moved {buffer} {after} {read} {written} {code} one is r-is w-is =
 
 -- all, when the loop has moved n and then the last one
 all-moved : {buffer after : List ℕ} {read written code r w : ℕ} (n : ℕ) → r ≡ read + code → r ≡ read + 1 + n + 1 → w ≡ written + n + 1 → Moved buffer (read + 1) written (n + 1) after → BlockMoved buffer read written code after r w
-all-moved {buffer} {after} {read} {written} {code} n r-is n-is w-is m =
-    let all : code - 1 ≡ n + 1 = omega arith in
-    record { read-is = r-is; written-is = omega arith; moved = rw all m }
+all-moved {buffer} {after} {read} {written} {code} n r-is n-is w-is m = grind arith
 
 module _ {old buffer after : List ℕ} {end read written r w : ℕ} (s : DecodedInPlace old end buffer read written) (here : read < end) (whole : get_or buffer read 0 ≤ end - read)
     (m : BlockMoved buffer read written (get_or buffer read 0) after r w) where
   next-zero : r < end → get_or buffer read 0 ≢ 255 → DecodedInPlace old end (set after w 0) r (w + 1)
-  next-zero far other =
-      let r-is = m.read-is in
-      rw r-is (stepped-zero _ _ _ _ _ s here whole after w m.written-is m.moved.front m.moved.rest (omega arith) other)
+  next-zero far other = grind (arith, stepped-zero)
 
   next-plain : (end ≤ r) ⊎ (get_or buffer read 0 ≡ 255) → DecodedInPlace old end after r w
-  next-plain none-due = rw m.read-is (stepped-plain _ _ _ _ _ s here whole after w m.written-is m.moved.front m.moved.rest (rw m.read-is at none-due))
+  next-plain none-due = grind (arith, stepped-plain, at)
 
 pub by_block-init : goal.by_block-init
-by_block-init c =
-    let below = λ (i : ℕ). (let fits = c.type_inv.buffer i in let n : get_or c.args.buffer.now i 0 < 256 = omega arith in n) in
-    record { fits = c.requires.within; nonzero = c.requires.nonzero; below = below; order = omega arith; within = omega arith; done = []; count = refl; holds = refl; kept = refl; whole = refl }
+by_block-init c = grind (arith, get_or)
 
 pub returns-then-end-read : goal.returns-then-end-read
 returns-then-end-read c =

@@ -6,20 +6,17 @@ use Rattle.cobs.proofs.dec.each.decode_piece.Goals as goal
 use Rattle.cobs.proofs.dec.each.decode_piece.Goals.{else-by_byte-test, else-code, then-by_byte-test+then-byte-eq0, then-code+else-written-dest-2}
 
 pub returns-then-start-source-clause-answer : goal.returns-then-start-source-clause-answer
-returns-then-start-source-clause-answer c =
-    (no-piece c.args.source.now c.args.dest.now _ c.leading_zeros-start.ensures.count c.if-start-source.true).answer
+returns-then-start-source-clause-answer c = grind (arith, no-piece)
 
 pub returns-then-start-source-clause-buffer : goal.returns-then-start-source-clause-buffer
 returns-then-start-source-clause-buffer c =
     (no-piece c.args.source.now c.args.dest.now _ c.leading_zeros-start.ensures.count c.if-start-source.true).buffer
 
 pub overflow_sub-left : goal.overflow_sub-left
-overflow_sub-left c =
-    let other = first-code c.args.source.now _ c.leading_zeros-start.ensures.count (omega arith) in
-    omega arith
+overflow_sub-left c = grind (arith, first-code)
 
 pub by_byte-init : goal.by_byte-init
-by_byte-init c = read-first c.args.source.now c.args.dest.now _ c.leading_zeros-start.ensures.count (omega arith)
+by_byte-init c = grind (arith, read-first)
 
 -- a byte of the block
 pub returns-then-written-dest-clause-answer : goal.returns-then-written-dest-clause-answer
@@ -31,7 +28,7 @@ returns-then-written-dest-clause-buffer c =
     (over-byte c.by_byte.invariant c.by_byte-test.true c.if-byte-eq0.false c.if-left-ne0.true (omega arith) c.end_after.ensures.end).buffer
 
 pub by_byte-preserved-then-left-ne0 : goal.by_byte-preserved-then-left-ne0
-by_byte-preserved-then-left-ne0 c = read-byte c.by_byte.invariant c.by_byte-test.true c.if-byte-eq0.false c.if-left-ne0.true c.if-written-dest.false
+by_byte-preserved-then-left-ne0 c = grind (arith, read-byte)
 
 -- a code after a block that isn't full, and one after a full block
 pub returns-then-written-dest-2-clause-answer : goal.returns-then-written-dest-2-clause-answer

@@ -1,5 +1,5 @@
 -- No byte from `at` to `end` is a zero, so the loop stops where the bytes before the first zero end (`front_is_head`).
-use Rattle.std.proofs.Common.{◌≡◌, ◌≢◌, ◌∙◌, ◌+◌, ◌-◌, ◌<◌, ◌≤◌, ℕ, List, length, drop, take, get_or, ap, arith, length-drop, length-take-le}
+use Rattle.std.proofs.Common.{◌≡◌, ◌≢◌, ◌+◌, ◌-◌, ◌<◌, ◌≤◌, ℕ, List, length, drop, take, get_or, arith, length-drop, length-take-le}
 use Rattle.std.proofs.lemmas.List.{get_or-drop, take_more}
 use Rattle.std.proofs.lemmas.List.Elements.{All-push}
 use Rattle.cobs.specs.Grammar.{HasNoZero}
@@ -12,7 +12,7 @@ module _ (source : List ℕ) (at end : ℕ) (after : at ≤ end) (none : HasNoZe
   rest = drop at source
 
   here : get_or rest (end - at) 0 ≡ get_or source end 0
-  here = get_or-drop at source (end - at) 0 ∙ ap (λ (k : ℕ). get_or source k 0) (omega arith)
+  here = grind (arith, get_or-drop, get_or)
 
   -- one more byte that isn't a zero
   next : end < length source → get_or source end 0 ≢ 0 → HasNoZero (take (end + 1 - at) rest)
@@ -22,21 +22,10 @@ module _ (source : List ℕ) (at end : ℕ) (after : at ≤ end) (none : HasNoZe
 
   -- the place of the first zero, or the end
   place : end ≤ length source → (end < length source → get_or source end 0 ≡ 0) → end ≡ at + length (head rest)
-  place within stop =
-      let long = length-drop at source in
-      let all = front_is_head rest (end - at) (omega arith) none (λ more. here ∙ stop (omega arith)) in
-      omega (arith, ap length all, length-take-le (end - at) rest (omega arith))
+  place within stop = grind (arith, length-drop, front_is_head, rest, here, length-take-le)
 
 pub by_byte-preserved : goal.by_byte-preserved
-by_byte-preserved c =
-    let i = c.by_byte.invariant in
-    let same : c.by_byte.end + 1 - 1 ≡ c.by_byte.end = omega arith in
-    let other = rw same at c.if-source-end-eq0.false in
-    record {
-      after = omega arith;
-      within = omega arith;
-      before = next c.args.source.now c.args.at c.by_byte.end i.after i.before c.by_byte-test.true other;
-    }
+by_byte-preserved c = grind (arith, next)
 
 pub returns-after-by_byte : goal.returns-after-by_byte
 returns-after-by_byte c =
@@ -45,9 +34,4 @@ returns-after-by_byte c =
     record { end = omega arith }
 
 pub returns-then-source-end-eq0 : goal.returns-then-source-end-eq0
-returns-then-source-end-eq0 c =
-    let i = c.by_byte.invariant in
-    let same : c.by_byte.end + 1 - 1 ≡ c.by_byte.end = omega arith in
-    let zero = rw same at c.if-source-end-eq0.true in
-    let end = place c.args.source.now c.args.at c.by_byte.end i.after i.before i.within (λ more. zero) in
-    record { end = omega arith }
+returns-then-source-end-eq0 c = grind (arith, place)

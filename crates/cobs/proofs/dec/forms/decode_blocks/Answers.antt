@@ -1,6 +1,6 @@
 -- All but the last 254 bytes are fed, and of those as many as give what is kept (`kept_len`), unless the buffer is full
 -- before: by `kept_fits` and `kept_stop`.
-use Rattle.std.proofs.Common.{◌≡◌, ◌≢◌, ◌∙◌, ◌+◌, ◌-◌, ◌<◌, ◌≤◌, ◌++◌, ℕ, All, Err, Ok, Result, Bool, false, IsTrue, ◌↔◌, refl, length-append, length-take, List, length, take, drop, get_or, sym, ap, arith, length-drop, length-take-le, take_all, take-append-drop}
+use Rattle.std.proofs.Common.{◌≡◌, ◌≢◌, ◌∙◌, ◌+◌, ◌-◌, ◌<◌, ◌≤◌, ◌++◌, ℕ, All, Err, Ok, Result, Bool, false, IsTrue, ◌↔◌, length-append, length-take, List, length, take, drop, get_or, sym, ap, arith, length-drop, length-take-le, take_all, take-append-drop}
 use Rattle.std.proofs.lemmas.List.{take-take, get_or-take, get_or-append-add, length-map}
 use Rattle.std.proofs.lemmas.List.Elements.{All-append, All-take, All-drop}
 use Rattle.std.proofs.Math.Seq.{take-append-add}
@@ -58,10 +58,10 @@ module _ {h old b1 : List ℕ} {tail run : ℕ} {inner : UnbufferedDecoder} (f :
   -- all of them are fed, and some of the bytes after them
   module _ (all : tail ≤ run) where
     first : FeedsQuietly old Idle p b1 (phase_of inner)
-    first = rw (take_all run p (omega (arith, length-take tail h))) at f.fed
+    first = grind (arith, take_all, p, length-take)
 
     left-is : missing (last_part p) ≡ inner.missing
-    left-is = sym (quiet-at old b1 p (phase_of inner) (quiet p old b1 (phase_of inner) p-nonzero first) inner refl).1
+    left-is = grind (arith, quiet-at, p, quiet, p-nonzero, first)
 
     left_fits : inner.missing ≤ length q
     left_fits =
@@ -89,12 +89,7 @@ module _ {h old b1 : List ℕ} {tail run : ℕ} {inner : UnbufferedDecoder} (f :
 -- the first run
 fed-first : (c : After-take_blocks)
     → Fed (xor_each c.args.sentinel c.args.source.now) c.args.dest.now c.take_blocks.new.dest c.saturating_sub-tail.result c.take_blocks.result c.take_blocks.new.self
-fed-first c = record {
-  tail-is = omega (arith, length-map {A = ℕ} {B = ℕ});
-  none = c.requires;
-  below = xored_below c.args.sentinel c.args.source.now c.ranges.sentinel.fits c.type_inv.source;
-  fed = rw front_xored at c.take_blocks.ensures.fed;
-}
+fed-first c = grind (arith, length-map, xored_below, front_xored)
 
 pub take_blocks-requires-clause-nonzero : goal.take_blocks-requires-clause-nonzero
 take_blocks-requires-clause-nonzero c = rw front_xored (All-take (λ b. b ≢ 0) c.saturating_sub-tail.result _ c.requires)
@@ -126,13 +121,13 @@ module _ (c : After-take_blocks-2)
   n = c.kept_len-len.result.0
 
   missed : missing (last_part (p f)) ≡ c.take_blocks.new.self.missing
-  missed = left-is f c.if-take_blocks-tail.false
+  missed = grind (arith, left-is)
 
   kept : output (p f ++ take n (q f)) ≡ kept_output (p f ++ q f)
-  kept = rw rest_xored at (c.kept_len-len.ensures.kept _ missed)
+  kept = grind (arith, rest_xored, missed)
 
   fed : FeedsQuietly c.take_blocks.new.dest (phase_of c.take_blocks.new.self) (take c.take_blocks-2.result (take n (q f))) c.take_blocks-2.new.dest (phase_of c.take_blocks-2.new.self)
-  fed = rw slice_xored at c.take_blocks-2.ensures.fed
+  fed = grind (arith, slice_xored)
 
   within : n ≤ length (q f)
   within = omega (arith, c.kept_len-len.ensures.within, length-map {A = ℕ} {B = ℕ}, length-take {A = ℕ}, length-drop {A = ℕ})

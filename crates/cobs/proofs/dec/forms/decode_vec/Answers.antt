@@ -1,4 +1,4 @@
-use Rattle.std.proofs.Common.{◌≡◌, ◌<◌, ℕ, length, take, refl, sym, ap, ◌∙◌, arith, Ok, Err, rules}
+use Rattle.std.proofs.Common.{◌≡◌, ◌<◌, length, sym, ap, ◌∙◌, arith, Err, rules}
 use Rattle.std.proofs.lemmas.Bool.{eqb-false}
 use Rattle.cobs.specs.declared.error.DecodeError.{DecodeError}
 use Rattle.cobs.specs.declared.error.DecodeVecError.TheVariants.{Decode}
@@ -9,17 +9,13 @@ use Rattle.cobs.proofs.decoding.VectorSteps.{decoded-rejected, decoded-message}
 use Rattle.cobs.proofs.dec.forms.decode_vec.Goals as goal
 
 pub returns-clause-message : goal.returns-clause-message
-returns-clause-message c =
-    let is : c.decode.result ≡ Ok c.in_ok-report.report = search rules in
-    let new : length c.decode.new.dest ≡ length c.deref_mut.result.now = c.decode.auto.dest in
-    let items = c.truncate.ensures.items ∙ truncated c.decode.new.dest _ _ _ (new ∙ c.deref_mut.ensures.len) ∙ ap (λ (k : ℕ). take k c.decode.new.dest) c.frame_size.ensures.size in
-    decoded-message c.args.source.now (length c.deref_mut.result.now) (search rules) c.in_ok-report.report _ _ (grind (arith, eqb-false)) refl (sym is ∙ c.decode.ensures.answer) c.decode.ensures.buffer ∙ sym (ap Ok items)
+returns-clause-message c = grind (arith, truncated, decoded-message, eqb-false)
 
 pub returns-clause-reads : goal.returns-clause-reads
 returns-clause-reads c found m r = one_message (returns-clause-message c) ((decoded_reads c.args.source.now (bytes_below _ c.type_inv.source) m (frame_piece r)).1 r)
 
 pub returns-clause-only : goal.returns-clause-only
-returns-clause-only c piece m same = (decoded_reads c.args.source.now (bytes_below _ c.type_inv.source) m piece).0 (returns-clause-message c ∙ ap Ok same)
+returns-clause-only c piece m same = grind (arith, decoded_reads, bytes_below, returns-clause-message)
 
 pub returns-in_err-report : goal.returns-in_err-report
 returns-in_err-report c =

@@ -1,4 +1,4 @@
-use Rattle.std.proofs.Common.{◌≡◌, ◌<◌, ℕ, length, refl, sym, ap, ◌∙◌, arith, bit_xor, Ok, Err, rules}
+use Rattle.std.proofs.Common.{◌≡◌, ◌<◌, ℕ, length, sym, ap, ◌∙◌, arith, bit_xor, Err, rules}
 use Rattle.std.proofs.lemmas.List.{length-map}
 use Rattle.std.proofs.lemmas.Bool.{eqb-false}
 use Rattle.cobs.specs.Sentinel.{xor_each}
@@ -11,20 +11,13 @@ use Rattle.cobs.proofs.decoding.VectorSteps.{decoded_head-rejected, decoded_head
 use Rattle.cobs.proofs.dec.forms.decode_vec_with_sentinel.Goals as goal
 
 pub returns-clause-message : goal.returns-clause-message
-returns-clause-message c =
-    let is : c.decode_with_sentinel.result ≡ Ok c.in_ok-len.len = search rules in
-    let long : length c.deref_mut.result.now ≡ length c.args.source.now = search rules in
-    let changed = length-map c.args.source.now (λ (b : ℕ). bit_xor b c.args.sentinel) in
-    let new : length c.decode_with_sentinel.new.dest ≡ length c.deref_mut.result.now = c.decode_with_sentinel.auto.dest in
-    let items = c.truncate.ensures.items ∙ truncated c.decode_with_sentinel.new.dest _ _ _ (new ∙ c.deref_mut.ensures.len) in
-    decoded_head-message (xor_each c.args.sentinel c.args.source.now) _ (long ∙ sym changed) c.in_ok-len.len _ _ (grind (arith, eqb-false, changed)) refl
-    (sym is ∙ c.decode_with_sentinel.ensures.answer) c.decode_with_sentinel.ensures.buffer ∙ sym (ap Ok items)
+returns-clause-message c = grind (arith, length-map, bit_xor, truncated, decoded_head-message, eqb-false)
 
 pub returns-clause-reads : goal.returns-clause-reads
 returns-clause-reads c found m r = one_message (returns-clause-message c) ((decoded_head_reads _ (xored_below _ _ c.ranges.sentinel.fits c.type_inv.source) m (frame_piece r)).1 r)
 
 pub returns-clause-only : goal.returns-clause-only
-returns-clause-only c piece m same = (decoded_head_reads _ (xored_below _ _ c.ranges.sentinel.fits c.type_inv.source) m piece).0 (returns-clause-message c ∙ ap Ok same)
+returns-clause-only c piece m same = grind (arith, decoded_head_reads, xored_below, returns-clause-message)
 
 pub returns-in_err-len : goal.returns-in_err-len
 returns-in_err-len c =

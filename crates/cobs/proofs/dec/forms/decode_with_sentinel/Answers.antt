@@ -14,7 +14,7 @@ use Rattle.cobs.proofs.streaming.KeptQuiet.{whole_front, whole_result}
 use Rattle.cobs.proofs.dec.forms.decode_with_sentinel.Goals as goal
 
 pub returns-then-is_empty-clause-buffer : goal.returns-then-is_empty-clause-buffer
-returns-then-is_empty-clause-buffer c = nothing_kept c.args.source.now c.args.dest.now c.args.sentinel (eqb-true _ 0 (sym c.is_empty.ensures ∙ c.if-is_empty.true))
+returns-then-is_empty-clause-buffer c = grind (arith, nothing_kept, eqb-true)
 
 pub returns-then-eq : goal.returns-then-eq
 returns-then-eq c =
@@ -46,7 +46,7 @@ returns-then-eq c =
     }
 
 pub decode_blocks-requires : goal.decode_blocks-requires
-decode_blocks-requires c = let e = c.position_or_len-end.ensures in xor_no_zero _ _ _ e.within e.before e.stop
+decode_blocks-requires c = grind (arith, xor_no_zero)
 
 pub returns : goal.returns
 returns c =

@@ -1,6 +1,6 @@
 -- All but the last 254 bytes are fed, and of those as many as give what is kept (`kept_len`): together they are what `kept_fed`
 -- needs for the result and the buffer.
-use Rattle.std.proofs.Common.{◌≡◌, refl, ◌+◌, ◌-◌, ◌<◌, ◌≤◌, ◌∙◌, ◌++◌, ℕ, List, length, take, drop, ap, sym, subst, arith, length-take, length-drop, length-take-le, rules}
+use Rattle.std.proofs.Common.{◌≡◌, ◌+◌, ◌-◌, ◌<◌, ◌≤◌, ◌∙◌, ◌++◌, ℕ, List, length, take, drop, ap, sym, arith, length-take, length-drop, length-take-le, rules}
 use Rattle.std.proofs.lemmas.List.{take-take}
 use Rattle.std.proofs.lemmas.List.Elements.{All-take}
 use Rattle.std.proofs.Math.Seq.{take-add}
@@ -41,7 +41,7 @@ module _ (c : After-take_in_place) where
   first = part-nonzero 0 tail c.args.end old c.requires.nonzero (omega arith)
 
   fed : FeedsQuietly old Idle (take tail old) new phase
-  fed = subst (λ (k : ℕ). FeedsQuietly old Idle (take k old) new phase) (omega arith) c.take_in_place.ensures.fed
+  fed = grind (arith, old, new, phase)
 
   rest : drop tail new ≡ drop tail old
   rest =
@@ -49,7 +49,7 @@ module _ (c : After-take_in_place) where
       rest_read old new START c.take_in_place.new.self 0 tail tail (omega arith) (omega arith) nz c.take_in_place.ensures.fed c.take_in_place.ensures.behind ∙ ap (λ (k : ℕ). drop k old) (omega arith)
 
   left : c.take_in_place.new.self.missing ≡ missing (last_part (take tail old))
-  left = (quiet-at old new (take tail old) phase (quiet (take tail old) old new phase first fed) c.take_in_place.new.self refl).1
+  left = grind (arith, quiet-at, old, new, tail, phase, quiet, first, fed)
 
   abbrev bytes : List ℕ
   bytes = take (c.args.end - tail) (drop tail old)
@@ -71,7 +71,7 @@ kept_len-len-requires-clause-left c =
     omega (arith, left at, most, bytes-long at)
 
 pub kept_len-len-requires-clause-nonzero : goal.kept_len-len-requires-clause-nonzero
-kept_len-len-requires-clause-nonzero c = let at = (goal.at.kept_len-len-requires-clause-nonzero c).After-take_in_place in rw (bytes-are at) (last at)
+kept_len-len-requires-clause-nonzero c = grind (arith, After-take_in_place, bytes-are, last)
 
 pub take_in_place-requires-2-clause-nonzero : goal.take_in_place-requires-2-clause-nonzero
 take_in_place-requires-2-clause-nonzero c =

@@ -1,5 +1,5 @@
-use Rattle.std.proofs.Common.{◌≡◌, Err, sym, subst, rules}
-use Rattle.cobs.specs.Headline.{BeginsWith, ReturnsMessage, ReportsMessage}
+use Rattle.std.proofs.Common.{arith, sym, subst}
+use Rattle.cobs.specs.Headline.{BeginsWith, ReportsMessage}
 use Rattle.cobs.proofs.dec.in_place.decode_in_place.Goals as goal
 
 pub returns-in_err-decode_in_place_report-clause-reads : goal.returns-in_err-decode_in_place_report-clause-reads
@@ -7,9 +7,7 @@ returns-in_err-decode_in_place_report-clause-reads c m r =
     absurd (subst (λ x. ReportsMessage x c.decode_in_place_report.new.buf m) c.in_err-decode_in_place_report.was (c.decode_in_place_report.ensures.reads m r))
 
 pub returns-in_err-decode_in_place_report-clause-only : goal.returns-in_err-decode_in_place_report-clause-only
-returns-in_err-decode_in_place_report-clause-only c piece m stated =
-    let is : c.from_residual.result ≡ Err c.in_err-decode_in_place_report.field-0.0 = search rules in
-    absurd (subst (λ x. ReturnsMessage x c.decode_in_place_report.new.buf m) is stated)
+returns-in_err-decode_in_place_report-clause-only c piece m stated = grind arith
 
 pub returns-clause-reads : goal.returns-clause-reads
 returns-clause-reads c m r =
@@ -17,6 +15,4 @@ returns-clause-reads c m r =
     subst (λ n. BeginsWith c.decode_in_place_report.new.buf n m) (sym c.frame_size.ensures.size) stated
 
 pub returns-clause-only : goal.returns-clause-only
-returns-clause-only c piece m stated =
-    let stated' = subst (λ n. BeginsWith c.decode_in_place_report.new.buf n m) c.frame_size.ensures.size stated in
-    c.decode_in_place_report.ensures.only piece m (subst (λ x. ReportsMessage x c.decode_in_place_report.new.buf m) (sym c.in_ok-decode_in_place_report.was) stated')
+returns-clause-only c piece m stated = grind arith

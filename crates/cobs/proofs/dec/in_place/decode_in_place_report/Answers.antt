@@ -16,7 +16,7 @@ pub returns-in_err-frame_size-clause-reads : goal.returns-in_err-frame_size-clau
 returns-in_err-frame_size-clause-reads c = in_place_reads _ _ _ (returns-in_err-frame_size-clause-answer c) (returns-in_err-frame_size-clause-buffer c) (bytes_below _ (search rules))
 
 pub returns-in_err-frame_size-clause-only : goal.returns-in_err-frame_size-clause-only
-returns-in_err-frame_size-clause-only c = in_place_only _ _ _ (returns-in_err-frame_size-clause-answer c) (returns-in_err-frame_size-clause-buffer c) (bytes_below _ (search rules))
+returns-in_err-frame_size-clause-only c = grind (arith, in_place_only, returns-in_err-frame_size-clause-answer, returns-in_err-frame_size-clause-buffer, bytes_below)
 
 pub returns-clause-answer : goal.returns-clause-answer
 returns-clause-answer c =
@@ -29,16 +29,16 @@ pub returns-clause-reads : goal.returns-clause-reads
 returns-clause-reads c = in_place_reads _ _ _ (returns-clause-answer c) (returns-clause-buffer c) (bytes_below _ (search rules))
 
 pub returns-clause-only : goal.returns-clause-only
-returns-clause-only c = in_place_only _ _ _ (returns-clause-answer c) (returns-clause-buffer c) (bytes_below _ (search rules))
+returns-clause-only c = grind (arith, in_place_only, returns-clause-answer, returns-clause-buffer, bytes_below)
 
 pub returns-in-Some-clause-reads : goal.returns-in-Some-clause-reads
 returns-in-Some-clause-reads c = in_place_reads _ _ _ c.in-Some.ensures.returned c.in-Some.ensures.buffer (bytes_below _ (search rules))
 
 pub returns-in-Some-clause-only : goal.returns-in-Some-clause-only
-returns-in-Some-clause-only c = in_place_only _ _ _ c.in-Some.ensures.returned c.in-Some.ensures.buffer (bytes_below _ (search rules))
+returns-in-Some-clause-only c = grind (arith, in_place_only, bytes_below)
 
 pub returns-then-not-has_vectors-clause-reads : goal.returns-then-not-has_vectors-clause-reads
-returns-then-not-has_vectors-clause-reads c = in_place_reads _ _ _ c.decode_in_place_each.ensures.returned c.decode_in_place_each.ensures.buffer (bytes_below _ (search rules))
+returns-then-not-has_vectors-clause-reads c = grind (arith, in_place_reads, bytes_below)
 
 pub returns-then-not-has_vectors-clause-only : goal.returns-then-not-has_vectors-clause-only
-returns-then-not-has_vectors-clause-only c = in_place_only _ _ _ c.decode_in_place_each.ensures.returned c.decode_in_place_each.ensures.buffer (bytes_below _ (search rules))
+returns-then-not-has_vectors-clause-only c = grind (arith, in_place_only, bytes_below)

@@ -1,6 +1,6 @@
 -- The bytes after the first code are moved to the front, and a zero is written over each code: by `as_piece` that is the
 -- piece's output. If the last block breaks off, the bytes are put back, from a copy that was made before.
-use Rattle.std.proofs.Common.{◌≡◌, ◌≢◌, ◌-◌, ◌<◌, ◌≤◌, ◌∷◌, ◌++◌, ◌∙◌, ℕ, suc, List, Ok, length, take, drop, get_or, set, ap, refl, sym, arith, length-drop, length-take-le, take-append-drop, take_at, drop_at, append-nil, replicate}
+use Rattle.std.proofs.Common.{◌≡◌, ◌≢◌, ◌-◌, ◌<◌, ◌≤◌, ◌∷◌, ◌++◌, ◌∙◌, ℕ, List, Ok, length, take, drop, get_or, set, refl, sym, arith, length-drop, length-take-le, take-append-drop, take_at, drop_at, append-nil, replicate}
 use Rattle.std.proofs.lemmas.List.{drop_more}
 use Rattle.std.proofs.lemmas.List.Elements.{All-cons}
 use borrow.Rule.Slice.PartMut.{put_mid}
@@ -20,11 +20,7 @@ use Rattle.cobs_bytes.proofs.bytes.ListLemmas.{drop-later, part-nonzero}
 -- the first byte of a buffer and a copy of those after it are its front
 front-is : (old copied rest : List ℕ) (len : ℕ) → 1 < len → len ≤ 65 → len ≤ length old → copied ≡ xor_each 0 (take (len - 1) (drop 1 old)) ++ rest
     → take len (set (put_mid 1 64 (replicate 65 0) copied) 0 (get_or old 0 0)) ≡ take len old
-front-is old copied rest len some most within is =
-    let one : len ≡ suc (len - 1) = omega arith in
-    let long = length-take-le (len - 1) (drop 1 old) (omega (arith, length-drop 1 old)) in
-    let behind : take (len - 1) copied ≡ take (len - 1) (drop 1 old) = rw (is, xor_each-zero) (take_at (take (len - 1) (drop 1 old)) rest (len - 1) long) in
-    grind (arith, drop_more, append-nil)
+front-is old copied rest len some most within is = grind (arith, length-take-le, length-drop, xor_each-zero, take_at, drop_more, append-nil)
 
 -- the bytes after the first one were moved to the front; none of them is a zero
 record Moved (old moved : List ℕ) (len : ℕ) : Type 0 where
@@ -40,19 +36,19 @@ module _ {old moved : List ℕ} {len : ℕ} (m : Moved old moved len) where
   bytes = take (len - 1) (drop 1 old)
 
   long : length bytes ≡ len - 1
-  long = length-take-le (len - 1) (drop 1 old) (omega (arith, length-drop 1 old))
+  long = grind (arith, length-take-le, length-drop)
 
   front : take (len - 1) moved ≡ bytes
-  front = rw m.is (take_at bytes (drop (len - 1) old) (len - 1) long)
+  front = grind (arith, take_at, bytes, long)
 
   rest : drop (len - 1) moved ≡ drop (len - 1) old
-  rest = rw m.is (drop_at bytes (drop (len - 1) old) (len - 1) long)
+  rest = grind (arith, drop_at, bytes, long)
 
   frame-is : take len old ≡ get_or old 0 0 ∷ bytes
-  frame-is = let one : len ≡ suc (len - 1) = omega arith in grind (arith, drop_more)
+  frame-is = grind (arith, drop_more)
 
   nonzero : HasNoZero (get_or old 0 0 ∷ bytes)
-  nonzero = All-cons (λ b. b ≢ 0) _ bytes m.first (rw xor_each-zero at m.others)
+  nonzero = grind (arith, All-cons, bytes, xor_each-zero)
 
   frame-nonzero : HasNoZero (take len old)
   frame-nonzero = rw frame-is nonzero
@@ -63,32 +59,23 @@ module _ {old moved : List ℕ} {len : ℕ} (m : Moved old moved len) where
     piece = rw frame-is (as_piece _ _ (rw front at w) (omega (arith, long)) nonzero)
 
     ys-long : length ys ≡ len - 1
-    ys-long = ap (λ (t : List ℕ × ℕ × ℕ). length t.0) w ∙ length-walked _ _ _ ∙ ap length front ∙ long
+    ys-long = grind (arith, length-walked, front, long)
 
     put_back : (copy : List ℕ) → copy ≡ take len old → copy ++ drop len (ys ++ drop (len - 1) moved) ≡ old
-    put_back copy is =
-        let later : drop (len - 1) (ys ++ drop (len - 1) moved) ≡ drop (len - 1) old = drop_at ys (drop (len - 1) moved) (len - 1) ys-long ∙ rest in
-        rw (is, drop-later (len - 1) len (ys ++ drop (len - 1) moved) old (omega arith) later) (take-append-drop len old)
+    put_back copy is = grind (arith, drop_at, ys-long, rest, drop-later, take-append-drop)
 
     module _ (none : left ≡ 0) where
       whole : missing (last_part (take len old)) ≡ 0
       whole = sym piece.1 ∙ none
 
       returned : Ok (len - 1) ≡ head_result (take len old)
-      returned = ap Ok (sym ys-long ∙ ap length piece.0) ∙ sym (whole_result (take len old) whole)
+      returned = grind (arith, ys-long, piece, whole_result, whole)
 
       buffer : ys ++ drop (len - 1) moved ≡ overwritten old (kept_output (take len old))
-      buffer = rw rest (whole_front (take len old) old ys (len - 1) whole piece.0 (omega (arith, ys-long)) (sym ys-long))
+      buffer = grind (arith, rest, whole_front, whole, piece, ys-long)
 
 moved : (c : After-move_to_front) → Moved c.args.buffer.now c.move_to_front.new.buffer c.args.len
-moved c = record {
-  some = omega arith;
-  most = omega arith;
-  within = c.requires.within;
-  is = c.move_to_front.ensures;
-  first = c.if-buffer-eq0.false;
-  others = c.if-not-copy_xored_short.ensures.nonzero refl;
-}
+moved c = grind (arith, nonzero)
 
 pub returns-then-not-copy_xored_short-clause-taken : goal.returns-then-not-copy_xored_short-clause-taken
 returns-then-not-copy_xored_short-clause-taken c few nz ends =

@@ -1,6 +1,5 @@
-use Rattle.std.proofs.Common.{ℕ, List, ◌≢◌, subst, take_all}
+use Rattle.std.proofs.Common.{arith, ℕ, List, ◌≢◌, take_all}
 use Rattle.std.proofs.lemmas.List.Elements.{All-get_or}
-use Rattle.cobs.specs.Grammar.{HasNoZero}
 use Rattle.cobs.specs.declared.dec.kind.FrameKind.TheVariants.{NotAFrame}
 use Rattle.cobs.proofs.format.FrameLemmas.{frame_nonzero}
 use Rattle.cobs.proofs.format.KindLemmas.{says}
@@ -13,4 +12,4 @@ returns-then-zero_or_len-bytes c =
     says bytes NotAFrame (λ frame. All-get_or (λ b. b ≢ 0) bytes _ 0 more (frame_nonzero bytes _ frame.1) (c.zero_or_len.ensures.stop more))
 
 pub kind_by_blocks-requires : goal.kind_by_blocks-requires
-kind_by_blocks-requires c = record { nonzero = subst HasNoZero (take_all _ c.args.bytes.now c.if-zero_or_len-bytes.false) c.zero_or_len.ensures.before }
+kind_by_blocks-requires c = grind (arith, take_all)

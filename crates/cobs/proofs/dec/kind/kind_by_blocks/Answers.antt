@@ -1,16 +1,16 @@
-use Rattle.std.proofs.Common.{ℕ, List, ◌≡◌, ◌<◌, drop, length, get_or, ap, arith, length-drop}
+use Rattle.std.proofs.Common.{ℕ, List, ◌≡◌, ◌<◌, drop, length, get_or, arith, length-drop}
 use Rattle.std.proofs.lemmas.List.{drop_more, drop-drop}
-use Rattle.cobs.specs.declared.dec.kind.FrameKind.TheVariants.{NotAFrame, Canonical, Longer}
+use Rattle.cobs.specs.declared.dec.kind.FrameKind.TheVariants.{NotAFrame, Canonical}
 use Rattle.cobs.proofs.decoding.HeadlineLemmas.{bytes_below}
 use Rattle.cobs.proofs.format.KindLemmas.{says, behind-start, one-more, broken-kind, longer-kind, canonical-kind}
 use Rattle.cobs.proofs.dec.kind.kind_by_blocks.Goals as goal
 
 -- the code of the block at a place
 code_at : (bytes : List ℕ) (read : ℕ) → read < length bytes → get_or (drop read bytes) 0 0 ≡ get_or bytes read 0
-code_at bytes read within = ap (λ (rest : List ℕ). get_or rest 0 0) (drop_more bytes read 0 within)
+code_at bytes read within = grind (arith, get_or, drop_more)
 
 pub by_block-init : goal.by_block-init
-by_block-init c = (omega arith, behind-start _ c.requires.nonzero (bytes_below c.args.bytes.now (λ i. c.type_inv.bytes i)))
+by_block-init c = grind (arith, behind-start, bytes_below)
 
 pub by_block-preserved : goal.by_block-preserved
 by_block-preserved c =
@@ -26,10 +26,7 @@ returns-then-left-code c =
     says c.args.bytes.now NotAFrame (broken-kind _ _ _ c.by_block.invariant.1 (λ some. omega (arith, is, length-drop c.by_block.read c.args.bytes.now)))
 
 pub returns-then-code-eq1 : goal.returns-then-code-eq1
-returns-then-code-eq1 c =
-    let is = code_at c.args.bytes.now c.by_block.read (omega arith) in
-    let rest = length-drop c.by_block.read c.args.bytes.now in
-    says c.args.bytes.now Longer (longer-kind _ _ _ c.by_block.invariant.1 (omega (arith, rest)) (omega (arith, is, rest)) c.if-after_full.true (omega (arith, rest)))
+returns-then-code-eq1 c = grind (arith, code_at, length-drop, says, longer-kind)
 
 pub returns-else-after_full : goal.returns-else-after_full
 returns-else-after_full c =

@@ -1,11 +1,11 @@
-use Rattle.std.proofs.Common.{◌≢◌, ◌-◌, ◌<◌, ℕ, List, sym, ◌∷◌, get_or, arith, drop, length, length-drop}
+use Rattle.std.proofs.Common.{◌≢◌, ◌-◌, ◌<◌, ℕ, List, ◌∷◌, get_or, arith, drop, length, length-drop}
 use Rattle.std.proofs.lemmas.List.Elements.{All-cons, All-head, All-drop, All-get_or, All-tail}
 use Rattle.cobs.specs.Grammar.{HasNoZero}
 use Rattle.cobs.proofs.streaming.WalkLemmas.{behind-code, walked-next, walked-past}
 use Rattle.cobs.proofs.dec.span.+write_zeros_at_codes.Goals as goal
 
 pub returns-then-dest-first : goal.returns-then-dest-first
-returns-then-dest-first t c = sym (walked-past c.args.first (c.args.first - 1) c.args.dest.now (omega arith))
+returns-then-dest-first t c = grind (arith, walked-past)
 
 pub write_zeros_at_codes-requires : goal.write_zeros_at_codes-requires
 write_zeros_at_codes-requires t c =

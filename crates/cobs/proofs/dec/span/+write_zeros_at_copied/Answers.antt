@@ -12,15 +12,13 @@ use Rattle.cobs.proofs.dec.span.+write_zeros_at_copied.Goals as goal
 -- the copies are as many bytes, and each is its byte, XORed
 module _ (copied dest : List ℕ) (s : ℕ) (is : dest ≡ xor_each s copied) where
   long : length dest ≡ length copied
-  long = ap length is ∙ length-map copied (λ (b : ℕ). bit_xor b s)
+  long = grind (arith, length-map, bit_xor)
 
   code-is : (i : ℕ) → i < length copied → get_or dest i 0 ≡ bit_xor (get_or copied i 0) s
-  code-is i within = ap (λ (l : List ℕ). get_or l i 0) is ∙ get_or-map (λ b. bit_xor b s) copied i 0 0 within
+  code-is i within = grind (arith, get_or, get_or-map, bit_xor)
 
 pub returns-then-copied-first : goal.returns-then-copied-first
-returns-then-copied-first t c =
-    let same = long c.args.copied.now c.args.dest.now c.args.sentinel c.requires.copied in
-    ap (λ (k : ℕ). (c.args.dest.now, c.args.first, c.args.first - 1 - k)) (sym same) ∙ sym (walked-past c.args.first (c.args.first - 1) c.args.dest.now (omega (arith, same)))
+returns-then-copied-first t c = grind (arith, long, walked-past)
 
 pub write_zeros_at_copied-requires : goal.write_zeros_at_copied-requires
 write_zeros_at_copied-requires t c =

@@ -26,7 +26,7 @@ module _ (source dest rest : List ℕ) (s : ℕ) (some : 0 < length source) (cop
   long = omega (arith, ap length behind-is, length-map (drop 1 source) (λ (b : ℕ). bit_xor b s), length-drop 1 source)
 
   source-is : xor_each s source ≡ bit_xor (get_or source 0 0) s ∷ behind
-  source-is = ap (xor_each s) (drop_more source 0 0 some) ∙ ap (λ (l : List ℕ). bit_xor (get_or source 0 0) s ∷ l) (sym behind-is)
+  source-is = grind (arith, drop_more, bit_xor, get_or, behind-is)
 
   piece : length source ≤ 65 → get_or source 0 0 ≢ s → HasNoZero (xor_each s (take (length source - 1) (drop 1 source))) → {ys : List ℕ} {code left : ℕ} → ◌≡◌ {A = List ℕ × ℕ × ℕ} (ys, code, left) (walked (bit_xor (get_or source 0 0) s) (bit_xor (get_or source 0 0) s - 1) behind)
       → (ys ≡ output (xor_each s source)) × (left ≡ missing (last_part (xor_each s source)))
@@ -42,7 +42,7 @@ module _ (c : goal.After-slice_known-3-1) where
   whole = piece c.args.source.now c.copy_xored_short.new.dest _ c.args.sentinel (omega arith) (c.if-not-copy_xored_short.ensures.copied refl) (omega arith) c.if-source-sentinel.false (c.if-not-copy_xored_short.ensures.nonzero refl) c.write_zeros_at_copied-left.ensures
 
   len-is : length c.write_zeros_at_copied-left.new.dest ≡ length c.args.source.now - 1
-  len-is = ap (λ (t : List ℕ × ℕ × ℕ). length t.0) c.write_zeros_at_copied-left.ensures ∙ length-walked _ _ _ ∙ long c.args.source.now c.copy_xored_short.new.dest _ c.args.sentinel (omega arith) (c.if-not-copy_xored_short.ensures.copied refl)
+  len-is = grind (arith, length-walked, long)
 
 pub returns-clause-len : goal.returns-clause-len
 returns-clause-len c = omega (arith, ap length (whole c).0, len-is c)
@@ -51,4 +51,4 @@ pub returns-clause-left : goal.returns-clause-left
 returns-clause-left c = (whole c).1
 
 pub returns-clause-begins : goal.returns-clause-begins
-returns-clause-begins c = ap (λ (k : ℕ). take k (c.write_zeros_at_copied-left.new.dest ++ drop k c.copy_xored_short.new.dest)) (sym (len-is c)) ∙ take-append_seam c.write_zeros_at_copied-left.new.dest _ ∙ (whole c).0
+returns-clause-begins c = grind (arith, len-is, take-append_seam, whole)

@@ -1,4 +1,4 @@
-use Rattle.std.proofs.Common.{◌≡◌, ◌≢◌, ◌<◌, ℕ, List, length, take, drop, replicate, get_or, bit_xor, sym, arith}
+use Rattle.std.proofs.Common.{◌≡◌, ◌<◌, ℕ, List, length, take, drop, replicate, get_or, bit_xor, arith}
 use Rattle.std.proofs.lemmas.List.{drop-map, length-map, get_or-map, take_all}
 use Rattle.std.proofs.lemmas.List.Elements.{All-get_or}
 use Rattle.cobs.specs.Grammar.{HasNoZero}
@@ -9,16 +9,16 @@ use Rattle.cobs.proofs.dec.span.kept_len.Goals as goal
 
 -- the code at a place
 code-is : (bytes : List ℕ) (s at : ℕ) → at < length bytes → bit_xor (get_or bytes at 0) s ≡ get_or (xor_each s bytes) at 0
-code-is bytes s at here = sym (get_or-map (λ b. bit_xor b s) bytes at 0 0 here)
+code-is bytes s at here = grind (arith, get_or-map, bit_xor)
 
 some : (bytes : List ℕ) (s at : ℕ) → at < length bytes → HasNoZero (xor_each s bytes) → 0 < bit_xor (get_or bytes at 0) s
-some bytes s at here none = let l = length-map bytes (λ (b : ℕ). bit_xor b s) in omega (arith, code-is bytes s at here, All-get_or (λ b. b ≢ 0) (xor_each s bytes) at 0 (omega arith) none)
+some bytes s at here none = grind (arith, length-map, bit_xor, code-is, All-get_or)
 
 pub by_block-init : goal.by_block-init
-by_block-init c = (c.requires.left, λ p is. grind (arith, ends-start, length-map))
+by_block-init c = grind (arith, ends-start, length-map)
 
 pub by_block-preserved : goal.by_block-preserved
-by_block-preserved c = (omega arith, λ p is. let ends = c.by_block.invariant.1 p is in grind (arith, ends-next, code-is, some, length-map))
+by_block-preserved c = grind (arith, ends-next, code-is, length-map)
 
 pub by_block-preserved-then-is_all : goal.by_block-preserved-then-is_all
 by_block-preserved-then-is_all c =
@@ -32,13 +32,13 @@ pub by_block-smaller : goal.by_block-smaller
 by_block-smaller c = let s = some _ _ _ c.by_block-test.true c.requires.nonzero in omega arith
 
 pub returns-then-rest-code-clause-kept : goal.returns-then-rest-code-clause-kept
-returns-then-rest-code-clause-kept c p is = let ends = c.by_block.invariant.1 p is in grind (arith, broken-kept, code-is, length-map)
+returns-then-rest-code-clause-kept c p is = grind (arith, broken-kept, code-is, length-map)
 
 pub returns-then-rest-code-clause-whole : goal.returns-then-rest-code-clause-whole
-returns-then-rest-code-clause-whole c p is = let ends = c.by_block.invariant.1 p is in grind (arith, broken-last, code-is, length-map)
+returns-then-rest-code-clause-whole c p is = grind (arith, broken-last, code-is, length-map)
 
 pub returns-clause-kept : goal.returns-clause-kept
-returns-clause-kept c p is = let ends = c.by_block.invariant.1 p is in grind (arith, take_all, length-map, whole-kept)
+returns-clause-kept c p is = grind (arith, take_all, length-map, whole-kept)
 
 pub returns-clause-whole : goal.returns-clause-whole
-returns-clause-whole c p is = let ends = c.by_block.invariant.1 p is in grind (arith, take_all, length-map)
+returns-clause-whole c p is = grind (arith, take_all, length-map)

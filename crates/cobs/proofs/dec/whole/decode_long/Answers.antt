@@ -24,7 +24,7 @@ module _ (c : After-take_run-len) where
   slice = take (length source - c.leading_zeros-start.result) (drop c.leading_zeros-start.result source)
 
   rest-is : slice ≡ rest source
-  rest-is = take_rest source c.leading_zeros-start.result ∙ ap (λ (k : ℕ). drop k source) c.leading_zeros-start.ensures.count
+  rest-is = grind (arith, take_rest, source)
 
   some : 0 < length (rest source)
   some = omega (arith, length-drop (leading_zeros source) source)
@@ -42,16 +42,12 @@ module _ (c : After-take_run-len) where
 
   stop : c.take_run-len.result < length (rest source) → get_or (rest source) c.take_run-len.result 0 ≢ 0
       → next_phase (length c.take_run-len.new.dest) (phase_of c.take_run-len.new.self) (get_or (rest source) c.take_run-len.result 0) ≡ Overlong
-  stop = rw rest-is at c.take_run-len.ensures.stop
+  stop = grind (arith, rest-is)
 
   -- a byte without room
   module _ (more : c.take_run-len.result < length slice) (other : get_or slice c.take_run-len.result 0 ≢ 0) where
     too-long : (length c.args.dest.now < length (output (head (rest source)))) × (c.take_run-len.new.dest ≡ overwritten c.args.dest.now (output (head (rest source))))
-    too-long =
-        let inside = rw rest-is at more in
-        let some' = rw rest-is at other in
-        let full = stop inside some' in
-        (over-long front inside some' full, over-written front inside some' full)
+    too-long = grind (arith, rest-is, stop, over-long, front, over-written)
 
   -- a zero, or the end of the source
   module _ (end : c.take_run-len.result < length slice → get_or slice c.take_run-len.result 0 ≡ 0) where

@@ -1,12 +1,10 @@
 -- A short frame is one span of `decode_span`. The bytes of the span are the source's first piece, so its counts give the result
 -- (`result-by`, `answer-by`).
-use Rattle.std.proofs.Common.{◌≡◌, ◌≢◌, ◌<◌, ◌+◌, ◌-◌, ℕ, zero, suc, min, List, [], ◌∷◌, length, take, get_or, Some, refl, sym, ap, ◌∙◌, subst, arith, rules, length-take-le}
+use Rattle.std.proofs.Common.{◌≡◌, ◌≢◌, ◌<◌, ◌+◌, ℕ, zero, suc, min, List, [], ◌∷◌, length, take, get_or, Some, refl, sym, ap, ◌∙◌, subst, arith, rules, length-take-le}
 use Rattle.std.proofs.lemmas.Bool.{eqb-true}
 use Rattle.std.proofs.lemmas.List.Elements.{All-head}
-use Rattle.cobs.specs.Decode.{leading_zeros, report_result, outcome_result, output_of}
+use Rattle.cobs.specs.Decode.{leading_zeros, report_result, outcome_result}
 use Rattle.cobs.specs.Grammar.{HasNoZero}
-use Rattle.cobs.specs.Overwritten.{overwritten}
-use Rattle.cobs.specs.Piece.{output}
 use Rattle.cobs.specs.Sentinel.{xor_each}
 use Rattle.cobs.specs.Stream.{first_piece, head, outcome_of}
 use Rattle.cobs.proofs.decoding.HeadLemmas.{first_piece_nonzero, front_is_head, head-front, short_head}
@@ -25,20 +23,10 @@ nonzero_first [] (suc n) some none = absurd (omega arith)
 nonzero_first (byte ∷ source) (suc n) some none = All-head (λ b. b ≢ 0) byte (take n source) none
 
 pub returns-then-is_empty-clause-taken : goal.returns-then-is_empty-clause-taken
-returns-then-is_empty-clause-taken c short room =
-    let none = eqb-true _ 0 (sym c.is_empty.ensures ∙ c.if-is_empty.true) in
-    absurd (omega (arith, short.0, length-head c.args.source.now, none))
+returns-then-is_empty-clause-taken c short room = grind (arith, eqb-true, length-head)
 
 pub returns-in_err-left-clause-taken : goal.returns-in_err-left-clause-taken
-returns-in_err-left-clause-taken c short room =
-    let source : List ℕ = c.args.source.now in
-    let len : ℕ = c.len_without_end-len.result in
-    let e = c.len_without_end-len.ensures in
-    let is = short_head source len short.2 e.within e.last (omega (arith, short.0, length-head source)) e.stop e.other in
-    let p-is : xor_each 0 (take len source) ≡ head source = xor_each-zero (take len source) ∙ ap (λ (k : ℕ). take k source) is ∙ head-front source in
-    let long : length (take len source) ≡ len = length-take-le len source e.within in
-    let taken = c.decode_span.ensures.taken (omega (arith, short.0), omega (arith, short.1)) (omega arith) (subst HasNoZero (sym p-is) (head_nonzero source)) in
-    absurd (let none = rw c.in_err-left.was at taken in cc)
+returns-in_err-left-clause-taken c short room = grind (arith, short_head, length-head, xor_each-zero, head-front, length-take-le, head_nonzero)
 
 -- a frame that was decoded
 module _ (c : goal.After-map) where
@@ -55,16 +43,16 @@ module _ (c : goal.After-map) where
   same = xor_each-zero (take len source)
 
   is : p ≡ head source
-  is = same ∙ front_is_head source len c.len_without_end-len.ensures.within (rw same at c.in_ok-left.ensures.nonzero) c.len_without_end-len.ensures.stop
+  is = grind (arith, same, front_is_head, source, len)
 
   long : length (take len source) ≡ len
-  long = length-take-le len source c.len_without_end-len.ensures.within
+  long = grind (arith, length-take-le, len, source)
 
   first : get_or source 0 0 ≢ 0
-  first = nonzero_first source len c.in_ok-left.ensures.some (rw same at c.in_ok-left.ensures.nonzero)
+  first = grind (arith, nonzero_first, source, len, same)
 
   found : first_piece source ≡ Some (head source)
-  found = first_piece_nonzero source (omega (arith, c.in_ok-left.ensures.some, long, c.len_without_end-len.ensures.within)) first
+  found = grind (arith, first_piece_nonzero, source, long, first)
 
 pub returns-clause-returned : goal.returns-clause-returned
 returns-clause-returned c =
@@ -77,7 +65,4 @@ returns-clause-returned c =
     (always _ (sym (long c) ∙ sym (ap length (same c)) ∙ ap length (is c)))
 
 pub returns-clause-buffer : goal.returns-clause-buffer
-returns-clause-buffer c =
-    let e = c.in_ok-left.ensures in
-    overwritten-front _ _ (output (p c)) (length (take (len c) (source c)) - 1) c.decode_span.auto.dest (omega (arith, e.room)) e.rest e.begins
-    ∙ ap (λ (l : List ℕ). overwritten c.args.dest.now (output l)) (is c) ∙ ap (λ (l : _). overwritten c.args.dest.now (output_of l)) (sym (found c))
+returns-clause-buffer c = grind (arith, overwritten-front, p, len, source, is, found)

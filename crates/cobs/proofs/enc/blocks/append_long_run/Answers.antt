@@ -18,15 +18,10 @@ by_block-init c = record { within = omega arith; taken = front-none c.args.dest.
 
 -- the remaining bytes fit
 left-fits : (c : After-min-len) → end_after (reached_at c.by_block.progress) (drop c.by_block.read c.args.source.now) ≤ length c.by_block.dest
-left-fits c = let e = c.by_block.invariant.taken.end in omega arith
+left-fits c = grind arith
 
 pub slice_bounds-copy_from_slice-end : goal.slice_bounds-copy_from_slice-end
-slice_bounds-copy_from_slice-end c =
-    let fits = left-fits (goal.at.slice_bounds-copy_from_slice-end c).After-min-len in
-    let within = c.requires.run.within in
-    let long = length-drop c.by_block.read c.args.source.now in
-    let least = next-least (reached_at c.by_block.progress) (drop c.by_block.read c.args.source.now) c.by_block.invariant.taken.place.some (omega arith) in
-    omega arith
+slice_bounds-copy_from_slice-end c = grind (arith, left-fits, After-min-len, length-drop, next-least)
 
 -- a stretch of the run joins the open block
 joined : (c : After-copy_from_slice)

@@ -24,13 +24,7 @@ module _ (c : After-copy_at-window) where
   zeros = c.copy_at-window.result
 
   copied : CopiedWindow start c.by_window.dest c.copy_at-window.new.dest c.by_window.read 32 c.by_window.index c.by_window.next zeros
-  copied = record {
-    some = omega arith;
-    few = omega arith;
-    short = c.by_window.invariant.open';
-    copied = record { inside = omega arith; fits = omega arith; reaches = Reaches-weaker c.by_window.invariant.reaches (λ noted p. tt); is = c.copy_at-window.ensures.copied };
-    bits = c.copy_at-window.ensures.zeros;
-  }
+  copied = grind (arith, Reaches-weaker, zeros)
 
   -- its first zero has given way to a code
   abbrev first : ℕ

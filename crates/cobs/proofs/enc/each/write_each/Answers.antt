@@ -25,9 +25,7 @@ opened c =
     ]
 
 pub by_byte-init : goal.by_byte-init
-by_byte-init c =
-    let o = opened (goal.at.by_byte-init c).After-min-len in
-    record { open' = omega arith; reaches = Reaches-at refl (omega arith) refl refl (λ full p. p) o.1 }
+by_byte-init c = grind (arith, opened, After-min-len, Reaches-at)
 
 pub by_byte-preserved : goal.by_byte-preserved
 by_byte-preserved c =
@@ -56,7 +54,7 @@ pub returns-clause-frame : goal.returns-clause-frame
 returns-clause-frame c = let w = c.by_part.invariant.within in whole-frame (omega arith) (omega arith) (omega arith) c.by_part.invariant
 
 pub returns-clause-len : goal.returns-clause-len
-returns-clause-len c = let w = c.by_part.invariant.within in whole-len (omega arith) (omega arith) (omega arith) c.by_part.invariant
+returns-clause-len c = grind (arith, whole-len)
 
 pub returns-clause-rest : goal.returns-clause-rest
-returns-clause-rest c = let w = c.by_part.invariant.within in whole-rest (omega arith) (omega arith) (omega arith) c.by_part.invariant
+returns-clause-rest c = grind (arith, whole-rest)

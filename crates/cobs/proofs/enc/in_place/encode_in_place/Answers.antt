@@ -31,7 +31,7 @@ fits-one {m = m} byte n h more fits =
     omega arith
 
 pub by_byte-init : goal.by_byte-init
-by_byte-init c = record { after = c.new-encoder.ensures.taken c.args.buffer.now (omega arith); rest = refl }
+by_byte-init c = grind arith
 
 pub append_byte-requires : goal.append_byte-requires
 append_byte-requires c =

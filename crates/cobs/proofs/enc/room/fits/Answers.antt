@@ -34,7 +34,7 @@ stopped c =
     grind (arith, get_or-drop, drop_more, blocks-zero)
 
 pub overflow_add-counted-in_default : goal.overflow_add-counted-in_default
-overflow_add-counted-in_default c = let le = blocks-le (c.args.code - 1) c.args.source.now in let e = stopped c in omega arith
+overflow_add-counted-in_default c = grind (arith, blocks-le, stopped)
 
 pub by_run-preserved-in-Some : goal.by_run-preserved-in-Some
 by_run-preserved-in-Some c =

@@ -1,26 +1,16 @@
 -- The invariant compares the bytes that the frame still needs (`open_len`) with those that are left. `len-full` and `len-byte`
 -- say how a full block and a byte change the first number, and `len-end` what it is at the end.
-use Rattle.std.proofs.Common.{◌≡◌, ◌<◌, ◌+◌, arith, drop, length-drop, refl}
+use Rattle.std.proofs.Common.{◌≡◌, ◌<◌, ◌+◌, arith, drop, length-drop}
 use Rattle.cobs.specs.Length.{open_len}
 use Rattle.cobs.proofs.encoding.OpenLenLemmas.{len-full, len-end, len-byte, len-zero, open_len-least}
 use Rattle.cobs.proofs.enc.room.fits_each.Goals as goal
 use Rattle.cobs.proofs.enc.room.fits_each.Goals.{then-code+else-left-eq0, else-code, then-bytes-i-ne0, else-bytes-i-ne0}
 
 pub returns-then-left-eq0 : goal.returns-then-left-eq0
-returns-then-left-eq0 c =
-    let total = c.by_byte.invariant.total in
-    let full = len-full c.args.bytes.now c.by_byte.i c.by_byte-test.true c.by_byte.code c.if-code.true in
-    let least = open_len-least 1 (drop c.by_byte.i c.args.bytes.now) (omega arith) in
-    let long = length-drop c.by_byte.i c.args.bytes.now in
-    record { fits = (λ t. cc, λ le. absurd (omega arith)) }
+returns-then-left-eq0 c = grind (arith, len-full, open_len-least, length-drop)
 
 pub returns : goal.returns
-returns c =
-    let total = c.by_byte.invariant.total in
-    let some = c.by_byte.invariant.some in
-    let short = c.by_byte.auto.code-fits in
-    let last = len-end c.args.bytes.now c.by_byte.i c.by_byte.code some (omega arith) c.by_byte-test.false in
-    record { fits = (λ t. omega arith, λ le. refl) }
+returns c = grind (arith, len-end)
 
 pub by_byte-preserved : goal.by_byte-preserved
 by_byte-preserved c =

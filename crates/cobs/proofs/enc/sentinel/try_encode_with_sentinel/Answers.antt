@@ -10,4 +10,4 @@ pub returns-clause-no_sentinel : goal.returns-clause-no_sentinel
 returns-clause-no_sentinel c = encoded_free c.args.sentinel _ (returns-clause-frame c)
 
 pub returns-in-Some-clause-no_sentinel : goal.returns-in-Some-clause-no_sentinel
-returns-in-Some-clause-no_sentinel c = encoded_free c.args.sentinel _ c.in-Some.ensures.frame
+returns-in-Some-clause-no_sentinel c = grind (arith, encoded_free)

@@ -1,6 +1,6 @@
 -- By the clause of `feed_piece`: a piece that ended is the first one that was read (`EndsFirstIn-taken`); if none ended, the
 -- decoder has taken all bytes.
-use Rattle.std.proofs.Common.{ℕ, List, [], length, refl, sym}
+use Rattle.std.proofs.Common.{arith, ℕ, List, [], length, refl}
 use Rattle.std.proofs.Math.Bridge.{le_prop}
 use Rattle.std.proofs.Math.Logic.{∥∥₁_elim, ∥∥₁_map}
 use Rattle.cobs.specs.FeedPiece.{outcome_at}
@@ -20,11 +20,7 @@ next_within nexts.TooLong buffer some h = tt
 next_within (nexts.End unfinished) buffer some h = tt
 
 pub returns-in-None-clause-none : goal.returns-in-None-clause-none
-returns-in-None-clause-none g c = λ p b.
-    let t = c.in-None.ensures.takes.takes in (
-      record { none_ended = rw t.len (sym (t.outcomes p b)); after = t.after p b; nothing_kept = refl },
-      c.is_unfinished-self.ensures.unfinished p (HasTaken-any _ _ _ p c.args.self.now.has_taken b).flag b.phased.piece,
-    )
+returns-in-None-clause-none g c = grind (arith, HasTaken-any)
 
 pub returns-in-Some-clause-first : goal.returns-in-Some-clause-first
 returns-in-Some-clause-first g c = λ p h.

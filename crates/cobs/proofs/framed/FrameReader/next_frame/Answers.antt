@@ -3,7 +3,7 @@ use Rattle.cobs.proofs.streaming.ReadingLemmas.{Going-start, Going-push, ReadsNe
 use Rattle.cobs.proofs.framed.FrameReader.next_frame.Goals as goal
 
 pub returns-in-Some-clause-next : goal.returns-in-Some-clause-next
-returns-in-Some-clause-next g c = ReadsNext-kept _ _ _ _ _ (λ p h. grind (arith, length-take, left_of_range)) c.in-Some.ensures.idle
+returns-in-Some-clause-next g c = grind (arith, ReadsNext-kept, length-take, left_of_range)
 
 pub by_read-init : goal.by_read-init
 by_read-init g c = grind (arith, Going-start, empty_range)

@@ -1,11 +1,7 @@
+use Rattle.std.proofs.Common.{arith}
 use Rattle.cobs.proofs.format.LengthLemmas.{encoded_len-full, encoded_len-last, encoded_len-zero}
 use Rattle.cobs.proofs.encoding.OpenLenLemmas.{same_start}
 use Rattle.cobs.proofs.laws.coders.law_15.Goals as goal
 
 pub returns : goal.returns
-returns c = record {
-  last = encoded_len-last;
-  zero = encoded_len-zero;
-  full = encoded_len-full;
-  same = same_start;
-}
+returns c = grind (arith, encoded_len-last, encoded_len-zero, encoded_len-full, same_start)

@@ -4,12 +4,4 @@ use Rattle.cobs.proofs.decoding.PieceCuts.{output-last}
 use Rattle.cobs.proofs.laws.coders.law_20.Goals as goal
 
 pub returns : goal.returns
-returns c = record {
-  one = grind (arith, output-last);
-  one_whole = block-whole;
-  whole = front-whole;
-  kept = front-kept;
-  short = broken-part;
-  short_kept = kept-broken;
-  all_kept = all-kept;
-}
+returns c = grind (arith, output-last, block-whole, front-whole, front-kept, broken-part, kept-broken, all-kept)

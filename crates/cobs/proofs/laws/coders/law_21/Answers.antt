@@ -1,6 +1,6 @@
 -- A piece that was taken ends with a zero, after which nothing is unended: so the rest of the stream has its outcomes by itself
 -- (`stream_outcomes-append`).
-use Rattle.std.proofs.Common.{◌≡◌, ℕ, List, [], ◌∷◌, ◌++◌, length, take, drop, sym, ap, ◌∙◌, Some}
+use Rattle.std.proofs.Common.{arith, ◌≡◌, ℕ, List, [], ◌∷◌, ◌++◌, length, take, drop, sym, Some}
 use Rattle.std.proofs.lemmas.List.{take-append-drop}
 use Rattle.cobs.specs.Feed.{Phase, Idle}
 use Rattle.cobs.specs.FeedPiece.{TakesPiece, outcome_at}
@@ -15,7 +15,7 @@ module _ {buffer buffer' : List ℕ} {phase phase' : Phase} {end : PieceEnd} {co
   cut = sym (take-append-drop count bytes)
 
   nothing_left : unended (take count bytes) ≡ []
-  nothing_left = ap unended t.ends.taken ∙ unended-zero t.ends.front
+  nothing_left = grind (arith, unended-zero)
 
   left_behind : unended bytes ≡ unended (drop count bytes)
   left_behind = cc (cut, nothing_left, unended-append (take count bytes) (drop count bytes))

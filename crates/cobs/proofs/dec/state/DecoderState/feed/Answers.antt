@@ -1,3 +1,4 @@
+use Rattle.std.proofs.Common.{arith}
 use Rattle.cobs.proofs.streaming.TableLemmas.{StateAfter-start, StateAfter-step, StateAfter-end, table_state-zero}
 use Rattle.cobs.proofs.dec.state.DecoderState.feed.Goals as goal
 
@@ -9,4 +10,4 @@ pub returns-clause-message : goal.returns-clause-message
 returns-clause-message c = λ p so_far m s zero. rw (c.row-returned.ensures.returned, zero) (StateAfter-end c.args.self.now p so_far m s)
 
 pub returns-clause-idle : goal.returns-clause-idle
-returns-clause-idle c = λ zero. rw (c.row-returned.ensures.state, zero, table_state-zero c.args.self.now) StateAfter-start
+returns-clause-idle c = grind (arith, table_state-zero, StateAfter-start)

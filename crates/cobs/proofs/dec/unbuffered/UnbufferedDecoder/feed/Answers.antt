@@ -1,3 +1,4 @@
+use Rattle.std.proofs.Common.{arith}
 use Rattle.cobs.proofs.streaming.FeedLemmas.{Feeds-as}
 use Rattle.cobs.proofs.streaming.TableLemmas.{FeedsByTable-step}
 use Rattle.cobs.proofs.dec.unbuffered.UnbufferedDecoder.feed.Goals as goal
@@ -6,4 +7,4 @@ pub returns-clause-feeds : goal.returns-clause-feeds
 returns-clause-feeds c = let e = c.step.ensures in Feeds-as e.returned e.phase e.buffer
 
 pub returns-clause-by_table : goal.returns-clause-by_table
-returns-clause-by_table c = let e = c.step.ensures in rw (e.returned, e.phase) (FeedsByTable-step _ _ _)
+returns-clause-by_table c = grind (arith, FeedsByTable-step)

@@ -1,6 +1,6 @@
 -- Each byte, XORed with the sentinel, is fed to the machine of `Step`: it continues the piece (`piece-more`), or it is a zero
 -- that ends the piece (`piece-ended`).
-use Rattle.std.proofs.Common.{◌≡◌, ◌≤◌, ◌<◌, ◌∙◌, ◌+◌, None, Some, take, ℕ, List, Result, Option, length, get_or, sym, ap, refl, arith}
+use Rattle.std.proofs.Common.{◌≡◌, ◌<◌, ◌∙◌, ◌+◌, None, Some, take, ℕ, List, Result, Option, length, get_or, sym, ap, refl, arith}
 use Rattle.std.proofs.lemmas.List.{get_or-map, length-map, take_all}
 use Rattle.std.specs.Int.Bits.{bit_xor}
 use Rattle.cobs.specs.Feed.{Feeds, Overlong, Phase}
@@ -17,7 +17,7 @@ use Rattle.cobs.proofs.dec.unbuffered.UnbufferedDecoder.feed_each.Goals.{then-he
 -- the byte at `i`, as it is in the frame for the sentinel 0
 module _ (bytes : List ℕ) (s i : ℕ) (within : i < length bytes) where
   coded : get_or (xor_each s bytes) i 0 ≡ bit_xor (get_or bytes i 0) s
-  coded = get_or-map (λ b. bit_xor b s) bytes i 0 0 within
+  coded = grind (arith, get_or-map)
 
   inside : i < length (xor_each s bytes)
   inside = omega (arith, length-map bytes (λ b. bit_xor b s))
@@ -81,7 +81,4 @@ to_end-preserved c =
     }
 
 pub returns : goal.returns
-returns c =
-    let h : List ℕ = xor_each c.args.sentinel c.args.bytes.now in
-    let all : length h ≤ c.to_end.taken = omega (arith, c.to_end-test.false, length-map c.args.bytes.now (λ b. bit_xor b c.args.sentinel)) in
-    record { takes = rw (take_all c.to_end.taken h all) at c.to_end.invariant.none_ended }
+returns c = grind (arith, length-map, take_all)

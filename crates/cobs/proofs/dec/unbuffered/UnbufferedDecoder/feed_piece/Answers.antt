@@ -34,7 +34,7 @@ ended_by zero missing joint too_long n phase' result going some f = absurd (omeg
 ended_by (suc count) missing joint too_long n phase' result going some f = ended_at (eqb joint 0) missing count n phase' result (rw going at f)
 
 pub returns-then-not-has_vectors : goal.returns-then-not-has_vectors
-returns-then-not-has_vectors c = record { takes = rw (xor_each-zero c.args.bytes.now) at c.feed_each.ensures.takes }
+returns-then-not-has_vectors c = grind (arith, xor_each-zero)
 
 pub returns-then-is_all : goal.returns-then-is_all
 returns-then-is_all c =
@@ -42,10 +42,7 @@ returns-then-is_all c =
     record { takes = quietly _ _ _ _ _ (rw all at c.take_front.ensures.fed c.if-take_front.true) }
 
 pub returns-in_err-end : goal.returns-in_err-end
-returns-in_err-end c =
-    let n = c.take_front.new.self in
-    let begun = c.take_front.ensures.begun c.if-take_front.true in
-    absurd (ended_by n.written n.missing n.joint n.too_long _ _ _ begun.0 begun.1 c.feed.ensures.by_table (sym c.in_err-end.ensures.end))
+returns-in_err-end c = grind (arith, ended_by)
 
 pub returns-then-take_front : goal.returns-then-take_front
 returns-then-take_front c =

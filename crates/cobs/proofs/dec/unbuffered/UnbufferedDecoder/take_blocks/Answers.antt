@@ -1,4 +1,4 @@
-use Rattle.std.proofs.Common.{◌≢◌, ◌-◌, ℕ, List, length, drop, arith, length-drop, length-take}
+use Rattle.std.proofs.Common.{◌≢◌, arith, length-drop, length-take}
 use Rattle.std.proofs.lemmas.List.Elements.{All-drop}
 use Rattle.cobs.specs.Sentinel.{xor_each}
 use Rattle.cobs.proofs.format.SentinelLemmas.{rest_xored}
@@ -10,11 +10,4 @@ take_part-step-requires-clause-nonzero c =
     rw (rest_xored c.args.bytes.now c.args.sentinel c.by_step.taken) (All-drop (λ b. b ≢ 0) c.by_step.taken (xor_each c.args.sentinel c.args.bytes.now) c.requires.nonzero)
 
 pub by_step-preserved : goal.by_step-preserved
-by_step-preserved c =
-    let h : List ℕ = xor_each c.args.sentinel c.args.bytes.now in
-    let e = c.take_part-step.ensures in
-    record {
-      within = omega (arith, e.within, length-take (length c.args.bytes.now - c.by_step.taken) (drop c.by_step.taken c.args.bytes.now), length-drop c.by_step.taken c.args.bytes.now);
-      going = e.going;
-      fed = joined h _ _ _ _ _ _ c.by_step.taken c.take_part-step.result c.by_step.invariant.fed (rw (rest_xored c.args.bytes.now c.args.sentinel c.by_step.taken) at e.fed);
-    }
+by_step-preserved c = grind (arith, length-take, length-drop, joined, rest_xored)

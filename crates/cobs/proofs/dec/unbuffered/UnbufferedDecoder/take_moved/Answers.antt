@@ -3,8 +3,7 @@ use Rattle.cobs.proofs.streaming.SpanLemmas.{joint-is, kept, marked}
 use Rattle.cobs.proofs.dec.unbuffered.UnbufferedDecoder.take_moved.Goals as goal
 
 pub returns-then-len-missing-clause-fed : goal.returns-then-len-missing-clause-fed
-returns-then-len-missing-clause-fed c before xs room long is =
-    kept c.args.self.now c.args.len c.args.dest.now c.requires.nonzero before xs room long is c.requires.going c.requires.full c.requires.few c.if-len-missing.true
+returns-then-len-missing-clause-fed c before xs room long is = grind (arith, kept)
 
 pub returns-clause-fed : goal.returns-clause-fed
 returns-clause-fed c before xs room long is =

@@ -33,4 +33,4 @@ pub returns-then-is_all-clause-fed : goal.returns-then-is_all-clause-fed
 returns-then-is_all-clause-fed c = row_fed 32 c.args.self.now c.args.buffer.now _ _ (omega arith) (omega arith) c.requires.going c.if-missing-eq0-2.true (λ e. absurd (omega (arith, c.span_len-len.ensures.full e))) (omega arith) (c.is_all.ensures c.if-is_all.true) c.write_row.ensures
 
 pub returns-clause-fed : goal.returns-clause-fed
-returns-clause-fed c = c.take_moved.ensures.fed c.args.buffer.now _ (omega arith) (length-take-le _ _ (omega (arith, length-drop c.args.read c.args.buffer.now))) c.move_back-2.ensures
+returns-clause-fed c = grind (arith, length-take-le, length-drop)

@@ -1,19 +1,14 @@
-use Rattle.std.proofs.Common.{◌≡◌, ◌≤◌, ◌<◌, ℕ, List, sym, subst, get_or, take, length-take, arith, inl, inr}
+use Rattle.std.proofs.Common.{◌≡◌, ◌≤◌, ◌<◌, ℕ, List, subst, get_or, take, length-take, arith, inl, inr}
 use Rattle.std.proofs.lemmas.Bool.{cases_lt}
 use Rattle.std.proofs.lemmas.List.{get_or-take, take-take}
-use Rattle.cobs.specs.Grammar.{HasNoZero}
 use Rattle.cobs.proofs.dec.unbuffered.UnbufferedDecoder.take_run.Goals as goal
 use Rattle.cobs_bytes.proofs.bytes.XoredLemmas.{xor_each-zero}
 
 pub take_blocks-requires-clause-nonzero : goal.take_blocks-requires-clause-nonzero
-take_blocks-requires-clause-nonzero c = subst HasNoZero (sym (xor_each-zero _)) c.zero_or_len-end.ensures.before
+take_blocks-requires-clause-nonzero c = grind (arith, xor_each-zero)
 
 pub returns-clause-fed : goal.returns-clause-fed
-returns-clause-fed c =
-    let bytes : List ℕ = c.args.bytes.now in
-    let end : ℕ = c.zero_or_len-end.result in
-    let few : c.take_blocks.result ≤ end = omega (arith, c.take_blocks.ensures.within, length-take end bytes) in
-    rw (xor_each-zero (take end bytes), take-take c.take_blocks.result end bytes few) at c.take_blocks.ensures.fed
+returns-clause-fed c = grind (arith, length-take, xor_each-zero, take-take)
 
 pub returns-clause-stop : goal.returns-clause-stop
 returns-clause-stop c more nz =

@@ -1,4 +1,4 @@
-use Rattle.std.proofs.Common.{◌≡◌, ◌≢◌, ◌≤◌, ◌+◌, ◌-◌, ◌++◌, List, ℕ, bit_xor, length, take, drop, ap, sym, subst, arith, length-take-le, ◌∙◌}
+use Rattle.std.proofs.Common.{◌≡◌, ◌≢◌, ◌≤◌, ◌+◌, ◌-◌, ◌++◌, List, ℕ, bit_xor, length, take, drop, sym, subst, arith, length-take-le}
 use Rattle.std.proofs.lemmas.List.{length-map}
 use Rattle.std.proofs.lemmas.List.Elements.{All-take}
 use borrow.Rule.Slice.PartMut.{put_mid}
@@ -15,20 +15,19 @@ module _ (bytes dest ys : List ℕ) (s n at : ℕ) (within : n ≤ length bytes)
   xs = take n (xor_each s bytes)
 
   long : length xs ≡ n
-  long = length-take-le n (xor_each s bytes) (omega (arith, length-map bytes (λ (b : ℕ). bit_xor b s)))
+  long = grind (arith, length-take-le, length-map, bit_xor)
 
   put : put_mid at (length dest - at) dest ys ≡ take at dest ++ (xs ++ drop (at + n) dest)
-  put = copied_put at n s dest ys (take n bytes) xs copied (front_xored bytes s n) (length-take-le n bytes within)
+  put = grind (arith, copied_put, xs, front_xored, length-take-le)
 
   there : take (length (take n bytes)) (drop at (put_mid at (length dest - at) dest ys)) ≡ xor_each s (take n bytes)
-  there = ap (λ (k : ℕ). take k (drop at (put_mid at (length dest - at) dest ys))) (length-take-le n bytes within) ∙ copied-there at n dest _ xs room long put ∙ sym (front_xored bytes s n)
+  there = grind (arith, length-take-le, copied-there, xs, long, put, front_xored)
 
   nonzero : HasNoZero (xor_each s bytes) → HasNoZero (xor_each s (take n bytes))
   nonzero nz = subst HasNoZero (sym (front_xored bytes s n)) (All-take (λ b. b ≢ 0) n (xor_each s bytes) nz)
 
 pub take_copied-requires-clause-copied : goal.take_copied-requires-clause-copied
-take_copied-requires-clause-copied c =
-    there c.args.bytes.now c.args.dest.now _ c.args.sentinel c.span_len-len.result c.args.self.now.written (omega arith) (omega arith) c.copy_xored.ensures
+take_copied-requires-clause-copied c = grind (arith, there)
 
 pub take_copied-requires-clause-nonzero : goal.take_copied-requires-clause-nonzero
 take_copied-requires-clause-nonzero c =

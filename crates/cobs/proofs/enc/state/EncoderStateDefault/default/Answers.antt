@@ -1,4 +1,4 @@
-use Rattle.std.proofs.Common.{refl}
+use Rattle.std.proofs.Common.{arith}
 use Rattle.cobs.specs.Grammar.{lone_block}
 use Rattle.cobs.proofs.encoding.OpenLemmas.{IsOpenFrame-start}
 use Rattle.cobs.proofs.enc.state.EncoderStateDefault.default.Goals as goal
@@ -7,4 +7,4 @@ pub returns-clause-after_nothing : goal.returns-clause-after_nothing
 returns-clause-after_nothing c = (lone_block, IsOpenFrame-start)
 
 pub returns-clause-output : goal.returns-clause-output
-returns-clause-output c = λ placeholder. (lone_block, IsOpenFrame-start, (placeholder, refl))
+returns-clause-output c = grind (arith, IsOpenFrame-start)

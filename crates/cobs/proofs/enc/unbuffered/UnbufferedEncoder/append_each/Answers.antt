@@ -1,4 +1,4 @@
-use Rattle.std.proofs.Common.{◌≤◌, List, ℕ, drop, length, length-drop, subst, sym, arith}
+use Rattle.std.proofs.Common.{◌≤◌, List, ℕ, length, length-drop, subst, sym, arith}
 use Rattle.std.proofs.lemmas.List.{drop_more}
 use Rattle.cobs.specs.Fields.Progress.{reached_by}
 use Rattle.cobs.specs.OpenBlock.{end_after}
@@ -10,13 +10,7 @@ pub by_byte-init : goal.by_byte-init
 by_byte-init c = front-none c.args.dest.now (reached_by c.args.self.now) c.args.bytes.now c.requires.place
 
 pub append_byte-requires : goal.append_byte-requires
-append_byte-requires c =
-    let t = c.by_byte.invariant in
-    let short = place-short c.by_byte.encoder (length c.by_byte.dest) t.place in
-    let long = length-drop c.by_byte.i c.args.bytes.now in
-    let least = next-least (reached_by c.by_byte.encoder) (drop c.by_byte.i c.args.bytes.now) t.place.some (omega arith) in
-    let end = t.end in
-    record { open_block = short; room = omega arith }
+append_byte-requires c = grind (arith, place-short, length-drop, next-least)
 
 pub by_byte-preserved : goal.by_byte-preserved
 by_byte-preserved c =

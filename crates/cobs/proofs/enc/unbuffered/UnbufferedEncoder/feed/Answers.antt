@@ -27,10 +27,10 @@ returns-then-taken-gt253-clause-fits c = λ m h.
     (λ t. cc, λ le. absurd (none c (record { place = after-place h; fits = omega arith })))
 
 room : (c : After-append_byte) → HasRoomFor (length c.args.dest.now) (reached_by c.args.self.now) (c.args.byte ∷ [])
-room c = has-room c.args.self.now c.args.dest.now c.args.byte c.if-taken-gt253.false (omega (arith, c.if-room-self.false, c.if-room-self-2.false))
+room c = grind (arith, has-room)
 
 taken : (c : After-append_byte) → TakesFront c.args.dest.now (reached_by c.args.self.now) (c.args.byte ∷ []) 1 c.append_byte.new.dest (reached_by c.append_byte.new.self)
-taken c = c.append_byte.ensures [] (room c).fits
+taken c = grind (arith, room)
 
 pub returns-clause-room : goal.returns-clause-room
 returns-clause-room c = (λ t. room (goal.at.returns-clause-room c).After-append_byte, λ h. refl)

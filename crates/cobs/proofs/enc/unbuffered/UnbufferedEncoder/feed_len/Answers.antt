@@ -27,13 +27,13 @@ returns-then-code-gt-FULL_BLOCK_BYTES-clause-fits c = λ m h.
     (λ t. cc, λ le. absurd (none c (record { place = after-place h; fits = omega arith })))
 
 room : (c : After-append_one) → HasRoomFor (length c.args.dest.now) (reached_by c.args.self.now) (c.args.byte ∷ [])
-room c = has-room c.args.self.now c.args.dest.now c.args.byte (omega (arith, c.if-code-gt-FULL_BLOCK_BYTES.false)) (omega (arith, c.if-room-self.false, c.if-room-self-2.false))
+room c = grind (arith, has-room)
 
 taken : (c : After-append_one) → TakesFront c.args.dest.now (reached_by c.args.self.now) (c.args.byte ∷ []) 1 c.append_one.new.dest (reached_by c.append_one.new.self)
-taken c = c.append_one.ensures.taken
+taken c = grind arith
 
 pub returns-clause-room : goal.returns-clause-room
-returns-clause-room c = (λ t. room (goal.at.returns-clause-room c).After-append_one, λ h. refl)
+returns-clause-room c = grind (arith, room, After-append_one)
 
 pub returns-clause-fits : goal.returns-clause-fits
 returns-clause-fits c = λ m h.
@@ -42,10 +42,10 @@ returns-clause-fits c = λ m h.
     (λ t. omega arith, λ le. refl)
 
 pub returns-clause-taken : goal.returns-clause-taken
-returns-clause-taken c = all-after (taken (goal.at.returns-clause-taken c).After-append_one)
+returns-clause-taken c = grind (arith, all-after, taken, After-append_one)
 
 pub returns-clause-rest : goal.returns-clause-rest
-returns-clause-rest c = all-rest (taken (goal.at.returns-clause-rest c).After-append_one)
+returns-clause-rest c = grind (arith, all-rest, taken, After-append_one)
 
 pub returns-clause-within : goal.returns-clause-within
-returns-clause-within c = (taken (goal.at.returns-clause-within c).After-append_one).place
+returns-clause-within c = grind (arith, taken, After-append_one)

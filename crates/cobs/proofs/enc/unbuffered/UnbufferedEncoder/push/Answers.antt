@@ -32,8 +32,4 @@ returns-then-not-try_append-clause-fits c = λ m h.
     (λ t. cc, λ le. let yes = c.try_append.ensures.fits.1 (omega arith) in cc)
 
 pub returns-clause-fits : goal.returns-clause-fits
-returns-clause-fits c = λ m h.
-    let e = after-end h c.args.bytes.now in
-    let same = ap (λ (r : Reached). end_after r c.args.bytes.now) c.progress-at.ensures.progress in
-    let fits = c.try_append.ensures.fits.0 c.if-not-try_append.false in
-    (λ t. omega arith, λ le. refl)
+returns-clause-fits c = grind (arith, after-end)
