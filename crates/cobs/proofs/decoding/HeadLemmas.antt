@@ -13,19 +13,14 @@ pub front_is_head : (t : List ℕ) (n : ℕ) → n ≤ length t → HasNoZero (t
 unfolding head
 front_is_head [] zero within none stop = refl
 front_is_head [] (suc n) within none stop = refl
-front_is_head (byte ∷ t) zero within none stop = sym (ap (λ (x : ℕ). head (x ∷ t)) (stop (omega arith)) ∙ head-zero t)
-front_is_head (byte ∷ t) (suc n) within none stop =
-    ap (λ (x : List ℕ). byte ∷ x) (front_is_head t n (omega arith) (All-tail (λ b. b ≢ 0) byte (take n t) none) (λ more. stop (omega arith)))
-    ∙ sym (head-cons byte t (All-head (λ b. b ≢ 0) byte (take n t) none))
+front_is_head (byte ∷ t) zero within none stop = grind (arith, head-zero)
+front_is_head (byte ∷ t) (suc n) within none stop = grind (arith, All-tail, head-cons, All-head, front_is_head t n (omega arith) (All-tail (λ b. b ≢ 0) byte (take n t) none) (λ more. stop (omega arith)))
 
 -- the bytes before the first zero, by their number
 pub head-front : (t : List ℕ) → take (length (head t)) t ≡ head t
 unfolding head
 head-front [] = refl
-head-front (byte ∷ t) = elim (cases_eq byte 0) [
-  | inl none ↦ rw (none, head-zero t) refl
-  | inr some ↦ rw (head-cons byte t some) (ap (λ (l : List ℕ). byte ∷ l) (head-front t))
-]
+head-front (byte ∷ t) = grind (arith, cases_eq, head-zero, head-cons, head-front t)
 
 pub head-stop : (t : List ℕ) → length (head t) < length t → get_or t (length (head t)) 0 ≡ 0
 unfolding head
@@ -39,10 +34,7 @@ pub head-most : (t : List ℕ) (i : ℕ) → i < length t → get_or t i 0 ≡ 0
 unfolding head
 head-most [] i more found = absurd (omega arith)
 head-most (byte ∷ t) zero more none = omega (arith, ap (λ (b : ℕ). length (head (b ∷ t))) none, ap length (head-zero t))
-head-most (byte ∷ t) (suc i) more found = elim (cases_eq byte 0) [
-  | inl none ↦ omega (arith, ap (λ (b : ℕ). length (head (b ∷ t))) none, ap length (head-zero t))
-  | inr some ↦ omega (arith, ap length (head-cons byte t some), head-most t i (omega arith) found)
-]
+head-most (byte ∷ t) (suc i) more found = grind (arith, cases_eq, head-zero, head-cons, head-most t i (omega arith) found)
 
 -- a source without the zero that ends it, if nothing follows its first zero
 pub short_head : (t : List ℕ) (n : ℕ) → length t ≤ length (head t) + 1 → n ≤ length t → length t ≤ n + 1 → 0 < length t → (n < length t → get_or t n 0 ≡ 0) → (n ≡ length t → get_or t (n - 1) 0 ≢ 0) → n ≡ length (head t)
@@ -67,7 +59,7 @@ pub first_piece_behind : (t : List ℕ) → first_piece t ≡ first_piece (drop 
 unfolding first_piece
 first_piece_behind [] = refl
 first_piece_behind (zero ∷ t) = grind (arith, first_piece_behind t)
-first_piece_behind (suc b ∷ t) = ap (λ (k : ℕ). first_piece (drop k (suc b ∷ t))) (sym (leading_zeros-none (suc b) t (λ e. omega arith)))
+first_piece_behind (suc b ∷ t) = grind (arith, leading_zeros-none)
 
 -- and no zero is after them
 pub leading_zeros-stop : (t : List ℕ) → leading_zeros t < length t → get_or (drop (leading_zeros t) t) 0 0 ≢ 0

@@ -80,10 +80,10 @@ outcome_of_long p n more = grind (arith, lt-leb)
 
 result_of_decode_alone : (f : List ℕ) (n : ℕ) → IsPiece f → result_of_decode f n ≡ report_result (len_through_piece f f) (outcome_result (outcome_of f n))
 result_of_decode_alone [] n piece = absurd (piece.0 refl)
-result_of_decode_alone (byte ∷ bytes) n piece = result_of_decode-is byte bytes n ∙ ap (λ p. result_by_piece (byte ∷ bytes) p n) (first_piece_alone (byte ∷ bytes) piece.0 piece.1)
+result_of_decode_alone (byte ∷ bytes) n piece = grind (arith, result_of_decode-is, result_by_piece, first_piece_alone)
 
 outcome_result-rejected : (f : List ℕ) (n : ℕ) → (is_whole f ≡ false) ⊎ (n < length (output f)) → (error : DecodeError) × (outcome_result (outcome_of f n) ≡ Err error)
-outcome_result-rejected f n (inr more) = (TargetBufTooSmall, ap outcome_result (outcome_of_long f n more))
+outcome_result-rejected f n (inr more) = grind (arith, outcome_of_long)
 outcome_result-rejected f n (inl broken) = ⊎_elim
     (λ (more : n < length (output f)). (TargetBufTooSmall, ap outcome_result (outcome_of_long f n more)))
     (λ (fits : length (output f) ≤ n). (InvalidFrame (length (output f)), ap outcome_result (outcome_of_broken f n fits broken)))
@@ -104,7 +104,7 @@ decode_reads f buffer result buffer' returned after below piece m =
 
 result_of_sentinel_decode_alone : (f : List ℕ) (n : ℕ) → IsPiece f → result_of_sentinel_decode f n ≡ head_result_within f n
 result_of_sentinel_decode_alone [] n piece = absurd (piece.0 refl)
-result_of_sentinel_decode_alone (byte ∷ bytes) n piece = ap (λ (h : List ℕ). head_result_within h n) (head_alone (byte ∷ bytes) piece.1)
+result_of_sentinel_decode_alone (byte ∷ bytes) n piece = grind (arith, head_alone)
 
 head_result_whole : (f : List ℕ) → f ≢ [] → IsWhole f → head_result f ≡ Ok (length (output f))
 head_result_whole f h e = grind arith
@@ -146,7 +146,7 @@ module _ (f buffer : List ℕ) (result : Result ℕ DecodeError) (buffer' : List
 
 in_place-source : (f : List ℕ) → result_in_place f ≡ result_of_sentinel_decode f (length f)
 in_place-source [] = refl
-in_place-source (byte ∷ bytes) = result-fits (head (byte ∷ bytes)) _ (omega (arith, kept_within (head (byte ∷ bytes)), length-head (byte ∷ bytes)))
+in_place-source (byte ∷ bytes) = grind (arith, result-fits, kept_within, length-head)
 
 module _ (f : List ℕ) (result : Result DecodeReport DecodeError) (buffer' : List ℕ) (returned : result ≡ in_place_report f) (after : buffer' ≡ in_place f) (below : All (λ b. b < 256) f) where
   in_place_reported : IsPiece f → (m : List ℕ) → ReportsMessage result buffer' m ↔ (Reads f m × (length m ≤ length f))

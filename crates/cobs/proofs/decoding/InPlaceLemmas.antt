@@ -19,22 +19,19 @@ whole_left [] = true
 whole_left (byte ∷ bytes) = is_whole (byte ∷ bytes)
 
 result-equals : (h : List ℕ) (whole : Bool) → whole_left h ≡ whole → head_result h ≡ cond whole (Ok (length (kept_output h))) (Err (InvalidFrame (length (kept_output h))))
-result-equals [] true w = ap (λ (x : List ℕ). Ok (length x)) (sym kept_output-empty)
+result-equals [] true w = grind (arith, kept_output-empty)
 result-equals [] false w = absurd (true≢false w)
-result-equals (b ∷ h) true w =
-    ap (λ (v : Bool). result_map_both length (λ (e : DecodeError). e) (cond v (Ok (output (b ∷ h))) (Err (InvalidFrame (length (kept_output (b ∷ h))))))) w ∙ ap (λ (x : List ℕ). Ok (length x)) (sym (all-kept (b ∷ h) w))
-result-equals (b ∷ h) false w = ap (λ (v : Bool). result_map_both length (λ (e : DecodeError). e) (cond v (Ok (output (b ∷ h))) (Err (InvalidFrame (length (kept_output (b ∷ h))))))) w
+result-equals (b ∷ h) true w = grind (arith, all-kept)
+result-equals (b ∷ h) false w = grind arith
 
 -- a block and the bytes after it: their kept output, with the zero between them, and whether they are whole
 module _ (code : ℕ) (bytes : List ℕ) (block : IsBlock (code ∷ bytes)) where
   kept-step : (p due : List ℕ) → (p ≢ [] → joint (code ∷ bytes) ≡ due) → (p ≡ [] → due ≡ []) → kept_output ((code ∷ bytes) ++ p) ≡ (bytes ++ due) ++ kept_output p
-  kept-step [] due more last =
-      ap kept_output (append-nil (code ∷ bytes)) ∙ all-kept (code ∷ bytes) (block-whole (code ∷ bytes) block) ∙ output-last code bytes (omega (arith, block.0))
-      ∙ sym (ap (λ (x : List ℕ). (bytes ++ due) ++ x) kept_output-empty ∙ append-nil (bytes ++ due) ∙ ap (λ (x : List ℕ). bytes ++ x) (last refl) ∙ append-nil bytes)
+  kept-step [] due more last = grind (arith, append-nil, all-kept, block-whole, output-last, kept_output-empty)
   kept-step (b ∷ p) due more last = front-kept (code ∷ bytes) (b ∷ p) block (λ e. cc) ∙ ap (λ (x : List ℕ). (bytes ++ x) ++ kept_output (b ∷ p)) (more (λ e. cc))
 
   whole-step : (p : List ℕ) → whole_left ((code ∷ bytes) ++ p) ≡ whole_left p
-  whole-step [] = ap whole_left (append-nil (code ∷ bytes)) ∙ block-whole (code ∷ bytes) block
+  whole-step [] = grind (arith, whole_left, append-nil, block-whole)
   whole-step (b ∷ p) = front-whole (code ∷ bytes) (b ∷ p) block (λ e. cc)
 
 -- the blocks in the first `read` of `end` bytes are decoded to these bytes at the buffer's front, and the rest is as it was
@@ -104,8 +101,7 @@ module _ (old : List ℕ) (end : ℕ) (buffer : List ℕ) (read written : ℕ) (
           let c = code-some _ _ _ at in
           let o = s.order in
           let left : read + 1 + (end - (read + 1)) ≡ end = omega arith in
-          ap (take (code - 1)) (behind (read + 1) (omega arith))
-          ∙ sym (ap (λ (n : ℕ). take (code - 1) (drop (read + 1) (take n old))) (sym left) ∙ ap (take (code - 1)) (drop-take (read + 1) (end - (read + 1)) old) ∙ take-take (code - 1) (end - (read + 1)) (drop (read + 1) old) (omega arith))
+          grind (arith, code, behind, drop-take, take-take)
 
       after-is : after ≡ front ++ drop w old
       after-is = grind (arith, take-append-drop, code, bytes-are, bytes, take_at, front, behind)

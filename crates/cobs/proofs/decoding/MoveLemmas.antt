@@ -17,8 +17,7 @@ module _ (old : List ℕ) (from to n : ℕ) (now : List ℕ) (m : Moved old from
   byte =
       let k : ℕ = from - to in
       let at : to + n + k ≡ from + n = omega arith in
-      ap (λ (i : ℕ). get_or now i 0) (sym at) ∙ sym (get_or-drop (to + n) now k 0) ∙ ap (λ (xs : List ℕ). get_or xs k 0) m.rest ∙ get_or-drop (to + n) old k 0
-      ∙ ap (λ (i : ℕ). get_or old i 0) at ∙ sym (get_or-drop from old n 0)
+      grind (arith, get_or, get_or-drop)
 
   pub moved-more : Moved old from to (n + 1) (set now (to + n) (get_or now (from + n) 0))
   moved-more =

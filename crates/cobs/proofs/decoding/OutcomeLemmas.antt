@@ -30,15 +30,13 @@ length-message_of : (blocks : List (List ℕ)) → All (λ block. block ≢ []) 
 length-message_of [] h = omega arith
 length-message_of ([] ∷ blocks) h = absurd (All-head (λ block. block ≢ []) [] blocks h refl)
 length-message_of ((c ∷ bytes) ∷ []) h = omega (arith, length-append bytes [])
-length-message_of ((c ∷ bytes) ∷ next ∷ blocks) h =
-    let again = length-message_of (next ∷ blocks) (All-tail (λ block. block ≢ []) (c ∷ bytes) (next ∷ blocks) h) in
-    omega (arith, length-joint (c ∷ bytes), length-append (bytes ++ joint (c ∷ bytes)) (message_of (next ∷ blocks)), length-append bytes (joint (c ∷ bytes)), length-append bytes (concat (next ∷ blocks)))
+length-message_of ((c ∷ bytes) ∷ next ∷ blocks) h = grind (arith, All-tail, length-joint, length-append, length-message_of (next ∷ blocks) (All-tail (λ block. block ≢ []) (c ∷ bytes) (next ∷ blocks) h))
 
 parts_nonempty : (n : ℕ) (p : List ℕ) → All (λ part. part ≢ []) (parts_after n p)
 unfolding parts_after
 parts_nonempty n [] = All-nil (λ part. part ≢ [])
 parts_nonempty (suc n) (x ∷ p) = parts_nonempty n p
-parts_nonempty zero (c ∷ p) = All-cons (λ part. part ≢ []) _ _ (λ e. cc) (parts_nonempty (c - 1) p)
+parts_nonempty zero (c ∷ p) = grind (arith, All-cons, parts_nonempty (c - 1) p)
 
 pub output_within : (p : List ℕ) → length (output p) ≤ length p
 unfolding output parts

@@ -55,5 +55,5 @@ result_of_sentinel_decode-head source s n some = grind (arith, length-map)
 -- an empty source leaves the buffer as it is
 pub nothing_kept : (source dest : List ℕ) (s : ℕ) → length source ≡ 0 → dest ≡ overwritten dest (kept_output (head (xor_each s source)))
 unfolding head
-nothing_kept [] dest s e = sym (ap (overwritten dest) kept_output-empty ∙ overwritten-none dest)
+nothing_kept [] dest s e = grind (arith, kept_output-empty, overwritten-none)
 nothing_kept (byte ∷ source) dest s e = absurd (omega arith)

@@ -17,7 +17,7 @@ pub record IntoLast (p xs : List ℕ) : Type 0 where
   pub left : missing (last_part (p ++ xs)) + length xs ≡ missing (last_part p)
 
 pub into_last : (p xs : List ℕ) → length xs ≤ missing (last_part p) → IntoLast p xs
-into_last p [] h = let n = append-nil p in record { out = grind (arith, append-nil); last = grind (arith, append-nil); left = grind arith }
+into_last p [] h = grind (arith, append-nil)
 into_last p (x ∷ xs) h =
     let m = missing-push_more p x (omega arith) in
     let again = into_last (p ++ x ∷ []) xs (omega arith) in
@@ -83,7 +83,7 @@ module _ (p q : List ℕ) (at code : ℕ) (here : at < length q) (is : code ≡ 
 -- a row of n blocks without bytes, after whole blocks
 pub ends-ones : (n : ℕ) (p q : List ℕ) (at : ℕ) → at + n ≤ length q → take n (drop at q) ≡ replicate n 1
     → missing (last_part (p ++ take at q)) ≡ 0 → missing (last_part (p ++ take (at + n) q)) ≡ 0
-ends-ones zero p q at fits ones ends = subst (λ (k : ℕ). missing (last_part (p ++ take k q)) ≡ 0) {x = at} (omega arith) ends
+ends-ones zero p q at fits ones ends = grind arith
 ends-ones (suc n) p q at fits ones ends =
     let row : get_or q at 0 ∷ take n (drop (at + 1) q) ≡ 1 ∷ replicate n 1 = sym (ap (take (suc n)) (drop_more q at 0 (omega arith))) ∙ ones in
     let one : 1 ≡ get_or q at 0 = grind arith in
@@ -105,7 +105,7 @@ kept-after : (p q : List ℕ) (n : ℕ) → (k : ℕ) × KeptBy (p ++ take n q) 
 kept-after p q n (k, (few, is)) = grind (arith, length-drop, in_front, in_two)
 
 kept-behind : (n : ℕ) (p q : List ℕ) → length q ≤ n → HasNoZero q → All (λ b. b < 256) q → missing (last_part p) ≡ 0 → (k : ℕ) × KeptBy p q k
-kept-behind n p [] le none small ends = (0, (omega arith, rw (append-nil p) (whole-kept p ends)))
+kept-behind n p [] le none small ends = grind (arith, append-nil, whole-kept)
 kept-behind zero p (code ∷ bytes) le none small ends = absurd (omega arith)
 kept-behind (suc n) p (code ∷ bytes) le none small ends =
     let q : List ℕ = code ∷ bytes in

@@ -26,11 +26,11 @@ message_reads f m count below piece returned is = (
 
 decoded_alone : (f : List ℕ) → IsPiece f → decoded f ≡ cond (is_whole f) (Ok (output f)) (Err (InvalidFrame (length (output f))))
 decoded_alone [] piece = absurd (piece.0 refl)
-decoded_alone (byte ∷ bytes) piece = ap message_of_piece (first_piece_alone (byte ∷ bytes) piece.0 piece.1)
+decoded_alone (byte ∷ bytes) piece = grind (arith, first_piece_alone)
 
 decoded_head_alone : (f : List ℕ) → IsPiece f → decoded_head f ≡ cond (is_whole f) (Ok (output f)) (Err (InvalidFrame (length (kept_output f))))
 decoded_head_alone [] piece = absurd (piece.0 refl)
-decoded_head_alone (byte ∷ bytes) piece = ap message_of_head (head_alone (byte ∷ bytes) piece.1)
+decoded_head_alone (byte ∷ bytes) piece = grind (arith, head_alone)
 
 module _ (f : List ℕ) (below : All (λ b. b < 256) f) (m : List ℕ) where
   pub decoded_reads : IsPiece f → (decoded f ≡ Ok m) ↔ Reads f m

@@ -158,18 +158,7 @@ module _ {s : Start} {slice : List ℕ} {read len index next zeros d : ℕ} (m :
         let others = ap without_lowest m.bits ∙ mask_behind-and d left small some_bits in
         let coded : List ℕ = set slice index (next + k - index) in
         let kept = drop-set-lt (next + (k + 1)) slice index (next + k - index) (omega arith) in
-        subst (IsMaskedAt s read len next (without_lowest zeros) (next + k) coded) {x = k + 1} (omega arith) (record {
-          seen = omega arith;
-          some = m.some;
-          few = m.few;
-          inside = m.inside;
-          fits = m.fits;
-          room = let r = m.room in omega arith;
-          here = ap (take (len - (k + 1))) kept ∙ sym (cut slice next) ∙ ap (drop (j + 1)) m.here ∙ cut s.source read;
-          bits = others ∙ ap (λ (m : ℕ). mask_behind m (drop (j + 1) left)) (omega arith) ∙ ap (mask_behind (k + 1)) (cut s.source read);
-          short = omega arith;
-          reaches = Reaches-at (ap (set slice index) code) (omega arith) (omega arith) (omega arith) (λ full p. p) closed;
-        })
+        grind (arith, mask_behind, left, Reaches-at, set)
 
   -- the place of the next code is no later than the next zero
   pub masked-ordered : index ≤ next + lowest zeros

@@ -19,7 +19,7 @@ message_of-close front some = grind (arith, message_of-append, append-nil)
 -- bytes added to the last block are added to the message, whatever the code
 pub message_of-more : (bs : List (List ℕ)) (c d : ℕ) (bytes more : List ℕ) → message_of (bs ++ (c ∷ bytes ++ more) ∷ []) ≡ message_of (bs ++ (d ∷ bytes) ∷ []) ++ more
 message_of-more [] c d bytes more = refl
-message_of-more (x ∷ []) c d bytes more = sym (append_assoc (bytes_of x ++ joint x) bytes more)
+message_of-more (x ∷ []) c d bytes more = grind (arith, append_assoc)
 message_of-more (x ∷ y ∷ bs) c d bytes more = grind (arith, append_assoc, (message_of-more (y ∷ bs) c d bytes more))
 
 -- a block after others

@@ -59,8 +59,8 @@ some_message (code ∷ bytes) (next ∷ blocks) is more e = let z = ap length e 
 -- the frame of the bytes that follow some blocks
 pub len-blocks : (front : List (List ℕ)) (code : ℕ) (bytes t : List ℕ) → All IsBlock front → (is_full (last_of front) ≡ true → bytes ++ t ≢ [])
     → encoded_len (message_of (front ++ (code ∷ bytes) ∷ []) ++ t) ≡ length (concat front) + encoded_len (bytes ++ t)
-len-blocks [] code bytes t each some = let n : ℕ = encoded_len (bytes ++ t) in omega arith
-len-blocks (b ∷ []) code bytes t each some = rw append-nil (len-block b bytes t (All-head IsBlock b [] each) some)
+len-blocks [] code bytes t each some = grind arith
+len-blocks (b ∷ []) code bytes t each some = grind (arith, append-nil, len-block, All-head)
 len-blocks (b ∷ c ∷ front) code bytes t each some =
     let more = All-tail IsBlock b (c ∷ front) each in
     let m : List ℕ = message_of (c ∷ front ++ (code ∷ bytes) ∷ []) in
@@ -68,7 +68,7 @@ len-blocks (b ∷ c ∷ front) code bytes t each some =
     let not_none : m ++ t ≢ [] = λ e. is_some (nil_from_length m (let l = length-append m t in let z = ap length e in omega arith)) in
     let ih = len-blocks (c ∷ front) code bytes t more some in
     let l = length-append b (concat (c ∷ front)) in
-    len-block b m t (All-head IsBlock b (c ∷ front) each) (λ full. not_none) ∙ omega arith
+    grind (arith, len-block, All-head)
 
 -- the frame of a message that continues
 pub Opened-len : {slice m : List ℕ} {index next : ℕ} {full : Bool} (t : List ℕ) → (full ≡ true → t ≢ []) → Opened slice m index next full → encoded_len (m ++ t) ≡ index + open_len (next - index) t

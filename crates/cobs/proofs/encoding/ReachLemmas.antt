@@ -63,7 +63,7 @@ module _ {s : Start} {slice : List ℕ} {pos index next : ℕ} {P : Bool → Typ
             grind arith
 
         by_count : (k ≡ 0) ⊎ (k ≢ 0) → (m : List ℕ) → (full : Bool) × P full × Opened slice (m ++ take pos s.source) index next full → (full : Bool) × Q full × Opened slice (m ++ take (pos + k) s.source) index (next + k) full
-        by_count (inl is) m t = (t.0, none t.0 is t.1, grind arith)
+        by_count (inl is) m t = grind arith
         by_count (inr other) m t =
             let l = long in
             let least' = least in

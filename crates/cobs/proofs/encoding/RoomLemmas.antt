@@ -53,7 +53,7 @@ blocks-end run = grind (arith, length-ones, blocks_in, append-nil, slice_split_n
 
 -- bytes among which no run fills a block, and the zero after them
 blocks-skip : (n : ℕ) (bytes t : List ℕ) → n + length bytes < 254 → blocks_in (behind n (bytes ++ 0 ∷ t)) ≡ blocks_in t
-blocks-skip n [] t few = let z = blocks-zero n t in let none : n / 254 ≡ 0 = omega arith in z ∙ omega arith
+blocks-skip n [] t few = grind (arith, blocks-zero)
 blocks-skip n (b ∷ bytes) t few = grind (arith, cases_eq, blocks-zero, blocks-nonzero, (blocks-skip 0 bytes t), (blocks-skip (n + 1) bytes t))
 
 -- too few bytes for a block that is full before the last
@@ -77,11 +77,11 @@ module _ (source : List ℕ) (read run k : ℕ) where
 
 -- a longer message has no fewer of them
 blocks-least : (run : ℕ) (t : List ℕ) → (run - 1) / 254 ≤ blocks_in (behind run t)
-blocks-least run [] = let e = blocks-end run in omega arith
+blocks-least run [] = grind (arith, blocks-end)
 blocks-least run (b ∷ t) = grind (arith, cases_eq, blocks-zero, blocks-nonzero, (blocks-least (run + 1) t))
 
 blocks-longer : (run : ℕ) (m d : List ℕ) → blocks_in (behind run m) ≤ blocks_in (behind run (m ++ d))
-blocks-longer run [] d = let e = blocks-end run in let l = blocks-least run d in omega arith
+blocks-longer run [] d = grind (arith, blocks-end, blocks-least)
 blocks-longer run (b ∷ m) d = grind (arith, cases_eq, blocks-zero, blocks-nonzero, (blocks-longer 0 m d), (blocks-longer (run + 1) m d))
 
 -- nor a shorter frame

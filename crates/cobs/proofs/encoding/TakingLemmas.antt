@@ -59,12 +59,7 @@ module _ {source old slice : List ℕ} {r r' : Reached} (fits : end_after r sour
         | inl more ↦ after-some place (drop pos source) (omega (arith, length-drop pos source)) ∙ (rw code-is at s.room)
         | inr none ↦ (let all : pos ≡ length source = omega arith in rw (drop_all pos source (omega arith), last all, ends s all) (omega arith))
       ] in
-      rw is (record {
-        place = record { some = omega arith; not_full = omega arith; fits = omega arith };
-        after = λ m h. grind (arith, to_after);
-        end = end;
-        rest = s.rest;
-      })
+      grind (arith, to_after)
 
   pub front-open : {pos index next code : ℕ} → Reaches (start_with old r source) slice pos index next IsNotFull → next < index + 255 → index + code ≡ next
       → r' ≡ place_at index code false → TakesFront old r source pos slice r'

@@ -79,7 +79,7 @@ beyond_no_frame : IsFrame beyond_bytes → ⊥
 unfolding parts parts_after
 beyond_no_frame (m, r) =
     let each = subst (All IsBlock) (sym (parts-frame beyond_bytes r.blocks r.frame)) r.frame.each in
-    let below : 256 < 256 = (All-head IsBlock beyond_bytes [] each).1 in omega arith
+    grind (arith, All-head, beyond_bytes)
 
 -- ALL FRAMES OF A MESSAGE
 

@@ -60,10 +60,7 @@ ends_full ((c ∷ bytes) ∷ d ∷ ds) some h s =
     let nonzero = (All-head IsBlock (c ∷ bytes) (d ∷ ds) h).2 in
     let k : List ℕ = message_of (d ∷ ds) in
     let ih = ends_full (d ∷ ds) (λ e. cc) (All-tail IsBlock (c ∷ bytes) (d ∷ ds) h) (IsShorter-tail (c ∷ bytes) (d ∷ ds) s) in
-    ⊎_elim
-    (λ o. let same = ap last_run o.1 ∙ last_run-zero bytes k nonzero in grind arith)
-    (λ f. let all = f.1 in let same = full_run-append bytes k f.0 nonzero f.2 in grind arith)
-    (first-block c bytes d ds h s)
+    grind (arith, last_run-zero, full_run-append, first-block)
 
 -- the same of an encoded frame
 pub ends_in_full : (g m : List ℕ) (e : IsEncodedFrame g m) → IsFull (last_of e.reads.blocks) ↔ EndsInFullRun m
@@ -118,7 +115,7 @@ frames_from f m (inl e) = e.reads
 frames_from f m (inr (x, (g, e, is))) =
     let full = (ends_in_full g m e).1 x in
     let message : m ++ joint (last_of e.reads.blocks) ++ [] ≡ m = grind (arith, append-nil) in
-    subst (λ (l : List ℕ). Reads l m) (sym is) (subst (Reads (g ++ lone_block)) message (Reads-append g m lone_block [] e.reads lone_block-reads))
+    grind (arith, Reads-append, lone_block-reads)
 
 pub all_frames : (f m : List ℕ) → Reads f m ↔ IsFrameFor f m
 all_frames f m = (frames_of f m, frames_from f m)
@@ -153,10 +150,8 @@ EncoderAfter-push state m (suc b) (f, o) = ⊎_elim
     (cases_eq state.code 254)
 
 after_all : (more m : List ℕ) (state : OpenBlock) → EncoderAfter state m → (next : OpenBlock) × EncoderAfter next (m ++ more)
-after_all [] m state h = (state, subst (EncoderAfter state) (sym (append-nil m)) h)
-after_all (b ∷ more) m state h =
-    let r = after_all more (m ++ b ∷ []) (next_open state b) (EncoderAfter-push state m b h) in
-    (r.0, subst (EncoderAfter r.0) (append_assoc m (b ∷ []) more) r.1)
+after_all [] m state h = grind (arith, append-nil)
+after_all (b ∷ more) m state h = grind (arith, EncoderAfter-push, append_assoc, after_all more (m ++ b ∷ []) (next_open state b) (EncoderAfter-push state m b h))
 
 pub encoded_frame : (m : List ℕ) → (f : List ℕ) × IsEncodedFrame f m
 encoded_frame m =

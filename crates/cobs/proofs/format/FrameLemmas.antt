@@ -96,7 +96,7 @@ blocks_behind zero (c ∷ p) h below whole =
 pub blocks_of_whole : (p : List ℕ) → HasNoZero p → All (λ b. b < 256) p → IsWhole p → All IsBlock (parts p)
 unfolding parts last_part is_whole
 blocks_of_whole [] h below whole = absurd (cc)
-blocks_of_whole (c ∷ p) h below whole = blocks_behind 0 (c ∷ p) h below (eqb-true (missing (last_of (parts_after 0 (c ∷ p)))) 0 whole)
+blocks_of_whole (c ∷ p) h below whole = grind (arith, blocks_behind, eqb-true)
 
 -- A FRAME READS AS ITS OUTPUT
 

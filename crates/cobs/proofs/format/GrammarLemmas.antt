@@ -25,7 +25,7 @@ IsShorter-tail b bs h front block full e = h (b ∷ front) block full (ap (λ (l
 
 pub IsShorter-cons : (b : List ℕ) (bs : List (List ℕ)) → (IsFull b → bs ≢ lone_block ∷ []) → IsShorter bs → IsShorter (b ∷ bs)
 IsShorter-cons b bs apart s [] block full e = grind arith
-IsShorter-cons b bs apart s (x ∷ front) block full e = let rest : bs ≡ front ++ block ∷ lone_block ∷ [] = cc in s front block full rest
+IsShorter-cons b bs apart s (x ∷ front) block full e = grind arith
 
 pub IsShorter-single : (b : List ℕ) → IsShorter (b ∷ [])
 IsShorter-single b front block full e = (let n = ap length e in let l = length-append front (block ∷ lone_block ∷ []) in omega arith)

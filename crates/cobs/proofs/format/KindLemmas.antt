@@ -73,7 +73,7 @@ last-block (code ∷ bytes) nonzero below some last = (omega arith, All-head (λ
 
 lone-is : (rest : List ℕ) → length rest ≡ get_or rest 0 0 → length rest ≡ 1 → rest ≡ lone_block
 lone-is [] last one = absurd (omega arith)
-lone-is (code ∷ []) last one = ap (λ (k : ℕ). k ∷ []) {y = 1} (omega arith)
+lone-is (code ∷ []) last one = grind arith
 lone-is (code ∷ x ∷ bytes) last one = absurd (omega arith)
 
 module _ (f rest : List ℕ) (t : Bool) (i : BlocksBehind f rest t) (some : 0 < length rest) (last : length rest ≡ get_or rest 0 0) where

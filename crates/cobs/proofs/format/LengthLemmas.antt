@@ -32,15 +32,14 @@ onto_parts a (p ∷ ps) = (a ++ p) ∷ ps
 
 -- nonzero bytes lengthen the first stretch
 pub stretches-append : (bytes m : List ℕ) → HasNoZero bytes → stretches (bytes ++ m) ≡ onto_parts bytes (stretches m)
-stretches-append [] m h = let some = some_stretch m in grind arith
-stretches-append (b ∷ bs) m h =
-    slice_split-cons_no (λ b. b == 0) b (bs ++ m) (ne_eqb b 0 (All-head (λ b. b ≢ 0) b bs h)) ∙ ap (onto_first b) (stretches-append bs m (All-tail (λ b. b ≢ 0) b bs h)) ∙ grind arith
+stretches-append [] m h = grind (arith, some_stretch)
+stretches-append (b ∷ bs) m h = grind (arith, slice_split-cons_no, ne_eqb, All-head, All-tail, stretches-append bs m (All-tail (λ b. b ≢ 0) b bs h))
 
 full_more : (bytes : List ℕ) (parts : List (List ℕ)) → length bytes ≡ 254 → parts ≢ [] → join_with_byte 0 parts ≢ [] → full_blocks (map length (onto_parts bytes parts)) ≡ 1 + full_blocks (map length parts)
 full_more bytes [] l some more = absurd (some refl)
 full_more bytes ([] ∷ []) l some more = absurd (more refl)
-full_more bytes ((x ∷ p) ∷ []) l some more = let n = length-append bytes (x ∷ p) in omega arith
-full_more bytes (p ∷ q ∷ ps) l some more = let n = length-append bytes p in omega arith
+full_more bytes ((x ∷ p) ∷ []) l some more = grind (arith, length-append)
+full_more bytes (p ∷ q ∷ ps) l some more = grind (arith, length-append)
 
 -- 254 bytes of a run that continues are one block
 pub encoded_len-full : (bytes m : List ℕ) → length bytes ≡ 254 → HasNoZero bytes → m ≢ [] → encoded_len (bytes ++ m) ≡ 255 + encoded_len m

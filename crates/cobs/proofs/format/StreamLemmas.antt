@@ -101,14 +101,14 @@ push_outcomes : (p : List ℕ) (b n : ℕ) → HasNoZero p → stream_outcomes (
 push_outcomes p zero n h = stream_outcomes-piece p n h
 push_outcomes p (suc b) n h =
     let nonzero = All-push (λ x. x ≢ 0) p (suc b) h (λ e. omega arith) in
-    stream_outcomes-no_zero (p ++ suc b ∷ []) n nonzero ∙ sym (outcomes_at-nonzero p (suc b) n (λ e. omega arith))
+    grind (arith, stream_outcomes-no_zero, outcomes_at-nonzero)
 
 push_unended : (p : List ℕ) (b : ℕ) → HasNoZero p → unended (p ++ b ∷ []) ≡ fed p b
 unfolding unended
 push_unended p zero h = ap last_of (stretches-piece p [] h)
 push_unended p (suc b) h =
     let nonzero = All-push (λ x. x ≢ 0) p (suc b) h (λ e. omega arith) in
-    unended-no_zero (p ++ suc b ∷ []) nonzero ∙ sym (fed-nonzero p (suc b) (λ e. omega arith))
+    grind (arith, unended-no_zero, fed-nonzero)
 
 -- WHAT IS UNENDED HAS NO ZERO
 
@@ -118,7 +118,7 @@ last_of-onto_first b ss h e p = grind (arith, All-cons)
 pub unended_no_zero : (t : List ℕ) → HasNoZero (unended t)
 unfolding unended
 unended_no_zero [] = All-nil (λ x. x ≢ 0)
-unended_no_zero (zero ∷ t) = let some = length-stretches t in grind (arith, (unended_no_zero t))
+unended_no_zero (zero ∷ t) = grind (arith, length-stretches, unended_no_zero t)
 unended_no_zero (suc b ∷ t) = grind (arith, stretches-nonzero, last_of-onto_first, length-stretches, (unended_no_zero t))
 
 -- ONE MORE BYTE OF A STREAM
@@ -155,7 +155,7 @@ nonempty-unended_last p bytes h =
 
 -- nothing is unended at a sentinel
 unended-at_sentinel : (t : List ℕ) → IsAtSentinel t → unended t ≡ []
-unended-at_sentinel t (inl none) = ap unended none ∙ unended-no_zero [] (All-nil (λ x. x ≢ 0))
+unended-at_sentinel t (inl none) = grind (arith, unended-no_zero, All-nil)
 unended-at_sentinel t (inr (front, ends)) = ap unended ends ∙ unended-zero front
 
 -- the bytes before a sentinel, up to the next one, and after that one have their own outcomes

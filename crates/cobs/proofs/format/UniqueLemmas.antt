@@ -15,7 +15,7 @@ use Rattle.cobs.proofs.format.LengthLemmas.{encoded_len-last, encoded_len-zero, 
 -- blocks without a byte or a zero between them are the lone block
 pub no_message : (b : List ℕ) (bs : List (List ℕ)) → All IsBlock (b ∷ bs) → message_of (b ∷ bs) ≡ [] → b ∷ bs ≡ lone_block ∷ []
 no_message [] bs h e = absurd (All-head IsBlock [] bs h)
-no_message (c ∷ []) [] h e = let i = All-head IsBlock (c ∷ []) [] h in let one : c ≡ 1 = i.0 in cc
+no_message (c ∷ []) [] h e = grind (arith, All-head)
 no_message (c ∷ x ∷ bytes) [] h e = absurd (cc)
 no_message (c ∷ x ∷ bytes) (d ∷ ds) h e = absurd (cc)
 no_message (c ∷ []) (d ∷ ds) h e = grind (arith, All-head)
@@ -48,20 +48,13 @@ length-blocks : (bs : List (List ℕ)) → bs ≢ [] → All IsBlock bs → IsSh
 length-blocks [] p h s = absurd (p refl)
 length-blocks ([] ∷ bs) p h s = absurd (All-head IsBlock [] bs h)
 length-blocks ((c ∷ a) ∷ []) p h s = let is = All-head IsBlock (c ∷ a) [] h in omega (arith, encoded_len-last a (omega arith) is.2, ap length (append-nil a))
-length-blocks ((c ∷ a) ∷ d ∷ ds) p h s =
-    let is = All-head IsBlock (c ∷ a) (d ∷ ds) h in
-    let ih = length-blocks (d ∷ ds) (λ e. cc) (All-tail IsBlock (c ∷ a) (d ∷ ds) h) (IsShorter-tail (c ∷ a) (d ∷ ds) s) in
-    let n = length-append a (concat (d ∷ ds)) in
-    ⊎_elim
-    (λ o. omega (arith, ap encoded_len o.1, encoded_len-zero a (message_of (d ∷ ds)) o.0 is.2))
-    (λ f. omega (arith, ap encoded_len f.1, encoded_len-full a (message_of (d ∷ ds)) f.0 is.2 f.2))
-    (first-block c a d ds h s)
+length-blocks ((c ∷ a) ∷ d ∷ ds) p h s = grind (arith, All-head, All-tail, IsShorter-tail, length-append, encoded_len-zero, encoded_len-full, first-block, length-blocks (d ∷ ds) (λ e. cc) (All-tail IsBlock (c ∷ a) (d ∷ ds) h) (IsShorter-tail (c ∷ a) (d ∷ ds) s))
 
 -- THERE IS ONE ENCODED FRAME
 
 -- of two first blocks of a message none is shorter
 not_shorter : (c d : ℕ) (a b : List ℕ) (bs cs : List (List ℕ)) → All IsBlock ((c ∷ a) ∷ bs) → All IsBlock ((d ∷ b) ∷ cs) → message_of ((c ∷ a) ∷ bs) ≡ message_of ((d ∷ b) ∷ cs) → length a < length b → ⊥
-not_shorter c d a b [] cs h i e lt = let m = message-first d b cs in let n = ap length (e ∙ m.1) in let l = length-append b m.0 in omega arith
+not_shorter c d a b [] cs h i e lt = grind (arith, message-first, length-append)
 not_shorter c d a b (x ∷ bs) cs h i e lt =
     let is = All-head IsBlock (c ∷ a) (x ∷ bs) h in
     let other = All-head IsBlock (d ∷ b) cs i in
@@ -108,7 +101,7 @@ one_encoded f g m e d =
     let fr = e.reads.frame in
     let gr = d.reads.frame in
     let same = one_blocks _ _ fr.some gr.some fr.each gr.each (IsEncodedFrame-shorter f m e) (IsEncodedFrame-shorter g m d) (sym e.reads.message ∙ d.reads.message) in
-    fr.whole ∙ ap concat same ∙ sym gr.whole
+    grind arith
 
 pub length-encoded : (f m : List ℕ) → IsEncodedFrame f m → length f ≡ encoded_len m
 length-encoded f m e =

@@ -120,8 +120,8 @@ begins-nonzero buffer [] b h e = rw (output-one b) (begins-nil buffer)
 begins-nonzero buffer (c ∷ q) b h e = grind (arith, cases_lt, over_phase, fits_phase, begins-over, begins_within, (output-push c q b))
 
 begins-step : (buffer p : List ℕ) (b : ℕ) → Begins buffer (output p) → Begins (next_buffer buffer (phase_after p (length buffer)) b) (output (fed p b))
-begins-step buffer p zero e = rw (next_buffer-zero buffer (phase_after p (length buffer)), output-nil) (begins-nil buffer)
-begins-step buffer p (suc b) e = rw (fed-nonzero p (suc b) (λ e. omega arith)) (begins-nonzero buffer p (suc b) (omega arith) e)
+begins-step buffer p zero e = grind (arith, next_buffer-zero, output-nil, begins-nil)
+begins-step buffer p (suc b) e = grind (arith, fed-nonzero, begins-nonzero)
 
 length-next_buffer : (buffer : List ℕ) (phase : Phase) (b : ℕ) → length (next_buffer buffer phase b) ≡ length buffer
 length-next_buffer buffer phase b = grind (arith, eqb, length-set)

@@ -23,16 +23,13 @@ rest source = drop (leading_zeros source) source
 front-of-head : (source : List ℕ) (n : ℕ) → HasNoZero (take n source) → head source ≡ take n source ++ head (drop n source)
 front-of-head source zero none = refl
 front-of-head [] (suc n) none = refl
-front-of-head (byte ∷ source) (suc n) none =
-    head-cons byte source (All-head (λ b. b ≢ 0) byte (take n source) none)
-    ∙ ap (λ (l : List ℕ). byte ∷ l) (front-of-head source n (All-tail (λ b. b ≢ 0) byte (take n source) none))
+front-of-head (byte ∷ source) (suc n) none = grind (arith, head-cons, All-head, All-tail, front-of-head source n (All-tail (λ b. b ≢ 0) byte (take n source) none))
 
 -- a front of a source that begins with a code begins with it
 code-first : (source : List ℕ) (n : ℕ) → 0 < length (head source) → 0 < length (take n source) → get_or (take n source) 0 0 ≢ 0
 code-first source zero begins some = absurd (omega arith)
 code-first [] (suc n) begins some = absurd (omega arith)
-code-first (byte ∷ source) (suc n) begins some =
-    λ is. omega (arith, ap (λ (x : ℕ). length (head (x ∷ source))) is, ap length (head-zero source))
+code-first (byte ∷ source) (suc n) begins some = grind (arith, head-zero)
 
 -- the first `run` bytes were fed
 pub record FrontFed (source old new : List ℕ) (phase : Phase) (run : ℕ) : Type 0 where

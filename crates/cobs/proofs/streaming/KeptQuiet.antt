@@ -26,10 +26,7 @@ few_by : (n : ℕ) (p : List ℕ) → length p ≤ n → All (λ b. b < 256) p �
 unfolding last_part parts parts_after
 few_by n [] h small = omega arith
 few_by zero (code ∷ bytes) h small = absurd (omega arith)
-few_by (suc n) (code ∷ bytes) h small = elim (cases_lt (code - 1) (length bytes)) [
-  | inl more ↦ rw (last_part-more code bytes more) (few_by n (drop (code - 1) bytes) (omega (arith, length-drop (code - 1) bytes)) (All-drop (λ b. b < 256) (code - 1) bytes (All-tail (λ b. b < 256) code bytes small)))
-  | inr short ↦ let below = All-head (λ b. b < 256) code bytes small in omega (arith, ap missing (last_part-last code bytes short))
-]
+few_by (suc n) (code ∷ bytes) h small = grind (arith, cases_lt, last_part-more, length-drop, All-drop, All-tail, All-head, last_part-last, few_by n (drop (code - 1) bytes) (omega (arith, length-drop (code - 1) bytes)) (All-drop (λ b. b < 256) (code - 1) bytes (All-tail (λ b. b < 256) code bytes small)))
 
 -- where all but the last 254 bytes are fed, a block is missing no more than these
 pub tail_left : (p : List ℕ) (end : ℕ) → length p ≡ end - 254 → All (λ b. b < 256) p → missing (last_part p) ≤ end - length p
@@ -41,7 +38,7 @@ tail_left (code ∷ bytes) end is small = omega (arith, few_by (length (code ∷
 head_by : (h : List ℕ) (n : ℕ) (whole : Bool) (result : Result ℕ DecodeError) → (IsTrue whole → result ≡ Ok n) → (whole ≡ false → result ≡ Err (InvalidFrame n)) → n ≡ length (kept_output h)
     → (IsTrue whole ↔ (missing (last_part h) ≡ 0)) → result ≡ head_result h
 unfolding last_part parts parts_after
-head_by [] n whole result ok broken count is = ok (is.1 refl) ∙ ap Ok (count ∙ ap length kept_output-empty)
+head_by [] n whole result ok broken count is = grind (arith, kept_output-empty)
 head_by (byte ∷ bytes) n whole result ok broken count is = grind (arith, is_whole-of, whole-kept, eq-eqb, ne_eqb)
 
 -- of whole blocks

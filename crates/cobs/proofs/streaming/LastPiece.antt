@@ -17,7 +17,7 @@ all_but_last : (xs : List (List ℕ)) → 0 < length xs → xs ≡ but_last xs +
 unfolding but_last
 all_but_last [] h = absurd (omega arith)
 all_but_last (x ∷ []) h = refl
-all_but_last (x ∷ y ∷ xs) h = ap (λ (z : List (List ℕ)). x ∷ z) (all_but_last (y ∷ xs) (omega arith))
+all_but_last (x ∷ y ∷ xs) h = grind (arith, all_but_last (y ∷ xs) (omega arith))
 
 -- the pieces of a stream are those that have ended, and the unended bytes if there are any
 pieces : (t : List ℕ) → filter is_nonempty (stretches t) ≡ ended_pieces t ++ filter is_nonempty (unended t ∷ [])

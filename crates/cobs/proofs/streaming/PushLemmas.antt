@@ -48,7 +48,7 @@ pub record Pushed (buffer₀ : List ℕ) (phase₀ : Phase) (buffer : List ℕ) 
 FeedsInTurn-push : (xs buffer₀ : List ℕ) (phase₀ : Phase) {buffer buffer' : List ℕ} {phase phase' : Phase} {byte : ℕ} {returned : Result (Option ℕ) DecodeError}
     → FeedsInTurn buffer₀ phase₀ xs (Ok None) buffer phase → Feeds buffer phase byte returned buffer' phase' → FeedsInTurn buffer₀ phase₀ (xs ++ byte ∷ []) returned buffer' phase'
 FeedsInTurn-push [] buffer₀ phase₀ {buffer} {buffer'} {phase} {phase'} {byte} {returned} f g = grind arith
-FeedsInTurn-push (x ∷ []) buffer₀ phase₀ {buffer} {buffer'} {phase} f g = (buffer, phase, f, g)
+FeedsInTurn-push (x ∷ []) buffer₀ phase₀ {buffer} {buffer'} {phase} f g = grind arith
 FeedsInTurn-push (x ∷ y ∷ xs) buffer₀ phase₀ (between, phase_between, f, more) g = grind (arith, FeedsInTurn-push (y ∷ xs) between phase_between more g)
 
 pub Pushed-start : (buffer : List ℕ) (phase : Phase) (bytes : List ℕ) → Pushed buffer phase buffer phase bytes 0

@@ -35,9 +35,7 @@ quiet-nonzero (x ∷ xs) buffer new phase phase' going f =
 -- nor have those that begin with a code
 pub quiet-piece : (xs old new : List ℕ) (phase : Phase) → (0 < length xs → get_or xs 0 0 ≢ 0) → FeedsQuietly old Idle xs new phase → HasNoZero xs
 quiet-piece [] old new phase first f = All-nil (λ b. b ≢ 0)
-quiet-piece (x ∷ xs) old new phase first f =
-    let nz = first (omega arith) in
-    All-cons (λ b. b ≢ 0) x xs nz (quiet-nonzero xs old new (next_phase (length old) Idle x) phase (grind (arith, ne_eqb)) f.1)
+quiet-piece (x ∷ xs) old new phase first f = grind (arith, All-cons, quiet-nonzero, ne_eqb)
 
 -- a front of a piece was fed quietly
 pub record Quiet (old new : List ℕ) (phase : Phase) (p : List ℕ) : Type 0 where
@@ -121,5 +119,4 @@ quiet-stop p old new phase run none more f over =
     let split : take run p ++ get_or p run 0 ∷ drop (run + 1) p ≡ p = ap (λ (l : List ℕ). take run p ++ l) (sym (drop_more p run 0 more)) ∙ take-append-drop run p in
     let s = quiet (take run p) old new phase (All-take (λ b. b ≢ 0) run p none) f in
     let nz = All-get_or (λ b. b ≢ 0) p run 0 more none in
-    subst (λ (l : List ℕ). (length old < length (output l)) × (new ≡ overwritten old (output l))) split
-    (quiet-long old new (take run p) phase s (get_or p run 0) (drop (run + 1) p) nz over, quiet-full old new (take run p) phase s (get_or p run 0) (drop (run + 1) p) nz over)
+    grind (arith, quiet-long, get_or, quiet-full)

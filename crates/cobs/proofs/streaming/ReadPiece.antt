@@ -90,11 +90,11 @@ module _ (written byte : ℕ) (other : byte ≢ 0) (full : Bool) where
 
   phase-byte : (n left : ℕ) → left ≢ 0 → written < n → Within full (left - 1) (written + 1) ≡ next_phase n (Within full left written) byte
   phase-byte n zero some room = absurd (some refl)
-  phase-byte n (suc left) some room = let same : suc left - 1 ≡ left = omega arith in rw (same, ne_eqb byte 0 other, lt-ltb written n room) refl
+  phase-byte n (suc left) some room = grind (arith, ne_eqb, lt-ltb)
 
   phase-over : (n left : ℕ) → left ≢ 0 → n ≤ written → next_phase n (Within full left written) byte ≡ Overlong
   phase-over n zero some room = absurd (some refl)
-  phase-over n (suc left) some room = rw (ne_eqb byte 0 other, le-ltb written n room) refl
+  phase-over n (suc left) some room = grind (arith, ne_eqb, le-ltb)
 
 module _ {source old new : List ℕ} {at left written : ℕ} {full : Bool} (s : IsRead source old at new full left written) where
   abbrev piece : List ℕ
@@ -117,12 +117,7 @@ module _ {source old new : List ℕ} {at left written : ℕ} {full : Bool} (s : 
       let long = whole-count s.front at-stop in
       let counts = within-at piece (length new) full left written w.after.phased.phase_is (omega (arith, w.len, w.fits)) in
       let buffer = quiet-written old new piece _ w in
-      elim (cases_eq left 0) [
-        | inl none ↦ rw (if-whole none) (ended-by (ends.Message written) count
-            (end-whole piece (length old) s.front.begins w.fits (omega arith) ∙ ap (λ (k : ℕ). ends.Message k) (sym counts.0)) (omega arith) buffer)
-        | inr some ↦ rw (if-broken some) (ended-by (ends.Broken written) count
-            (end-broken piece (length old) s.front.begins w.fits (omega arith) ∙ ap (λ (k : ℕ). ends.Broken k) (sym counts.0)) (omega arith) buffer)
-      ]
+      grind (arith, cases_eq, ended-by, end-whole, piece, end-broken)
 
   -- another byte
   module _ (more : at < length source) (other : get_or source at 0 ≢ 0) where

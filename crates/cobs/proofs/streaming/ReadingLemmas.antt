@@ -52,13 +52,13 @@ written-long out buffer long =
     let none : drop (length out) buffer ≡ [] = nil_from_length _ (omega (arith, length-drop (length out) buffer)) in
     let e : overwritten buffer out ≡ take (length buffer) out = ap (λ (x : List ℕ). take (length buffer) out ++ x) none ∙ append-nil (take (length buffer) out) in
     let len : length (overwritten buffer out) ≡ length buffer = omega (arith, ap length e, length-take (length buffer) out) in
-    e ∙ ap (λ (k : ℕ). take k out) (sym len)
+    grind arith
 
 HasDecoded-written : (outcome : Outcome) (piece buffer : List ℕ) → outcomes_at piece 0 (length buffer) ≡ outcome ∷ [] → HasDecoded outcome (overwritten buffer (output piece)) piece
 HasDecoded-written outcome [] buffer e = absurd cc
 HasDecoded-written (Message message) (byte ∷ bytes) buffer e = tt
 HasDecoded-written (Broken count) (byte ∷ bytes) buffer e = let fits = broken-fits (byte ∷ bytes) count (length buffer) cc in written-fits (output (byte ∷ bytes)) buffer count fits.0 fits.1
-HasDecoded-written TooLong (byte ∷ bytes) buffer e = written-long (output (byte ∷ bytes)) buffer (long-exceeds (byte ∷ bytes) (length buffer) cc)
+HasDecoded-written TooLong (byte ∷ bytes) buffer e = grind (arith, written-long, long-exceeds)
 
 -- the contents of the buffer after a piece that a decoder has taken
 pub HasDecoded-taken : {buffer buffer' : List ℕ} {phase phase' : Phase} {end : PieceEnd} {count : ℕ} (bytes : List ℕ) → (t : TakesPiece buffer phase bytes (Some (end, count)) buffer' phase')
@@ -70,7 +70,7 @@ HasDecoded-taken {buffer} {buffer'} {phase} {phase'} {end} {count} bytes t p h =
     let outcome : outcomes_at (unended front) 0 (length buffer) ≡ outcome_at end buffer' ∷ [] =
     ap (λ (x : List Outcome). x ++ outcomes_at (unended front) 0 (length buffer)) (sym none) ∙ sym (stream_outcomes-push front 0 (length buffer)) ∙ ap (λ (x : List ℕ). stream_outcomes x (length buffer)) (sym cut) ∙ sym (t.takes.outcomes p h) in
     let written : buffer' ≡ overwritten buffer (output (unended front)) = t.holds p h ∙ ap (λ (x : List ℕ). overwritten buffer (output x)) (ap last_piece cut ∙ last_piece-zero front (no_outcomes front (length buffer) none)) in
-    subst (λ (b : List ℕ). HasDecoded (outcome_at end buffer') b (unended front)) (sym written) (HasDecoded-written _ (unended front) buffer outcome)
+    grind (arith, HasDecoded-written)
 
 -- bytes after a stream t in which no piece has ended
 abbrev pub EndsFirst-behind : (t : List ℕ) {bytes behind : List ℕ} {n : ℕ} {outcome : Outcome} → stream_outcomes t n ≡ [] → EndsFirstIn (unended t) bytes n outcome behind → EndsFirst (t ++ bytes) n outcome behind
@@ -105,7 +105,7 @@ HasTaken-any buffer phase flag q some h = record {
 -- ONE MORE READ
 
 Runs-push : {S : Type 0} (step : S → Read → S → Type 0) (a : S) (reads : List Read) (b c : S) (read : Read) → Runs step a reads b → step b read c → Runs step a (reads ++ read ∷ []) c
-Runs-push step a [] b c read r s = (c, subst (λ x. step x read c) (sym r) s, refl)
+Runs-push step a [] b c read r s = grind arith
 Runs-push step a (first ∷ reads) b c read r s = (r.0, r.1, Runs-push step r.0 reads b c read r.2 s)
 
 given-push : (front : List ℕ) (reads : List Read) (read : Read) → front ++ all_given (reads ++ read ∷ []) ≡ front ++ all_given reads ++ bytes_given read
@@ -297,7 +297,7 @@ front_nonempty xs n within some = grind (arith, length-take)
 pub front_rest : (xs : List ℕ) (n count : ℕ) → count ≤ n → drop count (take n xs) ≡ take (n - count) (drop count xs)
 front_rest xs n count h =
     let e : n ≡ count + (n - count) = omega arith in
-    ap (λ (k : ℕ). drop count (take k xs)) e ∙ drop-take count (n - count) xs
+    grind (arith, drop-take)
 
 -- a range that ends at its start is empty
 pub empty_range : (xs : List ℕ) (from to : ℕ) → from ≡ to → take (to - from) (drop from xs) ≡ []

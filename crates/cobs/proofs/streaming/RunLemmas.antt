@@ -71,11 +71,8 @@ quiet_step buffer phase x nz quiet = grind (arith, ne_eqb, cases_lt, drop-set-lt
 
 quiet_rest : (xs buffer buffer' : List ℕ) (phase phase' : Phase) → HasNoZero xs → FeedsQuietly buffer phase xs buffer' phase' →
     (written_in phase ≤ written_in phase') × ((k : ℕ) → written_in phase' ≤ k → drop k buffer' ≡ drop k buffer)
-quiet_rest [] buffer buffer' phase phase' nz f = (omega (arith, ap written_in f.1), λ k _. ap (drop k) f.0)
-quiet_rest (x ∷ xs) buffer buffer' phase phase' nz f =
-    let one = quiet_step buffer phase x (All-head (λ b. b ≢ 0) x xs nz) f.0 in
-    let more = quiet_rest xs (next_buffer buffer phase x) buffer' (next_phase (length buffer) phase x) phase' (All-tail (λ b. b ≢ 0) x xs nz) f.1 in
-    (omega (arith, one.0, more.0), λ k past. more.1 k past ∙ one.1 k (omega (arith, more.0)))
+quiet_rest [] buffer buffer' phase phase' nz f = grind arith
+quiet_rest (x ∷ xs) buffer buffer' phase phase' nz f = grind (arith, quiet_step, All-head, All-tail, quiet_rest xs (next_buffer buffer phase x) buffer' (next_phase (length buffer) phase x) phase' (All-tail (λ b. b ≢ 0) x xs nz) f.1)
 
 written_by : (inner : UnbufferedDecoder) → written_in (phase_of inner) ≤ inner.written
 written_by inner = grind arith

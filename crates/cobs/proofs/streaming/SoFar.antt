@@ -60,7 +60,7 @@ left_nothing (x ∷ xs) ys e = cc
 
 zero_or_none : (xs : List ℕ) → Contains xs 0 ⊎ HasNoZero xs
 zero_or_none [] = inr (All-nil (λ b. b ≢ 0))
-zero_or_none (zero ∷ xs) = inl (0, omega arith, refl)
+zero_or_none (zero ∷ xs) = grind arith
 zero_or_none (suc b ∷ xs) = elim (zero_or_none xs) [ inl h ↦ inl (suc h.0, omega arith, h.2) | inr h ↦ inr (All-cons (λ b. b ≢ 0) (suc b) xs (λ e. omega arith) h) ]
 
 -- WHAT A BROKEN PIECE DECODES TO IS WITHIN THE BUFFER
@@ -86,7 +86,7 @@ count-within end buffer t n h e = grind (arith, fits-stream)
 -- before any byte
 FeedsEach-append : (done more buffer₀ buffer buffer' : List ℕ) (phase₀ phase phase' : Phase) → FeedsEach buffer₀ phase₀ done buffer phase → FeedsEach buffer phase more buffer' phase'
     → FeedsEach buffer₀ phase₀ (done ++ more) buffer' phase'
-FeedsEach-append [] more buffer₀ buffer buffer' phase₀ phase phase' f g = subst (λ (b : List ℕ). FeedsEach b phase₀ more buffer' phase') f.0 (subst (λ (q : Phase). FeedsEach buffer q more buffer' phase') f.1 g)
+FeedsEach-append [] more buffer₀ buffer buffer' phase₀ phase phase' f g = grind arith
 FeedsEach-append (byte ∷ done) more buffer₀ buffer buffer' phase₀ phase phase' f g =
     (f.0, f.1, f.2, f.3, FeedsEach-append done more f.1 buffer buffer' f.2 phase phase' f.4 g)
 
@@ -192,4 +192,4 @@ module _ {buffer₀ buffer buffer' : List ℕ} {phase₀ phase phase' : Phase} {
       = ap (λ (x : List ℕ). stream_outcomes (p ++ x) n) (sym (take-append-drop (i + count) bytes)) ∙ outcomes_more p _ (drop (i + count) bytes) n in
       let nothing : stream_outcomes (p ++ _) n ≡ [] = left_nothing _ _ (sym whole ∙ none) in
       let nil : found ++ outcome_at end buffer' ∷ [] ≡ [] = alike-nil _ (rw nothing at ((SoFar-piece end count s t).alike p h)) in
-      absurd (omega (arith, ap length nil, length-append found (outcome_at end buffer' ∷ [])))
+      grind (arith, length-append)

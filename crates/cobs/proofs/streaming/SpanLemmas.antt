@@ -34,18 +34,8 @@ joined bytes buffer buffer' buffer'' phase phase' phase'' run more f g = grind (
 fed_walked : (bytes buffer : List ℕ) (code left count : ℕ) → HasNoZero bytes → (code ≡ 255 → length bytes ≤ left) → (left < length bytes → length bytes < 254) → count + length bytes ≤ length buffer
     → let w = walked code left bytes in FeedsQuietly buffer (Within (eqb code 255) left count) bytes (over count buffer w.0) (Within (eqb w.1 255) w.2 (count + length bytes))
 fed_walked [] buffer code left count nz full few room = grind (arith, over-nil)
-fed_walked (x ∷ xs) buffer code (suc left) count nz full few room =
-    let some : 0 < x = omega (arith, All-head (λ b. b ≢ 0) x xs nz) in
-    let more : count < length buffer = omega arith in
-    let again = fed_walked xs (set buffer count x) code left (count + 1) (All-tail (λ b. b ≢ 0) x xs nz) (λ e. omega (arith, full e)) (λ h. omega (arith, few (omega arith))) (omega (arith, length-set buffer count x)) in
-    grind (arith, ne_eqb, lt-ltb, over-cons)
-fed_walked (x ∷ xs) buffer code zero count nz full few room =
-    let some : 0 < x = omega (arith, All-head (λ b. b ≢ 0) x xs nz) in
-    let more : count < length buffer = omega arith in
-    let w = walked x (x - 1) xs in
-    let again = fed_walked xs (set buffer count 0) x (x - 1) (count + 1) (All-tail (λ b. b ≢ 0) x xs nz) (λ e. omega (arith, few (omega arith))) (λ h. omega (arith, few (omega arith))) (omega (arith, length-set buffer count 0)) in
-    subst (λ (v : Bool). FeedsQuietly buffer (Within v zero count) (x ∷ xs) (over count buffer (0 ∷ w.0)) (Within (eqb w.1 255) w.2 (count + length (x ∷ xs)))) (sym (ne_eqb code 255 (λ e. absurd (omega (arith, full e)))))
-    (grind (arith, ne_eqb, lt-ltb, over-cons))
+fed_walked (x ∷ xs) buffer code (suc left) count nz full few room = grind (arith, All-head, All-tail, length-set, ne_eqb, lt-ltb, over-cons, fed_walked xs (set buffer count x) code left (count + 1) (All-tail (λ b. b ≢ 0) x xs nz) (λ e. omega (arith, full e)) (λ h. omega (arith, few (omega arith))) (omega (arith, length-set buffer count x)))
+fed_walked (x ∷ xs) buffer code zero count nz full few room = grind (arith, All-head, All-tail, length-set, over, ne_eqb, lt-ltb, over-cons, fed_walked xs (set buffer count 0) x (x - 1) (count + 1) (All-tail (λ b. b ≢ 0) x xs nz) (λ e. omega (arith, few (omega arith))) (λ h. omega (arith, few (omega arith))) (omega (arith, length-set buffer count 0)))
 
 -- n bytes that were written to the front of a part
 pub part_put : (at n : ℕ) (dest ys xs : List ℕ) → ys ≡ xs ++ drop n (take (length dest - at) (drop at dest)) → put_mid at (length dest - at) dest ys ≡ take at dest ++ (xs ++ drop (at + n) dest)
@@ -90,7 +80,7 @@ code_by (suc joint) = 1
 
 pub code_by-full : (joint : ℕ) → eqb joint 0 ≡ eqb (code_by joint) 255
 code_by-full zero = refl
-code_by-full (suc joint) = ne_eqb (suc joint) 0 (λ e. omega (arith, e))
+code_by-full (suc joint) = grind (arith, ne_eqb)
 
 full_by : (joint : ℕ) → code_by joint ≡ 255 → joint ≡ 0
 full_by zero is = refl
@@ -123,18 +113,16 @@ module _ (inner : UnbufferedDecoder) (len : ℕ) (before xs : List ℕ) (room : 
 pub block_fed : (inner : UnbufferedDecoder) (run : ℕ) (dest bytes new : List ℕ) → inner.too_long ≡ 0 → run ≤ inner.missing → inner.written + run ≤ length dest → run ≤ length bytes
     → HasNoZero (take run bytes) → new ≡ take inner.written dest ++ (take run bytes ++ drop (inner.written + run) dest)
     → FeedsQuietly dest (phase_of inner) (take run bytes) new (phase_of (record { written = inner.written + run; missing = inner.missing - run; joint = inner.joint; too_long = inner.too_long }))
-block_fed inner zero dest bytes new going most room within nz is = (is ∙ ap (λ (k : ℕ). take inner.written dest ++ drop k dest) (omega arith) ∙ take-append-drop inner.written dest, grind arith)
+block_fed inner zero dest bytes new going most room within nz is = grind (arith, take-append-drop)
 block_fed inner (suc run) dest bytes new going most room within nz is =
     let xs : List ℕ = take (suc run) bytes in
     let code : ℕ = code_by inner.joint in
     let long : length xs ≡ suc run = length-take-le (suc run) bytes within in
-    rw (is ∙ ap (λ (k : ℕ). take inner.written dest ++ (xs ++ drop (inner.written + k) dest)) (sym long))
-    (open_fed inner (suc run) dest xs room long going (λ _. most) nz (omega arith) (λ h. absurd (omega arith)) xs code (inner.missing - suc run) inner.joint
-    (ap (λ (k : ℕ). (xs, code, inner.missing - k)) (sym long) ∙ sym (walked-past code inner.missing xs (omega arith))) (code_by-full inner.joint))
+    grind (arith, open_fed, walked-past, code_by-full)
 
 row_ones : (n : ℕ) → walked 1 0 (replicate n 1) ≡ (replicate n 0, 1, 0)
 row_ones zero = refl
-row_ones (suc n) = ap (λ (t : List ℕ × ℕ × ℕ). (0 ∷ t.0, t.1, t.2)) (row_ones n)
+row_ones (suc n) = grind (arith, row_ones n)
 
 -- a row of n blocks without bytes
 pub row_fed : (n : ℕ) (inner : UnbufferedDecoder) (dest bytes new : List ℕ) → 0 < n → n < 254 → inner.too_long ≡ 0 → inner.missing ≡ 0 → inner.joint ≢ 0 → inner.written + n ≤ length dest → take n bytes ≡ replicate n 1

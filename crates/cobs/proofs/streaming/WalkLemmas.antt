@@ -18,19 +18,10 @@ read blocks = (message_of blocks, code_of (last_of blocks), missing (last_of blo
 walked-opened : (code n : ℕ) (ys bytes : List ℕ) → code ≡ length ys + n + 1 → (code ≡ 255 → length bytes ≤ n) → length bytes < 254 → HasNoZero bytes
     → read (opened code n ys bytes) ≡ let w = walked code n bytes in (ys ++ w.0, w.1, w.2)
 unfolding parts_after
-walked-opened code zero ys [] is full few nz = ap (λ (k : ℕ). (ys ++ [], code, k)) (omega (arith, length-append ys []))
-walked-opened code (suc n) ys [] is full few nz = ap (λ (k : ℕ). (ys ++ [], code, k)) (omega (arith, length-append ys []))
-walked-opened code (suc n) ys (b ∷ bytes) is full few nz =
-    let w = walked code n bytes in
-    ap (λ (l : List ℕ). read ((code ∷ l) ∷ parts_after n bytes)) (sym (append_assoc ys (b ∷ []) (take n bytes)))
-    ∙ walked-opened code n (ys ++ b ∷ []) bytes (omega (arith, length-append ys (b ∷ []))) (λ e. omega (arith, full e)) (omega arith) (All-tail (λ b. b ≢ 0) b bytes nz)
-    ∙ ap (λ (l : List ℕ). (l, w.1, w.2)) (append_assoc ys (b ∷ []) w.0)
-walked-opened code zero ys (c ∷ bytes) is full few nz =
-    let rest : List (List ℕ) = opened c (c - 1) [] bytes in
-    let w = walked-opened c (c - 1) [] bytes (omega (arith, All-head (λ b. b ≢ 0) c bytes nz)) (λ e. omega arith) (omega arith) (All-tail (λ b. b ≢ 0) c bytes nz) in
-    ap (λ (v : Bool). (((ys ++ []) ++ (if v then [] else 0 ∷ [])) ++ message_of rest, (read rest).1, (read rest).2)) (ne_eqb code 255 (λ e. absurd (omega (arith, full e))))
-    ∙ ap (λ (l : List ℕ). ((l ++ (0 ∷ [])) ++ message_of rest, (read rest).1, (read rest).2)) (append-nil ys)
-    ∙ ap (λ (l : List ℕ). (l, (read rest).1, (read rest).2)) (append_assoc ys (0 ∷ []) (message_of rest)) ∙ ap (λ (t : List ℕ × ℕ × ℕ). (ys ++ (0 ∷ t.0), t.1, t.2)) w
+walked-opened code zero ys [] is full few nz = grind (arith, length-append)
+walked-opened code (suc n) ys [] is full few nz = grind (arith, length-append)
+walked-opened code (suc n) ys (b ∷ bytes) is full few nz = grind (arith, read, append_assoc, length-append, All-tail, walked-opened code n (ys ++ b ∷ []) bytes (omega (arith, length-append ys (b ∷ []))) (λ e. omega (arith, full e)) (omega arith) (All-tail (λ b. b ≢ 0) b bytes nz))
+walked-opened code zero ys (c ∷ bytes) is full few nz = grind (arith, opened, All-head, All-tail, read, ne_eqb, append-nil, append_assoc, walked-opened c (c - 1) [] bytes (omega (arith, All-head (λ b. b ≢ 0) c bytes nz)) (λ e. omega arith) (omega arith) (All-tail (λ b. b ≢ 0) c bytes nz))
 
 -- a piece that begins with this code
 walked-piece : (first : ℕ) (bytes : List ℕ) → length bytes < 254 → HasNoZero (first ∷ bytes)
@@ -46,19 +37,19 @@ as_piece first bytes w few nz = let e = w ∙ sym (walked-piece first bytes few 
 pub walked-append : (code n : ℕ) (xs ys : List ℕ) → walked code n (xs ++ ys) ≡ let w = walked code n xs in let v = walked w.1 w.2 ys in (w.0 ++ v.0, v.1, v.2)
 walked-append code zero [] ys = refl
 walked-append code (suc n) [] ys = refl
-walked-append code (suc n) (x ∷ xs) ys = ap (λ (t : List ℕ × ℕ × ℕ). (x ∷ t.0, t.1, t.2)) (walked-append code n xs ys)
-walked-append code zero (x ∷ xs) ys = ap (λ (t : List ℕ × ℕ × ℕ). (0 ∷ t.0, t.1, t.2)) (walked-append x (x - 1) xs ys)
+walked-append code (suc n) (x ∷ xs) ys = grind (arith, walked-append code n xs ys)
+walked-append code zero (x ∷ xs) ys = grind (arith, walked-append x (x - 1) xs ys)
 
 -- before the next code
 pub walked-past : (code n : ℕ) (bytes : List ℕ) → length bytes ≤ n → walked code n bytes ≡ (bytes, code, n - length bytes)
-walked-past code n [] past = ap (λ (k : ℕ). ([], code, k)) (omega arith)
-walked-past code (suc n) (b ∷ bytes) past = ap (λ (t : List ℕ × ℕ × ℕ). (b ∷ t.0, t.1, t.2)) (walked-past code n bytes (omega arith)) ∙ ap (λ (k : ℕ). (b ∷ bytes, code, k)) (omega arith)
+walked-past code n [] past = grind arith
+walked-past code (suc n) (b ∷ bytes) past = grind (arith, walked-past code n bytes (omega arith))
 walked-past code zero (c ∷ bytes) past = absurd (omega arith)
 
 -- with a code among them, the one before doesn't matter
 pub walked-any : (code code' n : ℕ) (bytes : List ℕ) → n < length bytes → walked code n bytes ≡ walked code' n bytes
 walked-any code code' n [] some = absurd (omega arith)
-walked-any code code' (suc n) (b ∷ bytes) some = ap (λ (t : List ℕ × ℕ × ℕ). (b ∷ t.0, t.1, t.2)) (walked-any code code' n bytes (omega arith))
+walked-any code code' (suc n) (b ∷ bytes) some = grind (arith, walked-any code code' n bytes (omega arith))
 walked-any code code' zero (c ∷ bytes) some = refl
 
 pub length-walked : (code n : ℕ) (bytes : List ℕ) → length (walked code n bytes).0 ≡ length bytes

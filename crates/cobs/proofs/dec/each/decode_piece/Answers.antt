@@ -45,10 +45,7 @@ pub by_byte-preserved : goal.by_byte-preserved
 by_byte-preserved c =
     let more = c.by_byte-test.true in
     let none = c.if-left-ne0.false in
-    elim c.if-code.branch [
-      | then-code+else-written-dest-2 w ↦ rw (w.dest-is, w.written-is) (read-zero c.by_byte.invariant more c.if-byte-eq0.false none (ne_eqb _ 255 w.if-code.true) w.if-written-dest-2.false)
-      | else-code w ↦ rw (w.dest-is, w.written-is) (read-full c.by_byte.invariant more c.if-byte-eq0.false none (eq-eqb _ 255 w.if-code.false))
-    ]
+    grind (arith, read-zero, ne_eqb, else-code, read-full, eq-eqb)
 
 -- the end of the source, or a zero
 pub returns-clause-answer : goal.returns-clause-answer

@@ -12,7 +12,7 @@ returns-in_err-decode_in_place_report-clause-only c piece m stated = grind arith
 pub returns-clause-reads : goal.returns-clause-reads
 returns-clause-reads c m r =
     let stated = subst (λ x. ReportsMessage x c.decode_in_place_report.new.buf m) c.in_ok-decode_in_place_report.was (c.decode_in_place_report.ensures.reads m r) in
-    subst (λ n. BeginsWith c.decode_in_place_report.new.buf n m) (sym c.frame_size.ensures.size) stated
+    grind arith
 
 pub returns-clause-only : goal.returns-clause-only
 returns-clause-only c piece m stated = grind arith

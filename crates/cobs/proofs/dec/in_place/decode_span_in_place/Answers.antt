@@ -80,7 +80,7 @@ moved c = grind (arith, nonzero)
 pub returns-then-not-copy_xored_short-clause-taken : goal.returns-then-not-copy_xored_short-clause-taken
 returns-then-not-copy_xored_short-clause-taken c few nz ends =
     let behind = rw (← xor_each-zero (take (c.args.len - 1) (drop 1 c.args.buffer.now))) at (part-nonzero 1 (c.args.len - 1) c.args.len c.args.buffer.now nz (omega arith)) in
-    absurd (let taken = c.if-not-copy_xored_short.ensures.taken behind in cc)
+    grind arith
 
 pub write_zeros_at_codes-left-requires-clause-nonzero : goal.write_zeros_at_codes-left-requires-clause-nonzero
 write_zeros_at_codes-left-requires-clause-nonzero c = let m = moved (goal.at.write_zeros_at_codes-left-requires-clause-nonzero c).After-move_to_front in rw (front m) (nonzero m)

@@ -20,7 +20,7 @@ no_leading (byte ∷ bytes) nz = grind arith
 nonzero_first : (source : List ℕ) (n : ℕ) → 0 < length (take n source) → HasNoZero (take n source) → get_or source 0 0 ≢ 0
 nonzero_first source zero some none = absurd (omega arith)
 nonzero_first [] (suc n) some none = absurd (omega arith)
-nonzero_first (byte ∷ source) (suc n) some none = All-head (λ b. b ≢ 0) byte (take n source) none
+nonzero_first (byte ∷ source) (suc n) some none = grind (arith, All-head)
 
 pub returns-then-is_empty-clause-taken : goal.returns-then-is_empty-clause-taken
 returns-then-is_empty-clause-taken c short room = grind (arith, eqb-true, length-head)

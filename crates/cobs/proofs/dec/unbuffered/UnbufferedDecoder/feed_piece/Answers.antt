@@ -31,7 +31,7 @@ ended_at true (suc left) count n phase' result f none = grind (arith, f.returned
 ended_by : (written missing joint too_long n : ℕ) (phase' : Phase) (result : Result (Option ℕ) DecodeError) → too_long ≡ 0 → 0 < written
     → FeedsByTable n (phase_of (record { written = written; missing = missing; joint = joint; too_long = too_long })) 0 result phase' → end_reported result ≢ None
 ended_by zero missing joint too_long n phase' result going some f = absurd (omega arith)
-ended_by (suc count) missing joint too_long n phase' result going some f = ended_at (eqb joint 0) missing count n phase' result (rw going at f)
+ended_by (suc count) missing joint too_long n phase' result going some f = grind (arith, ended_at)
 
 pub returns-then-not-has_vectors : goal.returns-then-not-has_vectors
 returns-then-not-has_vectors c = grind (arith, xor_each-zero)

@@ -23,4 +23,4 @@ returns-clause-stop c more nz =
       | inr past ↦ absurd (nz (subst (λ (k : ℕ). get_or bytes k 0 ≡ 0) (all past) (c.zero_or_len-end.ensures.stop (omega (arith, all past)))))
     ] in
     let stop = e.stop (omega arith) in
-    rw (xor_each-zero (take end bytes), get_or-take end bytes run 0 short) at stop
+    grind (arith, xor_each-zero, get_or-take)

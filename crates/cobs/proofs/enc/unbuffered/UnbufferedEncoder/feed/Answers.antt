@@ -12,11 +12,7 @@ use Rattle.cobs.proofs.enc.unbuffered.UnbufferedEncoder.feed.Goals as goal
 none : (c : Joined-then-taken-gt253) → HasRoomFor (length c.args.dest.now) (reached_by c.args.self.now) (c.args.byte ∷ []) → ⊥
 none c h =
     let room = room-only c.args.self.now (length c.args.dest.now) c.args.byte h in
-    elim c.then-taken-gt253.branch [
-      | then-taken-gt253-via-then-taken-gt253 w ↦ omega (arith, w.if-taken-gt253.true)
-      | then-taken-gt253-via-else-taken-gt253+then-room-self w ↦ omega (arith, w.if-room-self.true)
-      | then-taken-gt253-via-else-taken-gt253+else-room-self+then-room-self-2 w ↦ omega (arith, w.if-room-self-2.true)
-    ]
+    grind (arith, then-taken-gt253-via-then-taken-gt253)
 
 pub returns-then-taken-gt253-clause-room : goal.returns-then-taken-gt253-clause-room
 returns-then-taken-gt253-clause-room c = (λ t. cc, λ h. absurd (none c h))

@@ -12,11 +12,7 @@ use Rattle.cobs.proofs.enc.unbuffered.UnbufferedEncoder.feed_len.Goals as goal
 none : (c : Joined-then-code-gt-FULL_BLOCK_BYTES) → HasRoomFor (length c.args.dest.now) (reached_by c.args.self.now) (c.args.byte ∷ []) → ⊥
 none c h =
     let room = room-only c.args.self.now (length c.args.dest.now) c.args.byte h in
-    elim c.then-code-gt-FULL_BLOCK_BYTES.branch [
-      | then-code-gt-FULL_BLOCK_BYTES-via-then-code-gt-FULL_BLOCK_BYTES w ↦ omega (arith, w.if-code-gt-FULL_BLOCK_BYTES.true)
-      | then-code-gt-FULL_BLOCK_BYTES-via-else-code-gt-FULL_BLOCK_BYTES+then-room-self w ↦ omega (arith, w.if-room-self.true)
-      | then-code-gt-FULL_BLOCK_BYTES-via-else-code-gt-FULL_BLOCK_BYTES+else-room-self+then-room-self-2 w ↦ omega (arith, w.if-room-self-2.true)
-    ]
+    grind (arith, then-code-gt-FULL_BLOCK_BYTES-via-then-code-gt-FULL_BLOCK_BYTES)
 
 pub returns-then-code-gt-FULL_BLOCK_BYTES-clause-room : goal.returns-then-code-gt-FULL_BLOCK_BYTES-clause-room
 returns-then-code-gt-FULL_BLOCK_BYTES-clause-room c = (λ t. cc, λ h. absurd (none c h))
