@@ -2,12 +2,10 @@
 use Rattle.std.proofs.Common.{◌≡◌, ◌≢◌, ℕ, ◌+◌, ◌-◌, ◌<◌, ◌≤◌, ◌⊎◌, Bool, true, false, cond, List, [], ◌∷◌, ◌++◌, length, take, drop, get_or, set, Ok, Err, refl, sym, ap, ◌∙◌, arith, inl, inr, append_assoc, append-nil, drop_at, length-append, length-drop, length-take-le, take-append-drop, take_all, take_at}
 use Rattle.std.proofs.lemmas.Bool.{eq-eqb, ne_eqb, true≢false}
 use Rattle.std.proofs.lemmas.List.{drop-drop, drop-take, drop_all, drop_more, get_or-drop, get_or-take, set_at, take-take}
-use Rattle.std.specs.Result.{result_map_both}
 use Rattle.cobs.specs.Decode.{head_result}
 use Rattle.cobs.specs.Grammar.{HasNoZero, IsBlock, joint}
 use Rattle.cobs.specs.Overwritten.{overwritten}
-use Rattle.cobs.specs.Piece.{is_whole, kept_output, output}
-use Rattle.cobs.specs.declared.error.DecodeError.{DecodeError}
+use Rattle.cobs.specs.Piece.{is_whole, kept_output}
 use Rattle.cobs.specs.declared.error.DecodeError.TheVariants.{InvalidFrame}
 use Rattle.cobs.proofs.decoding.KeptLemmas.{all-kept, block-whole, broken-part, front-kept, front-whole, kept-broken, kept_output-empty}
 use Rattle.cobs.proofs.decoding.PieceCuts.{output-last}

@@ -3,7 +3,7 @@ use Rattle.std.proofs.Common.{arith, ◌≡◌, ℕ, ◌<◌, ◌↔◌, Bool, t
 use Rattle.std.proofs.lemmas.Bool.{cases_Bool}
 use Rattle.cobs.specs.Grammar.{Reads}
 use Rattle.cobs.specs.Piece.{output, kept_output, is_whole}
-use Rattle.cobs.specs.Decode.{decoded, decoded_head, message_of_piece, message_of_head}
+use Rattle.cobs.specs.Decode.{decoded, decoded_head}
 use Rattle.cobs.specs.Headline.{IsPiece}
 use Rattle.cobs.specs.declared.error.DecodeError.{DecodeError}
 use Rattle.cobs.specs.declared.error.DecodeError.TheVariants.{InvalidFrame}

@@ -5,7 +5,7 @@ use Rattle.std.specs.List.{concat}
 use Rattle.std.proofs.lemmas.Bool.{ne_eqb}
 use Rattle.std.proofs.lemmas.List.{set_at, length_push}
 use Rattle.std.proofs.lemmas.List.Elements.{All-head, All-nil, All-push}
-use Rattle.cobs.specs.Grammar.{IsBlock, bytes_of, joint, last_of, lone_block, message_of, IsFrameOf, IsOpenFrame}
+use Rattle.cobs.specs.Grammar.{IsBlock, joint, last_of, lone_block, message_of, IsFrameOf, IsOpenFrame}
 use Rattle.cobs.specs.OpenBlock.{OpenBlock, AgreeOutside, IsOpenOutput}
 use Rattle.cobs.proofs.format.GrammarLemmas.{lone_block-is_block}
 use Rattle.std.proofs.lemmas.List.Folds.{concat-append}

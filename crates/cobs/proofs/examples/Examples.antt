@@ -1,5 +1,5 @@
 -- Worked cases of the definitions and of the laws: each law says something of some frame, and the premises that it names are needed.
-use Rattle.std.proofs.Common.{◌≡◌, ◌≢◌, ℕ, List, [], ◌∷◌, ◌++◌, replicate, map, refl, arith, ◌<◌, true, All, Some, None, sym, subst, ⊎_elim}
+use Rattle.std.proofs.Common.{◌≡◌, ◌≢◌, ℕ, List, [], ◌∷◌, ◌++◌, replicate, map, refl, arith, true, All, Some, None, sym, subst, ⊎_elim}
 use Rattle.std.proofs.lemmas.List.Elements.{All-cons, All-nil, All-head, All-replicate}
 use Rattle.std.proofs.lemmas.Bool.{true≢false}
 use Rattle.cobs.specs.Grammar.{IsBlock, IsFrameOf, Reads, IsFrame, IsCanonical, IsEncodedFrame, lone_block}

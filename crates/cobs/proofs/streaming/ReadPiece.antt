@@ -1,6 +1,6 @@
 -- The first piece of a source, read byte by byte into a buffer: `IsRead` says how far. A byte that has room keeps it
 -- (`read-byte`, `read-full`, `read-zero`); one without room, a zero or the source's end make it the answer (`Ended`).
-use Rattle.std.proofs.Common.{◌≡◌, ◌≢◌, ◌∙◌, ◌+◌, ◌-◌, ◌<◌, ◌≤◌, ℕ, zero, suc, Bool, true, false, eqb, List, [], ◌∷◌, length, take, drop, get_or, set, min, Option, Some, None, refl, sym, ap, arith, inl, inr, length-drop, length-set}
+use Rattle.std.proofs.Common.{◌≡◌, ◌≢◌, ◌∙◌, ◌+◌, ◌-◌, ◌<◌, ◌≤◌, ℕ, zero, suc, Bool, true, false, eqb, List, [], ◌∷◌, length, take, drop, get_or, set, min, Option, Some, None, refl, sym, ap, arith, length-drop, length-set}
 use Rattle.std.proofs.lemmas.Bool.{cases_eq, eq-eqb, le-leb, le-ltb, lt-leb, lt-ltb, ne_eqb}
 use Rattle.std.proofs.lemmas.List.{drop-drop, drop_more, get_or-drop}
 use Rattle.cobs.specs.Decode.{first_output, leading_zeros}

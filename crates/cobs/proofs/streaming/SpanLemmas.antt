@@ -1,6 +1,6 @@
 -- Bytes after an open block in which no full block ends, fed as a whole: they are written with a zero over each code
 -- (`walked`). By the machine's step, byte by byte.
-use Rattle.std.proofs.Common.{◌≡◌, ◌≢◌, ℕ, zero, suc, ◌+◌, ◌-◌, ◌<◌, ◌≤◌, Bool, eqb, List, [], ◌∷◌, ◌++◌, length, set, take, drop, refl, sym, ap, ◌∙◌, subst, arith, inl, inr, length-take-le, length-drop, length-set, replicate, take-append-drop}
+use Rattle.std.proofs.Common.{◌≡◌, ◌≢◌, ℕ, zero, suc, ◌+◌, ◌-◌, ◌<◌, ◌≤◌, Bool, eqb, List, [], ◌∷◌, ◌++◌, length, set, take, drop, refl, sym, ap, ◌∙◌, arith, inl, inr, length-take-le, length-drop, length-set, replicate, take-append-drop}
 use Rattle.std.proofs.lemmas.List.{append-nil, drop_all, drop-drop, length-replicate, take_rest}
 use Rattle.std.proofs.Math.Seq.{drop-append_seam, take-add, take-append_seam}
 use Rattle.std.proofs.lemmas.List.Elements.{All-head, All-tail}

@@ -1,3 +1,5 @@
+-- The whole source was taken from an encoder that had taken nothing (`start-after`), and closing its last block ends the
+-- frame.
 use Rattle.std.proofs.Common.{◌≡◌, [], refl, ◌∙◌, arith}
 use Rattle.std.proofs.lemmas.Grind.{common_steps}
 use Rattle.cobs.proofs.encoding.TakingLemmas.{all-rest, start-after, start-len, start-taken}

@@ -1,3 +1,4 @@
+-- The outcomes of the pieces among the first `at` bytes are in the list (`SoFar`).
 use Rattle.std.proofs.Common.{◌≡◌, ◌≤◌, ◌-◌, length, take}
 use Rattle.cobs.specs.Messages.{outcomes_in}
 use Rattle.cobs.proofs.streaming.SoFar.{SoFar}

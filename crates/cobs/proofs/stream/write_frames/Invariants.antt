@@ -1,3 +1,4 @@
+-- The frames of the messages so far are written, and they end within the room that was counted for them.
 use Rattle.std.proofs.Common.{◌≤◌, take, length}
 use Rattle.cobs.specs.Messages.{AreFrames, messages_in, room_for_frames}
 use Rattle.cobs.proofs.stream.write_frames.Given as goal

@@ -1,3 +1,4 @@
+-- A byte that ends no piece, and one that ends it, as `law_17` says.
 use Rattle.std.proofs.Common.{[], ◌∷◌, refl, sym, ◌∙◌, arith}
 use Rattle.cobs_abi.proofs.decoding.decode_byte.Goals as goal
 

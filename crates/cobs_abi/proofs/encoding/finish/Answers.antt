@@ -1,3 +1,4 @@
+-- The clauses of `finalize` are those of `Finishes` with no bytes added, for a frame that fits and for one that doesn't.
 use Rattle.std.proofs.Common.{◌≢◌, ℕ, drop, length, refl, sym, ap, ◌∙◌, arith}
 use Rattle.std.proofs.lemmas.Bool.{eqb-false}
 use Rattle.cobs_abi.specs.declared.answer.TheConstants.{OK}

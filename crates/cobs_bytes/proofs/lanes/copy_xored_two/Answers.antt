@@ -1,3 +1,5 @@
+-- Two vectors that overlap, changed by the sentinel, are the whole source changed by it (`parts-copied`); a zero is in it
+-- exactly if one of their masks has a bit (`parts-nonzero`, `parts-clear`).
 use Rattle.std.proofs.Common.{arith}
 use Rattle.cobs_bytes.proofs.bytes.XoredLemmas.{parts-clear, parts-nonzero, parts-copied}
 use Rattle.cobs_bytes.proofs.lanes.copy_xored_two.Goals as goal

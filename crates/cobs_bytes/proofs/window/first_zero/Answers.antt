@@ -1,3 +1,5 @@
+-- The lowest bit of the mask is the place of the first zero (`lowest_bit`); if no bit is set, there is no zero
+-- (`zero_mask-none`).
 use Rattle.std.proofs.Common.{◌≡◌, ◌≢◌, ◌<◌, ◌≤◌, ℕ, min, List, length, take, get_or, ap, sym, subst, ◌∙◌, arith, inl, inr, take_all}
 use Rattle.std.proofs.lemmas.Bool.{cases_eq}
 use Rattle.std.specs.Int.Count.{trailing_of_zero}

@@ -1,3 +1,4 @@
+-- The mask of the lanes that differ from the byte is 0, so each of the 32 bytes is that byte (`all_alike`).
 use Rattle.std.proofs.Common.{◌≡◌, ◌≢◌, ℕ, List, [], ◌∷◌, length, take, drop, map, replicate, cond, eqb, not, refl, sym, ap, ◌∙◌, inl, inr, arith, w8}
 use Rattle.std.proofs.lemmas.Bool.{cases_eq, ne_eqb, eqb-true}
 use Rattle.std.proofs.lemmas.Simd.{bitmask_splat, length-chunk}

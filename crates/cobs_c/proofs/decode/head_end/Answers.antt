@@ -1,3 +1,5 @@
+-- The bytes before the first sentinel are the head of the changed bytes, by `law_12`, so its length and the sentinel
+-- after it are the end.
 use Rattle.std.proofs.Common.{ℕ, ap, arith, length, take, length-take-le}
 use Rattle.std.proofs.lemmas.List.{length-map}
 use Rattle.std.specs.Int.Bits.{bit_xor}

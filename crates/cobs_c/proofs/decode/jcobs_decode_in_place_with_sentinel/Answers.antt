@@ -1,3 +1,5 @@
+-- The bytes before the first sentinel, changed by it, are the head of the changed buffer, and so are the result and the
+-- buffer (`front-result`, `front-buffer`). If there are none, nothing is decoded (`sentinel-result`, `sentinel-buffer`).
 use Rattle.std.proofs.Common.{◌∙◌, ◌++◌, ℕ, List, length, drop, ap}
 use Rattle.cobs_abi.specs.Answer.{result_by, head_end}
 use Rattle.cobs.specs.Sentinel.{xor_each}

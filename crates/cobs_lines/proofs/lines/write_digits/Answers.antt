@@ -1,3 +1,5 @@
+-- The digits of the first `at` bytes are written. Digits of two parts are those of both (`encode_with-append`), so a
+-- chunk more is written by its own digits (`Appends-trans`).
 use Rattle.std.proofs.Common.{◌≡◌, ◌+◌, ◌-◌, ◌*◌, ℕ, List, ◌++◌, take, drop, length, sym, ap, ◌∙◌, arith, length-take, length-drop, length-append}
 use Rattle.std.proofs.KnownBytes.{Appends-nil, Appends-trans}
 use Rattle.std.proofs.Math.Seq.{take-add}

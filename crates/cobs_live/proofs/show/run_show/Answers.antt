@@ -1,3 +1,5 @@
+-- What is shown so far is what `show_next` shows, read after read; a fault (`shown-fault`) or the end (`shown-ended`) is
+-- added to it.
 use Rattle.std.proofs.Common.{rules, [], Some}
 use Rattle.std.proofs.KnownBytes.{Consumes-nil}
 use Rattle.cobs_live.proofs.RunLemmas.{HasShownSoFar-live, shown-ended, shown-fault, unfinished-fault}

@@ -1,3 +1,5 @@
+-- The state after the first bytes of the frame and the message so far belong together (`StateAfter`), by the clause
+-- `after` of `feed` for each byte; at the end, the clause `message` decides.
 use Rattle.std.proofs.Common.{◌≡◌, ◌≢◌, ℕ, true, false, List, [], ◌∷◌, ◌++◌, take, get_or, refl, sym, ap, ◌∙◌, subst, take_all, append-nil}
 use Rattle.std.proofs.lemmas.List.{take_more}
 use Rattle.std.proofs.lemmas.List.Elements.{All-get_or}

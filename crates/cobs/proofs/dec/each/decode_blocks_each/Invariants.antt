@@ -1,3 +1,5 @@
+-- Between blocks, the bytes read so far are decoded in place (`DecodedInPlace`). Within one, its first n bytes are moved
+-- (`Moved`), and reading and writing have both advanced by n.
 use Rattle.std.proofs.Common.{◌≡◌, ◌+◌, ◌-◌, ◌<◌, ℕ}
 use Rattle.cobs.proofs.decoding.InPlaceLemmas.{DecodedInPlace}
 use Rattle.cobs.proofs.decoding.MoveLemmas.{Moved}

@@ -1,3 +1,5 @@
+-- The bytes up to the first zero are the head of the buffer (`front_is_head`), so their result is the report
+-- (`in_place_report-decoded`, `in_place_report-rejected`).
 use Rattle.std.proofs.Common.{arith, length-take-le}
 use Rattle.std.proofs.lemmas.Bool.{eqb-false}
 use Rattle.cobs.proofs.decoding.HeadLemmas.{front_is_head}

@@ -1,3 +1,6 @@
+-- The vector has as many bytes as the source, so the buffer is never too short: what `decode_with_sentinel` wrote, cut to
+-- the message's length, is the message (`decoded_head-message`), and its errors are the frame's
+-- (`decoded_head-rejected`). `reads` and `only` follow by `decoded_head_reads`.
 use Rattle.std.proofs.Common.{◌≡◌, ◌<◌, ℕ, length, sym, ap, ◌∙◌, arith, bit_xor, Err, rules}
 use Rattle.std.proofs.lemmas.List.{length-map}
 use Rattle.std.proofs.lemmas.Bool.{eqb-false}

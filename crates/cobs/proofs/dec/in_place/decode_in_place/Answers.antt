@@ -1,5 +1,7 @@
-use Rattle.std.proofs.Common.{arith, sym, subst}
-use Rattle.cobs.specs.Headline.{BeginsWith, ReportsMessage}
+-- The clauses `reads` and `only` are those of `decode_in_place_report`, with the report's `frame_size` in place of the
+-- report.
+use Rattle.std.proofs.Common.{arith, subst}
+use Rattle.cobs.specs.Headline.{ReportsMessage}
 use Rattle.cobs.proofs.dec.in_place.decode_in_place.Goals as goal
 
 pub returns-in_err-decode_in_place_report-clause-reads : goal.returns-in_err-decode_in_place_report-clause-reads

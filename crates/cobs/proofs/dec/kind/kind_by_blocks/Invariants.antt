@@ -1,3 +1,4 @@
+-- The bytes are a frame exactly if those from `read` on are one, since whole blocks are before them (`BlocksBehind`).
 use Rattle.std.proofs.Common.{◌-◌, ◌≤◌, drop, length}
 use Rattle.cobs.proofs.format.KindLemmas.{BlocksBehind}
 use Rattle.cobs.proofs.dec.kind.kind_by_blocks.Given as goal

@@ -1,3 +1,5 @@
+-- Each iteration passes a whole block (`ends-next`) or 32 blocks without bytes (`ends-ones`). A last block that breaks
+-- off is left out with all its bytes (`broken-kept`).
 use Rattle.std.proofs.Common.{◌≡◌, ◌<◌, ℕ, List, length, take, drop, replicate, get_or, bit_xor, arith}
 use Rattle.std.proofs.lemmas.List.{drop-map, length-map, get_or-map, take_all}
 use Rattle.std.proofs.lemmas.List.Elements.{All-get_or}

@@ -1,3 +1,4 @@
+-- If `left` bytes are missing at the start, whole blocks are before `at`: no byte is missing there.
 use Rattle.std.proofs.Common.{◌≡◌, ◌≤◌, ◌-◌, ◌++◌, ℕ, List, length, take}
 use Rattle.cobs.specs.Piece.{last_part, missing}
 use Rattle.cobs.specs.Sentinel.{xor_each}

@@ -1,3 +1,5 @@
+-- The clauses `reads` and `only` follow from `returned` and `buffer` alone, which each of the three ways has
+-- (`decode_reads`): a short frame, a long one, and one that is decoded byte by byte.
 use Rattle.cobs.proofs.decoding.HeadlineLemmas.{bytes_below, decode_reads}
 use Rattle.cobs.proofs.decoding.ReadsLemmas.{frame_piece}
 use Rattle.cobs.proofs.dec.whole.decode.Goals as goal

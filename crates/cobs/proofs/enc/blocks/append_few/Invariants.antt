@@ -1,3 +1,4 @@
+-- The first `read` bytes are taken (`Reaches`), and the open block has room for all the others.
 use Rattle.std.proofs.Common.{◌≡◌, ◌<◌, ◌+◌, ◌-◌, false}
 use Rattle.cobs.specs.Fields.Progress.{reached_at}
 use Rattle.cobs.specs.Internal.Reaches.{Reaches, start_with}

@@ -1,3 +1,4 @@
+-- The first `read` bytes of the source are taken (`TakesFront`).
 use Rattle.std.proofs.Common.{◌≤◌, ◌-◌, length}
 use Rattle.cobs.specs.Fields.Progress.{reached_at}
 use Rattle.cobs.specs.Internal.Taking.{TakesFront}

@@ -1,3 +1,4 @@
+-- The first `read` bytes of the source are taken (`Reaches`), the open block has room for a byte, and a byte is left.
 use Rattle.std.proofs.Common.{◌≡◌, ◌<◌, ◌≤◌, ◌-◌, ◌+◌, false, length}
 use Rattle.cobs.specs.Fields.Progress.{reached_at}
 use Rattle.cobs.specs.Internal.Reaches.{Reaches, start_with}

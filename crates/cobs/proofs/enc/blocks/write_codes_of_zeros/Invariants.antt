@@ -1,3 +1,4 @@
+-- The first `len` bytes of the source are zeros, and as many codes 1 are written.
 use Rattle.std.proofs.Common.{◌≡◌, ◌<◌, ◌-◌, ◌+◌, ◌++◌, length, take, drop, replicate}
 use Rattle.cobs.proofs.enc.blocks.write_codes_of_zeros.Given as goal
 

@@ -1,3 +1,5 @@
+-- The first `read` bytes of the source are taken (`Reaches`); within a part, the first i of its nonzero bytes too, and
+-- all of it fits the open block.
 use Rattle.std.proofs.Common.{◌≡◌, ◌<◌, ◌≤◌, ◌+◌, ◌-◌, false, length}
 use Rattle.cobs.specs.Internal.Reaches.{Reaches, start_with}
 use Rattle.cobs.specs.OpenBlock.{place_at}

@@ -1,3 +1,4 @@
+-- The message's first `taken` bytes are encoded in front of the place where the others are, which are as they were.
 use Rattle.std.proofs.Common.{◌≡◌, drop, take}
 use Rattle.cobs.specs.OpenBlock.{CobsEncoderAfter, end_of}
 use Rattle.cobs.specs.Fields.Progress.{reached_by}

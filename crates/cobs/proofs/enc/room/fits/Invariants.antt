@@ -1,3 +1,5 @@
+-- The blocks that the bytes before `read` need are counted (`blocks_in`), `run` nonzero bytes before `read` are in the
+-- open block, and `first` is the length of the first run, if it is known.
 use Rattle.std.proofs.Common.{◌≡◌, ◌<◌, ◌≤◌, ◌+◌, ◌-◌, length, drop}
 use Rattle.cobs.specs.Internal.Taking.{IsFirstRun}
 use Rattle.cobs.proofs.encoding.RoomLemmas.{blocks_in, behind}

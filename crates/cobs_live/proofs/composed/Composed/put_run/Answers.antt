@@ -1,3 +1,5 @@
+-- What is put is the visible run, and then the escape of the next character (`front_escaped`), if there is one
+-- (`front_ended`).
 use Rattle.std.proofs.Common.{◌≡◌, ◌++◌, ℕ, List, length, take, drop, rules}
 use Rattle.std.proofs.KnownBytes.{Appends-trans}
 use Rattle.std.specs.Char.{encode_utf8}

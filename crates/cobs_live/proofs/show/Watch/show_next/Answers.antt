@@ -1,3 +1,6 @@
+-- A read shows the bytes that it gave, behind those of the stream so far; `RunLemmas` has a lemma for each part of the
+-- state (`more-ended`, `more-left`, `more-tallied`, `more-timed`). On every way out the reads stay a live stream
+-- (`live-next`).
 use Rattle.std.proofs.Common.{◌≡◌, ℕ, Bool, ◌++◌, Option, subst, List, length, take, drop, ap, ◌∙◌, sym, length-take-le, arith}
 use Rattle.std.proofs.KnownBytes.{Appends-kept}
 use Rattle.cobs.specs.Feed.{DecoderAfter}

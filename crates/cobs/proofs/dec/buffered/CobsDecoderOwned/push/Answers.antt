@@ -1,3 +1,4 @@
+-- The clauses `reads` and `only` follow from `pushes` (`push_message`, `push_only`).
 use Rattle.std.proofs.Common.{arith}
 use Rattle.std.proofs.lemmas.Grind.{common_steps}
 use Rattle.cobs.proofs.streaming.PushHeadline.{push_message, push_only}

@@ -1,3 +1,4 @@
+-- A row of the table is one step of the piece: a nonzero byte (`StateAfter-step`), or its end (`StateAfter-end`).
 use Rattle.std.proofs.Common.{arith}
 use Rattle.cobs.proofs.streaming.TableLemmas.{StateAfter-start, StateAfter-step, StateAfter-end, table_state-zero}
 use Rattle.cobs.proofs.dec.state.DecoderState.feed.Goals as goal

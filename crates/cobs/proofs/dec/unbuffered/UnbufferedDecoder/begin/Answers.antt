@@ -1,3 +1,4 @@
+-- `take_copied` is called with sentinel 0, by which XOR changes nothing (`xor_each-zero`).
 use Rattle.std.proofs.Common.{arith}
 use Rattle.cobs.proofs.dec.unbuffered.UnbufferedDecoder.begin.Goals as goal
 use Rattle.cobs_bytes.proofs.bytes.XoredLemmas.{xor_each-zero}

@@ -1,3 +1,5 @@
+-- The result, the buffer and the phase are those of the machine of `Step`, so `Feeds` and the table hold as for the
+-- machine (`Feeds-as`, `FeedsByTable-step`).
 use Rattle.std.proofs.Common.{arith}
 use Rattle.cobs.proofs.streaming.FeedLemmas.{Feeds-as}
 use Rattle.cobs.proofs.streaming.TableLemmas.{FeedsByTable-step}

@@ -1,3 +1,5 @@
+-- No piece has ended in the bytes so far (`TakesPiece`). In the second loop, which passes the rest of a message that is
+-- too long, the phase is `Overlong` while bytes are left.
 use Rattle.std.proofs.Common.{◌≡◌, ◌-◌, ◌<◌, None, length, take}
 use Rattle.cobs.specs.Feed.{Overlong}
 use Rattle.cobs.specs.FeedPiece.{TakesPiece}

@@ -1,6 +1,6 @@
 -- The bytes before a zero are fed quietly (`take_front`, `take_short`), and a zero after them ends the piece; or nothing was
 -- taken (`kept`), and the bytes are fed by the other functions.
-use Rattle.std.proofs.Common.{◌≡◌, ◌≢◌, ◌∙◌, ◌<◌, ◌+◌, List, ℕ, zero, suc, Bool, true, false, eqb, Option, Result, None, refl, sym, arith, get_or, length, take, take_all}
+use Rattle.std.proofs.Common.{◌≡◌, ◌≢◌, ◌∙◌, ◌<◌, ◌+◌, List, ℕ, zero, suc, Bool, true, false, Option, Result, None, refl, sym, arith, get_or, length, take, take_all}
 use Rattle.std.proofs.Math.Seq.{take-length}
 use Rattle.cobs.specs.Feed.{Feeds, Phase}
 use Rattle.cobs.specs.Fields.Decoders.{phase_of, phase_with}

@@ -1,3 +1,5 @@
+-- A short push that was taken at once is one run without an end (`pushed_fed`); otherwise buffer and state are as before,
+-- so `push_long` is called as if at the start.
 use Rattle.std.proofs.Common.{List, ℕ, arith, length}
 use Rattle.std.proofs.Math.Seq.{take-length}
 use Rattle.cobs.proofs.streaming.PushLemmas.{Pushed-start, pushed_none, pushed_fed}

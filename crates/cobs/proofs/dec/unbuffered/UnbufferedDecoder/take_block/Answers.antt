@@ -1,3 +1,5 @@
+-- A code is fed, and then the bytes of its block, which were copied after the output (`copied_put`, `block_fed`):
+-- together they are fed (`joined`).
 use Rattle.std.proofs.Common.{◌≡◌, ◌≢◌, ◌-◌, ◌+◌, ℕ, List, length, take, drop, bit_xor, arith, length-drop, length-take-le}
 use Rattle.std.proofs.lemmas.List.{length-map}
 use Rattle.std.proofs.lemmas.List.Elements.{All-drop, All-take}

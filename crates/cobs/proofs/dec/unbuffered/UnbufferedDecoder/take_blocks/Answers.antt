@@ -1,3 +1,5 @@
+-- The steps are fed one after another (`joined`); each step gets the bytes that are left, XORed with the sentinel
+-- (`rest_xored`).
 use Rattle.std.proofs.Common.{◌≢◌, arith, length-drop, length-take}
 use Rattle.std.proofs.lemmas.List.Elements.{All-drop}
 use Rattle.cobs.specs.Sentinel.{xor_each}

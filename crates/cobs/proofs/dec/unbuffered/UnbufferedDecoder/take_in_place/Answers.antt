@@ -1,3 +1,5 @@
+-- The steps in place are fed one after another (`joined`). A step reads the bytes as they were at the start, since no
+-- step before it wrote at or after the place that is read (`rest_read`).
 use Rattle.std.proofs.Common.{◌-◌, ℕ, List, take, drop, sym, subst, arith}
 use Rattle.cobs.specs.Fields.Decoders.{phase_of}
 use Rattle.cobs.specs.Grammar.{HasNoZero}

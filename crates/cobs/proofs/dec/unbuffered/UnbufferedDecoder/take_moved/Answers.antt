@@ -1,3 +1,5 @@
+-- Bytes that were moved after the output are fed: those of the open block as they are (`kept`), those after it with a
+-- zero over each code (`marked`).
 use Rattle.std.proofs.Common.{arith}
 use Rattle.cobs.proofs.streaming.SpanLemmas.{joint-is, kept, marked}
 use Rattle.cobs.proofs.dec.unbuffered.UnbufferedDecoder.take_moved.Goals as goal

@@ -1,3 +1,5 @@
+-- Each byte is one step more of the encoder (`front-next`), and there is room for it because the frame of the whole
+-- source fits and each byte left needs a place (`next-least`).
 use Rattle.std.proofs.Common.{◌≤◌, List, ℕ, length, length-drop, subst, sym, arith}
 use Rattle.std.proofs.lemmas.List.{drop_more}
 use Rattle.cobs.specs.Fields.Progress.{reached_by}

@@ -1,3 +1,5 @@
+-- The slice holds the message's open frame, so closing its last block makes the frame, and its length is the end
+-- (`end-is`). A frame has no zero (`encoded_nonzero`).
 use Rattle.std.proofs.Common.{ap, ◌∙◌, sym}
 use Rattle.cobs.specs.OpenBlock.{end_of}
 use Rattle.cobs.proofs.encoding.AfterLemmas.{after-place, end-is}

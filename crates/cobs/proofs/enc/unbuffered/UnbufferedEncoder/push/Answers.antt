@@ -1,3 +1,5 @@
+-- Only the clause `fits` is proved here: the length of the frame of all bytes so far is `end_after` (`after-end`), so
+-- there is room for the frame exactly if there is room up to that index, on each way out.
 use Rattle.std.proofs.Common.{append-nil, [], ◌≡◌, refl, ap, arith}
 use Rattle.std.proofs.lemmas.Grind.{common_steps}
 use Rattle.cobs.specs.OpenBlock.{Reached, end_after}

@@ -1,3 +1,5 @@
+-- Only the clause `fits` is proved here, as for `push`: the length of the frame of all bytes so far is `end_after`
+-- (`after-end`), and `has_room` compares that index with the slice (`end-with`).
 use Rattle.std.proofs.Common.{append-nil, [], ◌≡◌, ◌≢◌, ◌+◌, length, refl, sym, ◌∙◌, arith}
 use Rattle.std.proofs.lemmas.Bool.{eqb-false}
 use Rattle.std.proofs.lemmas.Grind.{common_steps}
