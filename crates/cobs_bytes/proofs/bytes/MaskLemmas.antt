@@ -1,6 +1,6 @@
 -- The mask of the zeros among bytes: its lowest bit is the first zero, and without that bit it is the mask of what follows.
 -- By induction on the bytes.
-use Rattle.std.proofs.Common.{min, ◌≡◌, ◌≢◌, ℕ, ◌+◌, ◌-◌, ◌*◌, ◌/◌, ◌%◌, ◌^◌, ◌<◌, ◌≤◌, cond, eqb, not, List, [], ◌∷◌, ◌++◌, length, map, drop, take, get_or, replicate, All, if◌then◌else◌, ◌==◌, suc, zero, refl, sym, ap, ◌∙◌, subst, inl, inr, arith, length-take-le, length-append, w8, w64}
+use Rattle.std.proofs.Common.{min, ◌≡◌, ◌≢◌, ℕ, ◌+◌, ◌-◌, ◌*◌, ◌%◌, ◌^◌, ◌<◌, ◌≤◌, cond, eqb, not, List, [], ◌∷◌, ◌++◌, length, map, drop, take, get_or, replicate, All, if◌then◌else◌, ◌==◌, suc, zero, refl, sym, ap, ◌∙◌, subst, inl, inr, arith, length-take-le, length-append, w8, w64}
 use Rattle.std.proofs.Math.Nat.{pow-suc, pow-le-pow_right}
 use Rattle.std.proofs.lemmas.Bool.{ne_eqb, eq-eqb, eqb-true, not-true, not-false, cases_eq, cases_lt}
 use Rattle.std.proofs.lemmas.List.{get_or-take, drop-drop, length-map, take-take}
@@ -22,7 +22,7 @@ use Rattle.cobs_bytes.proofs.bytes.ListLemmas.{length-ones}
 
 pub zero_mask-lanes : (bytes : List ℕ) → mask_l (map (λ b. eqb b 0) bytes) ≡ zero_mask bytes
 zero_mask-lanes [] = refl
-zero_mask-lanes (b ∷ bytes) = ap (λ m. cond (eqb b 0) 1 0 + 2 * m) (zero_mask-lanes bytes)
+zero_mask-lanes (b ∷ bytes) = grind (arith, zero_mask-lanes bytes)
 
 -- the list after a store of n bytes
 pub put_is : (dest bytes : List ℕ) (at n : ℕ) → length bytes ≡ n → at + n ≤ length dest → put_chunk at dest bytes ≡ take at dest ++ (bytes ++ drop (at + n) dest)
@@ -37,10 +37,10 @@ zeros_by_lanes source at n room few =
 
 -- a zero's bit, and another byte's
 pub set_if : (b : ℕ) → b ≡ 0 → ◌≡◌ {A = ℕ} (if b == 0 then 1 else 0) 1
-set_if b is = ap (λ t. if t then 1 else 0) (eq-eqb b 0 is)
+set_if b is = grind (arith, eq-eqb)
 
 pub clear_if : (b : ℕ) → b ≢ 0 → ◌≡◌ {A = ℕ} (if b == 0 then 1 else 0) 0
-clear_if b other = ap (λ t. if t then 1 else 0) (ne_eqb b 0 other)
+clear_if b other = grind (arith, ne_eqb)
 
 -- no bit is set if no byte is 0
 pub zero_mask-none : (bytes : List ℕ) → zero_mask bytes ≡ 0 → All (λ b. b ≢ 0) bytes
@@ -50,9 +50,7 @@ zero_mask-none (b ∷ bytes) e = grind (arith, cases_eq, set_if, All-cons, (zero
 -- and without a zero no bit is set
 pub zero_mask-clear : (bytes : List ℕ) → HasNoZero bytes → zero_mask bytes ≡ 0
 zero_mask-clear [] nz = refl
-zero_mask-clear (b ∷ bytes) nz =
-    let rest = zero_mask-clear bytes (All-tail (λ b. b ≢ 0) b bytes nz) in
-    omega (arith, clear_if b (All-head (λ b. b ≢ 0) b bytes nz), rest)
+zero_mask-clear (b ∷ bytes) nz = grind (arith, All-tail, clear_if, All-head, zero_mask-clear bytes (All-tail (λ b. b ≢ 0) b bytes nz))
 
 -- how many bytes are before the first zero
 abbrev pub nonzero_len : List ℕ → ℕ
@@ -67,20 +65,20 @@ pub nonzero_len-before : (bytes : List ℕ) → zero_mask bytes ≢ 0 → HasNoZ
 nonzero_len-before bytes some = grind (arith, nonzero_len, nonzero_len-lt, length-take-le, All-from_get_or, eq-eqb, get_or-take, not-true, prefix_len_passes)
 
 pub nonzero_len-at : (bytes : List ℕ) → zero_mask bytes ≢ 0 → get_or bytes (nonzero_len bytes) 0 ≡ 0
-nonzero_len-at bytes some = eqb-true _ 0 (not-false _ (prefix_len_stops (λ b. not (eqb b 0)) bytes 0 (nonzero_len-lt bytes some)))
+nonzero_len-at bytes some = grind (arith, eqb-true, not-false, prefix_len_stops, nonzero_len-lt)
 
 -- the lowest bit that is set says which byte is the first zero
 pub lowest_bit : (bytes : List ℕ) → length bytes ≤ 64 → zero_mask bytes ≢ 0 → count_trailing_zeros 64 (zero_mask bytes) ≡ nonzero_len bytes
 lowest_bit bytes few some =
     let e = zero_mask-lanes bytes in
-    ap (count_trailing_zeros 64) (sym e) ∙ trailing_mask_l (λ b. eqb b 0) 64 bytes few (omega arith)
+    grind (arith, trailing_mask_l)
 
 -- the zeros of some bytes after d other ones, which aren't zeros
 abbrev pub mask_behind : ℕ → List ℕ → ℕ
 mask_behind d bytes = zero_mask (replicate d 1 ++ bytes)
 
 mask_behind-more : (d : ℕ) (bytes : List ℕ) → mask_behind (suc d) bytes ≡ 2 * mask_behind d bytes
-mask_behind-more d bytes = let z : zero_mask (1 ∷ replicate d 1 ++ bytes) ≡ 0 + 2 * mask_behind d bytes = refl in omega arith
+mask_behind-more d bytes = grind (arith, mask_behind)
 
 pub mask_behind-none : (d : ℕ) (bytes : List ℕ) → mask_behind d bytes ≡ 0 → HasNoZero bytes
 mask_behind-none zero bytes e = zero_mask-none bytes e
@@ -92,14 +90,14 @@ mask_behind-some (suc d) bytes some = let m = mask_behind-more d bytes in mask_b
 
 nonzero_len-behind : (d : ℕ) (bytes : List ℕ) → nonzero_len (replicate d 1 ++ bytes) ≡ d + nonzero_len bytes
 nonzero_len-behind zero bytes = omega arith
-nonzero_len-behind (suc d) bytes = let ih = nonzero_len-behind d bytes in let e : nonzero_len (1 ∷ replicate d 1 ++ bytes) ≡ 1 + nonzero_len (replicate d 1 ++ bytes) = refl in omega arith
+nonzero_len-behind (suc d) bytes = grind (arith, nonzero_len, nonzero_len-behind d bytes)
 
 -- a number's lowest bit, and the others
 pub bit_at-first : (a x : ℕ) → a ≤ 1 → bit_at (a + 2 * x) 0 ≡ a
 bit_at-first a x le = omega (arith, bit_at_lowest (a + 2 * x))
 
 pub bit_at-next : (a x i : ℕ) → a ≤ 1 → bit_at (a + 2 * x) (suc i) ≡ bit_at x i
-bit_at-next a x i le = bit_at-suc (a + 2 * x) i ∙ ap (λ n. bit_at n i) (let half : (a + 2 * x) / 2 ≡ x = omega arith in half)
+bit_at-next a x i le = grind (arith, bit_at-suc)
 
 and-step : (a b x y : ℕ) → a ≤ 1 → b ≤ 1 → bit_and (a + 2 * x) (b + 2 * y) ≡ min a b + 2 * bit_and x y
 and-step a b x y la lb = same_from_bits (bit_and (a + 2 * x) (b + 2 * y)) (min a b + 2 * bit_and x y) by_place
@@ -119,7 +117,7 @@ less-even : (m z : ℕ) → z ≢ 0 → m ≡ 2 * z → bit_and m (m - 1) ≡ 2 
 less-even m z some is =
     let all : m ≡ 0 + 2 * z = omega arith in
     let less : m - 1 ≡ 1 + 2 * (z - 1) = omega arith in
-    ap (bit_and m) less ∙ ap (λ k. bit_and k (1 + 2 * (z - 1))) all ∙ and-step 0 1 z (z - 1) (omega arith) (omega arith) ∙ omega arith
+    grind (arith, and-step)
 
 -- a mask and one less: the first zero is taken from it
 mask-and : (bytes : List ℕ) → zero_mask bytes ≢ 0 → bit_and (zero_mask bytes) (zero_mask bytes - 1) ≡ mask_behind (nonzero_len bytes + 1) (drop (nonzero_len bytes + 1) bytes)

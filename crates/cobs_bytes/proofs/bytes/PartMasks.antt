@@ -20,7 +20,7 @@ bit-le b = grind (arith, cases_eq, set_if, clear_if)
 bit_at-zero_mask : (bytes : List ℕ) (i : ℕ) → bit_at (zero_mask bytes) i ≡ bit_of (get_or bytes i 1)
 bit_at-zero_mask [] i = bit_at-zero i
 bit_at-zero_mask (b ∷ bytes) zero = bit_at-first (bit_of b) (zero_mask bytes) (bit-le b)
-bit_at-zero_mask (b ∷ bytes) (suc i) = bit_at-next (bit_of b) (zero_mask bytes) i (bit-le b) ∙ bit_at-zero_mask bytes i
+bit_at-zero_mask (b ∷ bytes) (suc i) = grind (arith, bit_at-next, bit_of, bit-le, bit_at-zero_mask bytes i)
 
 -- the mask of a window, from those of its first n bytes and its last n
 pub or-window : (w : List ℕ) (len n front back : ℕ) → length w ≡ len → n ≤ len → len ≤ n + n → n ≤ 32 → front ≡ zero_mask (take n w) → back ≡ zero_mask (drop (len - n) w)

@@ -20,7 +20,7 @@ module _ (source : List ℕ) (s n : ℕ) where
   part-is i inside = grind (arith, zip2_splat, length-chunk, take-map, drop-map)
 
   pub part-long : (i : ℕ) → i + n ≤ length source → length (part i) ≡ n
-  part-long i inside = ap length (part-is i inside) ∙ length-chunk i n (xor_each s source) (omega (arith, length-map source (λ (b : ℕ). bit_xor b s)))
+  part-long i inside = grind (arith, part-is, length-chunk, length-map, bit_xor)
 
   abbrev pub mask : ℕ → ℕ
   mask i = mask_l (map (top 7) (zip2 (λ a b. cond (eqb a b) (2 ^ 8 - 1) 0) (part i) (replicate n 0))) % 2 ^ 64
@@ -49,7 +49,7 @@ module _ (source dest : List ℕ) (s n : ℕ) (long : n ≤ length source) (shor
   h-long = length-map source (λ (b : ℕ). bit_xor b s)
 
   whole : take (at + n) h ≡ h
-  whole = take_all (at + n) h (let l = h-long in omega arith)
+  whole = grind (arith, take_all, at, h, h-long)
 
   pub parts-nonzero : bit_or (mask source s n 0) (mask source s n at) ≡ 0 → HasNoZero h
   parts-nonzero none =
@@ -62,7 +62,7 @@ module _ (source dest : List ℕ) (s n : ℕ) (long : n ≤ length source) (shor
   parts-clear nz =
       let l = h-long in
       let none : (i : ℕ) → i + n ≤ length source → mask source s n i ≡ 0 = λ i inside. mask-is source s n i small inside ∙ zero_mask-clear (take n (drop i h)) (All-take (λ b. b ≢ 0) n (drop i h) (All-drop (λ b. b ≢ 0) i h nz)) in
-      ap (λ (x : ℕ). bit_or x (mask source s n at)) (none 0 (omega arith)) ∙ ap (bit_or 0) (none at (omega arith))
+      grind (arith, mask, at)
 
   pub parts-copied : put_chunk at (put_chunk 0 dest (part source s n 0)) (part source s n at) ≡ h ++ drop (length source) dest
   parts-copied =

@@ -33,10 +33,10 @@ module _ (bytes : List ℕ) (few : length bytes ≤ 64) where
   ]
 
 place-is : (c : goal.After-min) → c.min.result ≡ place c.args.bytes.now c.requires.few
-place-is c = c.min.ensures ∙ ap (λ (z : ℕ). min (count_trailing_zeros 64 z) (length c.args.bytes.now)) c.zeros_of.ensures
+place-is c = grind arith
 
 pub returns-clause-before : goal.returns-clause-before
-returns-clause-before c = subst (λ (k : ℕ). HasNoZero (take k c.args.bytes.now)) (sym (place-is c)) (before c.args.bytes.now c.requires.few)
+returns-clause-before c = grind (arith, place-is, before)
 
 pub returns-clause-stop : goal.returns-clause-stop
-returns-clause-stop c more = ap (λ (k : ℕ). get_or c.args.bytes.now k 0) (place-is c) ∙ stop c.args.bytes.now c.requires.few (omega (arith, place-is c))
+returns-clause-stop c more = grind (arith, get_or, place-is, stop)

@@ -1,5 +1,5 @@
 -- The mask of the lanes that differ from the byte is 0, so each of the 32 bytes is that byte (`all_alike`).
-use Rattle.std.proofs.Common.{◌≡◌, ◌≢◌, ℕ, List, [], ◌∷◌, length, take, drop, map, replicate, cond, eqb, not, refl, sym, ap, ◌∙◌, inl, inr, arith, w8}
+use Rattle.std.proofs.Common.{◌≡◌, ◌≢◌, ℕ, List, [], ◌∷◌, length, take, drop, map, replicate, cond, eqb, not, refl, sym, ap, ◌∙◌, arith, w8}
 use Rattle.std.proofs.lemmas.Bool.{cases_eq, ne_eqb, eqb-true}
 use Rattle.std.proofs.lemmas.Simd.{bitmask_splat, length-chunk}
 use lib.Lanes.{mask_l}
@@ -7,15 +7,12 @@ use Rattle.cobs_bytes.proofs.window.is_all.Goals as goal
 
 -- a lane that isn't this byte has its bit in the mask
 bit-other : (byte b : ℕ) → b ≢ byte → ◌≡◌ {A = ℕ} (cond (not (eqb b byte)) 1 0) 1
-bit-other byte b other = ap (λ t. cond (not t) 1 0) (ne_eqb b byte other)
+bit-other byte b other = grind (arith, ne_eqb)
 
 -- if no bit of the mask is set, each lane is the byte
 all_alike : (byte : ℕ) (xs : List ℕ) → mask_l (map (λ x. not (eqb x byte)) xs) ≡ 0 → xs ≡ replicate (length xs) byte
 all_alike byte [] e = refl
-all_alike byte (x ∷ xs) e = elim (cases_eq x byte) [
-  | inl is ↦ (let ih : xs ≡ replicate (length xs) byte = all_alike byte xs (omega arith) in cc)
-  | inr other ↦ absurd (omega (arith, bit-other byte x other))
-]
+all_alike byte (x ∷ xs) e = grind (arith, cases_eq, bit-other, all_alike byte xs (omega arith))
 
 pub returns : goal.returns
 returns c is =
