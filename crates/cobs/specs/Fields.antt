@@ -1,6 +1,7 @@
 -- The words by which contracts describe types with private fields.
 pub mod Report
 pub mod Decoders
+pub mod Lending
 pub mod Progress
 pub mod Encoders
 pub mod Reader

@@ -6,7 +6,8 @@ ghost use Rattle.cobs.specs.Grammar.{Reads};
 ghost use Rattle.cobs.specs.Headline.{IsPiece, PushesMessage};
 ghost use Rattle.cobs.specs.Push.{PushesBytes};
 ghost use Rattle.cobs.specs.Table.{FeedsByTable};
-ghost use Rattle.cobs.specs.Fields.Decoders.{borrowed_buffer, borrowed_phase, borrowed_slice, LendsSlice, owned_buffer, owned_phase, LendsOwned};
+ghost use Rattle.cobs.specs.Fields.Decoders.{borrowed_buffer, borrowed_phase, borrowed_slice, owned_buffer, owned_phase};
+ghost use Rattle.cobs.specs.Fields.Lending.{LendsOwned, LendsSlice};
 
 use crate::dec::frame_decoder::{FrameDecoder, PieceEnd, WriteBuffer};
 use crate::dec::unbuffered::UnbufferedDecoder;
@@ -180,7 +181,7 @@ impl FrameDecoder for CobsDecoder<'_> {
 }
 
 impl WriteBuffer for CobsDecoder<'_> {
-    ghost use Rattle.cobs.specs.Fields.Decoders.{with_borrowed_buffer};
+    ghost use Rattle.cobs.specs.Fields.Lending.{with_borrowed_buffer};
     ghost use Rattle.std.proofs.Common.{refl};
 
     ghost with_bytes = { with_borrowed_buffer };
@@ -342,7 +343,7 @@ impl FrameDecoder for CobsDecoderOwned {
 }
 
 impl WriteBuffer for CobsDecoderOwned {
-    ghost use Rattle.cobs.specs.Fields.Decoders.{with_owned_buffer};
+    ghost use Rattle.cobs.specs.Fields.Lending.{with_owned_buffer};
     ghost use Rattle.std.proofs.Common.{refl, sym, take_at, drop, length, ◌∙◌};
 
     ghost with_bytes = { with_owned_buffer };

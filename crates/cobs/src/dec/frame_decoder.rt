@@ -6,7 +6,7 @@ ghost use Rattle.cobs.specs.FeedPiece.{end_reported, TakesPiece};
 ghost use Rattle.cobs.specs.Table.{FeedsByTable};
 ghost use Rattle.std.specs.Borrow.{sem};
 ghost use Rattle.cobs.specs.Overwritten.{written_at};
-ghost use Rattle.cobs.specs.Fields.Decoders.{LendsBytes};
+ghost use Rattle.cobs.specs.Fields.Lending.{LendsBytes};
 
 use crate::error::DecodeError;
 

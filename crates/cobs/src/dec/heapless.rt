@@ -33,7 +33,8 @@ pub struct CobsDecoderHeapless<const N: usize> {
 }
 
 impl<const N: usize> CobsDecoderHeapless<N> {
-    ghost use Rattle.cobs.specs.Fields.Decoders.{heapless_buffer, heapless_phase, LendsHeapless};
+    ghost use Rattle.cobs.specs.Fields.Decoders.{heapless_buffer, heapless_phase};
+    ghost use Rattle.cobs.specs.Fields.Lending.{LendsHeapless};
 
     /// Makes an idle decoder whose buffer has `N` zeros.
     ///
@@ -198,7 +199,7 @@ impl<const N: usize> FrameDecoder for CobsDecoderHeapless<N> {
 }
 
 impl<const N: usize> WriteBuffer for CobsDecoderHeapless<N> {
-    ghost use Rattle.cobs.specs.Fields.Decoders.{with_heapless_buffer};
+    ghost use Rattle.cobs.specs.Fields.Lending.{with_heapless_buffer};
     ghost use Rattle.std.proofs.Common.{refl, take_at, drop, length};
 
     ghost with_bytes = { with_heapless_buffer };

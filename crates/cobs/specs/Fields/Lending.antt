@@ -1,0 +1,47 @@
+-- What a decoder lends with `dest_mut`: its buffer. These words are apart from the others, because only `dest_mut` and
+-- `write_dest` need them; clauses cite them, so they can't be proofs.
+use Rattle.std.specs.Prelude.{◌≡◌, length, ℕ, List, []}
+use Rattle.std.specs.List.{length_refill}
+use Rattle.std.proofs.Common.{refl, sym, ◌∙◌}
+use Rattle.std.specs.Borrow.{Lends, MutBor, Fml, RattleType, u8, Array}
+use Rattle.std.specs.Vec.{with_items}
+use denote.Param.{value_of}
+use mir.Syntax.{named}
+use Rattle.arrayvec.specs.ArrayVec.{with_items as refilled}
+use Rattle.cobs.specs.declared.dec.buffered.CobsDecoder.{CobsDecoder}
+use Rattle.cobs.specs.declared.dec.buffered.CobsDecoderOwned.{CobsDecoderOwned}
+use Rattle.cobs.specs.declared.dec.heapless.CobsDecoderHeapless.{CobsDecoderHeapless}
+use Rattle.cobs.specs.contracts.dec.buffered.CobsDecoder.{the_row as borrowed_row}
+use Rattle.cobs.specs.contracts.dec.buffered.CobsDecoderOwned.{the_row as owned_row}
+use Rattle.cobs.specs.contracts.dec.heapless.CobsDecoderHeapless.{the_row as heapless_row}
+
+-- the decoder with these bytes in its slice
+abbrev pub with_borrowed_buffer : CobsDecoder → List ℕ → CobsDecoder
+with_borrowed_buffer decoder bytes = record decoder { dest = record decoder.dest { now = bytes } }
+
+-- the decoder with these bytes in its vector
+abbrev pub with_owned_buffer : CobsDecoderOwned → List ℕ → CobsDecoderOwned
+with_owned_buffer decoder bytes = record decoder { dest = with_items decoder.dest bytes }
+
+module _ {N : ℕ} where
+  -- if bytes are replaced, the vector stays full
+  pub filled_again : (decoder : CobsDecoderHeapless N) (bytes : List ℕ) → length (refilled decoder.dest bytes).items ≡ N
+  filled_again decoder bytes = sym (length_refill (length decoder.dest.items) decoder.dest.items bytes refl) ∙ decoder.filled
+
+  -- the decoder with these bytes in its vector
+  abbrev pub with_heapless_buffer : CobsDecoderHeapless N → List ℕ → CobsDecoderHeapless N
+  with_heapless_buffer decoder bytes = record decoder { dest = refilled decoder.dest bytes; filled = filled_again decoder bytes }
+
+-- a value ends with the bytes that the caller leaves in its buffer, and is otherwise as it was
+abbrev pub LendsBytes : (R : RattleType) → MutBor R.Denot → MutBor (List ℕ) → (R.Denot → List ℕ → R.Denot) → Fml
+LendsBytes R lender bytes with_bytes = Lends R (Array u8 0) lender bytes (with_bytes lender.now)
+
+-- the same of each decoder
+abbrev pub LendsSlice : MutBor CobsDecoder → MutBor (List ℕ) → Fml
+LendsSlice decoder bytes = LendsBytes (borrowed_row (record { mir = named 1; lft = [] })) decoder bytes with_borrowed_buffer
+
+abbrev pub LendsOwned : MutBor CobsDecoderOwned → MutBor (List ℕ) → Fml
+LendsOwned decoder bytes = LendsBytes owned_row decoder bytes with_owned_buffer
+
+abbrev pub LendsHeapless : (N : RattleType) → MutBor (CobsDecoderHeapless (value_of N)) → MutBor (List ℕ) → Fml
+LendsHeapless N decoder bytes = LendsBytes (heapless_row N) decoder bytes with_heapless_buffer
