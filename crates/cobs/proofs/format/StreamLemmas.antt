@@ -155,7 +155,7 @@ nonempty-unended_last p bytes h =
 
 -- nothing is unended at a sentinel
 unended-at_sentinel : (t : List ℕ) → IsAtSentinel t → unended t ≡ []
-unended-at_sentinel t (inl none) = grind (arith, unended-no_zero, All-nil)
+unended-at_sentinel t (inl none) = ap unended none ∙ unended-no_zero [] (All-nil (λ x. x ≢ 0))
 unended-at_sentinel t (inr (front, ends)) = ap unended ends ∙ unended-zero front
 
 -- the bytes before a sentinel, up to the next one, and after that one have their own outcomes
