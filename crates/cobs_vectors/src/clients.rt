@@ -4,6 +4,7 @@ ghost use Rattle.std.specs.Prelude.{◌≡◌, ◌≢◌, ◌≤◌, ◌<◌, �
 ghost use Rattle.cobs.specs.Feed.{DecoderAfter, Idle, Overlong};
 ghost use Rattle.cobs.specs.Table.{state_in};
 ghost use Rattle.cobs.specs.FeedPiece.{IsWithin, outcome_at};
+ghost use Rattle.cobs.specs.Fields.Decoders.{owned_buffer, owned_phase};
 ghost use Rattle.cobs.specs.Fields.Encoders.{reached_by};
 ghost use Rattle.cobs.specs.Fields.Reader.{kept_of, reader_state};
 ghost use Rattle.cobs.specs.Grammar.{HasNoZero, IsEncodedFrame, Reads};
@@ -40,16 +41,24 @@ pub fn on_byte<const N: usize>(decoder: &mut CobsDecoderHeapless<N>, byte: u8) -
     }
 }
 
-/// Counts the messages that end in some bytes, and continues after each error, in any phase.
-pub fn count_messages(decoder: &mut CobsDecoderOwned, bytes: &[u8]) -> usize {
+/// Counts the messages that end in some bytes, and continues after each error. If the decoder has taken the front p of a
+/// piece, these are the messages among the outcomes of p and the bytes.
+pub fn count_messages(decoder: &mut CobsDecoderOwned, bytes: &[u8]) -> usize
+    ensures counted { (p : List ℕ) → DecoderAfter (owned_buffer decoder.old) (owned_phase decoder.old) p
+        → let n = length (owned_buffer decoder.old) in
+        result ≡ length (messages_of (stream_outcomes (p ++ bytes.now) n)) }
+    ensures after { (p : List ℕ) → DecoderAfter (owned_buffer decoder.old) (owned_phase decoder.old) p
+        → DecoderAfter (owned_buffer decoder.new) (owned_phase decoder.new) (unended (p ++ bytes.now)) }
+{
+    law_9();
     let mut at = 0;
-    let mut count = 0usize;
+    let mut count = 0;
     'by_push: while at < bytes.len() {
         match decoder.push(&bytes[at..]) {
             Ok(None) => return count,
             Ok(Some(report)) => {
                 at += report.parsed_size();
-                count = count.saturating_add(1);
+                count += 1;
             }
             Err(rejected) => at += rejected.parsed_size,
         }
