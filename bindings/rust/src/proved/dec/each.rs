@@ -5,7 +5,7 @@ use crate::proved::block::FULL_CODE;
 use crate::proved::dec::frame_decoder::PieceEnd;
 use crate::proved::dec::step::FULL;
 use crate::proved::error::{DecodeError, DecodeReport};
-use crate::proved::find::{leading_zeros, len_to_zero};
+use crate::proved::find::{leading_zeros, len_to, len_to_zero};
 
 /// Decodes the blocks in the first `end` bytes of the buffer in their own place, one byte after another, and returns the
 /// message's length. Every byte after the message is as it was. It is small, and uses no vectors.
@@ -160,4 +160,41 @@ pub(crate) fn decode_each(source: &[u8], dest: &mut [u8]) -> Result<DecodeReport
         PieceEnd::Broken(decoded_bytes) => Err(DecodeError::InvalidFrame { decoded_bytes }),
         PieceEnd::TooLong => Err(DecodeError::TargetBufTooSmall),
     }
+}
+
+/// Does what [`decode_with_sentinel`](crate::decode_with_sentinel) does, one byte after another.
+pub(crate) fn decode_head_each(
+    source: &[u8],
+    dest: &mut [u8],
+    sentinel: u8,
+) -> Result<usize, DecodeError> {
+    if source.is_empty() {
+        return Err(DecodeError::EmptyFrame);
+    }
+    let mut rest = &source[..len_to(source, sentinel)];
+    let mut written = 0;
+    'by_block: while !rest.is_empty() {
+        let code = (rest[0] ^ sentinel) as usize;
+        if rest.len() < code {
+            return Err(DecodeError::InvalidFrame {
+                decoded_bytes: written,
+            });
+        }
+        'by_byte: for byte in &rest[1..code] {
+            if dest.len() <= written {
+                return Err(DecodeError::TargetBufTooSmall);
+            }
+            dest[written] = *byte ^ sentinel;
+            written += 1;
+        }
+        rest = &rest[code..];
+        if code != FULL_CODE && !rest.is_empty() {
+            if dest.len() <= written {
+                return Err(DecodeError::TargetBufTooSmall);
+            }
+            dest[written] = 0;
+            written += 1;
+        }
+    }
+    Ok(written)
 }
