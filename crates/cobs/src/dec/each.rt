@@ -9,9 +9,8 @@ ghost use Rattle.cobs.specs.Sentinel.{xor_each};
 ghost use Rattle.cobs.specs.Stream.{head};
 ghost use Rattle.cobs.specs.declared.dec.frame_decoder.PieceEnd.TheVariants.{Broken, Message};
 
-use crate::block::FULL_CODE;
+use crate::block::{FULL, FULL_CODE};
 use crate::dec::frame_decoder::PieceEnd;
-use crate::dec::step::FULL;
 use crate::error::{DecodeError, DecodeReport};
 use crate::find::{leading_zeros, len_to, len_to_zero};
 

@@ -1,9 +1,8 @@
 // Made by bindings/rust/translate.py from `crates/cobs/src/dec/each.rt`: change that file, and run it again.
 //! Decoding one byte after another, for targets without vectors.
 
-use crate::proved::block::FULL_CODE;
+use crate::proved::block::{FULL, FULL_CODE};
 use crate::proved::dec::frame_decoder::PieceEnd;
-use crate::proved::dec::step::FULL;
 use crate::proved::error::{DecodeError, DecodeReport};
 use crate::proved::find::{leading_zeros, len_to, len_to_zero};
 
