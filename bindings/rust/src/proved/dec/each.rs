@@ -71,7 +71,7 @@ pub(crate) fn decode_in_place_each(buf: &mut [u8]) -> Result<DecodeReport, Decod
 /// Returns where the piece ends whose next byte is at `at`: after its zero, or at the end of the source.
 // A function of its own, so that the loops of its caller have all registers of a small processor.
 #[inline(never)]
-fn end_after(source: &[u8], at: usize) -> usize {
+fn through_piece(source: &[u8], at: usize) -> usize {
     let mut end = at;
     'by_byte: while end < source.len() {
         end += 1;
@@ -123,7 +123,7 @@ pub fn decode_piece(source: &[u8], dest: &mut [u8]) -> Option<(PieceEnd, usize)>
         }
         if left != 0 {
             if written == dest.len() {
-                return Some((PieceEnd::TooLong, end_after(source, at)));
+                return Some((PieceEnd::TooLong, through_piece(source, at)));
             }
             dest[written] = byte;
             written += 1;
@@ -131,7 +131,7 @@ pub fn decode_piece(source: &[u8], dest: &mut [u8]) -> Option<(PieceEnd, usize)>
         } else {
             if code != FULL {
                 if written == dest.len() {
-                    return Some((PieceEnd::TooLong, end_after(source, at)));
+                    return Some((PieceEnd::TooLong, through_piece(source, at)));
                 }
                 dest[written] = 0;
                 written += 1;
