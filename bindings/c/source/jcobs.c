@@ -388,6 +388,7 @@ static JCOBS_INLINE jcobs_found jcobs_decoder_feed_each(jcobs_decoder *decoder, 
             return jcobs_found_of(JCOBS_IS_TOO_LONG, 0, taken);
         }
     }
+    /* One by one: with an assignment of the whole, rustc needs 24 bytes more for a push on a Cortex-M4. */
     decoder->written = here.written;
     decoder->missing = here.missing;
     decoder->joint = here.joint;
