@@ -11,6 +11,4 @@ pub mod VectorSteps
 pub mod HeadlineLemmas
 pub mod VectorHeadline
 pub mod ReadsLemmas
-pub mod BlockLemmas
-pub mod InPlaceLemmas
-pub mod MoveLemmas
+pub mod WrittenLemmas

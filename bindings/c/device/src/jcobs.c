@@ -148,7 +148,7 @@ static size_t jcobs_leading_zeros(const unsigned char *source, size_t source_len
 }
 
 /* Returns where the piece ends whose next byte is at at: after its zero, or at the end of the source. */
-static JCOBS_NOINLINE size_t jcobs_end_after(const unsigned char *source, size_t source_len, size_t at)
+static JCOBS_NOINLINE size_t jcobs_through_piece(const unsigned char *source, size_t source_len, size_t at)
 {
     size_t end = at;
 
@@ -194,7 +194,7 @@ static JCOBS_INLINE jcobs_found jcobs_decode_piece(const unsigned char *source, 
         }
         if (left != 0) {
             if (written == dest_len) {
-                return jcobs_found_of(JCOBS_IS_TOO_LONG, 0, jcobs_end_after(source, source_len, at));
+                return jcobs_found_of(JCOBS_IS_TOO_LONG, 0, jcobs_through_piece(source, source_len, at));
             }
             dest[written] = byte;
             written++;
@@ -202,7 +202,7 @@ static JCOBS_INLINE jcobs_found jcobs_decode_piece(const unsigned char *source, 
         } else {
             if (code != JCOBS_FULL) {
                 if (written == dest_len) {
-                    return jcobs_found_of(JCOBS_IS_TOO_LONG, 0, jcobs_end_after(source, source_len, at));
+                    return jcobs_found_of(JCOBS_IS_TOO_LONG, 0, jcobs_through_piece(source, source_len, at));
                 }
                 dest[written] = 0;
                 written++;
@@ -388,6 +388,7 @@ static JCOBS_INLINE jcobs_found jcobs_decoder_feed_each(jcobs_decoder *decoder, 
             return jcobs_found_of(JCOBS_IS_TOO_LONG, 0, taken);
         }
     }
+    /* One by one: with an assignment of the whole, rustc needs 24 bytes more for a push on a Cortex-M4. */
     decoder->written = here.written;
     decoder->missing = here.missing;
     decoder->joint = here.joint;

@@ -20,7 +20,8 @@ use cobs_bytes::window::{WIDE_WINDOW, WINDOW, copy_window, has_vectors, is_all, 
 pub(crate) const SPAN_MAX: usize = FULL_BLOCK_BYTES - 1;
 
 /// Takes rows of 32 bytes from the front of `bytes`, as long as each byte of a row is `byte`, and writes a row of zeros for
-/// each, from `at` on. It stops if there is no room for a row, and after at most seven rows. Returns how many zeros it wrote.
+/// each, from `at` on. It stops if there is no room for a row, and after seven rows: more would be longer than a span, and its
+/// caller takes the rows as one. Returns how many zeros it wrote.
 // A function of its own, so that the walk keeps its registers.
 #[inline(never)]
 fn write_rows(dest: &mut [u8], at: usize, bytes: &[u8], byte: u8) -> usize
@@ -99,6 +100,7 @@ impl UnbufferedDecoder {
         let len = (self.missing as usize)
             .min(bytes.len() - 1)
             .min(dest.len().saturating_sub(at));
+        // The buffer may even be shorter than what was written, if it isn't that of the earlier calls.
         if len == 0 {
             return 1;
         }
@@ -106,6 +108,18 @@ impl UnbufferedDecoder {
         self.written = at + len;
         self.missing -= len as u8;
         1 + len
+    }
+
+    /// Notes the last block of a span as the open one: its code, and how many of its bytes are missing.
+    #[inline(always)]
+    fn settle(&mut self, last: (u8, u8))
+        ensures full { last.0 ≡ 255 → self.new.joint ≡ 0 }
+        ensures other { last.0 ≢ 255 → self.new.joint ≡ 1 }
+        ensures rest { self.new ≡ record self.old { joint = self.new.joint; missing = last.1 } }
+    {
+        let (code, missing) = last;
+        self.joint = joint_after(code);
+        self.missing = missing;
     }
 
     /// Takes `len` bytes that were moved to the end of the output. None of them is a zero, and no full block ends in them.
@@ -131,9 +145,7 @@ impl UnbufferedDecoder {
             return;
         }
         // The open block is missing as many bytes as one that a code of one more opens.
-        let (code, missing) = write_zeros_at_codes(&mut dest[at..at + len], missing + 1);
-        self.joint = joint_after(code);
-        self.missing = missing;
+        self.settle(write_zeros_at_codes(&mut dest[at..at + len], missing + 1));
     }
 
     /// Takes these bytes, which were copied to the end of the output, each XORed with the sentinel. None of them is the
@@ -161,10 +173,8 @@ impl UnbufferedDecoder {
             self.missing -= len as u8;
             return;
         }
-        // As in `take_moved`.
-        let ends = write_zeros_at_copied(&mut dest[at..at + len], copied, missing + 1, sentinel);
-        self.joint = joint_after(ends.0);
-        self.missing = ends.1;
+        // The open block is missing as many bytes as one that a code of one more opens.
+        self.settle(write_zeros_at_copied(&mut dest[at..at + len], copied, missing + 1, sentinel));
     }
 
     /// Takes up to 253 bytes, in which no full block ends. Returns how many: 0 if the first has no room.

@@ -1,13 +1,10 @@
 // Made by bindings/rust/translate.py from `crates/cobs/src/dec/step.rt`: change that file, and run it again.
 //! The step of a streaming decoder for each byte, and the loop of such steps.
 
-use crate::proved::block::FULL_CODE;
+use crate::proved::block::FULL;
 use crate::proved::dec::frame_decoder::PieceEnd;
 use crate::proved::dec::unbuffered::{START, UnbufferedDecoder};
 use crate::proved::error::DecodeError;
-
-/// The code of a full block, as a byte.
-pub(crate) const FULL: u8 = FULL_CODE as u8;
 
 /// Returns the value of `joint` after a block with this code.
 #[inline(always)]
@@ -133,6 +130,7 @@ impl UnbufferedDecoder {
                 return Some((PieceEnd::TooLong, taken));
             }
         }
+        // One by one: with an assignment of the whole, rustc needs 24 bytes more for a push on a Cortex-M4.
         self.written = here.written;
         self.missing = here.missing;
         self.joint = here.joint;
