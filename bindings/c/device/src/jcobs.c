@@ -507,11 +507,12 @@ size_t jcobs_max_length(size_t message_len)
 }
 
 /* Returns whether spare bytes cover the overhead of every message of len bytes: whether len is at most 254 times
- * spare. It needs no division, for which small processors have no instruction. So that no product is too large, it
- * compares halves, and only if spare isn't clearly enough. */
+ * spare. That is so exactly if half of len, rounded up, and spare are together at most 128 times spare. So it
+ * divides by powers of two only, because small processors have no instruction for other divisions, and no sum is
+ * too large. */
 static JCOBS_INLINE int jcobs_covers_overhead(size_t len, size_t spare)
 {
-    return len / 128 < spare || len - len / 2 <= 127 * spare;
+    return (len - len / 2 + spare - 1) / 128 < spare;
 }
 
 /* Returns whether fewer than spare blocks become full and are followed by another byte, if the open block with
@@ -542,8 +543,9 @@ static JCOBS_INLINE int jcobs_has_room(unsigned char code, const unsigned char *
     if (room <= held || room - held <= bytes_len) {
         return 0;
     }
-    size_t spare = room - held - bytes_len;
-    return jcobs_covers_overhead(held + bytes_len, spare) || jcobs_fits_each(code, bytes, bytes_len, spare);
+    size_t len = held + bytes_len;
+    size_t spare = room - len;
+    return jcobs_covers_overhead(len, spare) || jcobs_fits_each(code, bytes, bytes_len, spare);
 }
 
 /* Does what encode does, one byte at a time. */
