@@ -1,3 +1,5 @@
+-- The bytes that are written, and the kept output of the bytes that are left, are together the kept output of all
+-- (`Written`). Within a block, its bytes that are left come before that.
 use Rattle.std.proofs.Common.{◌≡◌, ◌++◌, ◌-◌, ◌<◌, ◌≤◌, ℕ, drop, get_or, take}
 use Rattle.cobs.specs.Piece.{kept_output}
 use Rattle.cobs.proofs.decoding.WrittenLemmas.{Written, whole_left, zero_before}

@@ -1,3 +1,5 @@
+-- Bytes that were copied after the output are fed: those of the open block as they are (`kept`), those after it with a
+-- zero over each code (`marked`).
 use Rattle.std.proofs.Common.{◌≡◌, ◌≢◌, ◌-◌, ◌+◌, ◌∙◌, ℕ, List, ap, sym, subst, arith, length, take, drop}
 use Rattle.cobs.proofs.streaming.SpanLemmas.{joint-is, kept, marked}
 use Rattle.std.proofs.lemmas.List.Elements.{All-cons}
