@@ -17,8 +17,8 @@ DEVICE, SPEEDS = "bindings/c/device/README.md", "docs/PERFORMANCE.md"
 # begin, and the column.
 FIGURES = [
     (r"decoder of `jcobs\.c` needs ([\d,]+) bytes", DEVICE, "target | of | flash: decoder", "Cortex-M4 | jcobs.c", "flash: decoder"),
-    (r"receives single bytes and sends needs ([\d,]+),", DEVICE, "target | of | feed", "Cortex-M4 | jcobs.c", "receive and send"),
-    (r"which checks less, needs ([\d,]+)\.", DEVICE, "target | of | feed", "Cortex-M4 | by hand", "receive and send"),
+    (r"receives byte by byte and sends whole messages needs ([\d,]+) bytes", DEVICE, "target | of | feed", "Cortex-M4 | jcobs.c", "receive and send"),
+    (r"for the same task, with fewer checks, needs ([\d,]+) bytes", DEVICE, "target | of | feed", "Cortex-M4 | by hand", "receive and send"),
     (r"messages of 20 to 64 bytes at ([\d,]+) MB/s", SPEEDS, "`libjcobs`, MB/s", "telemetry", "decode"),
     (r"and `jcobs\.c` at ([\d,]+) MB/s", SPEEDS, "`jcobs.c` by `cc -O2`, MB/s", "telemetry", "decode"),
     (r"fed single bytes, `libjcobs` runs at ([\d,]+) MB/s", SPEEDS, "`libjcobs`, MB/s", "telemetry", "feed"),
