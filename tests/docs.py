@@ -15,6 +15,7 @@ usage: tests/docs.py [--write]
 - docs/MAP.md names each file of the repository, or a folder that it is in.
 - docs/PROMISES.md, crates/cobs/CALLING.md and docs/DIFFERENCES.md have a row of each public call that is their matter
   (calls.py).
+- In docs/PROMISES.md the calls, laws, callers and words are links to their files. With --write they are written (where.py).
 - docs/READING.md explains each sign and word of the proof language that a public clause of crates/cobs uses (signs.py).
 - Each clause, field and word of tests/names.txt is there, which version 1 keeps. With --write new ones are added (names.py).
 - Each block of tests/wrong_code.txt can be applied, and its function is there. `tests/REFUSED.md` counts and names these
@@ -44,6 +45,7 @@ import layout
 import names
 import prose
 import signs
+import where
 import wrong_code
 
 TOP = Path(__file__).resolve().parent.parent
@@ -205,7 +207,8 @@ def main():
         examples.write()
         wrong_code.write([], some=True)
         names.write()
-    said = [*items_without_example(), *examples.complaints(), *files_off_map(), *names_without_file(), *private_names(), *wrong_code_amiss(), *calls.complaints(), *signs.complaints(), *names.complaints()]
+        where.write()
+    said = [*items_without_example(), *examples.complaints(), *files_off_map(), *names_without_file(), *private_names(), *wrong_code_amiss(), *calls.complaints(), *signs.complaints(), *names.complaints(), *where.complaints()]
     head, heading, tail = CALLING.read_text().partition(HEADING)
     before = tail.partition("```text\n")[0]
     wanted = head + heading + before + all_contracts()

@@ -99,7 +99,7 @@ def laws_left_out():
 
 def other_titles():
     """A line for each law whose documentation doesn't begin with the title that docs/PROMISES.md gives it."""
-    titles = dict(re.findall(r"^\| `(law_\d+)` \| (.*?) \|", (TOP / "docs/PROMISES.md").read_text(), re.M))
+    titles = dict(re.findall(r"^\| \[?`(law_\d+)`\]? \| (.*?) \|", (TOP / "docs/PROMISES.md").read_text(), re.M))
     texts = [(TOP / "crates/cobs/src" / name).read_text() for name in ("laws.rt", "laws/coders.rt")]
     for text in texts:
         for said, law in re.findall(r"^/// (.*)\n(?:///.*\n)*pub fn (law_\d+)", text, re.M):
