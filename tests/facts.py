@@ -107,6 +107,19 @@ def other_titles():
                 yield f"docs/PROMISES.md: the title of {law} is '{titles.get(law)}', and its documentation begins '{said}'"
 
 
+def untitled_laws():
+    """A line for each law that a document cites by its number, in a line without its title or the first part of it."""
+    titles = dict(re.findall(r"^\| \[?`(law_\d+)`\]? \| (.*?) \|", (TOP / "docs/PROMISES.md").read_text(), re.M))
+    for name in prose.documents():
+        text = prose.blank(r"<!-- (\w+) -->.*?<!-- end of \1 -->|^```.*?^```$", (TOP / name).read_text(), re.S | re.M)
+        for line_number, line in enumerate(text.splitlines(), 1):
+            # A range of laws, and the table of wrong code that a script writes, have no titles.
+            cited = re.findall(r"`(law_\d+)\b", re.sub(r"`law_\d+` to `law_\d+`", "", line))
+            if name != "tests/REFUSED.md":
+                missing = {law for law in cited if titles.get(law, law).partition(";")[0].lower() not in line.lower()}
+                yield from (f"{name}:{line_number}: it cites {law} without its title: {titles.get(law)}" for law in sorted(missing))
+
+
 def other_toolchains():
     """A line for each document that names another toolchain than the one that built what is prebuilt."""
     built = set(re.findall(r"^\w+ toolchain (.*)$", (TOP / "tests/prebuilt.sums").read_text(), re.M))
@@ -162,7 +175,7 @@ def other_drawings():
     yield from (ran.stdout + ran.stderr).splitlines()
 
 
-CHECKS = (other_copies, other_translations, other_drawings, wrong_counts, other_figures, other_ratios, laws_left_out, other_titles, other_toolchains, dead_addresses, unread_bytes)
+CHECKS = (other_copies, other_translations, other_drawings, wrong_counts, other_figures, other_ratios, laws_left_out, other_titles, untitled_laws, other_toolchains, dead_addresses, unread_bytes)
 
 
 def complaints():
