@@ -1,5 +1,5 @@
 """The public calls of crates/cobs, for tests/docs.py: which rows the documents must have for each; and the functions of
-wrong_code.txt and REFUSED.md."""
+`wrong_code.txt` and `REFUSED.md`."""
 import re
 from functools import cache
 from pathlib import Path
@@ -129,7 +129,7 @@ def functions_of(crate):
 
 
 def without_function():
-    """A line for each function of tests/wrong_code.txt, and of the rows of tests/REFUSED.md, that isn't there."""
+    """A line for each function of `tests/wrong_code.txt`, and of the rows of `tests/REFUSED.md`, that isn't there."""
     for block in wrong_code.all_blocks():
         if not is_there(block.only):
             yield f"tests/wrong_code.txt: {block.name}: there is no {block.only}"

@@ -15,6 +15,7 @@ usage: tests/docs.py [--write]
 - docs/MAP.md names each file of the repository, or a folder that it is in.
 - docs/PROMISES.md, crates/cobs/CALLING.md and docs/DIFFERENCES.md have a row of each public call that is their matter
   (calls.py).
+- In docs/PROMISES.md the calls, laws, callers and words are links to their files. With --write they are written (where.py).
 - docs/READING.md explains each sign and word of the proof language that a public clause of crates/cobs uses (signs.py).
 - Each clause, field and word of tests/names.txt is there, which version 1 keeps. With --write new ones are added (names.py).
 - Each block of tests/wrong_code.txt can be applied, and its function is there. `tests/REFUSED.md` counts and names these
@@ -29,6 +30,7 @@ Only files that git tracks are read. It prints what differs, and the status is t
 at words that have a plainer one and at comments of functions that don't begin with a verb, and what grew since the last commit, or in it if nothing is changed (growth.py); these change
 no status.
 """
+import posixpath
 import re
 import sys
 
@@ -43,6 +45,7 @@ import layout
 import names
 import prose
 import signs
+import where
 import wrong_code
 
 TOP = Path(__file__).resolve().parent.parent
@@ -128,40 +131,55 @@ def private_names():
                 yield f"{file.relative_to(TOP)}:{number}: names a type of cobs by a private module, not as declared.TYPE"
 
 
+def paths_in(cell, base):
+    """The paths that the first cell of a row names, from the top. A name without a folder may be in the folder of the one before it."""
+    folder = ""
+    for name in re.findall(r"`([^`]+)`", cell):
+        yield f"{base}/{name}"
+        if "/" in name.strip("/"):
+            folder = name.rpartition("/")[0] if not name.endswith("/") else name.strip("/").rpartition("/")[0]
+        elif folder:
+            yield f"{base}/{folder}/{name}"
+
+
 def names_on_map():
-    """The names that the map gives, by the folder that the table is about; None for what is outside tables."""
-    names, base, section = {}, None, ""
+    """The paths that the map names, from the top: those in tables of files, and the files in other tables. Then the names in
+    sentences, which are about many folders; of a folder like src/ each file has its row.
+    """
+    paths, names, base, section = set(), set(), None, ""
     for line in MAP.read_text().splitlines():
         if line.startswith("## "):
             section = line.removeprefix("## ")
         if not line.startswith("|"):
             base = None
-        elif re.match(r"\| (file|definitions)\b", line):
+            names.update(set(re.findall(r"`([^`]+)`", line)) - {"src/", "specs/"})
+            continue
+        if re.match(r"\| (file|definitions|crate)\b", line):
             named = re.search(r"`([^`]+?)/?`", line)
             base = named[1] if named else section if (TOP / section).is_dir() else ""
             base = f"{section}/{base}" if (TOP / section / base).is_dir() else base
-        names.setdefault(base, set()).update(re.findall(r"`([^`]+)`", line))
-    return names
+        if base is None:
+            paths.update(re.findall(r"`([^`]+[^/`])`", line))
+        else:
+            paths.update(posixpath.normpath(path.lstrip("/")) + "/" * path.endswith("/") for path in paths_in(line.split(" | ")[0], base))
+    return paths, names
 
 
 def files_off_map():
-    """A line for each file that the map doesn't name, nor a folder that it is in."""
-    names = names_on_map()
-    bases = sorted((base for base in names if base is not None), key=len, reverse=True)
+    """A line for each file whose path the map doesn't name, nor that of a folder that it is in."""
+    paths, names = names_on_map()
     for file in prose.files():
-        base = next(base for base in bases if not base or file.startswith(base + "/"))
-        path = PurePosixPath(file.removeprefix(base + "/"))
-        places = [path, path.with_suffix(""), PurePosixPath(file)]
-        ends = {"/".join(place.parts[-count:]) for place in places for count in (1, 2, 3)}
-        folders = {f"{parent}/" for place in places for parent in place.parents}
-        if not (ends | folders | {str(path)}) & (names[base] | names[None]):
+        path = PurePosixPath(file)
+        ends = {"/".join(path.parts[-count:]) for count in (1, 2, 3)}
+        inside = {part for parent in path.parents for part in (f"{parent}/", f"{parent.name}/")}
+        if not {file, str(path.with_suffix("")), *(f"{parent}/" for parent in path.parents)} & paths and not (ends | inside) & names:
             yield f"docs/MAP.md: it doesn't name {file}"
 
 
 def names_without_file():
     """A line for each file that the map names and that isn't there."""
     files = {f"/{file}" for file in prose.files()}
-    for name in sorted(set().union(*names_on_map().values())):
+    for name in sorted(set(re.findall(r"`([^`]+)`", MAP.read_text()))):
         if re.fullmatch(r"[\w./-]+\.[a-z]{1,6}", name) and not any(file.endswith(f"/{name.removeprefix('../')}") for file in files):
             yield f"docs/MAP.md: it names {name}, which isn't there"
 
@@ -189,7 +207,8 @@ def main():
         examples.write()
         wrong_code.write([], some=True)
         names.write()
-    said = [*items_without_example(), *examples.complaints(), *files_off_map(), *names_without_file(), *private_names(), *wrong_code_amiss(), *calls.complaints(), *signs.complaints(), *names.complaints()]
+        where.write()
+    said = [*items_without_example(), *examples.complaints(), *files_off_map(), *names_without_file(), *private_names(), *wrong_code_amiss(), *calls.complaints(), *signs.complaints(), *names.complaints(), *where.complaints()]
     head, heading, tail = CALLING.read_text().partition(HEADING)
     before = tail.partition("```text\n")[0]
     wanted = head + heading + before + all_contracts()

@@ -17,8 +17,8 @@ DEVICE, SPEEDS = "bindings/c/device/README.md", "docs/PERFORMANCE.md"
 # begin, and the column.
 FIGURES = [
     (r"decoder of `jcobs\.c` needs ([\d,]+) bytes", DEVICE, "target | of | flash: decoder", "Cortex-M4 | jcobs.c", "flash: decoder"),
-    (r"receives single bytes and sends needs ([\d,]+),", DEVICE, "target | of | feed", "Cortex-M4 | jcobs.c", "receive and send"),
-    (r"which checks less, needs ([\d,]+)\.", DEVICE, "target | of | feed", "Cortex-M4 | by hand", "receive and send"),
+    (r"receives byte by byte and sends whole messages needs ([\d,]+) bytes", DEVICE, "target | of | feed", "Cortex-M4 | jcobs.c", "receive and send"),
+    (r"for the same task, with fewer checks, needs ([\d,]+) bytes", DEVICE, "target | of | feed", "Cortex-M4 | by hand", "receive and send"),
     (r"messages of 20 to 64 bytes at ([\d,]+) MB/s", SPEEDS, "`libjcobs`, MB/s", "telemetry", "decode"),
     (r"and `jcobs\.c` at ([\d,]+) MB/s", SPEEDS, "`jcobs.c` by `cc -O2`, MB/s", "telemetry", "decode"),
     (r"fed single bytes, `libjcobs` runs at ([\d,]+) MB/s", SPEEDS, "`libjcobs`, MB/s", "telemetry", "feed"),
@@ -99,12 +99,25 @@ def laws_left_out():
 
 def other_titles():
     """A line for each law whose documentation doesn't begin with the title that docs/PROMISES.md gives it."""
-    titles = dict(re.findall(r"^\| `(law_\d+)` \| (.*?) \|", (TOP / "docs/PROMISES.md").read_text(), re.M))
+    titles = dict(re.findall(r"^\| \[?`(law_\d+)`\]? \| (.*?) \|", (TOP / "docs/PROMISES.md").read_text(), re.M))
     texts = [(TOP / "crates/cobs/src" / name).read_text() for name in ("laws.rt", "laws/coders.rt")]
     for text in texts:
         for said, law in re.findall(r"^/// (.*)\n(?:///.*\n)*pub fn (law_\d+)", text, re.M):
             if said != f"{titles.get(law)}.":
                 yield f"docs/PROMISES.md: the title of {law} is '{titles.get(law)}', and its documentation begins '{said}'"
+
+
+def untitled_laws():
+    """A line for each law that a document cites by its number, in a line without its title or the first part of it."""
+    titles = dict(re.findall(r"^\| \[?`(law_\d+)`\]? \| (.*?) \|", (TOP / "docs/PROMISES.md").read_text(), re.M))
+    for name in prose.documents():
+        text = prose.blank(r"<!-- (\w+) -->.*?<!-- end of \1 -->|^```.*?^```$", (TOP / name).read_text(), re.S | re.M)
+        for line_number, line in enumerate(text.splitlines(), 1):
+            # A range of laws, and the table of wrong code that a script writes, have no titles.
+            cited = re.findall(r"`(law_\d+)\b", re.sub(r"`law_\d+` to `law_\d+`", "", line))
+            if name != "tests/REFUSED.md":
+                missing = {law for law in cited if titles.get(law, law).partition(";")[0].lower() not in line.lower()}
+                yield from (f"{name}:{line_number}: it cites {law} without its title: {titles.get(law)}" for law in sorted(missing))
 
 
 def other_toolchains():
@@ -162,7 +175,7 @@ def other_drawings():
     yield from (ran.stdout + ran.stderr).splitlines()
 
 
-CHECKS = (other_copies, other_translations, other_drawings, wrong_counts, other_figures, other_ratios, laws_left_out, other_titles, other_toolchains, dead_addresses, unread_bytes)
+CHECKS = (other_copies, other_translations, other_drawings, wrong_counts, other_figures, other_ratios, laws_left_out, other_titles, untitled_laws, other_toolchains, dead_addresses, unread_bytes)
 
 
 def complaints():

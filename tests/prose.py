@@ -305,7 +305,7 @@ def unknown_names():
         text = blank(r"^```.*?^```$", (TOP / name).read_text(), re.S | re.M)
         for number, line in enumerate(text.splitlines(), 1):
             lists = re.findall(r"`([\w:]+): ([a-z_0-9]+(?:, [a-z_0-9]+)*)`", line)
-            lists += re.findall(r"`([A-Z]\w+)`: `(\w+(?:`, `\w+)*)`", line)
+            lists += re.findall(r"`([A-Z]\w+)`\]?: `(\w+(?:`, `\w+)*)`", line)
             for call, named in lists:
                 for clause in re.findall(r"\w+", named):
                     if f"{call}: {named}" != "call: clause" and clause not in known.get(call, ()):

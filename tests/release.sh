@@ -110,12 +110,12 @@ device_archive() {
         packed "$folder/$name_of-device.tar.gz" "$work/device" "$name_of-device"
 }
 
-# The README of a package, in the copy: its commands take the registry's package, or the file. A link to what is only in the
-# repository is none.
+# The README of a package, in the copy: its commands take the registry's package, or the file, and npm installs into the folder
+# where it is called. A link to what is only in the repository is none.
 package_readme() { # BINDING FILE
     what=./$2
     [ -z "$repository" ] || what=jcobs
-    sed -i "/--no-index/s,\./bindings/$1,./$2,; s,\./bindings/$1,$what,; s,\[\([^]]*\)\](\.\./[^)]*),\1,g" "$tree/bindings/$1/README.md"
+    sed -i "/--no-index/s,\./bindings/$1,./$2,; s,\./bindings/$1,$what,; s,\[\([^]]*\)\](\.\./[^)]*),\1,g; s,npm install --prefix build ,npm install ," "$tree/bindings/$1/README.md"
     [ -z "$repository" ] || sed -i 's/^In the repository, in a virtual/In a virtual/; s/, and the package is on no index\././' "$tree/bindings/$1/README.md"
 }
 

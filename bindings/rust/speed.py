@@ -84,13 +84,13 @@ def below():
 
 
 def slower(found):
-    """Where the crate `cobs` is faster: each call, with the kinds of messages, or how many if they are many."""
-    parts = []
+    """Where the crate `cobs` is faster: for each such call the kinds of messages, or how many if they are many."""
+    parts = {}
     for call, name in full_names():
         kinds = [kind for (of, kind), speeds in found.items() if of == call and speeds[2] and speeds[1] < speeds[2]]
         if kinds:
-            parts.append(f"{name} ({', '.join(kinds) if len(kinds) < 4 else f'{len(kinds)} kinds'})")
-    return "; ".join(parts) or "nowhere"
+            parts[name] = ", ".join(kinds) if len(kinds) < 4 else f"{len(kinds)} kinds"
+    return parts
 
 
 def main():
@@ -104,7 +104,11 @@ def main():
     print("| call | / `cobs` | / `cobs`, with LTO | / `libjcobs` |\n|---|---|---|---|")
     for call, name in NAMES.items():
         print(f"| {name} | {ratios(plain, call, 2)} | {ratios(linked, call, 2)} | {ratios(plain, call, 0)} |")
-    print(f"\n`cobs` is faster here: without LTO {slower(plain)}; with LTO {slower(linked)}.")
+    parts = slower(plain), slower(linked)
+    print("\n`cobs` is faster for these messages:\n\n| call | without LTO | with LTO |\n|---|---|---|")
+    for _, name in full_names():
+        if any(name in part for part in parts):
+            print(f"| {name} | {parts[0].get(name, '-')} | {parts[1].get(name, '-')} |")
 
 
 if __name__ == "__main__":

@@ -209,7 +209,7 @@ def received(master, seconds):
 def documented_loop():
     """The loop of the documents over a serial line, which is the same in each."""
     found = set()
-    for name in ("docs/PROGRAMS.md", "crates/cobs_watch/README.md", "crates/cobs_watch/cobs_watch.1"):
+    for name in ("docs/PROGRAMS.md", "crates/cobs_watch/cobs_watch.1"):
         text = (TOP / name).read_text(encoding="utf-8").replace("\\-", "-")
         found.update(line.strip() for line in text.splitlines() if line.strip().startswith("while "))
     assert len(found) == 1, found
