@@ -1,11 +1,13 @@
 //! The frames of a recorded stream, one after another, and the stream of some messages.
 
-use core::iter::FusedIterator;
+use core::iter::{self, FusedIterator};
 use core::mem;
+
+use memchr::memchr;
 
 use crate::dec::{DecodeError, decode_in_place};
 #[cfg(feature = "alloc")]
-use crate::{enc::encode, max_encoding_length, memory::AllocError};
+use crate::{enc::encode, max_encoding_length, memory, memory::AllocError};
 #[cfg(feature = "alloc")]
 use alloc::vec::Vec;
 
@@ -44,6 +46,14 @@ impl<'a> Frames<'a> {
     pub fn remainder(&self) -> &'a [u8] {
         self.rest
     }
+
+    /// Returns the bytes before the next zero, perhaps none.
+    #[inline]
+    fn next_piece(&mut self) -> Option<&'a [u8]> {
+        let (piece, from_zero) = self.rest.split_at(memchr(0, self.rest)?);
+        self.rest = from_zero.split_first()?.1;
+        Some(piece)
+    }
 }
 
 impl<'a> Iterator for Frames<'a> {
@@ -51,14 +61,7 @@ impl<'a> Iterator for Frames<'a> {
 
     #[inline]
     fn next(&mut self) -> Option<&'a [u8]> {
-        loop {
-            let end = memchr::memchr(0, self.rest)?;
-            let frame = &self.rest[..end];
-            self.rest = &self.rest[end + 1..];
-            if !frame.is_empty() {
-                return Some(frame);
-            }
-        }
+        iter::from_fn(|| self.next_piece()).find(|piece| !piece.is_empty())
     }
 }
 
@@ -108,6 +111,15 @@ impl<'a> MessagesInPlace<'a> {
     pub fn into_remainder(self) -> &'a mut [u8] {
         self.rest
     }
+
+    /// Returns the bytes before the next zero, perhaps none.
+    #[inline]
+    fn next_piece(&mut self) -> Option<&'a mut [u8]> {
+        let len = memchr(0, self.rest)?;
+        let (piece, from_zero) = mem::take(&mut self.rest).split_at_mut(len);
+        self.rest = from_zero.split_first_mut()?.1;
+        Some(piece)
+    }
 }
 
 impl<'a> Iterator for MessagesInPlace<'a> {
@@ -115,14 +127,8 @@ impl<'a> Iterator for MessagesInPlace<'a> {
 
     #[inline]
     fn next(&mut self) -> Option<Self::Item> {
-        loop {
-            let end = memchr::memchr(0, self.rest)?;
-            let (frame, rest) = mem::take(&mut self.rest).split_at_mut(end);
-            self.rest = &mut rest[1..];
-            if !frame.is_empty() {
-                return Some(decode_in_place(frame).map(|len| &mut frame[..len]));
-            }
-        }
+        let frame = iter::from_fn(|| self.next_piece()).find(|piece| !piece.is_empty())?;
+        Some(decode_in_place(frame).map(|len| &mut frame[..len]))
     }
 }
 
@@ -152,18 +158,20 @@ where
     I: IntoIterator,
     I::Item: AsRef<[u8]>,
 {
+    // The proved function of this name takes a slice of vectors, and there the messages would have to be copied.
     let mut stream = Vec::new();
-    for message in messages {
-        let message = message.as_ref();
-        let begun = stream.len();
-        let room = max_encoding_length(message.len()) + 1;
-        stream.try_reserve(room).map_err(|_| AllocError)?;
-        stream.resize(begun + room, 0);
-        let end = begun + encode(message, &mut stream[begun..]);
-        stream[end] = 0;
-        stream.truncate(end + 1);
-    }
+    messages
+        .into_iter()
+        .try_for_each(|message| append_frame(&mut stream, message.as_ref()))?;
     Ok(stream)
+}
+
+/// Appends the frame of a message and a zero.
+#[cfg(feature = "alloc")]
+pub(crate) fn append_frame(stream: &mut Vec<u8>, message: &[u8]) -> Result<(), AllocError> {
+    let room = max_encoding_length(message.len()) + 1;
+    // One of the zeros stays after the frame.
+    memory::append(stream, room, |zeros| encode(message, zeros) + 1)
 }
 
 /// Returns how many bytes the stream of [`encode_frames`] has at most: the sum of

@@ -117,9 +117,8 @@ mod frames;
 mod memory;
 #[allow(unused_labels, reason = "labels name the loops for the proofs")]
 #[allow(
-    dead_code,
     unused_imports,
-    reason = "files are translated as a whole, and without some feature not every function is called"
+    reason = "mod.rs exports what the crate in Rattle exports, and without some feature not every import is used"
 )]
 #[allow(
     clippy::len_zero,
@@ -130,9 +129,8 @@ mod memory;
     clippy::needless_range_loop,
     reason = "these are the proved bodies, which aren't changed for a lint"
 )]
-#[doc(hidden)]
 #[forbid(unsafe_code)]
-pub mod proved;
+mod proved;
 #[cfg(feature = "std")]
 #[forbid(unsafe_code)]
 mod read;
@@ -186,10 +184,12 @@ pub const fn max_encoding_overhead(source_len: usize) -> usize {
 #[inline]
 #[must_use]
 pub const fn max_encoding_length(source_len: usize) -> usize {
-    match source_len.checked_add(max_encoding_overhead(source_len)) {
-        Some(length) => length,
-        None => panic!("max_encoding_length: the length fits a usize"),
-    }
+    let length = source_len.checked_add(max_encoding_overhead(source_len));
+    assert!(
+        length.is_some(),
+        "max_encoding_length: the length fits a usize"
+    );
+    proved::max_encoding_length(source_len)
 }
 
 /// The examples of README.md are tests too.

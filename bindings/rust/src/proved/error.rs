@@ -1,8 +1,6 @@
 // Made by bindings/rust/translate.py from `crates/cobs/src/error.rt`: change that file, and run it again.
 //! Errors, and the sizes of a decoded message.
 
-use crate::memory::AllocError;
-
 /// The frame is longer than the slice that it should be written to.
 ///
 /// ```
@@ -101,35 +99,6 @@ impl core::fmt::Display for PushError {
 
 impl core::error::Error for PushError {}
 
-/// The reason why a call returned no vector. (A choice of this library: memory can run out, and nothing aborts.)
-///
-/// ```
-/// # use jcobs::proved::*;
-/// # #[cfg(feature = "alloc")] {
-/// let rejected = Err(DecodeVecError::Decode(DecodeError::EmptyFrame));
-/// assert_eq!(decode_vec(&[]), rejected);
-/// # }
-/// ```
-#[derive(Debug, PartialEq, Eq)]
-pub enum DecodeVecError {
-    /// The source has no message.
-    Decode(DecodeError),
-
-    /// There was no memory for the vector.
-    Memory(AllocError),
-}
-
-impl core::fmt::Display for DecodeVecError {
-    fn fmt(&self, f: &mut core::fmt::Formatter<'_>) -> core::fmt::Result {
-        match self {
-            Self::Decode(field) => write!(f, "{field}"),
-            Self::Memory(..) => f.write_str("out of memory"),
-        }
-    }
-}
-
-impl core::error::Error for DecodeVecError {}
-
 /// The sizes of a decoded message: how many bytes of the source were consumed, and how many bytes the message has. The
 /// names are those of the crate `cobs`.
 ///
@@ -175,13 +144,3 @@ impl DecodeReport {
         self.frame_size
     }
 }
-
-/// The former name of [`DecodeReport`]. It is deprecated since version 0.5.0: use `DecodeReport`.
-///
-/// ```
-/// # use jcobs::proved::*;
-/// let report: DecodingResult = decode(&[2, 7, 0], &mut [0; 4])?;
-/// assert_eq!(report.parsed_size(), 3);
-/// # Ok::<(), Box<dyn std::error::Error>>(())
-/// ```
-pub type DecodingResult = DecodeReport;

@@ -51,6 +51,34 @@ impl<'a> Case<'a> {
         assert_eq!((returned, dest), written(&between, room), "{}", place());
     }
 
+    /// In the message's own buffer, with this many bytes after the message.
+    fn check_in_place(&self, more: usize) {
+        let overhead = jcobs::max_encoding_overhead(self.message.len());
+        let mut buffer = vec![FILL; overhead + self.message.len() + more];
+        buffer[overhead..][..self.message.len()].copy_from_slice(self.message);
+        let mut expected = buffer.clone();
+        expected[..self.frame.len()].copy_from_slice(&self.frame);
+        let len = jcobs::encode_in_place(&mut buffer, self.message.len());
+        assert_eq!(len, self.frame.len(), "{:?}", self.message);
+        assert_eq!(buffer, expected, "{:?}", self.message);
+    }
+
+    /// By the writer of messages, and as a stream.
+    #[cfg(feature = "std")]
+    fn check_writer(&self) {
+        let mut writer = jcobs::MessageWriter::new(Vec::new());
+        let ended = [&self.frame[..], &[0]].concat();
+        for _ in 0..2 {
+            writer
+                .write_message(self.message)
+                .expect("a vector takes it");
+        }
+        let written = writer.into_inner();
+        assert_eq!(written, ended.repeat(2), "{:?}", self.message);
+        let stream = jcobs::encode_frames([self.message; 2]).expect("memory");
+        assert_eq!(stream, written, "{:?}", self.message);
+    }
+
     /// Pushes the message in two pieces.
     fn check_pushes(&self, room: usize, cut: usize) {
         let place = || format!("{:?} cut at {cut}, room for {room}", self.message);
@@ -133,6 +161,9 @@ fn the_least_room() {
         let len = case.frame.len();
         case.check_whole(len - 1);
         case.check_whole(len);
+        case.check_in_place(len % 3);
+        #[cfg(feature = "std")]
+        case.check_writer();
         case.check_pushes(len, message.len() / 2);
         case.check_pushes(len - 1, message.len());
     });

@@ -16,13 +16,6 @@ use crate::proved::find::{leading_zeros, len_to_zero};
 ///
 /// `InvalidFrame` if the last block breaks off, with the `decoded_bytes` that [`decode_in_place`](crate::decode_in_place) returns.
 /// The bytes of that block aren't decoded.
-///
-/// ```
-/// # use jcobs::proved::*;
-/// let mut buffer = [3, 10, 11, 2, 12, 0];
-/// assert_eq!(decode_blocks_each(&mut buffer, 5), Ok(4));
-/// assert_eq!(buffer, [10, 11, 0, 12, 12, 0]);
-/// ```
 // A function of its own, so that its loops have all registers of a small processor.
 #[inline(never)]
 pub fn decode_blocks_each(buffer: &mut [u8], end: usize) -> Result<usize, DecodeError> {
@@ -97,15 +90,6 @@ fn ended(written: usize, missing: usize, at: usize) -> Option<(PieceEnd, usize)>
 /// were consumed: leading zeros, the piece, and the zero after it if there is one. Returns `None` if there is no piece.
 ///
 /// It does what [`decode`](crate::decode) does, and counts the consumed bytes in each case. It is small, and uses no vectors.
-///
-/// ```
-/// # use jcobs::proved::*;
-/// let mut dest = [170; 3];
-/// let end = PieceEnd::Message(2);
-/// assert_eq!(decode_piece(&[0, 3, 7, 8, 0, 2], &mut dest), Some((end, 5)));
-/// assert_eq!(dest, [7, 8, 170]);
-/// assert_eq!(decode_piece(&[0, 0], &mut dest), None);
-/// ```
 #[inline(always)]
 pub fn decode_piece(source: &[u8], dest: &mut [u8]) -> Option<(PieceEnd, usize)> {
     let start = leading_zeros(source);

@@ -32,17 +32,6 @@ pub enum FrameKind {
 ///
 /// A frame is defined by its blocks, as in Cheshire and Baker's paper. Their encoder writes the shorter of two frames,
 /// so that is the canonical one.
-///
-/// ```
-/// # use jcobs::proved::*;
-/// assert_eq!(frame_kind(b"\x06hello"), FrameKind::Canonical);
-/// assert_eq!(frame_kind(b"\x07hello"), FrameKind::NotAFrame);
-///
-/// let mut longer = [1; 256];
-/// longer[0] = 255;
-/// assert_eq!(frame_kind(&longer), FrameKind::Longer);
-/// assert_eq!(frame_kind(&longer[..255]), FrameKind::Canonical);
-/// ```
 pub fn frame_kind(bytes: &[u8]) -> FrameKind {
     if zero_or_len(bytes) < bytes.len() {
         return FrameKind::NotAFrame;
@@ -54,12 +43,6 @@ pub fn frame_kind(bytes: &[u8]) -> FrameKind {
 /// for a zero.
 ///
 /// Precondition: no byte is a zero.
-///
-/// ```
-/// # use jcobs::proved::*;
-/// assert_eq!(kind_by_blocks(&[3, 7, 8, 1]), FrameKind::Canonical);
-/// assert_eq!(kind_by_blocks(&[3, 7]), FrameKind::NotAFrame);
-/// ```
 pub fn kind_by_blocks(bytes: &[u8]) -> FrameKind {
     let mut read = 0;
     let mut after_full = false;

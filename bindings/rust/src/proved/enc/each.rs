@@ -43,15 +43,6 @@ pub(crate) fn write_each(source: &[u8], dest: &mut [u8]) -> usize {
 ///
 /// # Errors
 /// Those of [`try_encode`](crate::try_encode).
-///
-/// ```
-/// # use jcobs::proved::*;
-/// let mut dest = [170; 5];
-/// assert_eq!(try_encode_each(b"hello", &mut dest), Err(DestBufTooSmallError));
-/// assert_eq!(dest, [170; 5]);
-/// assert_eq!(try_encode_each(b"hell", &mut dest), Ok(5));
-/// assert_eq!(&dest, b"\x05hell");
-/// ```
 pub fn try_encode_each(source: &[u8], dest: &mut [u8]) -> Result<usize, DestBufTooSmallError> {
     if !has_room(1, source, dest.len()) {
         return Err(DestBufTooSmallError);

@@ -13,13 +13,6 @@ use crate::proved::max_encoding_overhead;
 ///
 /// Precondition: `buffer` has at least [`max_encoding_length`](crate::max_encoding_length) of `len` bytes, so the message
 /// lies within it. (This call is this library's own.)
-///
-/// ```
-/// # use jcobs::proved::*;
-/// let mut buffer = *b"\0hello..";
-/// assert_eq!(encode_in_place(&mut buffer, 5), 6);
-/// assert_eq!(&buffer, b"\x06hello..");
-/// ```
 pub fn encode_in_place(buffer: &mut [u8], len: usize) -> usize {
     let before = max_encoding_overhead(len);
     let mut encoder = UnbufferedEncoder::new();

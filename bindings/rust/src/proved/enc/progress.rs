@@ -1,7 +1,7 @@
 // Made by bindings/rust/translate.py from `crates/cobs/src/enc/progress.rt`: change that file, and run it again.
 //! The state of a frame that is being written.
 
-/// How much of a frame is in the buffer, in plain numbers: the state of an [`UnbufferedEncoder`](crate::proved::UnbufferedEncoder).
+/// How much of a frame is in the buffer, in plain numbers: the state of an [`UnbufferedEncoder`](crate::UnbufferedEncoder).
 ///
 /// ```
 /// use jcobs::UnbufferedEncoder;
