@@ -79,14 +79,15 @@
 //! The functions of `src/proved/` are those of the Rattle crates `cobs` and `cobs_bytes` without their contracts. There each
 //! one is proved to return the right result, not to panic, and to end, for a `usize` of 64 bits. The other files of `src/` have
 //! the signatures of the crate `cobs`, and choose one of the proved functions for a push of one byte; they are tested. Memory
-//! safety rests on the compiler and on `memchr`: only the vectors of `src/simd.rs` have `unsafe` code here.
+//! safety rests on the compiler and on `memchr`: only the vectors of `src/simd.rs` have `unsafe` code here, and with the feature
+//! `small` nothing has.
 //!
 //! # Features
 //!
 //! - `std` (default): `alloc`; [`MessageReader`] and [`MessageWriter`]; [`Recorded`], a [`FrameSource`] over any
 //!   [`std::io::Read`]; and `std` of `memchr`, which then searches with AVX2 if the processor has it.
 //! - `alloc`: the calls that make vectors, and [`CobsDecoderOwned`].
-//! - `small`: single bytes on any target, as below.
+//! - `small`: single bytes on any target, as below, and no `unsafe` code.
 //! - `serde`, `defmt`: derives for [`DecodeError`], [`DestBufTooSmallError`] and [`DecodeReport`].
 //! - `heapless`: [`CobsDecoderHeapless::new_with_vec`] takes a `heapless::Vec`.
 //!
@@ -97,6 +98,7 @@
 //! If the target has SSE2, NEON or SIMD of WebAssembly, the calls search and copy in vectors and slices. On every other target,
 //! and with the feature `small`, they take one byte at a time, which needs a few hundred bytes of flash for each call.
 #![no_std]
+#![cfg_attr(feature = "small", forbid(unsafe_code))]
 // Pages of docs.rs then say which feature an item needs.
 #![cfg_attr(docsrs, feature(doc_cfg))]
 
