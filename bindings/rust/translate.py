@@ -85,6 +85,12 @@ INLINE = set(
     "decode_with_sentinel UnbufferedDecoder::feed_piece DecoderState::feed EncoderState::push UnbufferedEncoder::progress"
     " UnbufferedEncoder::from_progress".split()
 )
+# Calls whose result is all that they are for: the lint says so if it isn't used.
+MUST_USE = set(
+    "PieceEnd::reported DecodeReport::parsed_size DecodeReport::frame_size EncoderState::can_push EncoderState::finalize"
+    " UnbufferedDecoder::new UnbufferedDecoder::from_phase UnbufferedDecoder::phase UnbufferedDecoder::is_idle"
+    " UnbufferedEncoder::new UnbufferedEncoder::from_progress UnbufferedEncoder::progress".split()
+)
 # The feature that an item needs, if its code has this word.
 FEATURES = {"alloc": r"(?<!\w)(Vec\b|vec!)", "std": r"(?<!\w)std::|(?<![\w:])Read\b"}
 FUNCTION = r'(?:pub(?:\(crate\))? )?(?:const )?fn (\w+)'
@@ -299,7 +305,7 @@ def signature(source):
         head[0] = head[0].replace("fn ", "const fn ", 1)
     source.seen.add(call)
     source.function = call
-    marks = [indent + "#[inline]"] if call in INLINE else []
+    marks = [indent + "#[inline]"] * (call in INLINE) + [indent + "#[must_use]"] * (call in MUST_USE)
     return marks + without_allocator("\n".join(head)).split("\n")
 
 
@@ -539,7 +545,7 @@ def main():
         (to / place).parent.mkdir(parents=True, exist_ok=True)
         (to / place).write_text(text)
         written.append(to / place)
-    used = set(MORE_DERIVES) | CONST | INLINE | LEFT_OUT | set(REWORDED) | {f"{name}, by target" for name in BY_TARGET}
+    used = set(MORE_DERIVES) | CONST | INLINE | MUST_USE | LEFT_OUT | set(REWORDED) | {f"{name}, by target" for name in BY_TARGET}
     if missing := used - seen - reworded:
         raise SystemExit(f"translate.py: no source has {sorted(missing)[0]}")
     for path in set(to.rglob("*.rs")) - set(written):

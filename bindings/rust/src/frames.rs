@@ -27,13 +27,13 @@ use alloc::vec::Vec;
 /// assert_eq!(stream.remainder(), b"\x05un");
 /// ```
 #[inline]
-#[must_use]
 pub fn frames(stream: &[u8]) -> Frames<'_> {
     Frames { rest: stream }
 }
 
 /// An iterator over the frames of a recorded stream. [`frames`] makes it.
 #[derive(Debug, Clone)]
+#[must_use = "iterators are lazy and do nothing unless consumed"]
 pub struct Frames<'a> {
     rest: &'a [u8],
 }
@@ -92,13 +92,13 @@ impl FusedIterator for Frames<'_> {}
 /// [`DecodeError::InvalidFrame`] as an item: the piece breaks off inside a block. The count is that of
 /// [`decode_in_place`](crate::decode_in_place).
 #[inline]
-#[must_use]
 pub fn decode_stream_in_place(stream: &mut [u8]) -> MessagesInPlace<'_> {
     MessagesInPlace { rest: stream }
 }
 
 /// An iterator over the messages of a recorded stream. [`decode_stream_in_place`] makes it.
 #[derive(Debug)]
+#[must_use = "iterators are lazy and do nothing unless consumed"]
 pub struct MessagesInPlace<'a> {
     rest: &'a mut [u8],
 }

@@ -186,6 +186,7 @@ pub struct CobsDecoder<'a> {
 impl<'a> CobsDecoder<'a> {
     /// Makes a decoder that has taken nothing yet, and that decodes to `dest`.
     #[inline]
+    #[must_use]
     pub const fn new(dest: &'a mut [u8]) -> CobsDecoder<'a> {
         CobsDecoder {
             dest,

@@ -128,6 +128,7 @@ impl DecodeReport {
     /// assert_eq!(decode(&[0, 1, 0], &mut [])?.parsed_size(), 3);
     /// # Ok::<(), Box<dyn std::error::Error>>(())
     /// ```
+    #[must_use]
     pub fn parsed_size(&self) -> usize {
         self.parsed_size
     }
@@ -140,6 +141,7 @@ impl DecodeReport {
     /// assert_eq!(decode(&[0, 2, 7], &mut [0; 4])?.frame_size(), 1);
     /// # Ok::<(), Box<dyn std::error::Error>>(())
     /// ```
+    #[must_use]
     pub fn frame_size(&self) -> usize {
         self.frame_size
     }

@@ -38,6 +38,7 @@ impl PieceEnd {
     /// assert_eq!(end, Some(PieceEnd::Broken(1)));
     /// ```
     #[inline(always)]
+    #[must_use]
     pub fn reported(returned: Result<Option<usize>, DecodeError>) -> Option<PieceEnd> {
         match returned {
             Ok(None) | Err(DecodeError::EmptyFrame) => None,

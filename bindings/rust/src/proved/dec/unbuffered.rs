@@ -103,6 +103,7 @@ impl UnbufferedDecoder {
     /// assert_eq!(report.map(|report| report.frame_size()), Some(0));
     /// # Ok::<(), Box<dyn std::error::Error>>(())
     /// ```
+    #[must_use]
     pub const fn new() -> Self {
         START
     }
@@ -121,6 +122,7 @@ impl UnbufferedDecoder {
     /// assert_eq!(second.feed(&mut buffer, 0), Ok(Some(3)));
     /// assert!(buffer.starts_with(&[7, 8, 9]));
     /// ```
+    #[must_use]
     pub fn from_phase(phase: DecoderPhase) -> Self {
         match phase {
             DecoderPhase::Idle => START,
@@ -148,6 +150,7 @@ impl UnbufferedDecoder {
     ///
     /// assert_eq!(UnbufferedDecoder::new().phase(), DecoderPhase::Idle);
     /// ```
+    #[must_use]
     pub fn phase(&self) -> DecoderPhase {
         if self.too_long != 0 {
             return DecoderPhase::TooLong;
@@ -173,6 +176,7 @@ impl UnbufferedDecoder {
     /// assert!(!decoder.is_idle());
     /// ```
     #[inline(always)]
+    #[must_use]
     pub fn is_idle(&self) -> bool {
         self.written == 0 && self.missing == 0 && self.joint == 0 && self.too_long == 0
     }

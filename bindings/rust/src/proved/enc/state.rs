@@ -80,6 +80,7 @@ impl EncoderState {
     ///
     /// assert!(EncoderState::default().can_push());
     /// ```
+    #[must_use]
     pub fn can_push(&self) -> bool {
         self.code_index < usize::MAX - self.code as usize
     }
@@ -124,6 +125,7 @@ impl EncoderState {
     ///
     /// assert_eq!(EncoderState::default().finalize(), (0, 1));
     /// ```
+    #[must_use]
     pub fn finalize(self) -> (usize, u8) {
         (self.code_index, self.code)
     }

@@ -53,6 +53,7 @@ impl UnbufferedEncoder {
     /// assert_eq!(UnbufferedEncoder::new().finalize(&mut buffer), Ok(1));
     /// assert_eq!(buffer, [1, 170]);
     /// ```
+    #[must_use]
     pub const fn new() -> Self {
         UnbufferedEncoder {
             index: 0,
@@ -76,6 +77,7 @@ impl UnbufferedEncoder {
     /// # Ok::<(), Box<dyn std::error::Error>>(())
     /// ```
     #[inline]
+    #[must_use]
     pub fn from_progress(progress: EncoderProgress) -> Self {
         UnbufferedEncoder {
             index: progress.index,
@@ -93,6 +95,7 @@ impl UnbufferedEncoder {
     /// assert_eq!((progress.index, progress.code), (0, 1));
     /// ```
     #[inline]
+    #[must_use]
     pub fn progress(&self) -> EncoderProgress {
         EncoderProgress {
             index: self.index,
