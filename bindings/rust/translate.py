@@ -313,7 +313,7 @@ def code(source, line):
     """A line of a body."""
     if unknown := re.search(r"\.\w+\(alloc\b|\bVec::(?!new\(alloc\)|from_slice\(alloc, )\w+", bare(line)):
         source.fail(f"{unknown[0]} isn't known", source.at - 1)
-    line = without_allocator(line)
+    line = without_label(source, without_allocator(line))
     if instead := BY_TARGET.get(source.function, {}).get(line.strip()):
         line = line.replace(line.strip(), instead)
         source.seen.add(source.function + ", by target")
@@ -323,6 +323,15 @@ def code(source, line):
         line = f"{found[1]}crate::memory::push(&mut {found[2]}, {found[3]})?;"
     if found := re.search(r"[^\x00-\x7f]|\b(ghost|requires|ensures|decreases|invariant|tactic|alloc|rt|law_\d+|std|cobs_bytes|cobs)\b", bare(line)):
         source.fail(f"{found[0]} isn't Rust", source.at - 1)
+    return line
+
+
+def without_label(source, line):
+    """The head of a loop without its label, which a proof names, if no line of the loop does."""
+    if found := re.match(r"(\s*)('\w+): (?=(for|while|loop)\b)", line):
+        end = source.lines.index(found[1] + "}", source.at)
+        if not any(re.search(rf"{found[2]}\b", bare(inner)) for inner in source.lines[source.at : end]):
+            return found[1] + line[found.end() :]
     return line
 
 

@@ -129,7 +129,7 @@ pub fn decode_with_sentinel(
 }
 
 /// Does what [`decode_in_place`] does, for the given sentinel. Each byte of `buff`, even those after the frame, is first
-/// XORed with the sentinel, as in the crate `cobs`.
+/// replaced by its XOR with the sentinel, as in the crate `cobs`.
 ///
 /// ```
 /// let mut buff = [0; 3];

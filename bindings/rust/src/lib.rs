@@ -117,7 +117,6 @@ mod enc;
 mod frames;
 #[forbid(unsafe_code)]
 mod memory;
-#[allow(unused_labels, reason = "labels name the loops for the proofs")]
 #[allow(
     unused_imports,
     reason = "mod.rs exports what the crate in Rattle exports, and without some feature not every import is used"

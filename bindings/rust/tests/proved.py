@@ -38,6 +38,7 @@ PERMITTED = [
     (r" fn has_vectors \( \) -> bool { true }", " fn has_vectors ( ) -> bool { crate :: simd :: HAS_VECTORS }"),
     (r" \( alloc ([,)])", lambda found: " ( )" if found[1] == ")" else " ("),
 ]
+# Loops here have a label only if their body names it; in a source they have one for the proofs.
 # A vector of the function's own, and items that are added to it.
 VECTOR = r" let mut (\w+) = Vec :: new \( \) ;"
 # Functions that are `const` here.
@@ -138,10 +139,26 @@ def canonical(kept, is_source):
     if is_source:
         for pattern, instead in PERMITTED:
             text = re.sub(pattern, instead, text)
+        text = f" {' '.join(without_labels(text.split()))} "
         for name in re.findall(VECTOR, text):
             text = re.sub(rf" {name} \. push \( (.*?) \) \? ;", rf" crate :: memory :: push ( & mut {name} , \1 ) ? ;", text)
     text = text.replace(" const fn ", " fn ") if not is_source else text
     return re.sub(r" ,(?= [)\]}])", "", f" {' '.join(unwrapped(text.split()))} ").split()
+
+
+def without_labels(words):
+    """The tokens without the labels of loops that no `break` or `continue` names."""
+    out, at = [], 0
+    while at < len(words):
+        word = words[at]
+        if word.startswith("'") and words[at + 1] == ":" and words[at + 2] in ("for", "while", "loop"):
+            begun = words.index("{", at)
+            if word not in words[begun : past(words, begun)]:
+                at += 2
+                continue
+        out.append(word)
+        at += 1
+    return out
 
 
 def unwrapped(words):

@@ -6,7 +6,7 @@ use memchr::memchr;
 
 /// Returns how many zeros the source begins with, which [`decode`](crate::decode) skips before a frame.
 pub fn leading_zeros(source: &[u8]) -> usize {
-    'by_byte: for i in 0..source.len() {
+    for i in 0..source.len() {
         if source[i] != 0 {
             return i;
         }
@@ -25,13 +25,13 @@ pub(crate) fn position_or_len(source: &[u8], byte: u8) -> usize {
 #[inline(never)]
 pub fn len_to_zero(bytes: &[u8]) -> usize {
     let mut rest = bytes;
-    'by_four: while rest.len() >= 4 {
+    while rest.len() >= 4 {
         if rest[0] == 0 || rest[1] == 0 || rest[2] == 0 || rest[3] == 0 {
             break;
         }
         rest = &rest[4..];
     }
-    'by_byte: while !rest.is_empty() && rest[0] != 0 {
+    while !rest.is_empty() && rest[0] != 0 {
         rest = &rest[1..];
     }
     bytes.len() - rest.len()

@@ -287,7 +287,7 @@ impl<D: FrameDecoder> FrameReader<D> {
         }
         self.start = self.end;
         let mut chunk = [0; 64];
-        'by_read: for _read in 0..MOST_READS {
+        for _read in 0..MOST_READS {
             match source.read_some(&mut chunk) {
                 None => return Err(ReadFault::Io),
                 Some(0) => {

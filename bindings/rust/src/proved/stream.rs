@@ -81,7 +81,7 @@ pub fn decode_stream<D: FrameDecoder>(
 ) -> Result<Vec<FrameOutcome>, AllocError> {
     let mut outcomes = Vec::new();
     let mut at = 0;
-    'by_piece: while let Some((end, count)) = decoder.feed_piece(&bytes[at..]) {
+    while let Some((end, count)) = decoder.feed_piece(&bytes[at..]) {
         crate::memory::push(&mut outcomes, frame_outcome(end, decoder.buffer())?)?;
         at += count;
     }

@@ -21,7 +21,7 @@ use crate::proved::find::{leading_zeros, len_to_zero};
 pub fn decode_blocks_each(buffer: &mut [u8], end: usize) -> Result<usize, DecodeError> {
     let mut read = 0;
     let mut written = 0;
-    'by_block: while read < end {
+    while read < end {
         let code = buffer[read] as usize;
         if end - read < code {
             return Err(DecodeError::InvalidFrame {
@@ -32,7 +32,7 @@ pub fn decode_blocks_each(buffer: &mut [u8], end: usize) -> Result<usize, Decode
         read += 1;
         // The test is at the end of the loop, because compilers that keep code small leave it there.
         if read != next {
-            'by_byte: loop {
+            loop {
                 buffer[written] = buffer[read];
                 written += 1;
                 read += 1;
@@ -67,7 +67,7 @@ pub(crate) fn decode_in_place_each(buf: &mut [u8]) -> Result<DecodeReport, Decod
 #[inline(never)]
 fn end_after(source: &[u8], at: usize) -> usize {
     let mut end = at;
-    'by_byte: while end < source.len() {
+    while end < source.len() {
         end += 1;
         if source[end - 1] == 0 {
             break;
@@ -100,7 +100,7 @@ pub fn decode_piece(source: &[u8], dest: &mut [u8]) -> Option<(PieceEnd, usize)>
     let mut written = 0;
     let mut code = source[start];
     let mut left = code as usize - 1;
-    'by_byte: while at < source.len() {
+    while at < source.len() {
         let byte = source[at];
         at += 1;
         if byte == 0 {

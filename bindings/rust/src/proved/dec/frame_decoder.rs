@@ -91,7 +91,7 @@ pub trait FrameDecoder {
     /// assert_eq!(end, Some((PieceEnd::Message(1), 2)));
     /// ```
     fn feed_piece(&mut self, stream: &[u8]) -> Option<(PieceEnd, usize)> {
-        'by_byte: for (i, byte) in stream.iter().enumerate() {
+        for (i, byte) in stream.iter().enumerate() {
             let returned = self.feed_byte(*byte);
             if *byte == 0 {
                 if let Some(end) = PieceEnd::reported(returned) {

@@ -50,7 +50,7 @@ impl UnbufferedDecoder {
     #[inline]
     fn take_in_place(&mut self, buffer: &mut [u8], read: usize, end: usize) {
         let mut at = read;
-        'by_step: while at < end {
+        while at < end {
             at += self.take_part_in_place(buffer, at, end);
         }
     }

@@ -46,7 +46,7 @@ pub fn frame_kind(bytes: &[u8]) -> FrameKind {
 pub fn kind_by_blocks(bytes: &[u8]) -> FrameKind {
     let mut read = 0;
     let mut after_full = false;
-    'by_block: while read < bytes.len() {
+    while read < bytes.len() {
         let code = bytes[read] as usize;
         let left = bytes.len() - read;
         if left < code {

@@ -243,7 +243,7 @@ impl UnbufferedDecoder {
         bytes: &[u8],
     ) -> Result<Option<DecodeReport>, PushError> {
         let mut at = 0;
-        'by_run: while at < bytes.len() {
+        while at < bytes.len() {
             at += self.take_at_once(dest, &bytes[at..]);
             if at < bytes.len() {
                 let parsed_size = at + 1;
@@ -307,7 +307,7 @@ impl UnbufferedDecoder {
     #[inline(never)]
     fn feed_piece_long(&mut self, dest: &mut [u8], bytes: &[u8]) -> Option<(PieceEnd, usize)> {
         let mut taken = 0;
-        'by_run: while taken < bytes.len() {
+        while taken < bytes.len() {
             if self.too_long != 0 {
                 // The piece is too long for the buffer: its bytes are skipped through its zero.
                 let rest = &bytes[taken..];

@@ -14,7 +14,7 @@ pub(crate) fn write_each(source: &[u8], dest: &mut [u8]) -> usize {
     let mut index = 0;
     let mut next = 1;
     let mut read = 0;
-    'by_part: while read < source.len() {
+    while read < source.len() {
         if next - index == FULL_CODE {
             dest[index] = FULL_CODE as u8;
             index = next;
@@ -22,7 +22,7 @@ pub(crate) fn write_each(source: &[u8], dest: &mut [u8]) -> usize {
         }
         let rest = &source[read..];
         let len = rest.len().min(FULL_CODE - (next - index));
-        'by_byte: for i in 0..len {
+        for i in 0..len {
             let byte = rest[i];
             if byte == 0 {
                 dest[index] = (next - index) as u8;

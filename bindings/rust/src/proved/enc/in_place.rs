@@ -16,7 +16,7 @@ use crate::proved::max_encoding_overhead;
 pub fn encode_in_place(buffer: &mut [u8], len: usize) -> usize {
     let before = max_encoding_overhead(len);
     let mut encoder = UnbufferedEncoder::new();
-    'by_byte: for taken in 0..len {
+    for taken in 0..len {
         let byte = buffer[before + taken];
         encoder.append_byte(buffer, byte);
     }
