@@ -36,22 +36,32 @@ PATHS = {
 }
 # Names that Rust has no use for.
 DROPPED = ("std::alloc::Global", "std::marker::Model", "serde::", "thiserror::", "cobs::laws")
-DERIVES = ("Debug", "Clone", "Copy", "PartialEq", "Eq")
+DERIVES = ("Debug", "Clone", "Copy", "PartialEq", "Eq", "Hash")
 NOT_DERIVED = ("Drop", "Error", "Serialize", "Deserialize")
 # What Rust programs expect of a type beside what its source derives.
 MORE_DERIVES = {
-    "DecodeError": ("Clone", "Copy"),
-    "DestBufTooSmallError": ("Clone", "Copy"),
-    "PushError": ("Clone", "Copy"),
-    "FrameKind": ("Clone", "Copy"),
+    "DecodeError": DERIVES,
+    "DestBufTooSmallError": DERIVES,
+    "PushError": DERIVES,
+    "DecodeReport": DERIVES,
+    "FrameKind": DERIVES,
+    "PieceEnd": DERIVES,
+    "Next": DERIVES,
+    "ReadFault": DERIVES,
+    "FrameOutcome": ("Clone", "Hash"),
     "PushResult": DERIVES,
     "DecodeResult": DERIVES,
-    "DecoderState": ("Clone", "PartialEq", "Eq"),
-    "Recorded": ("Debug",),
-    "FrameReader": ("Debug",),
-    "ReadFault": ("Clone", "Copy"),
-    "Next": ("Clone", "Copy"),
+    "DecoderState": ("Clone", "PartialEq", "Eq", "Hash"),
+    "DecoderPhase": DERIVES,
+    "UnbufferedDecoder": DERIVES,
+    "EncoderState": ("Clone", "PartialEq", "Eq", "Hash"),
+    "EncoderProgress": DERIVES,
+    "UnbufferedEncoder": DERIVES,
+    "Recorded": ("Debug", "Clone"),
+    "FrameReader": ("Debug", "Clone"),
 }
+# Results and errors, which may be stored and logged: they derive what the features `serde` and `defmt` are for.
+STORED = set("DecodeError DestBufTooSmallError DecodeReport PushError FrameKind PieceEnd Next ReadFault FrameOutcome".split())
 # What the docs say otherwise here, where the decoders have the signatures of the crate `cobs`, and no reader sees a contract.
 REWORDED = {
     "Its results are those of [`CobsDecoder`](crate::CobsDecoder). It has no buffer": "The results of its `feed` are those of\n"
@@ -247,7 +257,7 @@ def derives(source, line, name):
     source.seen.add(name)
     rust = ", ".join(word for word in DERIVES if word in listed or word in more)
     out = [f"#[derive({rust})]"] if rust else []
-    if "Serialize" in listed:
+    if name in STORED:
         out.append('#[cfg_attr(feature = "serde", derive(serde::Serialize, serde::Deserialize))]')
         out.append('#[cfg_attr(feature = "defmt", derive(defmt::Format))]')
     return out, "Error" in listed
@@ -554,7 +564,7 @@ def main():
         (to / place).parent.mkdir(parents=True, exist_ok=True)
         (to / place).write_text(text)
         written.append(to / place)
-    used = set(MORE_DERIVES) | CONST | INLINE | MUST_USE | LEFT_OUT | set(REWORDED) | {f"{name}, by target" for name in BY_TARGET}
+    used = set(MORE_DERIVES) | STORED | CONST | INLINE | MUST_USE | LEFT_OUT | set(REWORDED) | {f"{name}, by target" for name in BY_TARGET}
     if missing := used - seen - reworded:
         raise SystemExit(f"translate.py: no source has {sorted(missing)[0]}")
     for path in set(to.rglob("*.rs")) - set(written):

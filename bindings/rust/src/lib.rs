@@ -88,7 +88,8 @@
 //!   [`std::io::Read`]; and `std` of `memchr`, which then searches with AVX2 if the processor has it.
 //! - `alloc`: the calls that make vectors, and [`CobsDecoderOwned`].
 //! - `small`: single bytes on any target, as below, and no `unsafe` code.
-//! - `serde`, `defmt`: derives for [`DecodeError`], [`DestBufTooSmallError`] and [`DecodeReport`].
+//! - `serde`, `defmt`: derives for the errors ([`DecodeError`], [`DestBufTooSmallError`], [`PushError`], [`ReadFault`],
+//!   [`AllocError`]) and for [`DecodeReport`], [`PieceEnd`], [`Next`], [`FrameKind`] and `FrameOutcome`.
 //! - `heapless`: [`CobsDecoderHeapless::new_with_vec`] takes a `heapless::Vec`.
 //!
 //! The crate is `no_std` without `std`.

@@ -4,7 +4,9 @@
 use alloc::vec::Vec;
 
 /// There was no memory for a vector.
-#[derive(Debug, Clone, Copy, PartialEq, Eq)]
+#[derive(Debug, Clone, Copy, PartialEq, Eq, Hash)]
+#[cfg_attr(feature = "serde", derive(serde::Serialize, serde::Deserialize))]
+#[cfg_attr(feature = "defmt", derive(defmt::Format))]
 pub struct AllocError;
 
 impl core::fmt::Display for AllocError {

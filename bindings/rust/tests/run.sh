@@ -69,13 +69,22 @@ fn main() {
     let report = jcobs::decode(b"\x02a\0", &mut [0; 2]).unwrap();
     println!("{}", serde_json::to_string(&report).unwrap());
     assert_eq!(serde_json::from_str::<jcobs::DecodeError>("\"EmptyFrame\"").unwrap(), jcobs::DecodeError::EmptyFrame);
+    let more = (jcobs::Next::End { unfinished: true }, jcobs::PieceEnd::Message(2), jcobs::FrameKind::Longer);
+    println!("{}", serde_json::to_string(&more).unwrap());
+    let outcome = jcobs::FrameOutcome::Message(vec![7]);
+    let text = serde_json::to_string(&(&outcome, jcobs::ReadFault::Io, jcobs::AllocError)).unwrap();
+    let same: (jcobs::FrameOutcome, jcobs::ReadFault, jcobs::AllocError) = serde_json::from_str(&text).unwrap();
+    assert_eq!(same, (outcome, jcobs::ReadFault::Io, jcobs::AllocError));
     assert!(jcobs::DecodeError::HAS_FORMAT && jcobs::DestBufTooSmallError::HAS_FORMAT && jcobs::DecodeReport::HAS_FORMAT);
+    assert!(jcobs::PushError::HAS_FORMAT && jcobs::ReadFault::HAS_FORMAT && jcobs::AllocError::HAS_FORMAT);
+    assert!(jcobs::Next::HAS_FORMAT && jcobs::PieceEnd::HAS_FORMAT && jcobs::FrameKind::HAS_FORMAT && jcobs::FrameOutcome::HAS_FORMAT);
     let vec = heapless::Vec::<u8, 4>::new();
     println!("{:?}", jcobs::CobsDecoderHeapless::new_with_vec(vec).dest());
 }
 END2
     prints '[{"InvalidFrame":{"decoded_bytes":3}},null]
 {"parsed_size":3,"frame_size":1}
+[{"End":{"unfinished":true}},{"Message":2},"Longer"]
 [0, 0, 0, 0]' cargo run -q
 )
 

@@ -4,11 +4,13 @@
 
 use std::error::Error;
 use std::fmt::{Debug, Display};
+use std::hash::Hash;
 
 use jcobs::{
-    CobsDecoder, CobsDecoderHeapless, CobsDecoderOwned, CobsEncoder, DecodeError, DecodeReport,
-    DecodeResult, DecoderState, DecodingResult, DestBufTooSmallError, EncoderState, PushResult,
-    ReadFault, UnbufferedDecoder, UnbufferedEncoder,
+    AllocError, CobsDecoder, CobsDecoderHeapless, CobsDecoderOwned, CobsEncoder, DecodeError,
+    DecodeReport, DecodeResult, DecoderPhase, DecoderState, DecodingResult, DestBufTooSmallError,
+    EncoderProgress, EncoderState, FrameKind, FrameOutcome, FrameReader, Next, PieceEnd, PushError,
+    PushResult, ReadFault, UnbufferedDecoder, UnbufferedEncoder,
 };
 
 const LENGTHS: [fn(usize) -> usize; 2] = [jcobs::max_encoding_overhead, jcobs::max_encoding_length];
@@ -87,11 +89,17 @@ fn decoders() {
 fn traits() {
     fn error<T: Error + Display + Debug + Eq + Send + Sync + 'static>() {}
     fn debug<T: Debug + Send + Sync>() {}
-    fn copy<T: Debug + Copy + Eq>() {}
+    fn copy<T: Debug + Copy + Eq + Hash>() {}
+    fn clone<T: Debug + Clone + Send + Sync>() {}
     error::<DestBufTooSmallError>();
     error::<DecodeError>();
     error::<ReadFault>();
-    copy::<DecodeReport>();
+    copy::<(DestBufTooSmallError, DecodeError, ReadFault, DecodeReport)>();
+    copy::<(PushResult, DecodeResult, FrameKind, PieceEnd, Next)>();
+    copy::<(PushError, DecoderPhase, EncoderProgress, AllocError)>();
+    copy::<(UnbufferedDecoder, UnbufferedEncoder)>();
+    clone::<(CobsDecoderOwned, CobsDecoderHeapless<4>, FrameOutcome)>();
+    clone::<FrameReader<CobsDecoderHeapless<4>>>();
     debug::<CobsEncoder<'_>>();
     debug::<CobsDecoder<'_>>();
     debug::<CobsDecoderOwned>();

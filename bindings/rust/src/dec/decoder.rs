@@ -7,7 +7,7 @@ use crate::dec::{DecodeError, DecodeReport, FrameDecoder, PieceEnd, UnbufferedDe
 use crate::simd::HAS_VECTORS;
 
 /// The part that the three decoders have in common: everything except the buffer.
-#[derive(Debug)]
+#[derive(Debug, Clone)]
 struct Progress {
     decoder: UnbufferedDecoder,
     /// How many bytes the last call took.
@@ -209,7 +209,7 @@ frame_decoder!(CobsDecoder<'_>,);
 /// assert_eq!(decoder.dest()[..1], *b"x");
 /// # Ok::<(), jcobs::DecodeError>(())
 /// ```
-#[derive(Debug)]
+#[derive(Debug, Clone)]
 pub struct CobsDecoderHeapless<const N: usize> {
     dest: [u8; N],
     progress: Progress,
@@ -265,7 +265,7 @@ impl<const N: usize> Default for CobsDecoderHeapless<N> {
 /// # Ok::<(), jcobs::DecodeError>(())
 /// ```
 #[cfg(feature = "alloc")]
-#[derive(Debug)]
+#[derive(Debug, Clone)]
 pub struct CobsDecoderOwned {
     dest: alloc::boxed::Box<[u8]>,
     progress: Progress,

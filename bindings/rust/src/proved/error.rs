@@ -9,7 +9,7 @@
 /// let text = DestBufTooSmallError.to_string();
 /// assert_eq!(text.as_str(), "out of bounds error during encoding");
 /// ```
-#[derive(Debug, Clone, Copy, PartialEq, Eq)]
+#[derive(Debug, Clone, Copy, PartialEq, Eq, Hash)]
 #[cfg_attr(feature = "serde", derive(serde::Serialize, serde::Deserialize))]
 #[cfg_attr(feature = "defmt", derive(defmt::Format))]
 pub struct DestBufTooSmallError;
@@ -33,7 +33,7 @@ impl core::error::Error for DestBufTooSmallError {}
 /// let rejected = decode(&[3, 1, 2], &mut [0; 1]);
 /// assert_eq!(rejected, Err(DecodeError::TargetBufTooSmall));
 /// ```
-#[derive(Debug, Clone, Copy, PartialEq, Eq)]
+#[derive(Debug, Clone, Copy, PartialEq, Eq, Hash)]
 #[cfg_attr(feature = "serde", derive(serde::Serialize, serde::Deserialize))]
 #[cfg_attr(feature = "defmt", derive(defmt::Format))]
 pub enum DecodeError {
@@ -80,7 +80,9 @@ impl core::error::Error for DecodeError {}
 /// };
 /// assert_eq!(decoder.push(&mut buffer, &[3, 7, 0, 2, 9, 0]), Err(rejected));
 /// ```
-#[derive(Debug, Clone, Copy, PartialEq, Eq)]
+#[derive(Debug, Clone, Copy, PartialEq, Eq, Hash)]
+#[cfg_attr(feature = "serde", derive(serde::Serialize, serde::Deserialize))]
+#[cfg_attr(feature = "defmt", derive(defmt::Format))]
 pub struct PushError {
     /// The result for the last byte that was consumed.
     pub error: DecodeError,
@@ -110,7 +112,7 @@ impl core::error::Error for PushError {}
 /// assert_eq!(report.frame_size(), 2);
 /// # Ok::<(), Box<dyn std::error::Error>>(())
 /// ```
-#[derive(Debug, Clone, Copy, PartialEq, Eq)]
+#[derive(Debug, Clone, Copy, PartialEq, Eq, Hash)]
 #[cfg_attr(feature = "serde", derive(serde::Serialize, serde::Deserialize))]
 #[cfg_attr(feature = "defmt", derive(defmt::Format))]
 pub struct DecodeReport {

@@ -22,7 +22,9 @@ use std::io::Read;
 /// assert_eq!(reader.next_frame(&mut source), Ok(Next::Broken(1)));
 /// # }
 /// ```
-#[derive(Debug, Clone, Copy, PartialEq, Eq)]
+#[derive(Debug, Clone, Copy, PartialEq, Eq, Hash)]
+#[cfg_attr(feature = "serde", derive(serde::Serialize, serde::Deserialize))]
+#[cfg_attr(feature = "defmt", derive(defmt::Format))]
 pub enum Next {
     /// A piece ended, and it is a frame. Its message is this many bytes at the front of the decoder's buffer.
     Message(usize),
@@ -57,7 +59,9 @@ pub enum Next {
 ///     }
 /// }
 /// ```
-#[derive(Debug, Clone, Copy, PartialEq, Eq)]
+#[derive(Debug, Clone, Copy, PartialEq, Eq, Hash)]
+#[cfg_attr(feature = "serde", derive(serde::Serialize, serde::Deserialize))]
+#[cfg_attr(feature = "defmt", derive(defmt::Format))]
 pub enum ReadFault {
     /// A read failed. An interrupted read counts as a failed one.
     Io,
@@ -112,7 +116,7 @@ pub trait FrameSource {
 /// # }
 /// ```
 #[cfg(feature = "std")]
-#[derive(Debug)]
+#[derive(Debug, Clone)]
 pub struct Recorded<R> {
     reader: R,
 }
@@ -194,7 +198,7 @@ const MOST_READS: usize = 65536;
 /// assert!(reader.decoder().dest().starts_with(b"hello"));
 /// # }
 /// ```
-#[derive(Debug)]
+#[derive(Debug, Clone)]
 pub struct FrameReader<D: FrameDecoder> {
     decoder: D,
     chunk: [u8; 64],

@@ -13,7 +13,9 @@ use crate::proved::error::DecodeError;
 /// let end = decoder.feed_piece(&[2, 7, 0]);
 /// assert_eq!(end, Some((PieceEnd::Message(1), 3)));
 /// ```
-#[derive(Debug, Clone, Copy, PartialEq, Eq)]
+#[derive(Debug, Clone, Copy, PartialEq, Eq, Hash)]
+#[cfg_attr(feature = "serde", derive(serde::Serialize, serde::Deserialize))]
+#[cfg_attr(feature = "defmt", derive(defmt::Format))]
 pub enum PieceEnd {
     /// The piece is a frame. Its message is this many bytes at the front of the decoder's buffer.
     Message(usize),

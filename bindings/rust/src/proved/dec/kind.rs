@@ -12,7 +12,9 @@ use crate::proved::find::zero_or_len;
 /// assert_eq!(frame_kind(&[]), FrameKind::NotAFrame);
 /// assert_eq!(frame_kind(&[1]), FrameKind::Canonical);
 /// ```
-#[derive(Debug, Clone, Copy, PartialEq, Eq)]
+#[derive(Debug, Clone, Copy, PartialEq, Eq, Hash)]
+#[cfg_attr(feature = "serde", derive(serde::Serialize, serde::Deserialize))]
+#[cfg_attr(feature = "defmt", derive(defmt::Format))]
 pub enum FrameKind {
     /// The bytes are no frame: there are none, one of them is a zero, or they break off inside a block.
     NotAFrame,

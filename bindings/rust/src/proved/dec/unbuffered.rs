@@ -17,7 +17,7 @@ use crate::proved::find::{front_len, position_or_len};
 /// assert_eq!(decoder.push(&mut buffer, &[4, 7, 8]), Ok(None));
 /// assert!(matches!(decoder.phase(), DecoderPhase::Within { missing: 1, .. }));
 /// ```
-#[derive(Debug, Clone, Copy, PartialEq, Eq)]
+#[derive(Debug, Clone, Copy, PartialEq, Eq, Hash)]
 pub enum DecoderPhase {
     /// No piece has begun.
     Idle,
@@ -66,7 +66,7 @@ pub enum DecoderPhase {
 // zero before it. So for a nonzero byte only the number of missing bytes is tested, and for a code whether a zero comes
 // before it.
 #[repr(C)]
-#[derive(Debug, Clone, Copy, PartialEq, Eq)]
+#[derive(Debug, Clone, Copy, PartialEq, Eq, Hash)]
 pub struct UnbufferedDecoder {
     /// How many bytes of this piece's output are written.
     pub written: usize,

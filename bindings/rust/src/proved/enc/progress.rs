@@ -13,7 +13,7 @@
 /// assert_eq!((progress.index, progress.code, progress.is_full), (0, 6, false));
 /// # Ok::<(), Box<dyn std::error::Error>>(())
 /// ```
-#[derive(Debug, Clone, Copy, PartialEq, Eq)]
+#[derive(Debug, Clone, Copy, PartialEq, Eq, Hash)]
 pub struct EncoderProgress {
     /// The index in the buffer at which the code of the open block belongs.
     pub index: usize,

@@ -11,7 +11,7 @@
 /// assert!(matches!(state.push(7), PushResult::AddSingle(7)));
 /// assert!(matches!(state.push(0), PushResult::ModifyFromStartAndSkip((0, 2))));
 /// ```
-#[derive(Debug, Clone, Copy, PartialEq, Eq)]
+#[derive(Debug, Clone, Copy, PartialEq, Eq, Hash)]
 pub enum PushResult {
     /// The byte is appended.
     AddSingle(u8),
@@ -48,7 +48,7 @@ pub enum PushResult {
 /// output[2] = 1;
 /// assert_eq!(output, [2, 7, 1]);
 /// ```
-#[derive(Debug, Clone)]
+#[derive(Debug, Clone, PartialEq, Eq, Hash)]
 pub struct EncoderState {
     code_index: usize,
     code: u8,
