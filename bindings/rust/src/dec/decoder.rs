@@ -45,14 +45,10 @@ impl Progress {
         let ended = self.decoder.feed_piece(dest, data);
         self.parsed_size = ended.map_or(data.len(), |(_, taken)| taken);
         match ended {
-            Some((PieceEnd::Message(frame_size), parsed_size)) => Ok(Some(DecodeReport {
+            Some((end, parsed_size)) => Ok(Some(DecodeReport {
                 parsed_size,
-                frame_size,
+                frame_size: end.into_result()?,
             })),
-            Some((PieceEnd::Broken(decoded_bytes), _)) => {
-                Err(DecodeError::InvalidFrame { decoded_bytes })
-            }
-            Some((PieceEnd::TooLong, _)) => Err(DecodeError::TargetBufTooSmall),
             None if self.decoder.too_long != 0 && !data.is_empty() => {
                 Err(DecodeError::TargetBufTooSmall)
             }

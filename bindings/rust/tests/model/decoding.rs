@@ -1,6 +1,6 @@
 //! Frames to messages, in each room and cut.
 
-use jcobs::{CobsDecoder, DecodeError, FrameKind, PieceEnd, PushError, UnbufferedDecoder};
+use jcobs::{CobsDecoder, DecodeError, FrameKind, UnbufferedDecoder};
 
 use crate::grammar::{Decoder, encoded};
 use crate::{ALL, FILL, messages, some_messages};
@@ -84,7 +84,7 @@ impl Case {
         self.check(cut, |dest, bytes| match decoder.push(dest, bytes) {
             Ok(None) => (bytes.len(), None),
             Ok(Some(report)) => (report.parsed_size(), Some(Ok(report.frame_size()))),
-            Err(PushError { error, parsed_size }) => (parsed_size, Some(Err(error))),
+            Err(rejected) => (rejected.parsed_size, Some(Err(rejected.into()))),
         });
         let mut decoder = UnbufferedDecoder::new();
         self.check(cut, |dest, bytes| {
@@ -92,14 +92,7 @@ impl Case {
             decoder = UnbufferedDecoder::from_phase(decoder.phase());
             match decoder.feed_piece(dest, bytes) {
                 None => (bytes.len(), None),
-                Some((PieceEnd::Message(len), taken)) => (taken, Some(Ok(len))),
-                Some((PieceEnd::Broken(decoded_bytes), taken)) => {
-                    let error = DecodeError::InvalidFrame { decoded_bytes };
-                    (taken, Some(Err(error)))
-                }
-                Some((PieceEnd::TooLong, taken)) => {
-                    (taken, Some(Err(DecodeError::TargetBufTooSmall)))
-                }
+                Some((end, taken)) => (taken, Some(end.into_result())),
             }
         });
         self.check_buffered(cut);

@@ -4,7 +4,7 @@ use std::io;
 
 use bytes::{Buf, Bytes, BytesMut};
 use futures_util::{SinkExt, StreamExt};
-use jcobs::{DecodeError, DecoderPhase, PieceEnd, UnbufferedDecoder};
+use jcobs::{DecodeError, UnbufferedDecoder};
 use tokio_util::codec::{Decoder, Encoder, Framed};
 
 struct CobsCodec {
@@ -33,16 +33,13 @@ impl Decoder for CobsCodec {
             return Ok(None);
         };
         bytes.advance(taken);
-        Ok(Some(match end {
-            PieceEnd::Message(len) => Ok(Bytes::copy_from_slice(&self.message[..len])),
-            PieceEnd::Broken(decoded_bytes) => Err(DecodeError::InvalidFrame { decoded_bytes }),
-            PieceEnd::TooLong => Err(DecodeError::TargetBufTooSmall),
-        }))
+        let message = end.into_result();
+        Ok(Some(message.map(|len| Bytes::copy_from_slice(&self.message[..len]))))
     }
 
     fn decode_eof(&mut self, bytes: &mut BytesMut) -> io::Result<Option<Self::Item>> {
         match self.decode(bytes)? {
-            None if self.decoder.phase() != DecoderPhase::Idle => {
+            None if !self.decoder.is_idle() => {
                 Err(io::ErrorKind::UnexpectedEof.into())
             }
             item => Ok(item),
