@@ -88,8 +88,13 @@ REWORDED = {
 TRAITS = {"FrameDecoder": "feed_byte|feed_piece|buffer", "FrameSource": "read_some"}
 # Functions whose result depends on the target, and that result here. No proof rests on it.
 BY_TARGET = {"cobs_bytes::has_vectors": {"true": "crate::simd::HAS_VECTORS"}}
-# Calls that are `const fn` in the crate `cobs`, or called by one.
-CONST = {"max_encoding_overhead", "max_encoding_length", "UnbufferedDecoder::new", "UnbufferedEncoder::new"}
+# Calls that are `const fn` in the crate `cobs`, or called by one; and those that make and copy plain values, so that these can
+# be in a constant or a static.
+CONST = set(
+    "max_encoding_overhead max_encoding_length UnbufferedDecoder::new UnbufferedDecoder::from_phase UnbufferedDecoder::phase"
+    " UnbufferedDecoder::is_idle UnbufferedEncoder::new UnbufferedEncoder::from_progress UnbufferedEncoder::progress"
+    " DecodeReport::parsed_size DecodeReport::frame_size FrameReader::new FrameReader::decoder Recorded::new".split()
+)
 # Calls for one byte or a short frame, which are to be compiled into the caller's loop.
 INLINE = set(
     "decode_with_sentinel UnbufferedDecoder::feed_piece DecoderState::feed EncoderState::push UnbufferedEncoder::progress"

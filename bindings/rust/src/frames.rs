@@ -27,7 +27,7 @@ use alloc::vec::Vec;
 /// assert_eq!(stream.remainder(), b"\x05un");
 /// ```
 #[inline]
-pub fn frames(stream: &[u8]) -> Frames<'_> {
+pub const fn frames(stream: &[u8]) -> Frames<'_> {
     Frames { rest: stream }
 }
 
@@ -43,7 +43,7 @@ impl<'a> Frames<'a> {
     /// zero has ended.
     #[inline]
     #[must_use]
-    pub fn remainder(&self) -> &'a [u8] {
+    pub const fn remainder(&self) -> &'a [u8] {
         self.rest
     }
 
@@ -63,9 +63,20 @@ impl<'a> Iterator for Frames<'a> {
     fn next(&mut self) -> Option<&'a [u8]> {
         iter::from_fn(|| self.next_piece()).find(|piece| !piece.is_empty())
     }
+
+    #[inline]
+    fn size_hint(&self) -> (usize, Option<usize>) {
+        most_frames(self.rest)
+    }
 }
 
 impl FusedIterator for Frames<'_> {}
+
+/// The bounds of the number of frames in a stream: each has a byte at least, and a zero.
+#[inline]
+const fn most_frames(stream: &[u8]) -> (usize, Option<usize>) {
+    (0, Some(stream.len() / 2))
+}
 
 /// Returns an iterator over the messages of a recorded stream. Each is decoded at the place of its frame, so no other
 /// memory is used.
@@ -92,18 +103,18 @@ impl FusedIterator for Frames<'_> {}
 /// [`DecodeError::InvalidFrame`] as an item: the piece breaks off inside a block. The count is that of
 /// [`decode_in_place`](crate::decode_in_place).
 #[inline]
-pub fn decode_stream_in_place(stream: &mut [u8]) -> MessagesInPlace<'_> {
-    MessagesInPlace { rest: stream }
+pub const fn decode_stream_in_place(stream: &mut [u8]) -> DecodeStreamInPlace<'_> {
+    DecodeStreamInPlace { rest: stream }
 }
 
 /// An iterator over the messages of a recorded stream. [`decode_stream_in_place`] makes it.
 #[derive(Debug)]
 #[must_use = "iterators are lazy and do nothing unless consumed"]
-pub struct MessagesInPlace<'a> {
+pub struct DecodeStreamInPlace<'a> {
     rest: &'a mut [u8],
 }
 
-impl<'a> MessagesInPlace<'a> {
+impl<'a> DecodeStreamInPlace<'a> {
     /// Returns the bytes after the zero of the last piece that was returned. After the end these are the bytes that no
     /// zero has ended, as they were.
     #[inline]
@@ -122,7 +133,7 @@ impl<'a> MessagesInPlace<'a> {
     }
 }
 
-impl<'a> Iterator for MessagesInPlace<'a> {
+impl<'a> Iterator for DecodeStreamInPlace<'a> {
     type Item = Result<&'a mut [u8], DecodeError>;
 
     #[inline]
@@ -130,9 +141,14 @@ impl<'a> Iterator for MessagesInPlace<'a> {
         let frame = iter::from_fn(|| self.next_piece()).find(|piece| !piece.is_empty())?;
         Some(decode_in_place(frame).map(|len| &mut frame[..len]))
     }
+
+    #[inline]
+    fn size_hint(&self) -> (usize, Option<usize>) {
+        most_frames(self.rest)
+    }
 }
 
-impl FusedIterator for MessagesInPlace<'_> {}
+impl FusedIterator for DecodeStreamInPlace<'_> {}
 
 /// Encodes messages as a stream: the frame of each one and a zero after it, in order. If there are no messages, the stream is
 /// empty.

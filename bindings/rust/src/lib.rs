@@ -144,7 +144,7 @@ mod write;
 pub use crate::array_vec::ArrayVec;
 pub use crate::dec::*;
 pub use crate::enc::*;
-pub use crate::frames::{Frames, MessagesInPlace, decode_stream_in_place, frames};
+pub use crate::frames::{DecodeStreamInPlace, Frames, decode_stream_in_place, frames};
 #[cfg(feature = "alloc")]
 pub use crate::frames::{encode_frames, encode_frames_room};
 pub use crate::memory::AllocError;

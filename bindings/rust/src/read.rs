@@ -139,7 +139,8 @@ impl<R: BufRead> MessageReader<R> {
 
 impl<R> MessageReader<R> {
     /// Returns the source.
-    pub fn get_ref(&self) -> &R {
+    #[must_use]
+    pub const fn get_ref(&self) -> &R {
         &self.inner
     }
 

@@ -85,7 +85,8 @@ impl<W: Write> MessageWriter<W> {
 
 impl<W> MessageWriter<W> {
     /// Returns what the messages are written to.
-    pub fn get_ref(&self) -> &W {
+    #[must_use]
+    pub const fn get_ref(&self) -> &W {
         &self.inner
     }
 

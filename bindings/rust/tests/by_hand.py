@@ -25,6 +25,7 @@ PERMITTED = {
     ("enc.rs", "+ more"): "the length of a buffer to make, which has the sentinels too",
     ("frames.rs", "max_encoding_length(message.len()) + 1"): "the length of a buffer to make, which has the zero too",
     ("frames.rs", "encode(message, zeros) + 1"): "the zero after the frame",
+    ("frames.rs", "stream.len() / 2"): "a bound for the number of frames, which isn't a position",
     ("frames.rs", "room.checked_add"): "the length of a buffer to make, for all messages",
     ("memory.rs", "begun +"): "a vector that grows",
     ("array_vec.rs", "N - self.len"): "the rest of a vector",

@@ -355,6 +355,12 @@ fn frames_of_each_short_stream() {
                 .map(|place| BYTES[number / BYTES.len().pow(place) % BYTES.len()])
                 .collect();
             let (expected, rest) = pieces(&stream);
+            let (least, most) = frames(&stream).size_hint();
+            assert!(least <= expected.len() && Some(expected.len()) <= most);
+            assert_eq!(
+                decode_stream_in_place(&mut stream.clone()).size_hint(),
+                (least, most)
+            );
             let mut found = frames(&stream);
             for piece in &expected {
                 assert_eq!(found.next(), Some(*piece));

@@ -42,7 +42,10 @@ PERMITTED = [
 # A vector of the function's own, and items that are added to it.
 VECTOR = r" let mut (\w+) = Vec :: new \( \) ;"
 # Functions that are `const` here.
-CONST = ["max_encoding_length", "max_encoding_overhead", "new", "new"]
+CONST = (
+    "decoder frame_size from_phase from_progress is_idle max_encoding_length max_encoding_overhead new new new new parsed_size"
+    " phase progress"
+).split()
 # The attributes that this folder has; those of the sources are about proofs, derives and texts of errors.
 ATTRIBUTES = re.compile(
     r'# \[ (inline( \( (always|never) \))?|must_use|repr \( C \)|derive \( [\w ,]+ \)|cfg \( feature = "(alloc|std)" \)'

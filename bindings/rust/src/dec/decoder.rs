@@ -106,7 +106,7 @@ macro_rules! decoder_methods {
         /// the first. The crate `cobs` doesn't have this call.
         #[inline]
         #[must_use]
-        pub fn parsed_size(&self) -> usize {
+        pub const fn parsed_size(&self) -> usize {
             self.progress.parsed_size
         }
 

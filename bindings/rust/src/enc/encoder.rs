@@ -26,7 +26,7 @@ impl<'a> CobsEncoder<'a> {
     /// encoder over an empty slice returns an error for each push.
     #[inline]
     #[must_use]
-    pub fn new(out_buf: &'a mut [u8]) -> CobsEncoder<'a> {
+    pub const fn new(out_buf: &'a mut [u8]) -> CobsEncoder<'a> {
         CobsEncoder {
             dest: out_buf,
             encoder: UnbufferedEncoder::new(),

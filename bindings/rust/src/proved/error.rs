@@ -131,7 +131,7 @@ impl DecodeReport {
     /// # Ok::<(), Box<dyn std::error::Error>>(())
     /// ```
     #[must_use]
-    pub fn parsed_size(&self) -> usize {
+    pub const fn parsed_size(&self) -> usize {
         self.parsed_size
     }
 
@@ -144,7 +144,7 @@ impl DecodeReport {
     /// # Ok::<(), Box<dyn std::error::Error>>(())
     /// ```
     #[must_use]
-    pub fn frame_size(&self) -> usize {
+    pub const fn frame_size(&self) -> usize {
         self.frame_size
     }
 }

@@ -134,7 +134,7 @@ impl<R: Read> Recorded<R> {
     /// assert_eq!(reader.next_frame(&mut source), Ok(Next::Message(1)));
     /// # }
     /// ```
-    pub fn new(reader: R) -> Self {
+    pub const fn new(reader: R) -> Self {
         Self { reader }
     }
 
@@ -223,7 +223,7 @@ impl<D: FrameDecoder> FrameReader<D> {
     /// assert_eq!(reader.next_frame(&mut source), Ok(end));
     /// # }
     /// ```
-    pub fn new(decoder: D) -> Self {
+    pub const fn new(decoder: D) -> Self {
         FrameReader {
             decoder,
             chunk: [0; 64],
@@ -241,7 +241,7 @@ impl<D: FrameDecoder> FrameReader<D> {
     /// let reader = FrameReader::new(CobsDecoderHeapless::<2>::new());
     /// assert_eq!(reader.decoder().dest(), [0, 0].as_slice());
     /// ```
-    pub fn decoder(&self) -> &D {
+    pub const fn decoder(&self) -> &D {
         &self.decoder
     }
 

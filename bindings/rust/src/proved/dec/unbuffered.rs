@@ -123,7 +123,7 @@ impl UnbufferedDecoder {
     /// assert!(buffer.starts_with(&[7, 8, 9]));
     /// ```
     #[must_use]
-    pub fn from_phase(phase: DecoderPhase) -> Self {
+    pub const fn from_phase(phase: DecoderPhase) -> Self {
         match phase {
             DecoderPhase::Idle => START,
             DecoderPhase::Within {
@@ -151,7 +151,7 @@ impl UnbufferedDecoder {
     /// assert_eq!(UnbufferedDecoder::new().phase(), DecoderPhase::Idle);
     /// ```
     #[must_use]
-    pub fn phase(&self) -> DecoderPhase {
+    pub const fn phase(&self) -> DecoderPhase {
         if self.too_long != 0 {
             return DecoderPhase::TooLong;
         }
@@ -177,7 +177,7 @@ impl UnbufferedDecoder {
     /// ```
     #[inline(always)]
     #[must_use]
-    pub fn is_idle(&self) -> bool {
+    pub const fn is_idle(&self) -> bool {
         self.written == 0 && self.missing == 0 && self.joint == 0 && self.too_long == 0
     }
 

@@ -78,7 +78,7 @@ impl UnbufferedEncoder {
     /// ```
     #[inline]
     #[must_use]
-    pub fn from_progress(progress: EncoderProgress) -> Self {
+    pub const fn from_progress(progress: EncoderProgress) -> Self {
         UnbufferedEncoder {
             index: progress.index,
             taken: progress.code.wrapping_sub(1),
@@ -96,7 +96,7 @@ impl UnbufferedEncoder {
     /// ```
     #[inline]
     #[must_use]
-    pub fn progress(&self) -> EncoderProgress {
+    pub const fn progress(&self) -> EncoderProgress {
         EncoderProgress {
             index: self.index,
             code: self.taken.wrapping_add(1),
