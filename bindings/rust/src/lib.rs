@@ -67,11 +67,12 @@
 //! | a frame | [`decode`], [`decode_vec`], [`decode_in_place`]; for any sentinel [`decode_with_sentinel`]; [`frame_kind`] |
 //! | bytes from a line, an interrupt, a channel | [`CobsDecoder`] over a slice, [`CobsDecoderHeapless`] with its buffer inside, [`CobsDecoderOwned`]; [`UnbufferedDecoder`], whose buffer is passed to each call |
 //! | a [`Read`](std::io::Read) or [`Write`](std::io::Write) | [`MessageReader`], [`MessageWriter`] |
+//! | a stream or a sink of tokio | `MessageCodec`, with the feature `tokio-util` |
 //! | another source, without `std` | [`FrameReader`] over a [`FrameSource`] |
 //! | a recorded stream | [`frames`], [`decode_stream_in_place`], [`decode_stream`]; [`encode_frames`] makes one |
 //! | a buffer to make | [`max_encoding_length`] |
 //!
-//! The folder `examples` of the repository has a codec for tokio, a receiver over embedded-io, and one whose bytes come by an
+//! The folder `examples` of the repository has a line of tokio, a receiver over embedded-io, and one whose bytes come by an
 //! interrupt.
 //!
 //! # What is proved
@@ -91,6 +92,7 @@
 //! - `serde`, `defmt`: derives for the errors ([`DecodeError`], [`DestBufTooSmallError`], [`PushError`], [`ReadFault`],
 //!   [`AllocError`]) and for [`DecodeReport`], [`PieceEnd`], [`Next`], [`FrameKind`] and `FrameOutcome`.
 //! - `heapless`: [`CobsDecoderHeapless::new_with_vec`] takes a `heapless::Vec`.
+//! - `tokio-util`: `std`, and `MessageCodec`, a codec for streams and sinks of tokio.
 //!
 //! The crate is `no_std` without `std`.
 //!
@@ -110,6 +112,9 @@ extern crate std;
 
 #[forbid(unsafe_code)]
 mod array_vec;
+#[cfg(feature = "tokio-util")]
+#[forbid(unsafe_code)]
+mod codec;
 #[forbid(unsafe_code)]
 mod dec;
 #[forbid(unsafe_code)]
@@ -142,6 +147,8 @@ mod simd;
 mod write;
 
 pub use crate::array_vec::ArrayVec;
+#[cfg(feature = "tokio-util")]
+pub use crate::codec::MessageCodec;
 pub use crate::dec::*;
 pub use crate::enc::*;
 pub use crate::frames::{DecodeStreamInPlace, Frames, decode_stream_in_place, frames};

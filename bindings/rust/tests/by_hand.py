@@ -27,6 +27,7 @@ PERMITTED = {
     ("frames.rs", "encode(message, zeros) + 1"): "the zero after the frame",
     ("frames.rs", "stream.len() / 2"): "a bound for the number of frames, which isn't a position",
     ("frames.rs", "room.checked_add"): "the length of a buffer to make, for all messages",
+    ("codec.rs", "max_encoding_length(message.len()) + 1"): "the length of a buffer to make, which has the zero too",
     ("memory.rs", "begun +"): "a vector that grows",
     ("array_vec.rs", "N - self.len"): "the rest of a vector",
     ("array_vec.rs", "self.len += 1"): "a vector that grows",

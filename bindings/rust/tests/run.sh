@@ -147,14 +147,16 @@ part 'a crate that depends on cobs' dependents
 part 'an example over embedded-io' example embedded-io '4 frames' \
     --config "patch.crates-io.embedded-io.path = '$PWD/tests/stand_in/embedded-io'"
 if ls -d /usr/share/cargo/registry/tokio-util-0.7* >/dev/null 2>&1; then
+    part 'the codec for tokio' cargo test --features tokio-util --test codec
     part 'an example for tokio' example tokio '4 frames'
+    part 'documentation, as docs.rs makes it' as_docs_rs
+    part 'examples of all features' cargo test --doc --all-features
 else
-    skip 'an example for tokio' "needs Debian's librust-tokio-util-dev"
+    skip 'the codec for tokio' "needs Debian's librust-tokio-util-dev"
 fi
 part 'examples of the documentation' cargo test --doc
 part 'those without a feature' cargo test --doc --no-default-features
 part 'documentation' documentation std,serde,heapless
-part 'documentation, as docs.rs makes it' as_docs_rs
 if [ -f "$root/bindings/c/prebuilt/$(uname -m)-linux/libjcobs.a" ]; then
     part 'the library for C, by the declarations of the README' by_extern
     part 'the library for C beside the crate' beside_c
