@@ -3,9 +3,9 @@
 use core::iter::{self, FusedIterator};
 use core::mem;
 
-use memchr::memchr;
-
 use crate::dec::{DecodeError, decode_in_place};
+use crate::proved::len_to_zero;
+use crate::simd::HAS_VECTORS;
 #[cfg(feature = "alloc")]
 use crate::{enc::encode, max_encoding_length, memory, memory::AllocError};
 #[cfg(feature = "alloc")]
@@ -31,6 +31,15 @@ pub const fn frames(stream: &[u8]) -> Frames<'_> {
     Frames { rest: stream }
 }
 
+/// Returns the index of the first zero.
+fn first_zero(bytes: &[u8]) -> Option<usize> {
+    if HAS_VECTORS {
+        return memchr::memchr(0, bytes);
+    }
+    let len = len_to_zero(bytes);
+    (len < bytes.len()).then_some(len)
+}
+
 /// An iterator over the frames of a recorded stream. [`frames`] makes it.
 #[derive(Debug, Clone)]
 #[must_use = "iterators are lazy and do nothing unless consumed"]
@@ -50,7 +59,7 @@ impl<'a> Frames<'a> {
     /// Returns the bytes before the next zero, perhaps none.
     #[inline]
     fn next_piece(&mut self) -> Option<&'a [u8]> {
-        let (piece, from_zero) = self.rest.split_at(memchr(0, self.rest)?);
+        let (piece, from_zero) = self.rest.split_at(first_zero(self.rest)?);
         self.rest = from_zero.split_first()?.1;
         Some(piece)
     }
@@ -126,7 +135,7 @@ impl<'a> DecodeStreamInPlace<'a> {
     /// Returns the bytes before the next zero, perhaps none.
     #[inline]
     fn next_piece(&mut self) -> Option<&'a mut [u8]> {
-        let len = memchr(0, self.rest)?;
+        let len = first_zero(self.rest)?;
         let (piece, from_zero) = mem::take(&mut self.rest).split_at_mut(len);
         self.rest = from_zero.split_first_mut()?.1;
         Some(piece)
