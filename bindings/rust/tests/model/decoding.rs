@@ -95,6 +95,15 @@ impl Case {
                 Some((end, taken)) => (taken, Some(end.into_result())),
             }
         });
+        let mut decoder = UnbufferedDecoder::new();
+        let sentinel = [0, 7, 0xFF][cut % 3];
+        self.check(cut, |dest, bytes| {
+            let xored: Vec<_> = bytes.iter().map(|byte| byte ^ sentinel).collect();
+            match decoder.feed_each(dest, &xored, sentinel) {
+                None => (bytes.len(), None),
+                Some((end, taken)) => (taken, Some(end.into_result())),
+            }
+        });
         self.check_buffered(cut);
         #[cfg(feature = "std")]
         self.check_reader(cut);
