@@ -15,37 +15,53 @@ import sys
 from pathlib import Path
 
 HERE = Path(__file__).resolve().parent
-# The crates, their modules here, and the files of each that are left out: proofs for callers.
+# The crates, their modules here, and the files of each that are left out: proofs for callers, and types and vectors whose
+# signatures in the crate `cobs` differ, so that the files outside of src/proved have them, over the proved functions.
 SOURCES = {
-    "cobs": ("crate::proved", ("laws.rt", "laws/")),
+    "cobs": ("crate::proved", ("laws.rt", "laws/", "dec/buffered.rt", "dec/heapless.rt", "enc/encoder.rt", "enc/vector.rt")),
     "cobs_bytes": ("crate::proved::cobs_bytes", ()),
 }
+# The items of other files that are left out for the same reason. `encode_frames` takes any iterator of messages there, and
+# here it would need them in one slice of vectors.
+LEFT_OUT = set(
+    "encode_with_sentinel encode_including_sentinels decode_vec decode_vec_with_sentinel DecodeVecError DecodingResult"
+    " WriteBuffer encode_frames encode_frames_room write_frames".split()
+)
 PATHS = {
     "std::simd::prelude": "crate::simd",
     "std::alloc::AllocError": "crate::memory::AllocError",
     "std::mem": "core::mem",
     "std::io::Read": "std::io::Read",
-    "arrayvec::ArrayVec": "crate::array_vec::ArrayVec",
     "memchr": "memchr",
 }
 # Names that Rust has no use for.
 DROPPED = ("std::alloc::Global", "std::marker::Model", "serde::", "thiserror::", "cobs::laws")
-DERIVES = ("Debug", "Clone", "Copy", "PartialEq", "Eq")
+DERIVES = ("Debug", "Clone", "Copy", "PartialEq", "Eq", "Hash")
 NOT_DERIVED = ("Drop", "Error", "Serialize", "Deserialize")
 # What Rust programs expect of a type beside what its source derives.
 MORE_DERIVES = {
-    "DecodeError": ("Clone", "Copy"),
-    "DestBufTooSmallError": ("Clone", "Copy"),
-    "PushError": ("Clone", "Copy"),
-    "FrameKind": ("Clone", "Copy"),
+    "DecodeError": DERIVES,
+    "DestBufTooSmallError": DERIVES,
+    "PushError": DERIVES,
+    "DecodeReport": DERIVES,
+    "FrameKind": DERIVES,
+    "PieceEnd": DERIVES,
+    "Next": DERIVES,
+    "ReadFault": DERIVES,
+    "FrameOutcome": ("Clone", "Hash"),
     "PushResult": DERIVES,
     "DecodeResult": DERIVES,
-    "DecoderState": ("Clone", "PartialEq", "Eq"),
-    "Recorded": ("Debug",),
-    "FrameReader": ("Debug",),
-    "ReadFault": ("Clone", "Copy"),
-    "Next": ("Clone", "Copy"),
+    "DecoderState": ("Clone", "PartialEq", "Eq", "Hash"),
+    "DecoderPhase": DERIVES,
+    "UnbufferedDecoder": DERIVES,
+    "EncoderState": ("Clone", "PartialEq", "Eq", "Hash"),
+    "EncoderProgress": DERIVES,
+    "UnbufferedEncoder": DERIVES,
+    "Recorded": ("Debug", "Clone"),
+    "FrameReader": ("Debug", "Clone"),
 }
+# Results and errors, which may be stored and logged: they derive what the features `serde` and `defmt` are for.
+STORED = set("DecodeError DestBufTooSmallError DecodeReport PushError FrameKind PieceEnd Next ReadFault FrameOutcome".split())
 # What the docs say otherwise here, where the decoders have the signatures of the crate `cobs`, and no reader sees a contract.
 REWORDED = {
     "Its results are those of [`CobsDecoder`](crate::CobsDecoder). It has no buffer": "The results of its `feed` are those of\n"
@@ -65,9 +81,6 @@ REWORDED = {
     "(The trait is this library's own.)": "",
     "Precondition: the decoder is idle, as it is when new, after a reset, and after each zero.": "The decoder is idle, as it is"
     " when new, after a reset, and after each zero. Otherwise the first\noutcome is that of the piece that it has begun.",
-    "Precondition: the sum of [`max_encoding_length`](crate::max_encoding_length) plus 1 over the messages fits a `usize`, as"
-    " [`encode_frames_room`] says. Memory is allocated once, for that many bytes.": "Memory is allocated once, for"
-    " [`encode_frames_room`] of the messages.\n\n# Panics\n\nIf that many bytes don't fit a `usize`.",
     "Precondition: [`can_push`](EncoderState::can_push) is true. Indices count bytes from the start of the output.": "Indices count"
     " bytes from the start of the output.\n\n# Panics\n\nWith overflow checks, if [`can_push`](EncoderState::can_push) is false.",
 }
@@ -75,17 +88,29 @@ REWORDED = {
 TRAITS = {"FrameDecoder": "feed_byte|feed_piece|buffer", "FrameSource": "read_some"}
 # Functions whose result depends on the target, and that result here. No proof rests on it.
 BY_TARGET = {"cobs_bytes::has_vectors": {"true": "crate::simd::HAS_VECTORS"}}
-# Calls that are `const fn` in the crate `cobs`, or called by one.
-CONST = {"max_encoding_overhead", "max_encoding_length", "UnbufferedDecoder::new", "UnbufferedEncoder::new"}
+# Calls that are `const fn` in the crate `cobs`, or called by one; and those that make and copy plain values, so that these can
+# be in a constant or a static.
+CONST = set(
+    "max_encoding_overhead max_encoding_length UnbufferedDecoder::new UnbufferedDecoder::from_phase UnbufferedDecoder::phase"
+    " UnbufferedDecoder::is_idle UnbufferedEncoder::new UnbufferedEncoder::from_progress UnbufferedEncoder::progress"
+    " DecodeReport::parsed_size DecodeReport::frame_size FrameReader::new FrameReader::decoder Recorded::new".split()
+)
 # Calls for one byte or a short frame, which are to be compiled into the caller's loop.
 INLINE = set(
     "decode_with_sentinel UnbufferedDecoder::feed_piece DecoderState::feed EncoderState::push UnbufferedEncoder::progress"
     " UnbufferedEncoder::from_progress".split()
 )
+# Calls whose result is all that they are for: the lint says so if it isn't used.
+MUST_USE = set(
+    "PieceEnd::reported DecodeReport::parsed_size DecodeReport::frame_size EncoderState::can_push EncoderState::finalize"
+    " UnbufferedDecoder::new UnbufferedDecoder::from_phase UnbufferedDecoder::phase UnbufferedDecoder::is_idle"
+    " UnbufferedEncoder::new UnbufferedEncoder::from_progress UnbufferedEncoder::progress".split()
+)
 # The feature that an item needs, if its code has this word.
 FEATURES = {"alloc": r"(?<!\w)(Vec\b|vec!)", "std": r"(?<!\w)std::|(?<![\w:])Read\b"}
 FUNCTION = r'(?:pub(?:\(crate\))? )?(?:const )?fn (\w+)'
 ITEM = rf"(?:pub(?:\(crate\))? )?(?:const|static|type|mod|struct|enum|trait|macro_rules!|fn) (\w+)"
+NAMED = r"(?:fn|struct|enum|trait|type) (\w+)"
 
 
 class Source:
@@ -123,19 +148,26 @@ def bare(line):
 
 
 def doc(source, lines):
-    """A doc comment, whose examples are tests of the Rust crate."""
+    """A doc comment. Its examples are tests of the Rust crate; those of what the crate doesn't export are left out."""
     indent, sign = re.match(r"(\s*)(//[/!])", lines[0]).groups()
     text = "\n".join(line.strip()[len(sign) :].removeprefix(" ") for line in lines)
     for words, others in REWORDED.items():
         pattern = re.escape(words).replace("\\ ", r"\s+")
         text, count = re.subn(pattern, others.replace("\\", "\\\\"), text)
         reworded.update([words] * count)
+    if sign == "//!" and source.name.endswith("/lib.rt"):
+        # The rest of the first page is about calls that aren't here.
+        text = text.split("\n\n")[0]
     out, example, shown = [], None, is_shown(source, sign)
     for line in text.split("\n"):
         if line == "```" and example is None:
             example = []
+            if not shown and out[-2:] and out[-2].endswith(":"):
+                # The paragraph that speaks of it.
+                while out and (not out[-1] or out[-2:][0]):
+                    out.pop()
         elif line == "```":
-            out += ["```", *doctest(example, shown), "```"]
+            out += ["```", *doctest(example), "```"] if shown else []
             example = None
         elif example is not None:
             example.append(line)
@@ -145,15 +177,16 @@ def doc(source, lines):
     text = re.sub(r"\[`(\w+)`\](?![(\[])", lambda found: linked(source, found[1]), "\n".join(out))
     text = re.sub(r"\n{3,}", "\n\n", text)
     # A paragraph, or an item of a list, about what isn't here.
-    parts = re.split(r"\n(?=\n|- )", text)
+    parts = re.split(r"\n(?=\n|- )", text.rstrip("\n"))
     out = "\n".join(part for part in parts if "rt.alloc()" not in part and "[`laws`]" not in part).split("\n")
     return [f"{indent}{sign} {line}".rstrip() for line in out]
 
 
 def linked(source, name):
-    """A link to a name; with its path, if the crate exports it and this file doesn't have it."""
-    known = name in source.words or name not in source.exported
-    return f"[`{name}`]" if known else f"[`{name}`](crate::proved::{name})"
+    """A link to a name; with its path, if this file doesn't have it. What the crate doesn't have is only named."""
+    if name in source.words - left_out:
+        return f"[`{name}`]"
+    return f"[`{name}`](crate::{name})" if name in exported()[0] else f"`{name}`"
 
 
 def exported():
@@ -174,34 +207,29 @@ def is_shown(source, sign):
     return sign == "///" and name in exported()[1]
 
 
-def doctest(example, shown):
-    """An example, with the lines round it that aren't shown. Of a shown item it imports the names that the crate exports."""
+def doctest(example):
+    """An example of a public item: it imports the names that it has of the crate. Lines round it aren't shown."""
     text = "\n".join(example)
     text = re.sub(r"(assert(?:_eq|_ne)?!\()rt; ?", r"\1", text)
     text = re.sub(r"\.(to_vec|to_string)\(alloc\)\?", r".\1()", text)
     text = re.sub(r"\.clone\(\)\?", ".clone()", text)
-    text = without_allocator(text).replace("cobs::", "jcobs::proved::")
-    lines = ["# use jcobs::proved::*;"] + ["# use jcobs::ArrayVec;"] * ("ArrayVec" in text)
-    if shown:
-        text = re.sub(r"^use jcobs::proved::.*;\n+", "", text, flags=re.M)
-        code = "\n".join(bare(line) for line in text.split("\n"))
-        names = {name for name in exported()[0] if re.search(rf"(?<![\w.]){name}\b(?!:[^:])", code)}
-        own = "UnbufferedDecoder" in code
-        names |= {trait for trait, method in TRAITS.items() if re.search(rf"\.({method})\(", code) and not (own and trait == "FrameDecoder")}
-        names = sorted(names)
-        lines, text = [], f"use jcobs::{{{', '.join(names)}}};\n\n{text}" if len(names) > 1 else f"use jcobs::{names[0]};\n\n{text}"
+    text = re.sub(r"^use cobs::.*;\n+", "", without_allocator(text), flags=re.M)
+    code = "\n".join(bare(line) for line in text.split("\n"))
+    names = {name for name in exported()[0] if re.search(rf"(?<![\w.]){name}\b(?!:[^:])", code)}
+    own = "UnbufferedDecoder" in code
+    names |= {trait for trait, method in TRAITS.items() if re.search(rf"\.({method})\(", code) and not (own and trait == "FrameDecoder")}
+    names = sorted(names)
+    text = f"use jcobs::{{{', '.join(names)}}};\n\n{text}" if len(names) > 1 else f"use jcobs::{names[0]};\n\n{text}"
     feature = next((f for f in ("std", "alloc") if any(re.search(rf"\b{name}\b", text) for name in needing[f])), None)
-    lines += [f'# #[cfg(feature = "{feature}")] {{', *text.split("\n"), "# }"] if feature else text.split("\n")
+    lines = [f'# #[cfg(feature = "{feature}")] {{', *text.split("\n"), "# }"] if feature else text.split("\n")
     if re.search(r"\)\?|\w\?", text):
         lines.append("# Ok::<(), Box<dyn std::error::Error>>(())")
     return lines
 
 
 def without_allocator(text):
-    """A text in which no allocator is passed, and `ArrayVec` is a vector of bytes."""
-    text = re.sub(r"\bArrayVec((?:::)?)<u8, ", r"ArrayVec\1<", text)
+    """A text in which no allocator is passed."""
     text = re.sub(r"\balloc: Global,?[ \n]*", "", text)
-    text = re.sub(r"vec!\[in alloc; (.+?); (.+)\]", r"crate::memory::filled(\1, \2)", text)
     text = text.replace("Vec::from_slice(alloc, ", "crate::memory::copied(")
     return re.sub(r"\(alloc(?:, |(?=\)))", "(", text)
 
@@ -234,7 +262,7 @@ def derives(source, line, name):
     source.seen.add(name)
     rust = ", ".join(word for word in DERIVES if word in listed or word in more)
     out = [f"#[derive({rust})]"] if rust else []
-    if "Serialize" in listed:
+    if name in STORED:
         out.append('#[cfg_attr(feature = "serde", derive(serde::Serialize, serde::Deserialize))]')
         out.append('#[cfg_attr(feature = "defmt", derive(defmt::Format))]')
     return out, "Error" in listed
@@ -292,7 +320,7 @@ def signature(source):
         head[0] = head[0].replace("fn ", "const fn ", 1)
     source.seen.add(call)
     source.function = call
-    marks = [indent + "#[inline]"] if call in INLINE else []
+    marks = [indent + "#[inline]"] * (call in INLINE) + [indent + "#[must_use]"] * (call in MUST_USE)
     return marks + without_allocator("\n".join(head)).split("\n")
 
 
@@ -300,7 +328,7 @@ def code(source, line):
     """A line of a body."""
     if unknown := re.search(r"\.\w+\(alloc\b|\bVec::(?!new\(alloc\)|from_slice\(alloc, )\w+", bare(line)):
         source.fail(f"{unknown[0]} isn't known", source.at - 1)
-    line = without_allocator(line)
+    line = without_label(source, without_allocator(line))
     if instead := BY_TARGET.get(source.function, {}).get(line.strip()):
         line = line.replace(line.strip(), instead)
         source.seen.add(source.function + ", by target")
@@ -310,6 +338,15 @@ def code(source, line):
         line = f"{found[1]}crate::memory::push(&mut {found[2]}, {found[3]})?;"
     if found := re.search(r"[^\x00-\x7f]|\b(ghost|requires|ensures|decreases|invariant|tactic|alloc|rt|law_\d+|std|cobs_bytes|cobs)\b", bare(line)):
         source.fail(f"{found[0]} isn't Rust", source.at - 1)
+    return line
+
+
+def without_label(source, line):
+    """The head of a loop without its label, which a proof names, if no line of the loop does."""
+    if found := re.match(r"(\s*)('\w+): (?=(for|while|loop)\b)", line):
+        end = source.lines.index(found[1] + "}", source.at)
+        if not any(re.search(rf"{found[2]}\b", bare(inner)) for inner in source.lines[source.at : end]):
+            return found[1] + line[found.end() :]
     return line
 
 
@@ -339,10 +376,15 @@ def step(source, out):
         source.at += 1
         out.append(line)
     elif text.startswith("ghost "):
-        # Its comment goes with it.
-        while out and out[-1].strip().startswith("///"):
-            out.pop()
+        without_comment(out)
         source.skip()
+    elif text == line and name_of(line) in left_out:
+        without_comment(out)
+        source.seen.add(name_of(line))
+        source.derive = None
+        if not text.endswith(";"):
+            source.at = source.lines.index("}", source.at)
+        source.at += 1
     elif text.startswith("#"):
         attribute(source, out, text)
     elif re.match(r"(pub(\(crate\))? )?use ", text):
@@ -353,7 +395,7 @@ def step(source, out):
         source.skip()
     elif module := re.match(r"(pub )?mod (\w+);$", text):
         source.at += 1
-        if f"{module[2]}.rt" not in SOURCES[source.crate][1]:
+        if f"{source.folder}{module[2]}.rt" not in SOURCES[source.crate][1]:
             out.append(f"pub(crate) mod {module[2]};")
     elif re.match(FUNCTION, text):
         out += signature(source)
@@ -366,6 +408,12 @@ def step(source, out):
         out.append(code(source, line))
         if kind := re.match(r"(?:pub(?:\(crate\))? )?(?:struct|enum) (\w+)", line):
             typed(source, out, kind[1])
+
+
+def without_comment(out):
+    """Drops the comment of an item that is dropped."""
+    while out and out[-1].strip().startswith("///"):
+        out.pop()
 
 
 def typed(source, out, name):
@@ -420,12 +468,13 @@ def find_needing(files):
 
 
 def guarded(item, code):
-    """An item under the feature that it needs; of a `use`, the names that need one apart, and only those in `code`."""
+    """An item under the feature that it needs; of a `use`, the names that need one apart, and only those in `code` and here."""
     head = head_of(item)
     if re.match(r"(pub(\(crate\))? )?use ", head):
         at = item.index(head)
         front, names = re.match(r"(.*?)(?:::\{(.*)\})?;$", head).groups()
         names = [name.strip() for name in names.split(",")] if names else [front.split("::")[-1]]
+        names = [name for name in names if name not in left_out]
         front = front if "{" in head else front.rsplit("::", 1)[0]
         if head.startswith("use "):
             names = [name for name in names if name == "*" or len(re.findall(rf"\b{name}\b", code)) > 1]
@@ -470,6 +519,7 @@ def prepared(crates):
             if left_out and within.startswith(left_out):
                 continue
             source = Source(path, f"crates/{crate}/src/{within}", crate)
+            source.folder = "" if within == "lib.rt" else within.removesuffix(".rt") + "/"
             source.modules = re.findall(r"^(?:pub )?mod (\w+);", "\n".join(source.lines), re.M)
             source.cloned = set(re.findall(r"^impl Clone for (\w+)", "\n".join(source.lines), re.M))
             source.vectors, source.seen, source.derive = set(), set(), None
@@ -480,7 +530,7 @@ def prepared(crates):
 
 
 needing = {"alloc": set(), "std": set()}
-reworded = set()
+reworded, left_out = set(), set()
 
 
 def translated(source):
@@ -490,8 +540,24 @@ def translated(source):
     return out
 
 
+def find_left_out(crates):
+    """Fills `left_out`: the names of LEFT_OUT, and those of the files that are left out."""
+    for crate, (_, files) in SOURCES.items():
+        for file in files:
+            if file.endswith(".rt") and file != "laws.rt":
+                left_out.update(re.findall(rf"^pub {NAMED}", (crates / crate / "src" / file).read_text(), re.M))
+    left_out.update(LEFT_OUT)
+
+
+def name_of(head):
+    """The name of the item whose first line this is, or of the type that it implements something for."""
+    named = re.match(rf"(?:pub(?:\(crate\))? )?{NAMED}|impl(?:<.*?>)? (?:[\w:]+(?:<.*>)? for )?(\w+)", head)
+    return named and (named[1] or named[2])
+
+
 def main():
     to, crates = map(Path, [*sys.argv[1:], *[HERE / "src/proved", HERE / "../../crates"][len(sys.argv) - 1 :]])
+    find_left_out(crates)
     sources, written, seen = list(prepared(crates)), [], set()
     find_needing([translated(source) for source, _ in sources])
     for source, place in sources:
@@ -503,7 +569,8 @@ def main():
         (to / place).parent.mkdir(parents=True, exist_ok=True)
         (to / place).write_text(text)
         written.append(to / place)
-    if missing := (set(MORE_DERIVES) | CONST | INLINE | set(REWORDED) | {f"{name}, by target" for name in BY_TARGET}) - seen - reworded:
+    used = set(MORE_DERIVES) | STORED | CONST | INLINE | MUST_USE | LEFT_OUT | set(REWORDED) | {f"{name}, by target" for name in BY_TARGET}
+    if missing := used - seen - reworded:
         raise SystemExit(f"translate.py: no source has {sorted(missing)[0]}")
     for path in set(to.rglob("*.rs")) - set(written):
         path.unlink()

@@ -19,6 +19,54 @@ impl Default for UnbufferedDecoder {
     }
 }
 
+/// The error without the number of bytes that were taken, so that `?` serves pushes to every decoder:
+///
+/// ```
+/// use jcobs::{DecodeError, UnbufferedDecoder};
+///
+/// /// Returns the length of the message, if it has ended.
+/// fn receive(bytes: &[u8], buffer: &mut [u8]) -> Result<Option<usize>, DecodeError> {
+///     let mut decoder = UnbufferedDecoder::new();
+///     let report = decoder.push(buffer, bytes)?;
+///     Ok(report.map(|report| report.frame_size()))
+/// }
+///
+/// assert_eq!(receive(b"\x03hi\0", &mut [0; 2]), Ok(Some(2)));
+/// assert_eq!(receive(b"\x03hi\0", &mut [0; 1]), Err(DecodeError::TargetBufTooSmall));
+/// ```
+impl From<PushError> for DecodeError {
+    #[inline]
+    fn from(rejected: PushError) -> Self {
+        rejected.error
+    }
+}
+
+impl PieceEnd {
+    /// Returns the length of the message, or the error that a decoder returns for such a piece.
+    ///
+    /// ```
+    /// use jcobs::{DecodeError, PieceEnd};
+    ///
+    /// assert_eq!(PieceEnd::Message(2).into_result(), Ok(2));
+    /// let broken = DecodeError::InvalidFrame { decoded_bytes: 1 };
+    /// assert_eq!(PieceEnd::Broken(1).into_result(), Err(broken));
+    /// assert_eq!(PieceEnd::TooLong.into_result(), Err(DecodeError::TargetBufTooSmall));
+    /// ```
+    ///
+    /// # Errors
+    ///
+    /// - [`DecodeError::InvalidFrame`]: the piece breaks off inside a block.
+    /// - [`DecodeError::TargetBufTooSmall`]: it decodes to more bytes than the decoder's buffer holds.
+    #[inline]
+    pub const fn into_result(self) -> Result<usize, DecodeError> {
+        match self {
+            Self::Message(len) => Ok(len),
+            Self::Broken(decoded_bytes) => Err(DecodeError::InvalidFrame { decoded_bytes }),
+            Self::TooLong => Err(DecodeError::TargetBufTooSmall),
+        }
+    }
+}
+
 impl core::fmt::Display for ReadFault {
     fn fmt(&self, f: &mut core::fmt::Formatter<'_>) -> core::fmt::Result {
         f.write_str(match self {
@@ -129,7 +177,7 @@ pub fn decode_with_sentinel(
 }
 
 /// Does what [`decode_in_place`] does, for the given sentinel. Each byte of `buff`, even those after the frame, is first
-/// XORed with the sentinel, as in the crate `cobs`.
+/// replaced by its XOR with the sentinel, as in the crate `cobs`.
 ///
 /// ```
 /// let mut buff = [0; 3];

@@ -95,7 +95,7 @@ pub fn try_encode_including_sentinels(
 }
 
 /// Writes the frame of `source` for the given sentinel to the front of `dest`, and returns the frame's length in bytes. It
-/// is the frame for 0, with each byte XORed with `sentinel`. The bytes after the frame stay as they are.
+/// is the frame for 0, each byte XOR `sentinel`. The bytes after the frame stay as they are.
 ///
 /// ```
 /// let mut dest = [0; 4];

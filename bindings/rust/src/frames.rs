@@ -1,13 +1,13 @@
 //! The frames of a recorded stream, one after another, and the stream of some messages.
 
-use core::iter::FusedIterator;
+use core::iter::{self, FusedIterator};
 use core::mem;
 
 use crate::dec::{DecodeError, decode_in_place};
 use crate::proved::len_to_zero;
 use crate::simd::HAS_VECTORS;
 #[cfg(feature = "alloc")]
-use crate::{enc::encode, max_encoding_length, memory::AllocError};
+use crate::{enc::encode, max_encoding_length, memory, memory::AllocError};
 #[cfg(feature = "alloc")]
 use alloc::vec::Vec;
 
@@ -27,8 +27,7 @@ use alloc::vec::Vec;
 /// assert_eq!(stream.remainder(), b"\x05un");
 /// ```
 #[inline]
-#[must_use]
-pub fn frames(stream: &[u8]) -> Frames<'_> {
+pub const fn frames(stream: &[u8]) -> Frames<'_> {
     Frames { rest: stream }
 }
 
@@ -43,6 +42,7 @@ fn first_zero(bytes: &[u8]) -> Option<usize> {
 
 /// An iterator over the frames of a recorded stream. [`frames`] makes it.
 #[derive(Debug, Clone)]
+#[must_use = "iterators are lazy and do nothing unless consumed"]
 pub struct Frames<'a> {
     rest: &'a [u8],
 }
@@ -52,8 +52,16 @@ impl<'a> Frames<'a> {
     /// zero has ended.
     #[inline]
     #[must_use]
-    pub fn remainder(&self) -> &'a [u8] {
+    pub const fn remainder(&self) -> &'a [u8] {
         self.rest
+    }
+
+    /// Returns the bytes before the next zero, perhaps none.
+    #[inline]
+    fn next_piece(&mut self) -> Option<&'a [u8]> {
+        let (piece, from_zero) = self.rest.split_at(first_zero(self.rest)?);
+        self.rest = from_zero.split_first()?.1;
+        Some(piece)
     }
 }
 
@@ -62,18 +70,22 @@ impl<'a> Iterator for Frames<'a> {
 
     #[inline]
     fn next(&mut self) -> Option<&'a [u8]> {
-        loop {
-            let end = first_zero(self.rest)?;
-            let frame = &self.rest[..end];
-            self.rest = &self.rest[end + 1..];
-            if !frame.is_empty() {
-                return Some(frame);
-            }
-        }
+        iter::from_fn(|| self.next_piece()).find(|piece| !piece.is_empty())
+    }
+
+    #[inline]
+    fn size_hint(&self) -> (usize, Option<usize>) {
+        most_frames(self.rest)
     }
 }
 
 impl FusedIterator for Frames<'_> {}
+
+/// The bounds of the number of frames in a stream: each has a byte at least, and a zero.
+#[inline]
+const fn most_frames(stream: &[u8]) -> (usize, Option<usize>) {
+    (0, Some(stream.len() / 2))
+}
 
 /// Returns an iterator over the messages of a recorded stream. Each is decoded at the place of its frame, so no other
 /// memory is used.
@@ -100,18 +112,18 @@ impl FusedIterator for Frames<'_> {}
 /// [`DecodeError::InvalidFrame`] as an item: the piece breaks off inside a block. The count is that of
 /// [`decode_in_place`](crate::decode_in_place).
 #[inline]
-#[must_use]
-pub fn decode_stream_in_place(stream: &mut [u8]) -> MessagesInPlace<'_> {
-    MessagesInPlace { rest: stream }
+pub const fn decode_stream_in_place(stream: &mut [u8]) -> DecodeStreamInPlace<'_> {
+    DecodeStreamInPlace { rest: stream }
 }
 
 /// An iterator over the messages of a recorded stream. [`decode_stream_in_place`] makes it.
 #[derive(Debug)]
-pub struct MessagesInPlace<'a> {
+#[must_use = "iterators are lazy and do nothing unless consumed"]
+pub struct DecodeStreamInPlace<'a> {
     rest: &'a mut [u8],
 }
 
-impl<'a> MessagesInPlace<'a> {
+impl<'a> DecodeStreamInPlace<'a> {
     /// Returns the bytes after the zero of the last piece that was returned. After the end these are the bytes that no
     /// zero has ended, as they were.
     #[inline]
@@ -119,25 +131,33 @@ impl<'a> MessagesInPlace<'a> {
     pub fn into_remainder(self) -> &'a mut [u8] {
         self.rest
     }
+
+    /// Returns the bytes before the next zero, perhaps none.
+    #[inline]
+    fn next_piece(&mut self) -> Option<&'a mut [u8]> {
+        let len = first_zero(self.rest)?;
+        let (piece, from_zero) = mem::take(&mut self.rest).split_at_mut(len);
+        self.rest = from_zero.split_first_mut()?.1;
+        Some(piece)
+    }
 }
 
-impl<'a> Iterator for MessagesInPlace<'a> {
+impl<'a> Iterator for DecodeStreamInPlace<'a> {
     type Item = Result<&'a mut [u8], DecodeError>;
 
     #[inline]
     fn next(&mut self) -> Option<Self::Item> {
-        loop {
-            let end = first_zero(self.rest)?;
-            let (frame, rest) = mem::take(&mut self.rest).split_at_mut(end);
-            self.rest = &mut rest[1..];
-            if !frame.is_empty() {
-                return Some(decode_in_place(frame).map(|len| &mut frame[..len]));
-            }
-        }
+        let frame = iter::from_fn(|| self.next_piece()).find(|piece| !piece.is_empty())?;
+        Some(decode_in_place(frame).map(|len| &mut frame[..len]))
+    }
+
+    #[inline]
+    fn size_hint(&self) -> (usize, Option<usize>) {
+        most_frames(self.rest)
     }
 }
 
-impl FusedIterator for MessagesInPlace<'_> {}
+impl FusedIterator for DecodeStreamInPlace<'_> {}
 
 /// Encodes messages as a stream: the frame of each one and a zero after it, in order. If there are no messages, the stream is
 /// empty.
@@ -163,18 +183,20 @@ where
     I: IntoIterator,
     I::Item: AsRef<[u8]>,
 {
+    // The proved function of this name takes a slice of vectors, and there the messages would have to be copied.
     let mut stream = Vec::new();
-    for message in messages {
-        let message = message.as_ref();
-        let begun = stream.len();
-        let room = max_encoding_length(message.len()) + 1;
-        stream.try_reserve(room).map_err(|_| AllocError)?;
-        stream.resize(begun + room, 0);
-        let end = begun + encode(message, &mut stream[begun..]);
-        stream[end] = 0;
-        stream.truncate(end + 1);
-    }
+    messages
+        .into_iter()
+        .try_for_each(|message| append_frame(&mut stream, message.as_ref()))?;
     Ok(stream)
+}
+
+/// Appends the frame of a message and a zero.
+#[cfg(feature = "alloc")]
+pub(crate) fn append_frame(stream: &mut Vec<u8>, message: &[u8]) -> Result<(), AllocError> {
+    let room = max_encoding_length(message.len()) + 1;
+    // One of the zeros stays after the frame.
+    memory::append(stream, room, |zeros| encode(message, zeros) + 1)
 }
 
 /// Returns how many bytes the stream of [`encode_frames`] has at most: the sum of

@@ -67,11 +67,12 @@
 //! | a frame | [`decode`], [`decode_vec`], [`decode_in_place`]; for any sentinel [`decode_with_sentinel`]; [`frame_kind`] |
 //! | bytes from a line, an interrupt, a channel | [`CobsDecoder`] over a slice, [`CobsDecoderHeapless`] with its buffer inside, [`CobsDecoderOwned`]; [`UnbufferedDecoder`], whose buffer is passed to each call |
 //! | a [`Read`](std::io::Read) or [`Write`](std::io::Write) | [`MessageReader`], [`MessageWriter`] |
+//! | a stream or a sink of tokio | `MessageCodec`, with the feature `tokio-util` |
 //! | another source, without `std` | [`FrameReader`] over a [`FrameSource`] |
 //! | a recorded stream | [`frames`], [`decode_stream_in_place`], [`decode_stream`]; [`encode_frames`] makes one |
 //! | a buffer to make | [`max_encoding_length`] |
 //!
-//! The folder `examples` of the repository has a codec for tokio, a receiver over embedded-io, and one whose bytes come by an
+//! The folder `examples` of the repository has a line of tokio, a receiver over embedded-io, and one whose bytes come by an
 //! interrupt.
 //!
 //! # What is proved
@@ -79,16 +80,19 @@
 //! The functions of `src/proved/` are those of the Rattle crates `cobs` and `cobs_bytes` without their contracts. There each
 //! one is proved to return the right result, not to panic, and to end, for a `usize` of 64 bits. The other files of `src/` have
 //! the signatures of the crate `cobs`, and choose one of the proved functions for a push of one byte; they are tested. Memory
-//! safety rests on the compiler and on `memchr`: only the vectors of `src/simd.rs` have `unsafe` code here.
+//! safety rests on the compiler and on `memchr`: only the vectors of `src/simd.rs` have `unsafe` code here, and with the feature
+//! `small` nothing has.
 //!
 //! # Features
 //!
 //! - `std` (default): `alloc`; [`MessageReader`] and [`MessageWriter`]; [`Recorded`], a [`FrameSource`] over any
 //!   [`std::io::Read`]; and `std` of `memchr`, which then searches with AVX2 if the processor has it.
 //! - `alloc`: the calls that make vectors, and [`CobsDecoderOwned`].
-//! - `small`: single bytes on any target, as below.
-//! - `serde`, `defmt`: derives for [`DecodeError`], [`DestBufTooSmallError`] and [`DecodeReport`].
+//! - `small`: single bytes on any target, as below, and no `unsafe` code.
+//! - `serde`, `defmt`: derives for the errors ([`DecodeError`], [`DestBufTooSmallError`], [`PushError`], [`ReadFault`],
+//!   [`AllocError`]) and for [`DecodeReport`], [`PieceEnd`], [`Next`], [`FrameKind`] and `FrameOutcome`.
 //! - `heapless`: [`CobsDecoderHeapless::new_with_vec`] takes a `heapless::Vec`.
+//! - `tokio-util`: `std`, and `MessageCodec`, a codec for streams and sinks of tokio.
 //!
 //! The crate is `no_std` without `std`.
 //!
@@ -97,6 +101,7 @@
 //! If the target has SSE2, NEON or SIMD of WebAssembly, the calls search and copy in vectors and slices. On every other target,
 //! and with the feature `small`, they take one byte at a time, which needs a few hundred bytes of flash for each call.
 #![no_std]
+#![cfg_attr(feature = "small", forbid(unsafe_code))]
 // Pages of docs.rs then say which feature an item needs.
 #![cfg_attr(docsrs, feature(doc_cfg))]
 
@@ -107,6 +112,9 @@ extern crate std;
 
 #[forbid(unsafe_code)]
 mod array_vec;
+#[cfg(feature = "tokio-util")]
+#[forbid(unsafe_code)]
+mod codec;
 #[forbid(unsafe_code)]
 mod dec;
 #[forbid(unsafe_code)]
@@ -115,11 +123,9 @@ mod enc;
 mod frames;
 #[forbid(unsafe_code)]
 mod memory;
-#[allow(unused_labels, reason = "labels name the loops for the proofs")]
 #[allow(
-    dead_code,
     unused_imports,
-    reason = "files are translated as a whole, and without some feature not every function is called"
+    reason = "mod.rs exports what the crate in Rattle exports, and without some feature not every import is used"
 )]
 #[allow(
     clippy::len_zero,
@@ -130,9 +136,8 @@ mod memory;
     clippy::needless_range_loop,
     reason = "these are the proved bodies, which aren't changed for a lint"
 )]
-#[doc(hidden)]
 #[forbid(unsafe_code)]
-pub mod proved;
+mod proved;
 #[cfg(feature = "std")]
 #[forbid(unsafe_code)]
 mod read;
@@ -142,9 +147,11 @@ mod simd;
 mod write;
 
 pub use crate::array_vec::ArrayVec;
+#[cfg(feature = "tokio-util")]
+pub use crate::codec::MessageCodec;
 pub use crate::dec::*;
 pub use crate::enc::*;
-pub use crate::frames::{Frames, MessagesInPlace, decode_stream_in_place, frames};
+pub use crate::frames::{DecodeStreamInPlace, Frames, decode_stream_in_place, frames};
 #[cfg(feature = "alloc")]
 pub use crate::frames::{encode_frames, encode_frames_room};
 pub use crate::memory::AllocError;
@@ -186,10 +193,12 @@ pub const fn max_encoding_overhead(source_len: usize) -> usize {
 #[inline]
 #[must_use]
 pub const fn max_encoding_length(source_len: usize) -> usize {
-    match source_len.checked_add(max_encoding_overhead(source_len)) {
-        Some(length) => length,
-        None => panic!("max_encoding_length: the length fits a usize"),
-    }
+    let length = source_len.checked_add(max_encoding_overhead(source_len));
+    assert!(
+        length.is_some(),
+        "max_encoding_length: the length fits a usize"
+    );
+    proved::max_encoding_length(source_len)
 }
 
 /// The examples of README.md are tests too.

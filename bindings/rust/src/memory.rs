@@ -4,7 +4,9 @@
 use alloc::vec::Vec;
 
 /// There was no memory for a vector.
-#[derive(Debug, Clone, Copy, PartialEq, Eq)]
+#[derive(Debug, Clone, Copy, PartialEq, Eq, Hash)]
+#[cfg_attr(feature = "serde", derive(serde::Serialize, serde::Deserialize))]
+#[cfg_attr(feature = "defmt", derive(defmt::Format))]
 pub struct AllocError;
 
 impl core::fmt::Display for AllocError {
@@ -15,15 +17,6 @@ impl core::fmt::Display for AllocError {
 
 impl core::error::Error for AllocError {}
 
-/// Returns a vector of this byte, `len` times.
-#[cfg(feature = "alloc")]
-pub(crate) fn filled(byte: u8, len: usize) -> Result<Vec<u8>, AllocError> {
-    let mut bytes = Vec::new();
-    bytes.try_reserve_exact(len).map_err(|_| AllocError)?;
-    bytes.resize(len, byte);
-    Ok(bytes)
-}
-
 /// Returns a vector of these bytes.
 #[cfg(feature = "alloc")]
 pub(crate) fn copied(bytes: &[u8]) -> Result<Vec<u8>, AllocError> {
@@ -32,6 +25,22 @@ pub(crate) fn copied(bytes: &[u8]) -> Result<Vec<u8>, AllocError> {
         .map_err(|_| AllocError)?;
     copy.extend_from_slice(bytes);
     Ok(copy)
+}
+
+/// Appends the front of `room` zeros, to which `write` has written. It returns how many bytes these are.
+#[cfg(feature = "alloc")]
+#[inline]
+pub(crate) fn append(
+    bytes: &mut Vec<u8>,
+    room: usize,
+    write: impl FnOnce(&mut [u8]) -> usize,
+) -> Result<(), AllocError> {
+    let begun = bytes.len();
+    bytes.try_reserve(room).map_err(|_| AllocError)?;
+    bytes.resize(begun + room, 0);
+    let len = write(&mut bytes[begun..]);
+    bytes.truncate(begun + len);
+    Ok(())
 }
 
 /// Adds an item at the end.

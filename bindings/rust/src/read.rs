@@ -3,7 +3,7 @@
 use std::boxed::Box;
 use std::io::{self, BufRead, ErrorKind};
 
-use crate::dec::{DecodeError, DecoderPhase, PieceEnd, UnbufferedDecoder};
+use crate::dec::{DecodeError, PieceEnd, UnbufferedDecoder};
 
 /// Reads messages from a serial port, a socket, a file: from anything that is [`BufRead`].
 ///
@@ -106,11 +106,8 @@ impl<R: BufRead> MessageReader<R> {
     ///
     /// After an error the next call continues at the same byte.
     pub fn read_message(&mut self) -> io::Result<Option<Result<&[u8], DecodeError>>> {
-        Ok(self.read_piece()?.map(|end| match end {
-            PieceEnd::Message(len) => Ok(&self.message[..len]),
-            PieceEnd::Broken(decoded_bytes) => Err(DecodeError::InvalidFrame { decoded_bytes }),
-            PieceEnd::TooLong => Err(DecodeError::TargetBufTooSmall),
-        }))
+        let end = self.read_piece()?;
+        Ok(end.map(|end| end.into_result().map(|len| &self.message[..len])))
     }
 
     /// Reads until a zero ends a piece, or the source ends between two.
@@ -122,7 +119,7 @@ impl<R: BufRead> MessageReader<R> {
                 Err(error) => return Err(error),
             };
             if bytes.is_empty() {
-                if self.decoder.phase() == DecoderPhase::Idle {
+                if self.decoder.is_idle() {
                     return Ok(None);
                 }
                 return Err(io::Error::new(
@@ -142,7 +139,8 @@ impl<R: BufRead> MessageReader<R> {
 
 impl<R> MessageReader<R> {
     /// Returns the source.
-    pub fn get_ref(&self) -> &R {
+    #[must_use]
+    pub const fn get_ref(&self) -> &R {
         &self.inner
     }
 

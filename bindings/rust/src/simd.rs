@@ -1,7 +1,7 @@
 //! Vectors of bytes, on stable Rust and for any target. Types and methods are those of `std::simd` that the proved source uses.
 //!
-//! The crate's only `unsafe` code is here: the calls of SSE2 and NEON. The tests compare every operation with the same on
-//! single bytes, for each width from 1 to 64.
+//! The crate's only `unsafe` code is here: the calls of SSE2 and NEON. With the feature `small` there is none. The tests compare
+//! every operation with the same on single bytes, for each width from 1 to 64.
 
 // Loops over indices, of which rustc makes vectors.
 #![allow(clippy::needless_range_loop)]
@@ -9,6 +9,7 @@
 use core::ops::BitXor;
 
 #[cfg(all(
+    not(feature = "small"),
     target_feature = "neon",
     target_arch = "aarch64",
     target_endian = "little"
@@ -16,10 +17,12 @@ use core::ops::BitXor;
 use neon as way;
 #[cfg(not(any(
     all(
+        not(feature = "small"),
         target_feature = "sse2",
         any(target_arch = "x86", target_arch = "x86_64")
     ),
     all(
+        not(feature = "small"),
         target_feature = "neon",
         target_arch = "aarch64",
         target_endian = "little"
@@ -27,6 +30,7 @@ use neon as way;
 )))]
 use portable as way;
 #[cfg(all(
+    not(feature = "small"),
     target_feature = "sse2",
     any(target_arch = "x86", target_arch = "x86_64")
 ))]
@@ -171,12 +175,14 @@ mod portable {
 
     #[inline(always)]
     pub fn of_sixteen(mask: &[u8; 16]) -> u64 {
-        let mask = u128::from_le_bytes(*mask);
-        of_word(mask as u64) | (of_word((mask >> 64) as u64) << 8)
+        let (low, high) = mask.split_at(8);
+        let [low, high] = [low, high].map(|half| *half.first_chunk().expect("8 bytes"));
+        of_word(u64::from_le_bytes(low)) | (of_word(u64::from_le_bytes(high)) << 8)
     }
 }
 
 #[cfg(all(
+    not(feature = "small"),
     target_feature = "sse2",
     any(target_arch = "x86", target_arch = "x86_64")
 ))]
@@ -205,11 +211,13 @@ mod sse2 {
     pub fn of_sixteen(mask: &[u8; 16]) -> u64 {
         // SAFETY: the target has SSE2, and 16 bytes are loaded from any address.
         let bits = unsafe { _mm_movemask_epi8(_mm_loadu_si128(mask.as_ptr().cast())) };
-        u64::from(bits as u32)
+        // `cast_unsigned` needs Rust 1.87.
+        u64::from(u32::from_ne_bytes(bits.to_ne_bytes()))
     }
 }
 
 #[cfg(all(
+    not(feature = "small"),
     target_feature = "neon",
     target_arch = "aarch64",
     target_endian = "little"

@@ -1,9 +1,9 @@
 //! Messages to a port: each one as a frame and a zero.
 
-use std::io::{self, Write};
+use std::io::{self, ErrorKind, Write};
 use std::vec::Vec;
 
-use crate::enc::encode;
+use crate::frames::append_frame;
 
 /// Ends a frame that was cut, so that no decoder takes it for a message.
 ///
@@ -61,23 +61,15 @@ impl<W: Write> MessageWriter<W> {
     /// - Each error of [`Write::write_all`]. How much was written isn't known then: write the message again.
     /// - [`OutOfMemory`](io::ErrorKind::OutOfMemory): nothing was written.
     pub fn write_message(&mut self, message: &[u8]) -> io::Result<()> {
-        let start = if self.failed { CLOSING.len() } else { 0 };
-        self.reserve(start + crate::max_encoding_length(message.len()) + 1)?;
-        self.written[..start].copy_from_slice(&CLOSING[..start]);
-        let end = start + encode(message, &mut self.written[start..]);
-        self.written[end] = 0;
-        self.failed = true;
-        self.inner.write_all(&self.written[..=end])?;
-        self.failed = false;
-        Ok(())
-    }
-
-    /// Makes `written` at least this long.
-    fn reserve(&mut self, len: usize) -> io::Result<()> {
-        if let Some(more) = len.checked_sub(self.written.len()) {
-            self.written.try_reserve(more)?;
-            self.written.resize(len, 0);
+        self.written.clear();
+        if self.failed {
+            self.written.try_reserve(CLOSING.len())?;
+            self.written.extend_from_slice(&CLOSING);
         }
+        append_frame(&mut self.written, message).map_err(|_| ErrorKind::OutOfMemory)?;
+        self.failed = true;
+        self.inner.write_all(&self.written)?;
+        self.failed = false;
         Ok(())
     }
 
@@ -93,7 +85,8 @@ impl<W: Write> MessageWriter<W> {
 
 impl<W> MessageWriter<W> {
     /// Returns what the messages are written to.
-    pub fn get_ref(&self) -> &W {
+    #[must_use]
+    pub const fn get_ref(&self) -> &W {
         &self.inner
     }
 

@@ -6,7 +6,7 @@ use std::error::Error;
 use std::panic;
 
 use jcobs::{
-    CobsDecoder, CobsDecoderHeapless, CobsDecoderOwned, CobsEncoder, DecodeError,
+    ArrayVec, CobsDecoder, CobsDecoderHeapless, CobsDecoderOwned, CobsEncoder, DecodeError,
     DestBufTooSmallError, decode, decode_in_place, decode_in_place_report, decode_vec,
     decode_with_sentinel, encode, encode_in_place, encode_including_sentinels, encode_vec,
     encode_vec_including_sentinels, encode_with_sentinel, max_encoding_length,
@@ -77,9 +77,11 @@ fn message_in_its_own_buffer() {
             assert_eq!(buffer[end..], before[end..]);
         }
     }
-    let caught = panic::catch_unwind(|| encode_in_place(&mut [0; 6], 6));
-    assert!(caught.is_err());
-    assert!(panic::catch_unwind(|| encode_in_place(&mut [0; 6], usize::MAX)).is_err());
+    for (room, length) in [(6, 6), (0, 0), (256, 255), (6, usize::MAX)] {
+        let caught = panic::catch_unwind(|| encode_in_place(&mut vec![0; room], length));
+        let said = *caught.unwrap_err().downcast::<&str>().unwrap();
+        assert!(said.starts_with("`buffer` has room"), "{said}");
+    }
 }
 
 #[test]
@@ -168,6 +170,22 @@ fn in_place_report_leaves_the_zero_out() {
 fn vector_with_sentinels_has_nothing_behind() {
     assert_eq!(encode_vec_including_sentinels(b""), [0, 1, 0]);
     assert_eq!(encode_vec_including_sentinels(&FULL).len(), 257);
+}
+
+#[test]
+fn heapless_decoder_has_the_bytes_of_its_vector() {
+    let mut vec = ArrayVec::<4>::default();
+    vec.push(7);
+    vec.push(8);
+    assert_eq!((&vec[..], vec.remaining_capacity()), (&[7, 8][..], 2));
+    vec[1] = 9;
+    assert_eq!(vec.as_mut_slice(), [7, 9]);
+    assert_eq!(
+        CobsDecoderHeapless::new_with_vec(vec.clone()).dest(),
+        [7, 9, 0, 0]
+    );
+    assert!(vec != ArrayVec::from([7, 9, 0, 0]));
+    assert_eq!(CobsDecoderHeapless::new_with_vec([7; 3]).dest(), [7; 3]);
 }
 
 #[test]

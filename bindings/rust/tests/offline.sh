@@ -2,7 +2,7 @@
 # Writes FOLDER/.cargo/config.toml: offline.sh FOLDER
 #
 # Below that folder cargo then needs no network: dependencies are Debian's packages, and stand-ins for the optional ones
-# that Debian doesn't have. Where a package is missing it says so, and the status is 1.
+# that Debian doesn't have, or that aren't installed. Where a package is missing it says so, and the status is 1.
 set -eu
 here=$(cd "$(dirname "$0")" && pwd)
 registry=/usr/share/cargo/registry
@@ -12,6 +12,12 @@ for package in memchr serde serde_derive serde_json; do
         exit 1
     fi
 done
+# Those of the feature `tokio-util`; nothing else needs them.
+tokio=
+if ! ls -d "$registry"/tokio-util-0.7* >/dev/null 2>&1; then
+    tokio="tokio-util = { path = \"$here/stand_in/tokio-util\" }
+bytes = { path = \"$here/stand_in/bytes\" }"
+fi
 mkdir -p "$1/.cargo"
 cat >"$1/.cargo/config.toml" <<END
 [source.crates-io]
@@ -23,6 +29,7 @@ directory = "$registry"
 [patch.crates-io]
 defmt = { path = "$here/stand_in/defmt" }
 heapless = { path = "$here/stand_in/heapless" }
+$tokio
 
 [net]
 offline = true

@@ -6,7 +6,7 @@ use std::io::{self, BufReader, Error, ErrorKind, Read, Write};
 
 use jcobs::{
     CobsDecoderHeapless, DecodeError, FrameReader, FrameSource, MessageReader, MessageWriter, Next,
-    ReadFault, decode_stream_in_place, encode_frames, encode_frames_room, frames,
+    ReadFault, Recorded, decode_stream_in_place, encode_frames, encode_frames_room, frames,
 };
 
 /// What a port does at one read.
@@ -355,6 +355,12 @@ fn frames_of_each_short_stream() {
                 .map(|place| BYTES[number / BYTES.len().pow(place) % BYTES.len()])
                 .collect();
             let (expected, rest) = pieces(&stream);
+            let (least, most) = frames(&stream).size_hint();
+            assert!(least <= expected.len() && Some(expected.len()) <= most);
+            assert_eq!(
+                decode_stream_in_place(&mut stream.clone()).size_hint(),
+                (least, most)
+            );
             let mut found = frames(&stream);
             for piece in &expected {
                 assert_eq!(found.next(), Some(*piece));
@@ -417,6 +423,61 @@ impl FrameSource for ByBytes {
         self.reads += 1;
         chunk[0] = u8::from(self.reads != self.zero);
         Some(1)
+    }
+}
+
+/// Calls `next_frame` until the source has no more bytes, and again.
+fn read_frames(
+    reader: &mut FrameReader<CobsDecoderHeapless<5>>,
+    source: Vec<Step>,
+    seen: &mut Vec<Seen>,
+    is_within: bool,
+) {
+    let mut source = Recorded::new(Port(source.into()));
+    let end = Next::End {
+        unfinished: is_within,
+    };
+    loop {
+        seen.push(match reader.next_frame(&mut source) {
+            Ok(Next::Message(len)) => Seen::Message(reader.decoder().dest()[..len].to_vec()),
+            Ok(Next::Broken(decoded_bytes)) => {
+                Seen::Frame(DecodeError::InvalidFrame { decoded_bytes })
+            }
+            Ok(Next::TooLong) => Seen::Frame(DecodeError::TargetBufTooSmall),
+            Err(fault) => {
+                assert_eq!(fault, ReadFault::Io);
+                Seen::Error(ErrorKind::TimedOut)
+            }
+            Ok(found) => {
+                assert_eq!(found, end);
+                break;
+            }
+        });
+    }
+    assert_eq!(reader.next_frame(&mut source), Ok(end));
+}
+
+#[test]
+fn each_cut_of_a_stream_by_next_frame() {
+    for first in 0..=STREAM.len() {
+        for second in first..=STREAM.len() {
+            let mut reader = FrameReader::new(CobsDecoderHeapless::new());
+            let mut seen = Vec::new();
+            // Another source for each part, and in the second one a read that fails.
+            for (from, to) in [(0, first), (first, second), (second, STREAM.len())] {
+                let is_within = to > 0 && STREAM[to - 1] != 0;
+                let mut steps = vec![Step::Bytes(STREAM[from..to].to_vec())];
+                steps.retain(|step| !matches!(step, Step::Bytes(bytes) if bytes.is_empty()));
+                if from == first {
+                    steps.insert(0, Step::Fails(ErrorKind::TimedOut));
+                }
+                read_frames(&mut reader, steps, &mut seen, is_within);
+            }
+            let errors = seen.len();
+            seen.retain(|seen| !matches!(seen, Seen::Error(_)));
+            assert!(errors > seen.len());
+            assert_eq!(seen, of_stream(), "{first}, {second}");
+        }
     }
 }
 

@@ -22,26 +22,33 @@ CRATES = Path(sys.argv[1] if len(sys.argv) > 1 else RUST / "../../crates").resol
 PROVED = Path(sys.argv[2] if len(sys.argv) > 2 else RUST / "src/proved").resolve()
 
 TOKEN = re.compile(r"""//[^\n]*|/\*.*?\*/|(b?"(?:\\.|[^"\\])*"|b?'(?:\\.|[^'\\])'|'\w+|\w+|::|=>|->|[^\s])""", re.S)
-# Files that aren't here: the laws, which a proof cites.
-LEFT_OUT = re.compile(r"cobs/src/laws")
-# What a source has, in tokens, and what is here instead: no allocator is passed, `ArrayVec` is a vector of bytes, and the target
-# decides whether vectors are used. Where they aren't, the other branch does the same.
+# Files that aren't here: the laws, which a proof cites, and what the other files of src/ have in their place.
+LEFT_OUT = re.compile(r"cobs/src/(laws|dec/(buffered|heapless)|enc/(encoder|vector))\b")
+# The items of other files that aren't here, and whether each was found.
+ITEMS_LEFT_OUT = dict.fromkeys(
+    "encode_with_sentinel encode_including_sentinels decode_vec decode_vec_with_sentinel DecodeVecError DecodingResult"
+    " WriteBuffer encode_frames encode_frames_room write_frames".split()
+)
+# What a source has, in tokens, and what is here instead: no allocator is passed, and the target decides whether vectors are
+# used. Where they aren't, the other branch does the same.
 PERMITTED = [
     (r" law_\d+ \( \) ;", ""),
     (r" alloc : Global ,?", ""),
-    (r" ArrayVec < u8 , N >", " ArrayVec < N >"),
-    (r" vec ! \[ in alloc ; (\S+) ; ((?:[^][]|\[[^][]*\])*) \]", r" crate :: memory :: filled ( \1 , \2 )"),
     (r" Vec :: from_slice \( alloc ,", " crate :: memory :: copied ("),
     (r" fn has_vectors \( \) -> bool { true }", " fn has_vectors ( ) -> bool { crate :: simd :: HAS_VECTORS }"),
     (r" \( alloc ([,)])", lambda found: " ( )" if found[1] == ")" else " ("),
 ]
+# Loops here have a label only if their body names it; in a source they have one for the proofs.
 # A vector of the function's own, and items that are added to it.
 VECTOR = r" let mut (\w+) = Vec :: new \( \) ;"
 # Functions that are `const` here.
-CONST = ["max_encoding_length", "max_encoding_overhead", "new", "new"]
+CONST = (
+    "decoder frame_size from_phase from_progress is_idle max_encoding_length max_encoding_overhead new new new new parsed_size"
+    " phase progress"
+).split()
 # The attributes that this folder has; those of the sources are about proofs, derives and texts of errors.
 ATTRIBUTES = re.compile(
-    r'# \[ (cold|inline( \( (always|never) \))?|repr \( C \)|derive \( [\w ,]+ \)|cfg \( feature = "(alloc|std)" \)'
+    r'# \[ (cold|inline( \( (always|never) \))?|must_use|repr \( C \)|derive \( [\w ,]+ \)|cfg \( feature = "(alloc|std)" \)'
     r'|cfg_attr \( feature = "(serde|defmt)" , derive \( [\w :,]+ \) \)) \]'
 )
 # Paths of the sources, and the same ones here.
@@ -49,7 +56,6 @@ PATHS = [
     ("std::simd::prelude", "crate::simd"),
     ("std::alloc::AllocError", "crate::memory::AllocError"),
     ("std::mem", "core::mem"),
-    ("arrayvec::ArrayVec", "crate::array_vec::ArrayVec"),
     ("cobs_bytes", "crate::proved::cobs_bytes"),
     ("cobs", "crate::proved"),
 ]
@@ -111,6 +117,21 @@ def cut(path, is_source):
     return kept, imports, modules, attributes
 
 
+def here_only(kept):
+    """The tokens of a source without the items that are left out."""
+    out, begun, depth = [], 0, 0
+    for at, word in enumerate(kept):
+        depth += (word in "{([") - (word in "})]")
+        if depth == 0 and word in ";}":
+            item, begun = kept[begun : at + 1], at + 1
+            named = re.match(r"(?:pub (?:\( crate \) )?)?(?:(?:fn|struct|enum|trait|type)|impl(?: < .* >)?(?: .* for)?) (\w+)", " ".join(item))
+            if named and named[1] in ITEMS_LEFT_OUT:
+                ITEMS_LEFT_OUT[named[1]] = True
+            else:
+                out += item
+    return out + kept[begun:]
+
+
 PROOFS = r"impl (< .* > )?(Model|Clone) for "
 TEXTS = r"impl core :: (fmt :: Display|error :: Error) for "
 
@@ -121,10 +142,26 @@ def canonical(kept, is_source):
     if is_source:
         for pattern, instead in PERMITTED:
             text = re.sub(pattern, instead, text)
+        text = f" {' '.join(without_labels(text.split()))} "
         for name in re.findall(VECTOR, text):
             text = re.sub(rf" {name} \. push \( (.*?) \) \? ;", rf" crate :: memory :: push ( & mut {name} , \1 ) ? ;", text)
     text = text.replace(" const fn ", " fn ") if not is_source else text
     return re.sub(r" ,(?= [)\]}])", "", f" {' '.join(unwrapped(text.split()))} ").split()
+
+
+def without_labels(words):
+    """The tokens without the labels of loops that no `break` or `continue` names."""
+    out, at = [], 0
+    while at < len(words):
+        word = words[at]
+        if word.startswith("'") and words[at + 1] == ":" and words[at + 2] in ("for", "while", "loop"):
+            begun = words.index("{", at)
+            if word not in words[begun : past(words, begun)]:
+                at += 2
+                continue
+        out.append(word)
+        at += 1
+    return out
 
 
 def unwrapped(words):
@@ -157,6 +194,7 @@ def differences(source, crate, made):
         yield f"{name} is missing"
         return
     kept, imports, modules, _ = cut(source, True)
+    kept = here_only(kept)
     found, imported, of_made, attributes = cut(made, False)
     wanted, got = canonical(kept, True), canonical(found, False)
     for at, pair in enumerate(zip([*wanted, "the end"], [*got, "the end"])):
@@ -169,7 +207,8 @@ def differences(source, crate, made):
     yield from (f"{name}: it imports {path}" for path in set(imported) - mapped - {"alloc::vec::Vec"})
     missing = {path for path in mapped - set(imported) if path.split("::")[-1] in found}
     yield from (f"{name}: it doesn't import {path}" for path in missing)
-    expected = {word for word in modules if not LEFT_OUT.search(f"{crate}/src/{word}.rt")}
+    folder = source.parent if source.stem == "lib" else source.with_suffix("")
+    expected = {word for word in modules if not LEFT_OUT.search(f"{folder}/{word}.rt")}
     if expected != {word for word in of_made if not word.startswith("cobs_")}:
         yield f"{name}: its modules are {of_made}"
 
@@ -184,6 +223,7 @@ def compared():
             if not LEFT_OUT.search(source.as_posix()):
                 made.add(PROVED / ("" if crate == "cobs" else crate) / place)
                 yield from differences(source, crate, PROVED / ("" if crate == "cobs" else crate) / place)
+    yield from (f"no source has {name}" for name, is_found in ITEMS_LEFT_OUT.items() if not is_found)
     for path in sorted(PROVED.rglob("*.rs")):
         const += re.findall(r"const fn (\w+)", path.read_text())
         if path not in made:

@@ -93,34 +93,3 @@ fn short_frames_are_feeds() {
         }
     }
 }
-
-#[test]
-fn short_frames_for_a_sentinel_are_decoded_as_by_the_proved_call() {
-    for sentinel in [0, 1, 7, 255] {
-        for code in 0..=20 {
-            for place in 0..=24 {
-                let mut frame = [sentinel ^ 7; 24];
-                frame[0] = sentinel ^ code;
-                if let Some(byte) = frame.get_mut(place) {
-                    *byte = sentinel;
-                }
-                for length in 0..=frame.len() {
-                    let frame = &frame[..length];
-                    for room in [0, 1, 2, usize::from(code).saturating_sub(1), 16, 24] {
-                        let (mut dest, mut proved) = ([0xAA; 24], [0xAA; 24]);
-                        assert_eq!(
-                            jcobs::decode_with_sentinel(frame, &mut dest[..room], sentinel),
-                            jcobs::proved::decode_with_sentinel(
-                                frame,
-                                &mut proved[..room],
-                                sentinel
-                            ),
-                            "{frame:?}, room for {room}"
-                        );
-                        assert_eq!(dest, proved, "{frame:?}, room for {room}");
-                    }
-                }
-            }
-        }
-    }
-}

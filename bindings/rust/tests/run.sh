@@ -47,7 +47,7 @@ documentation() {
 
 # With the features of the compiler that docs.rs turns on.
 as_docs_rs() {
-    RUSTC_BOOTSTRAP=1 RUSTDOCFLAGS='-D warnings --cfg docsrs' CARGO_TARGET_DIR=$work/docs_rs cargo doc --no-deps &&
+    RUSTC_BOOTSTRAP=1 RUSTDOCFLAGS='-D warnings --cfg docsrs' CARGO_TARGET_DIR=$work/docs_rs cargo doc --no-deps --all-features &&
         grep -q 'crate feature <code>std</code>' "$work/docs_rs/doc/jcobs/struct.MessageReader.html"
 }
 
@@ -69,13 +69,22 @@ fn main() {
     let report = jcobs::decode(b"\x02a\0", &mut [0; 2]).unwrap();
     println!("{}", serde_json::to_string(&report).unwrap());
     assert_eq!(serde_json::from_str::<jcobs::DecodeError>("\"EmptyFrame\"").unwrap(), jcobs::DecodeError::EmptyFrame);
+    let more = (jcobs::Next::End { unfinished: true }, jcobs::PieceEnd::Message(2), jcobs::FrameKind::Longer);
+    println!("{}", serde_json::to_string(&more).unwrap());
+    let outcome = jcobs::FrameOutcome::Message(vec![7]);
+    let text = serde_json::to_string(&(&outcome, jcobs::ReadFault::Io, jcobs::AllocError)).unwrap();
+    let same: (jcobs::FrameOutcome, jcobs::ReadFault, jcobs::AllocError) = serde_json::from_str(&text).unwrap();
+    assert_eq!(same, (outcome, jcobs::ReadFault::Io, jcobs::AllocError));
     assert!(jcobs::DecodeError::HAS_FORMAT && jcobs::DestBufTooSmallError::HAS_FORMAT && jcobs::DecodeReport::HAS_FORMAT);
+    assert!(jcobs::PushError::HAS_FORMAT && jcobs::ReadFault::HAS_FORMAT && jcobs::AllocError::HAS_FORMAT);
+    assert!(jcobs::Next::HAS_FORMAT && jcobs::PieceEnd::HAS_FORMAT && jcobs::FrameKind::HAS_FORMAT && jcobs::FrameOutcome::HAS_FORMAT);
     let vec = heapless::Vec::<u8, 4>::new();
     println!("{:?}", jcobs::CobsDecoderHeapless::new_with_vec(vec).dest());
 }
 END2
     prints '[{"InvalidFrame":{"decoded_bytes":3}},null]
 {"parsed_size":3,"frame_size":1}
+[{"End":{"unfinished":true}},{"Message":2},"Longer"]
 [0, 0, 0, 0]' cargo run -q
 )
 
@@ -138,14 +147,16 @@ part 'a crate that depends on cobs' dependents
 part 'an example over embedded-io' example embedded-io '4 frames' \
     --config "patch.crates-io.embedded-io.path = '$PWD/tests/stand_in/embedded-io'"
 if ls -d /usr/share/cargo/registry/tokio-util-0.7* >/dev/null 2>&1; then
+    part 'the codec for tokio' cargo test --features tokio-util --test codec
     part 'an example for tokio' example tokio '4 frames'
+    part 'documentation, as docs.rs makes it' as_docs_rs
+    part 'examples of all features' cargo test --doc --all-features
 else
-    skip 'an example for tokio' "needs Debian's librust-tokio-util-dev"
+    skip 'the codec for tokio' "needs Debian's librust-tokio-util-dev"
 fi
 part 'examples of the documentation' cargo test --doc
 part 'those without a feature' cargo test --doc --no-default-features
 part 'documentation' documentation std,serde,heapless
-part 'documentation, as docs.rs makes it' as_docs_rs
 if [ -f "$root/bindings/c/prebuilt/$(uname -m)-linux/libjcobs.a" ]; then
     part 'the library for C, by the declarations of the README' by_extern
     part 'the library for C beside the crate' beside_c

@@ -4,11 +4,13 @@
 
 use std::error::Error;
 use std::fmt::{Debug, Display};
+use std::hash::Hash;
 
 use jcobs::{
-    CobsDecoder, CobsDecoderHeapless, CobsDecoderOwned, CobsEncoder, DecodeError, DecodeReport,
-    DecodeResult, DecoderState, DecodingResult, DestBufTooSmallError, EncoderState, PushResult,
-    ReadFault, UnbufferedDecoder, UnbufferedEncoder,
+    AllocError, CobsDecoder, CobsDecoderHeapless, CobsDecoderOwned, CobsEncoder, DecodeError,
+    DecodeReport, DecodeResult, DecoderPhase, DecoderState, DecodingResult, DestBufTooSmallError,
+    EncoderProgress, EncoderState, FrameKind, FrameOutcome, FrameReader, Next, PieceEnd, PushError,
+    PushResult, ReadFault, UnbufferedDecoder, UnbufferedEncoder,
 };
 
 const LENGTHS: [fn(usize) -> usize; 2] = [jcobs::max_encoding_overhead, jcobs::max_encoding_length];
@@ -83,15 +85,52 @@ fn decoders() {
         [DecodeReport::parsed_size, DecodeReport::frame_size];
 }
 
+/// Calls that make a coder or copy plain values serve in constants and statics.
+#[cfg(feature = "std")]
+#[test]
+fn constants() {
+    use jcobs::{Frames, MessageWriter, Recorded, frames};
+    use std::sync::Mutex;
+
+    static SENDER: Mutex<MessageWriter<Vec<u8>>> = Mutex::new(MessageWriter::new(Vec::new()));
+    static READER: Mutex<FrameReader<CobsDecoderHeapless<8>>> =
+        Mutex::new(FrameReader::new(CobsDecoderHeapless::new()));
+    const PHASE: DecoderPhase = UnbufferedDecoder::from_phase(DecoderPhase::TooLong).phase();
+    const PROGRESS: EncoderProgress =
+        UnbufferedEncoder::from_progress(UnbufferedEncoder::new().progress()).progress();
+    const FRAMES: Frames<'_> = frames(b"\x02x\0y");
+    const fn encoder(dest: &mut [u8]) -> CobsEncoder<'_> {
+        CobsEncoder::new(dest)
+    }
+
+    SENDER.lock().unwrap().write_message(b"hi").unwrap();
+    assert_eq!(SENDER.lock().unwrap().get_ref(), b"\x03hi\0");
+    let next = READER
+        .lock()
+        .unwrap()
+        .next_frame(&mut Recorded::new(&b"\x02x\0"[..]));
+    assert_eq!(next, Ok(Next::Message(1)));
+    assert_eq!(PHASE, DecoderPhase::TooLong);
+    assert_eq!((PROGRESS.index, PROGRESS.code), (0, 1));
+    assert_eq!(FRAMES.remainder(), b"\x02x\0y");
+    assert_eq!(encoder(&mut [0]).finalize(), 1);
+}
+
 #[test]
 fn traits() {
     fn error<T: Error + Display + Debug + Eq + Send + Sync + 'static>() {}
     fn debug<T: Debug + Send + Sync>() {}
-    fn copy<T: Debug + Copy + Eq>() {}
+    fn copy<T: Debug + Copy + Eq + Hash>() {}
+    fn clone<T: Debug + Clone + Send + Sync>() {}
     error::<DestBufTooSmallError>();
     error::<DecodeError>();
     error::<ReadFault>();
-    copy::<DecodeReport>();
+    copy::<(DestBufTooSmallError, DecodeError, ReadFault, DecodeReport)>();
+    copy::<(PushResult, DecodeResult, FrameKind, PieceEnd, Next)>();
+    copy::<(PushError, DecoderPhase, EncoderProgress, AllocError)>();
+    copy::<(UnbufferedDecoder, UnbufferedEncoder)>();
+    clone::<(CobsDecoderOwned, CobsDecoderHeapless<4>, FrameOutcome)>();
+    clone::<FrameReader<CobsDecoderHeapless<4>>>();
     debug::<CobsEncoder<'_>>();
     debug::<CobsDecoder<'_>>();
     debug::<CobsDecoderOwned>();

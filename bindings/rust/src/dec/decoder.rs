@@ -7,7 +7,7 @@ use crate::dec::{DecodeError, DecodeReport, FrameDecoder, PieceEnd, UnbufferedDe
 use crate::simd::HAS_VECTORS;
 
 /// The part that the three decoders have in common: everything except the buffer.
-#[derive(Debug)]
+#[derive(Debug, Clone)]
 struct Progress {
     decoder: UnbufferedDecoder,
     /// How many bytes the last call took.
@@ -45,14 +45,10 @@ impl Progress {
         let ended = self.decoder.feed_piece(dest, data);
         self.parsed_size = ended.map_or(data.len(), |(_, taken)| taken);
         match ended {
-            Some((PieceEnd::Message(frame_size), parsed_size)) => Ok(Some(DecodeReport {
+            Some((end, parsed_size)) => Ok(Some(DecodeReport {
                 parsed_size,
-                frame_size,
+                frame_size: end.into_result()?,
             })),
-            Some((PieceEnd::Broken(decoded_bytes), _)) => {
-                Err(DecodeError::InvalidFrame { decoded_bytes })
-            }
-            Some((PieceEnd::TooLong, _)) => Err(DecodeError::TargetBufTooSmall),
             None if self.decoder.too_long != 0 && !data.is_empty() => {
                 Err(DecodeError::TargetBufTooSmall)
             }
@@ -110,7 +106,7 @@ macro_rules! decoder_methods {
         /// the first. The crate `cobs` doesn't have this call.
         #[inline]
         #[must_use]
-        pub fn parsed_size(&self) -> usize {
+        pub const fn parsed_size(&self) -> usize {
             self.progress.parsed_size
         }
 
@@ -186,6 +182,7 @@ pub struct CobsDecoder<'a> {
 impl<'a> CobsDecoder<'a> {
     /// Makes a decoder that has taken nothing yet, and that decodes to `dest`.
     #[inline]
+    #[must_use]
     pub const fn new(dest: &'a mut [u8]) -> CobsDecoder<'a> {
         CobsDecoder {
             dest,
@@ -208,7 +205,7 @@ frame_decoder!(CobsDecoder<'_>,);
 /// assert_eq!(decoder.dest()[..1], *b"x");
 /// # Ok::<(), jcobs::DecodeError>(())
 /// ```
-#[derive(Debug)]
+#[derive(Debug, Clone)]
 pub struct CobsDecoderHeapless<const N: usize> {
     dest: [u8; N],
     progress: Progress,
@@ -264,7 +261,7 @@ impl<const N: usize> Default for CobsDecoderHeapless<N> {
 /// # Ok::<(), jcobs::DecodeError>(())
 /// ```
 #[cfg(feature = "alloc")]
-#[derive(Debug)]
+#[derive(Debug, Clone)]
 pub struct CobsDecoderOwned {
     dest: alloc::boxed::Box<[u8]>,
     progress: Progress,

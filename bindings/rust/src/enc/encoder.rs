@@ -25,7 +25,8 @@ impl<'a> CobsEncoder<'a> {
     /// Makes an encoder that has taken nothing yet, and that writes to `out_buf`. No frame fits an empty slice, so an
     /// encoder over an empty slice returns an error for each push.
     #[inline]
-    pub fn new(out_buf: &'a mut [u8]) -> CobsEncoder<'a> {
+    #[must_use]
+    pub const fn new(out_buf: &'a mut [u8]) -> CobsEncoder<'a> {
         CobsEncoder {
             dest: out_buf,
             encoder: UnbufferedEncoder::new(),
@@ -47,6 +48,7 @@ impl<'a> CobsEncoder<'a> {
     /// sentinel. It is the frame that [`encode`](crate::encode) writes, and the bytes after it are as they were at first. The
     /// length is 0 only if the slice is empty.
     #[inline]
+    #[must_use]
     pub fn finalize(self) -> usize {
         if self.dest.is_empty() {
             return 0;

@@ -1,11 +1,9 @@
 // Made by bindings/rust/translate.py from `crates/cobs/src/dec.rt`: change that file, and run it again.
 //! Decoding: from frames to messages.
 
-pub(crate) mod buffered;
 pub(crate) mod each;
 pub(crate) mod forms;
 pub(crate) mod frame_decoder;
-pub(crate) mod heapless;
 pub(crate) mod in_place;
 pub(crate) mod kind;
 pub(crate) mod run;
@@ -15,15 +13,9 @@ pub(crate) mod step;
 pub(crate) mod unbuffered;
 pub(crate) mod whole;
 
-pub use buffered::CobsDecoder;
-#[cfg(feature = "alloc")]
-pub use buffered::CobsDecoderOwned;
 pub use each::{decode_blocks_each, decode_piece};
 pub use forms::decode_with_sentinel;
-#[cfg(feature = "alloc")]
-pub use forms::{decode_vec, decode_vec_with_sentinel};
-pub use frame_decoder::{FrameDecoder, PieceEnd, WriteBuffer};
-pub use heapless::CobsDecoderHeapless;
+pub use frame_decoder::{FrameDecoder, PieceEnd};
 pub use in_place::{
     decode_in_place, decode_in_place_report, decode_in_place_with_sentinel, decode_short_in_place,
 };

@@ -3,7 +3,6 @@
 
 pub(crate) mod blocks;
 pub(crate) mod each;
-pub(crate) mod encoder;
 pub(crate) mod in_place;
 pub(crate) mod progress;
 pub(crate) mod room;
@@ -11,7 +10,6 @@ pub(crate) mod sentinel;
 pub(crate) mod state;
 pub(crate) mod step;
 pub(crate) mod unbuffered;
-pub(crate) mod vector;
 
 use crate::proved::block::FULL_CODE;
 use crate::proved::cobs_bytes::lanes::xor_bytes;
@@ -20,19 +18,13 @@ use crate::proved::error::DestBufTooSmallError;
 use blocks::{append, append_short, close};
 pub use each::try_encode_each;
 use each::write_each;
-pub use encoder::CobsEncoder;
 pub use in_place::encode_in_place;
 pub use progress::EncoderProgress;
 use progress::START;
 use room::try_append;
-pub use sentinel::{
-    encode_including_sentinels, encode_with_sentinel, try_encode_including_sentinels,
-    try_encode_with_sentinel,
-};
+pub use sentinel::{try_encode_including_sentinels, try_encode_with_sentinel};
 pub use state::{EncoderState, PushResult};
 pub use unbuffered::UnbufferedEncoder;
-#[cfg(feature = "alloc")]
-pub use vector::{encode_vec, encode_vec_including_sentinels, encode_vec_with_sentinel};
 
 /// Writes the encoded frame of `source` to the front of `dest`, and returns its length in bytes.
 ///
@@ -43,14 +35,6 @@ pub use vector::{encode_vec, encode_vec_including_sentinels, encode_vec_with_sen
 ///
 /// Precondition: the frame fits `dest`. It always fits [`max_encoding_length`](crate::max_encoding_length) of the
 /// message's length. [`try_encode`] tests the room itself.
-///
-/// ```
-/// # use jcobs::proved::*;
-/// let mut dest = [170; 6];
-/// let len = encode(&[10, 11, 0, 12], &mut dest);
-/// assert_eq!(len, 5);
-/// assert_eq!(dest, [3, 10, 11, 2, 12, 170]);
-/// ```
 // Inlined, so that a short message is encoded in the caller's code, without a call.
 #[inline(always)]
 pub fn encode(source: &[u8], dest: &mut [u8]) -> usize {
@@ -80,15 +64,6 @@ fn encode_long(source: &[u8], dest: &mut [u8]) -> usize {
 /// # Errors
 /// `DestBufTooSmallError` exactly if the frame is longer than `dest`. Then no byte of `dest` has changed, which is a
 /// choice of this library.
-///
-/// ```
-/// # use jcobs::proved::*;
-/// let mut dest = [170; 5];
-/// assert_eq!(try_encode(b"hello", &mut dest), Err(DestBufTooSmallError));
-/// assert_eq!(dest, [170; 5]);
-/// assert_eq!(try_encode(b"hell", &mut dest), Ok(5));
-/// assert_eq!(&dest, b"\x05hell");
-/// ```
 #[inline]
 pub fn try_encode(source: &[u8], dest: &mut [u8]) -> Result<usize, DestBufTooSmallError> {
     if !has_vectors() {

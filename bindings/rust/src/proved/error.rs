@@ -1,8 +1,6 @@
 // Made by bindings/rust/translate.py from `crates/cobs/src/error.rt`: change that file, and run it again.
 //! Errors, and the sizes of a decoded message.
 
-use crate::memory::AllocError;
-
 /// The frame is longer than the slice that it should be written to.
 ///
 /// ```
@@ -11,7 +9,7 @@ use crate::memory::AllocError;
 /// let text = DestBufTooSmallError.to_string();
 /// assert_eq!(text.as_str(), "out of bounds error during encoding");
 /// ```
-#[derive(Debug, Clone, Copy, PartialEq, Eq)]
+#[derive(Debug, Clone, Copy, PartialEq, Eq, Hash)]
 #[cfg_attr(feature = "serde", derive(serde::Serialize, serde::Deserialize))]
 #[cfg_attr(feature = "defmt", derive(defmt::Format))]
 pub struct DestBufTooSmallError;
@@ -35,7 +33,7 @@ impl core::error::Error for DestBufTooSmallError {}
 /// let rejected = decode(&[3, 1, 2], &mut [0; 1]);
 /// assert_eq!(rejected, Err(DecodeError::TargetBufTooSmall));
 /// ```
-#[derive(Debug, Clone, Copy, PartialEq, Eq)]
+#[derive(Debug, Clone, Copy, PartialEq, Eq, Hash)]
 #[cfg_attr(feature = "serde", derive(serde::Serialize, serde::Deserialize))]
 #[cfg_attr(feature = "defmt", derive(defmt::Format))]
 pub enum DecodeError {
@@ -82,7 +80,9 @@ impl core::error::Error for DecodeError {}
 /// };
 /// assert_eq!(decoder.push(&mut buffer, &[3, 7, 0, 2, 9, 0]), Err(rejected));
 /// ```
-#[derive(Debug, Clone, Copy, PartialEq, Eq)]
+#[derive(Debug, Clone, Copy, PartialEq, Eq, Hash)]
+#[cfg_attr(feature = "serde", derive(serde::Serialize, serde::Deserialize))]
+#[cfg_attr(feature = "defmt", derive(defmt::Format))]
 pub struct PushError {
     /// The result for the last byte that was consumed.
     pub error: DecodeError,
@@ -101,35 +101,6 @@ impl core::fmt::Display for PushError {
 
 impl core::error::Error for PushError {}
 
-/// The reason why a call returned no vector. (A choice of this library: memory can run out, and nothing aborts.)
-///
-/// ```
-/// # use jcobs::proved::*;
-/// # #[cfg(feature = "alloc")] {
-/// let rejected = Err(DecodeVecError::Decode(DecodeError::EmptyFrame));
-/// assert_eq!(decode_vec(&[]), rejected);
-/// # }
-/// ```
-#[derive(Debug, PartialEq, Eq)]
-pub enum DecodeVecError {
-    /// The source has no message.
-    Decode(DecodeError),
-
-    /// There was no memory for the vector.
-    Memory(AllocError),
-}
-
-impl core::fmt::Display for DecodeVecError {
-    fn fmt(&self, f: &mut core::fmt::Formatter<'_>) -> core::fmt::Result {
-        match self {
-            Self::Decode(field) => write!(f, "{field}"),
-            Self::Memory(..) => f.write_str("out of memory"),
-        }
-    }
-}
-
-impl core::error::Error for DecodeVecError {}
-
 /// The sizes of a decoded message: how many bytes of the source were consumed, and how many bytes the message has. The
 /// names are those of the crate `cobs`.
 ///
@@ -141,7 +112,7 @@ impl core::error::Error for DecodeVecError {}
 /// assert_eq!(report.frame_size(), 2);
 /// # Ok::<(), Box<dyn std::error::Error>>(())
 /// ```
-#[derive(Debug, Clone, Copy, PartialEq, Eq)]
+#[derive(Debug, Clone, Copy, PartialEq, Eq, Hash)]
 #[cfg_attr(feature = "serde", derive(serde::Serialize, serde::Deserialize))]
 #[cfg_attr(feature = "defmt", derive(defmt::Format))]
 pub struct DecodeReport {
@@ -159,7 +130,8 @@ impl DecodeReport {
     /// assert_eq!(decode(&[0, 1, 0], &mut [])?.parsed_size(), 3);
     /// # Ok::<(), Box<dyn std::error::Error>>(())
     /// ```
-    pub fn parsed_size(&self) -> usize {
+    #[must_use]
+    pub const fn parsed_size(&self) -> usize {
         self.parsed_size
     }
 
@@ -171,17 +143,8 @@ impl DecodeReport {
     /// assert_eq!(decode(&[0, 2, 7], &mut [0; 4])?.frame_size(), 1);
     /// # Ok::<(), Box<dyn std::error::Error>>(())
     /// ```
-    pub fn frame_size(&self) -> usize {
+    #[must_use]
+    pub const fn frame_size(&self) -> usize {
         self.frame_size
     }
 }
-
-/// The former name of [`DecodeReport`]. It is deprecated since version 0.5.0: use `DecodeReport`.
-///
-/// ```
-/// # use jcobs::proved::*;
-/// let report: DecodingResult = decode(&[2, 7, 0], &mut [0; 4])?;
-/// assert_eq!(report.parsed_size(), 3);
-/// # Ok::<(), Box<dyn std::error::Error>>(())
-/// ```
-pub type DecodingResult = DecodeReport;

@@ -5,15 +5,8 @@ use crate::proved::cobs_bytes::window::{WIDE_WINDOW, WINDOW, first_zero, has_vec
 use memchr::memchr;
 
 /// Returns how many zeros the source begins with, which [`decode`](crate::decode) skips before a frame.
-///
-/// ```
-/// # use jcobs::proved::*;
-/// assert_eq!(leading_zeros(&[0, 0, 2, 7, 0]), 2);
-/// assert_eq!(leading_zeros(&[0]), 1);
-/// assert_eq!(leading_zeros(&[]), 0);
-/// ```
 pub fn leading_zeros(source: &[u8]) -> usize {
-    'by_byte: for i in 0..source.len() {
+    for i in 0..source.len() {
         if source[i] != 0 {
             return i;
         }
@@ -27,24 +20,18 @@ pub(crate) fn position_or_len(source: &[u8], byte: u8) -> usize {
 }
 
 /// Returns how many bytes come before the first zero: all of them if there is none. It uses no vectors, so that it is small.
-///
-/// ```
-/// # use jcobs::proved::*;
-/// assert_eq!(len_to_zero(&[3, 7, 8, 0, 2]), 3);
-/// assert_eq!(len_to_zero(&[3, 7]), 2);
-/// ```
 // A function of its own, so that its loops have all registers of a small processor. They keep the address of the remaining
 // bytes, so that no address is computed from an index. Four bytes per iteration need half as many steps as one.
 #[inline(never)]
 pub fn len_to_zero(bytes: &[u8]) -> usize {
     let mut rest = bytes;
-    'by_four: while rest.len() >= 4 {
+    while rest.len() >= 4 {
         if rest[0] == 0 || rest[1] == 0 || rest[2] == 0 || rest[3] == 0 {
             break;
         }
         rest = &rest[4..];
     }
-    'by_byte: while !rest.is_empty() && rest[0] != 0 {
+    while !rest.is_empty() && rest[0] != 0 {
         rest = &rest[1..];
     }
     bytes.len() - rest.len()
@@ -53,7 +40,7 @@ pub fn len_to_zero(bytes: &[u8]) -> usize {
 /// Returns how many bytes come before the first one that equals `byte`: all of them if there is none. It uses no vectors.
 #[inline(always)]
 pub(crate) fn len_to(bytes: &[u8], byte: u8) -> usize {
-    'by_byte: for i in 0..bytes.len() {
+    for i in 0..bytes.len() {
         if bytes[i] == byte {
             return i;
         }

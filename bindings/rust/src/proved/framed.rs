@@ -22,7 +22,9 @@ use std::io::Read;
 /// assert_eq!(reader.next_frame(&mut source), Ok(Next::Broken(1)));
 /// # }
 /// ```
-#[derive(Debug, Clone, Copy, PartialEq, Eq)]
+#[derive(Debug, Clone, Copy, PartialEq, Eq, Hash)]
+#[cfg_attr(feature = "serde", derive(serde::Serialize, serde::Deserialize))]
+#[cfg_attr(feature = "defmt", derive(defmt::Format))]
 pub enum Next {
     /// A piece ended, and it is a frame. Its message is this many bytes at the front of the decoder's buffer.
     Message(usize),
@@ -57,7 +59,9 @@ pub enum Next {
 ///     }
 /// }
 /// ```
-#[derive(Debug, Clone, Copy, PartialEq, Eq)]
+#[derive(Debug, Clone, Copy, PartialEq, Eq, Hash)]
+#[cfg_attr(feature = "serde", derive(serde::Serialize, serde::Deserialize))]
+#[cfg_attr(feature = "defmt", derive(defmt::Format))]
 pub enum ReadFault {
     /// A read failed. An interrupted read counts as a failed one.
     Io,
@@ -112,7 +116,7 @@ pub trait FrameSource {
 /// # }
 /// ```
 #[cfg(feature = "std")]
-#[derive(Debug)]
+#[derive(Debug, Clone)]
 pub struct Recorded<R> {
     reader: R,
 }
@@ -130,7 +134,7 @@ impl<R: Read> Recorded<R> {
     /// assert_eq!(reader.next_frame(&mut source), Ok(Next::Message(1)));
     /// # }
     /// ```
-    pub fn new(reader: R) -> Self {
+    pub const fn new(reader: R) -> Self {
         Self { reader }
     }
 
@@ -194,7 +198,7 @@ const MOST_READS: usize = 65536;
 /// assert!(reader.decoder().dest().starts_with(b"hello"));
 /// # }
 /// ```
-#[derive(Debug)]
+#[derive(Debug, Clone)]
 pub struct FrameReader<D: FrameDecoder> {
     decoder: D,
     chunk: [u8; 64],
@@ -219,7 +223,7 @@ impl<D: FrameDecoder> FrameReader<D> {
     /// assert_eq!(reader.next_frame(&mut source), Ok(end));
     /// # }
     /// ```
-    pub fn new(decoder: D) -> Self {
+    pub const fn new(decoder: D) -> Self {
         FrameReader {
             decoder,
             chunk: [0; 64],
@@ -237,7 +241,7 @@ impl<D: FrameDecoder> FrameReader<D> {
     /// let reader = FrameReader::new(CobsDecoderHeapless::<2>::new());
     /// assert_eq!(reader.decoder().dest(), [0, 0].as_slice());
     /// ```
-    pub fn decoder(&self) -> &D {
+    pub const fn decoder(&self) -> &D {
         &self.decoder
     }
 
@@ -287,7 +291,7 @@ impl<D: FrameDecoder> FrameReader<D> {
         }
         self.start = self.end;
         let mut chunk = [0; 64];
-        'by_read: for _read in 0..MOST_READS {
+        for _read in 0..MOST_READS {
             match source.read_some(&mut chunk) {
                 None => return Err(ReadFault::Io),
                 Some(0) => {

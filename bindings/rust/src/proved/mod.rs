@@ -1,60 +1,5 @@
 // Made by bindings/rust/translate.py from `crates/cobs/src/lib.rt`: change that file, and run it again.
 //! Consistent Overhead Byte Stuffing (COBS), after the crate `cobs` 0.5.1.
-//!
-//! COBS turns a message, any bytes, into a frame that never contains one byte value, the sentinel, usually 0. So the
-//! sentinel can mark where frames end on a serial line, in a stream or in a file, and after damage a receiver finds the
-//! next frame at the next sentinel. A frame is a list of blocks: a code, which counts the block's bytes including
-//! itself, and nonzero bytes. Between two blocks is a zero of the message, unless the first is a full block, with the
-//! code 255. So the frame of a message of up to 254 bytes is one byte longer than the message. A longer message costs at
-//! most one more byte for each further 254 bytes or part of them. The format is that of the paper "Consistent Overhead
-//! Byte Stuffing" by Stuart Cheshire and Mary Baker.
-//!
-//! A message, there and back:
-//!
-//! ```
-//! # use jcobs::proved::*;
-//! use jcobs::proved::{decode, encode};
-//!
-//! let mut frame = [0; 16];
-//! let len = encode(b"hello", &mut frame);
-//! assert_eq!(&frame[..len], b"\x06hello".as_slice());
-//!
-//! let mut message = [0; 16];
-//! let report = decode(&frame[..len], &mut message)?;
-//! assert_eq!(report.frame_size(), 5);
-//! assert!(message.starts_with(b"hello"));
-//! # Ok::<(), Box<dyn std::error::Error>>(())
-//! ```
-//!
-//! A stream of two frames, byte by byte, as it comes from a line:
-//!
-//! ```
-//! # use jcobs::proved::*;
-//! use jcobs::proved::CobsDecoder;
-//!
-//! let mut buffer = [0; 64];
-//! let mut decoder = CobsDecoder::new(&mut buffer);
-//! for byte in b"\x06hello\0\x03hi\0" {
-//!     if let Ok(Some(len)) = decoder.feed(*byte) {
-//!         let message = decoder.dest().get(..len);
-//!         assert!(message == Some(b"hello") || message == Some(b"hi"));
-//!     }
-//! }
-//! ```
-//!
-//! # Which call for what
-//!
-//! - A whole message: [`encode`] into a slice with room, [`try_encode`] if it may not fit, [`encode_vec`] into a
-//!   vector, [`encode_in_place`] in its own buffer. The forms `.._with_sentinel` use another sentinel than 0, and
-//!   the forms `.._including_sentinels` write a sentinel on each side.
-//! - A message that comes in pieces: [`CobsEncoder`] over a slice, [`UnbufferedEncoder`] with a buffer that is passed
-//!   to each call, [`EncoderState`] into a container of your own.
-//! - A whole frame: [`decode`] into a slice, [`decode_vec`] into a vector, [`decode_in_place`] in its own buffer.
-//! - Frames from a line: [`CobsDecoder`] over a slice, [`CobsDecoderOwned`] over a vector that is allocated once,
-//!   [`CobsDecoderHeapless`] with its buffer inside, [`UnbufferedDecoder`] with a buffer that is passed to each call,
-//!   [`DecoderState`] into a container of your own. [`FrameReader`] reads them from any reader.
-//! - A recorded stream: [`decode_stream`], and [`encode_frames`] to make one.
-//! - The size of a buffer: [`max_encoding_length`]. Whether bytes are a frame: [`frame_kind`].
 
 pub(crate) mod block;
 pub(crate) mod cobs_bytes;
@@ -66,42 +11,28 @@ pub(crate) mod framed;
 pub(crate) mod stream;
 
 pub use dec::{
-    CobsDecoder, CobsDecoderHeapless, DecodeResult, DecoderPhase, DecoderState, FrameDecoder,
-    FrameKind, PieceEnd, UnbufferedDecoder, WriteBuffer, decode, decode_blocks_each,
-    decode_in_place, decode_in_place_report, decode_in_place_with_sentinel, decode_piece,
-    decode_short, decode_short_in_place, decode_with_sentinel, frame_kind, kind_by_blocks,
+    DecodeResult, DecoderPhase, DecoderState, FrameDecoder, FrameKind, PieceEnd, UnbufferedDecoder,
+    decode, decode_blocks_each, decode_in_place, decode_in_place_report,
+    decode_in_place_with_sentinel, decode_piece, decode_short, decode_short_in_place,
+    decode_with_sentinel, frame_kind, kind_by_blocks,
 };
-#[cfg(feature = "alloc")]
-pub use dec::{CobsDecoderOwned, decode_vec, decode_vec_with_sentinel};
 pub use enc::{
-    CobsEncoder, EncoderProgress, EncoderState, PushResult, UnbufferedEncoder, encode,
-    encode_in_place, encode_including_sentinels, encode_with_sentinel, try_encode, try_encode_each,
-    try_encode_including_sentinels, try_encode_with_sentinel,
+    EncoderProgress, EncoderState, PushResult, UnbufferedEncoder, encode, encode_in_place,
+    try_encode, try_encode_each, try_encode_including_sentinels, try_encode_with_sentinel,
 };
-#[cfg(feature = "alloc")]
-pub use enc::{encode_vec, encode_vec_including_sentinels, encode_vec_with_sentinel};
-pub use error::{
-    DecodeError, DecodeReport, DecodeVecError, DecodingResult, DestBufTooSmallError, PushError,
-};
+pub use error::{DecodeError, DecodeReport, DestBufTooSmallError, PushError};
 pub use find::{leading_zeros, len_to_zero};
 #[cfg(feature = "std")]
 pub use framed::Recorded;
 pub use framed::{FrameReader, FrameSource, Next, ReadFault};
 #[cfg(feature = "alloc")]
-pub use stream::{FrameOutcome, decode_stream, encode_frames, encode_frames_room};
+pub use stream::{FrameOutcome, decode_stream};
 
 /// Returns how many bytes longer than its message an encoded frame is at most, for a message of `source_len` bytes.
 ///
 /// This is `source_len / 254` rounded up, and 1 for the empty message: each block of 254 bytes has a code of its own,
 /// and a frame has at least one block. A message without zeros reaches it. Sentinels around the frame aren't counted.
 /// The bound is that of the paper by Cheshire and Baker.
-///
-/// ```
-/// # use jcobs::proved::*;
-/// assert_eq!(max_encoding_overhead(0), 1);
-/// assert_eq!(max_encoding_overhead(254), 1);
-/// assert_eq!(max_encoding_overhead(255), 2);
-/// ```
 pub const fn max_encoding_overhead(source_len: usize) -> usize {
     if source_len == 0 {
         return 1;
@@ -113,13 +44,6 @@ pub const fn max_encoding_overhead(source_len: usize) -> usize {
 /// this length has room for the frame of each such message.
 ///
 /// Precondition: this number fits a `usize`, as it does for each `source_len` up to `isize::MAX`.
-///
-/// ```
-/// # use jcobs::proved::*;
-/// assert_eq!(max_encoding_length(0), 1);
-/// assert_eq!(max_encoding_length(254), 255);
-/// assert_eq!(max_encoding_length(255), 257);
-/// ```
 pub const fn max_encoding_length(source_len: usize) -> usize {
     source_len + max_encoding_overhead(source_len)
 }

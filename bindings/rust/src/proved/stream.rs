@@ -8,8 +8,6 @@
 
 use crate::memory::AllocError;
 use crate::proved::dec::{FrameDecoder, PieceEnd};
-use crate::proved::enc::encode;
-use crate::proved::max_encoding_length;
 #[cfg(feature = "alloc")]
 use alloc::vec::Vec;
 
@@ -27,7 +25,9 @@ use alloc::vec::Vec;
 /// # Ok::<(), Box<dyn std::error::Error>>(())
 /// ```
 #[cfg(feature = "alloc")]
-#[derive(Debug, PartialEq, Eq)]
+#[derive(Debug, Clone, PartialEq, Eq, Hash)]
+#[cfg_attr(feature = "serde", derive(serde::Serialize, serde::Deserialize))]
+#[cfg_attr(feature = "defmt", derive(defmt::Format))]
 pub enum FrameOutcome {
     /// The piece is a frame, and these are the bytes of its message.
     Message(Vec<u8>),
@@ -83,79 +83,9 @@ pub fn decode_stream<D: FrameDecoder>(
 ) -> Result<Vec<FrameOutcome>, AllocError> {
     let mut outcomes = Vec::new();
     let mut at = 0;
-    'by_piece: while let Some((end, count)) = decoder.feed_piece(&bytes[at..]) {
+    while let Some((end, count)) = decoder.feed_piece(&bytes[at..]) {
         crate::memory::push(&mut outcomes, frame_outcome(end, decoder.buffer())?)?;
         at += count;
     }
     Ok(outcomes)
-}
-
-/// Makes a stream of these messages: the encoded frame of each one and a zero after it, in order.
-///
-/// An idle decoder whose buffer has room for each message decodes these bytes to exactly these messages. For no
-/// messages the stream is empty.
-///
-/// Memory is allocated once, for [`encode_frames_room`] of the messages.
-///
-/// # Panics
-///
-/// If that many bytes don't fit a `usize`.
-///
-/// # Errors
-/// `AllocError` if that memory runs out.
-///
-/// ```
-/// # use jcobs::proved::*;
-/// # #[cfg(feature = "alloc")] {
-/// let messages = [b"hi".to_vec(), Vec::new()];
-/// if encode_frames_room(&messages).is_some() {
-///     let stream = encode_frames(&messages)?;
-///     assert_eq!(stream.as_slice(), b"\x03hi\0\x01\0".as_slice());
-/// }
-/// # }
-/// # Ok::<(), Box<dyn std::error::Error>>(())
-/// ```
-#[cfg(feature = "alloc")]
-pub fn encode_frames(messages: &[Vec<u8>]) -> Result<Vec<u8>, AllocError> {
-    // The precondition says that there is a room.
-    let room = encode_frames_room(messages).unwrap_or(0);
-    let mut frames = crate::memory::filled(0, room)?;
-    let len = write_frames(messages, &mut frames);
-    frames.truncate(len);
-    Ok(frames)
-}
-
-/// Returns the number of bytes that are enough for the frames of the messages, each with a zero after it: the sum of
-/// [`max_encoding_length`](crate::max_encoding_length) plus 1 over the messages. Returns `None` if the sum doesn't fit
-/// a `usize`.
-///
-/// [`encode_frames`] requires that there is such a number, and allocates that many bytes. This function allocates
-/// nothing.
-///
-/// ```
-/// # use jcobs::proved::*;
-/// # #[cfg(feature = "alloc")] {
-/// let messages = [b"hi".to_vec(), Vec::new()];
-/// assert_eq!(encode_frames_room(&messages), Some(6));
-/// # }
-/// ```
-#[cfg(feature = "alloc")]
-pub fn encode_frames_room(messages: &[Vec<u8>]) -> Option<usize> {
-    let mut room = 0usize;
-    'by_message: for message in messages {
-        room = room.checked_add(max_encoding_length(message.len()) + 1)?;
-    }
-    Some(room)
-}
-
-/// Writes the frames of the messages and their zeros to the front of `dest`, and returns their length in bytes.
-#[cfg(feature = "alloc")]
-fn write_frames(messages: &[Vec<u8>], dest: &mut [u8]) -> usize {
-    let mut end = 0;
-    'by_message: for message in messages {
-        let len = encode(message, &mut dest[end..]);
-        dest[end + len] = 0;
-        end += len + 1;
-    }
-    end
 }

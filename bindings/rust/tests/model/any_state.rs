@@ -76,8 +76,13 @@ fn check_decoder(phase: DecoderPhase, len: usize, piece: &[u8]) {
             assert_eq!(decoder.phase(), DecoderPhase::Idle, "{}", place());
         }
     }
-    let mut decoder = UnbufferedDecoder::from_phase(phase);
-    if let Some((end, taken)) = decoder.feed_piece(&mut dest, piece) {
+    for by_bytes in [false, true] {
+        let mut decoder = UnbufferedDecoder::from_phase(phase);
+        let ended = match by_bytes {
+            false => decoder.feed_piece(&mut dest, piece),
+            true => decoder.feed_each(&mut dest, piece, 0),
+        };
+        let Some((end, taken)) = ended else { continue };
         assert_eq!(piece[taken - 1], 0, "{}", place());
         assert_eq!(decoder.phase(), DecoderPhase::Idle, "{}", place());
         if let jcobs::PieceEnd::Message(message) = end {
@@ -130,9 +135,45 @@ fn check_encoder(progress: EncoderProgress, len: usize, piece: &[u8]) {
     } else if piece.is_empty() {
         assert_eq!(pushed, Ok(()), "{}", place());
     }
-    match encoder.finalize(&mut dest) {
+    check_by_bytes(progress, len, piece, pushed);
+    let finished = encoder.finalize(&mut dest);
+    let mut by_bytes = UnbufferedEncoder::from_progress(progress);
+    let mut bytes_dest = vec![FILL; len];
+    let by_bytes_pushed = by_bytes.push_each(&mut bytes_dest, piece);
+    assert_eq!(by_bytes_pushed, pushed, "{}", place());
+    let by_bytes_finished = by_bytes.finalize(&mut bytes_dest);
+    assert_eq!(by_bytes_finished, finished, "{}", place());
+    assert_eq!(bytes_dest, dest, "{}", place());
+    match finished {
         Ok(message) => assert!(is_within && message <= len, "{}", place()),
         Err(DestBufTooSmallError) => assert!(!is_within, "{}", place()),
+    }
+}
+
+/// The calls for single bytes and for a few, where `push` of the piece returned this.
+fn check_by_bytes(
+    progress: EncoderProgress,
+    len: usize,
+    piece: &[u8],
+    pushed: Result<(), DestBufTooSmallError>,
+) {
+    let place = || format!("{progress:?}, a buffer of {len}, {piece:?}");
+    let mut dest = vec![FILL; len];
+    let mut other = UnbufferedEncoder::from_progress(progress);
+    if other.push_few(&mut dest, piece) {
+        assert_eq!(pushed, Ok(()), "{}", place());
+    }
+    if let Some(byte) = piece.first() {
+        let mut by_push = UnbufferedEncoder::from_progress(progress);
+        let pushed = by_push.push(&mut dest, &[*byte]);
+        let mut by_feed = UnbufferedEncoder::from_progress(progress);
+        assert_eq!(by_feed.feed(&mut dest, *byte), pushed, "{}", place());
+        let mut by_len = UnbufferedEncoder::from_progress(progress);
+        let fed = by_len.feed_len(&mut dest, *byte);
+        assert_eq!(fed.map(|_| ()), pushed, "{}", place());
+        for other in [by_feed, by_len] {
+            assert_eq!(other.progress(), by_push.progress(), "{}", place());
+        }
     }
 }
 

@@ -1,6 +1,6 @@
 //! Frames to messages, in each room and cut.
 
-use jcobs::{CobsDecoder, DecodeError, PieceEnd, PushError, UnbufferedDecoder};
+use jcobs::{CobsDecoder, DecodeError, FrameKind, UnbufferedDecoder};
 
 use crate::grammar::{Decoder, encoded};
 use crate::{ALL, FILL, messages, some_messages};
@@ -84,7 +84,7 @@ impl Case {
         self.check(cut, |dest, bytes| match decoder.push(dest, bytes) {
             Ok(None) => (bytes.len(), None),
             Ok(Some(report)) => (report.parsed_size(), Some(Ok(report.frame_size()))),
-            Err(PushError { error, parsed_size }) => (parsed_size, Some(Err(error))),
+            Err(rejected) => (rejected.parsed_size, Some(Err(rejected.into()))),
         });
         let mut decoder = UnbufferedDecoder::new();
         self.check(cut, |dest, bytes| {
@@ -92,17 +92,38 @@ impl Case {
             decoder = UnbufferedDecoder::from_phase(decoder.phase());
             match decoder.feed_piece(dest, bytes) {
                 None => (bytes.len(), None),
-                Some((PieceEnd::Message(len), taken)) => (taken, Some(Ok(len))),
-                Some((PieceEnd::Broken(decoded_bytes), taken)) => {
-                    let error = DecodeError::InvalidFrame { decoded_bytes };
-                    (taken, Some(Err(error)))
-                }
-                Some((PieceEnd::TooLong, taken)) => {
-                    (taken, Some(Err(DecodeError::TargetBufTooSmall)))
-                }
+                Some((end, taken)) => (taken, Some(end.into_result())),
+            }
+        });
+        let mut decoder = UnbufferedDecoder::new();
+        let sentinel = [0, 7, 0xFF][cut % 3];
+        self.check(cut, |dest, bytes| {
+            let xored: Vec<_> = bytes.iter().map(|byte| byte ^ sentinel).collect();
+            match decoder.feed_each(dest, &xored, sentinel) {
+                None => (bytes.len(), None),
+                Some((end, taken)) => (taken, Some(end.into_result())),
             }
         });
         self.check_buffered(cut);
+        #[cfg(feature = "std")]
+        self.check_reader(cut);
+    }
+
+    /// By the reader of messages, from a source of two parts.
+    #[cfg(feature = "std")]
+    fn check_reader(&self, cut: usize) {
+        use std::io::Read;
+
+        let place = || format!("{:?} cut at {cut}, room for {}", self.stream, self.room);
+        let (first, second) = self.stream.split_at(cut);
+        let mut reader = jcobs::MessageReader::new(first.chain(second), self.room);
+        for (_, result, dest) in &self.results {
+            let message = reader.read_message().expect("no error");
+            let expected = result.map(|len| &dest[..len]);
+            assert_eq!(message, Some(expected), "{}", place());
+        }
+        let end = reader.read_message().expect("the stream ends in a zero");
+        assert_eq!(end, None, "{}", place());
     }
 
     /// By the decoder that borrows its buffer, which is copied to that of `check` after each call.
@@ -174,13 +195,81 @@ fn check_whole(message: &[u8], room: usize, frame: &[u8]) {
     assert_eq!(result, expected, "{}", place());
     assert_eq!(dest, filled(&decoder.output, room), "{}", place());
 
-    let mut buffer = frame.to_vec();
-    let len = jcobs::decode_in_place(&mut buffer);
+    // The others keep only whole blocks of a frame that breaks off.
     let is_frame = !frame.is_empty() && decoder.ended(message.len()).is_ok();
-    assert_eq!(len.is_ok(), is_frame, "{}", place());
-    if let Ok(len) = len {
-        assert_eq!(&buffer[..len], decoder.output, "{}", place());
-        assert_eq!(&buffer[len..], &frame[len..], "{}", place());
+    if !is_frame {
+        decoder.output.truncate(decoder.before);
+    }
+    let kept = &decoder.output[..];
+    let expected = |room| match frame {
+        [] => Err(DecodeError::EmptyFrame),
+        _ if kept.len() > room => Err(DecodeError::TargetBufTooSmall),
+        _ if is_frame => Ok(kept.len()),
+        _ => Err(DecodeError::InvalidFrame {
+            decoded_bytes: kept.len(),
+        }),
+    };
+    // With bytes after it, as a frame for a sentinel that it doesn't have.
+    let sentinel = [0, FILL, 0xFF][room % 3];
+    let xored: Vec<_> = frame.iter().map(|byte| byte ^ sentinel).collect();
+    let ended = [&xored[..], &[sentinel, 2, sentinel]].concat();
+    let ended = if frame.is_empty() { &[] } else { &ended[..] };
+    for source in [&xored, ended] {
+        let mut dest = vec![FILL; room];
+        let len = jcobs::decode_with_sentinel(source, &mut dest, sentinel);
+        assert_eq!(len, expected(room), "{}", place());
+        assert_eq!(dest, filled(kept, room), "{}", place());
+
+        let mut buffer: Vec<_> = source.iter().map(|byte| byte ^ sentinel).collect();
+        let before = buffer.clone();
+        let len = jcobs::decode_in_place(&mut buffer);
+        assert_eq!(len, expected(usize::MAX), "{}", place());
+        assert_eq!(&buffer[..kept.len()], kept, "{}", place());
+        if is_frame {
+            assert_eq!(&buffer[kept.len()..], &before[kept.len()..], "{}", place());
+        }
+        let mut buffer = source.to_vec();
+        let len = jcobs::decode_in_place_with_sentinel(&mut buffer, sentinel);
+        assert_eq!(len, expected(usize::MAX), "{}", place());
+        assert_eq!(&buffer[..kept.len()], kept, "{}", place());
+    }
+    if room == message.len() {
+        check_kind(frame, is_frame.then_some(kept));
+    }
+}
+
+/// Calls the function for the kind of a frame, which is this message's, or none.
+fn check_kind(frame: &[u8], message: Option<&[u8]>) {
+    let kind = match message {
+        None => FrameKind::NotAFrame,
+        Some(message) if encoded(message) == frame => FrameKind::Canonical,
+        Some(_) => FrameKind::Longer,
+    };
+    assert_eq!(jcobs::frame_kind(frame), kind, "{frame:?}");
+    for zero in [0, frame.len() / 2, frame.len()] {
+        let mut with_zero = frame.to_vec();
+        with_zero.insert(zero, 0);
+        let kind = jcobs::frame_kind(&with_zero);
+        assert_eq!(kind, FrameKind::NotAFrame, "{with_zero:?}");
+    }
+}
+
+/// Frames of messages that end with a full block, which may have an empty one after it.
+#[test]
+fn two_frames_of_a_message() {
+    for blocks in [1, 2, 3] {
+        for front in 0..=64 {
+            let mut message = vec![0; front];
+            message.extend((0..254 * blocks).map(|at| 100 + (at % 100) as u8));
+            let mut frame = encoded(&message);
+            check_kind(&frame, Some(&message));
+            frame.push(1);
+            check_kind(&frame, Some(&message));
+            check_whole(&message, message.len(), &frame);
+            frame.push(1);
+            message.push(0);
+            check_kind(&frame, Some(&message));
+        }
     }
 }
 

@@ -8,6 +8,10 @@ use crate::{ALL, FILL, messages, some_messages};
 /// The ends of a message after its run.
 const TAILS: [&[u8]; 3] = [&[], &[0], &[0, 7, 7, 7, 7, 7]];
 
+/// A call that takes a byte, with the length of the frame that it returns.
+type Take<'a> =
+    &'a mut dyn FnMut(&mut UnbufferedEncoder, &mut [u8], u8) -> Result<usize, DestBufTooSmallError>;
+
 /// A message, its frame, and the length of the frame of each front of it.
 struct Case<'a> {
     message: &'a [u8],
@@ -51,6 +55,76 @@ impl<'a> Case<'a> {
         assert_eq!((returned, dest), written(&between, room), "{}", place());
     }
 
+    /// In the message's own buffer, with this many bytes after the message.
+    fn check_in_place(&self, more: usize) {
+        let overhead = jcobs::max_encoding_overhead(self.message.len());
+        let mut buffer = vec![FILL; overhead + self.message.len() + more];
+        buffer[overhead..][..self.message.len()].copy_from_slice(self.message);
+        let mut expected = buffer.clone();
+        expected[..self.frame.len()].copy_from_slice(&self.frame);
+        let len = jcobs::encode_in_place(&mut buffer, self.message.len());
+        assert_eq!(len, self.frame.len(), "{:?}", self.message);
+        assert_eq!(buffer, expected, "{:?}", self.message);
+    }
+
+    /// By the writer of messages, and as a stream.
+    #[cfg(feature = "std")]
+    fn check_writer(&self) {
+        let mut writer = jcobs::MessageWriter::new(Vec::new());
+        let ended = [&self.frame[..], &[0]].concat();
+        for _ in 0..2 {
+            writer
+                .write_message(self.message)
+                .expect("a vector takes it");
+        }
+        let written = writer.into_inner();
+        assert_eq!(written, ended.repeat(2), "{:?}", self.message);
+        let stream = jcobs::encode_frames([self.message; 2]).expect("memory");
+        assert_eq!(stream, written, "{:?}", self.message);
+    }
+
+    /// Takes the message byte by byte, and in pieces of a few bytes, as far as it fits.
+    fn check_steps(&self, room: usize) {
+        let place = || format!("{:?}, room for {room}", self.message);
+        let fits = self.lens.partition_point(|&len| len <= room).max(1) - 1;
+        let by_byte = |take: Take| {
+            let (mut dest, mut encoder) = (vec![FILL; room], UnbufferedEncoder::new());
+            for (before, byte) in self.message[..fits].iter().enumerate() {
+                let taken = take(&mut encoder, &mut dest, *byte);
+                assert_eq!(taken, Ok(self.lens[before + 1]), "{}", place());
+            }
+            if let Some(byte) = self.message.get(fits) {
+                let progress = encoder.progress();
+                let taken = take(&mut encoder, &mut dest, *byte);
+                assert_eq!(taken, Err(DestBufTooSmallError), "{}", place());
+                assert_eq!(encoder.progress(), progress, "{}", place());
+            }
+            if let Ok(len) = encoder.finalize(&mut dest) {
+                self.check_frame(len, &dest, fits, [true, fits == self.message.len()]);
+            }
+        };
+        by_byte(&mut |encoder, dest, byte| encoder.feed_len(dest, byte));
+        let mut lens = self.lens.iter().skip(1);
+        by_byte(&mut |encoder, dest, byte| {
+            let len = lens.next().expect("a length for each byte");
+            encoder.feed(dest, byte).map(|()| *len)
+        });
+        for count in [1, 3, 8] {
+            let (mut dest, mut encoder) = (vec![FILL; room], UnbufferedEncoder::new());
+            for piece in self.message[..fits].chunks(count) {
+                let before = encoder.progress();
+                if !encoder.push_few(&mut dest, piece) {
+                    assert_eq!(encoder.progress(), before, "{}", place());
+                    let pushed = encoder.push_each(&mut dest, piece);
+                    assert_eq!(pushed, Ok(()), "{}", place());
+                }
+            }
+            if let Ok(len) = encoder.finalize(&mut dest) {
+                self.check_frame(len, &dest, fits, [true, fits == self.message.len()]);
+            }
+        }
+    }
+
     /// Pushes the message in two pieces.
     fn check_pushes(&self, room: usize, cut: usize) {
         let place = || format!("{:?} cut at {cut}, room for {room}", self.message);
@@ -71,6 +145,18 @@ impl<'a> Case<'a> {
         }
         let len = encoder.finalize();
         self.check_frame(len, &dest, cut, fits);
+
+        let mut dest = vec![FILL; room];
+        let mut encoder = UnbufferedEncoder::new();
+        let first_pushed = encoder.push_each(&mut dest, first);
+        assert_eq!(first_pushed, pushed(fits[0]), "{}", place());
+        if fits[0] {
+            let second_pushed = encoder.push_each(&mut dest, second);
+            assert_eq!(second_pushed, pushed(fits[1]), "{}", place());
+        }
+        if let Ok(len) = encoder.finalize(&mut dest) {
+            self.check_frame(len, &dest, cut, fits);
+        }
 
         let mut dest = vec![FILL; room];
         let mut encoder = UnbufferedEncoder::new();
@@ -133,6 +219,11 @@ fn the_least_room() {
         let len = case.frame.len();
         case.check_whole(len - 1);
         case.check_whole(len);
+        case.check_steps(len);
+        case.check_steps(len - 1);
+        case.check_in_place(len % 3);
+        #[cfg(feature = "std")]
+        case.check_writer();
         case.check_pushes(len, message.len() / 2);
         case.check_pushes(len - 1, message.len());
     });
@@ -144,6 +235,7 @@ fn each_room() {
         let case = Case::of(message);
         for room in 0..=case.frame.len() + 3 {
             case.check_whole(room);
+            case.check_steps(room);
             case.check_pushes(room, message.len() / 3);
         }
     };

@@ -52,6 +52,8 @@ pub fn encoded(message: &[u8]) -> Vec<u8> {
 pub struct Decoder {
     /// All of it, also if there is no room.
     pub output: Vec<u8>,
+    /// How long it was before the open block.
+    pub before: usize,
     /// The code of the open block.
     code: Option<u8>,
     /// How many of its bytes are missing.
@@ -71,6 +73,7 @@ impl Decoder {
             if self.code.is_some_and(|code| code != 255) {
                 self.output.push(0);
             }
+            self.before = self.output.len();
             self.code = Some(byte);
             self.missing = byte - 1;
         }

@@ -3,7 +3,7 @@
 use core::convert::Infallible;
 
 use embedded_io::{ErrorType, Read, Write};
-use jcobs::{CobsDecoderHeapless, DecodeError, FrameDecoder, PieceEnd};
+use jcobs::{CobsDecoderHeapless, DecodeError, FrameDecoder};
 
 /// Reads once, and hands on each message that has ended. Returns how many bytes the port had: none at its end.
 ///
@@ -18,11 +18,7 @@ fn receive<R: Read, const N: usize>(
     let mut bytes = &chunk[..count];
     while let Some((end, taken)) = decoder.feed_piece(bytes) {
         bytes = &bytes[taken..];
-        on_message(match end {
-            PieceEnd::Message(len) => Ok(&decoder.dest()[..len]),
-            PieceEnd::Broken(decoded_bytes) => Err(DecodeError::InvalidFrame { decoded_bytes }),
-            PieceEnd::TooLong => Err(DecodeError::TargetBufTooSmall),
-        });
+        on_message(end.into_result().map(|len| &decoder.dest()[..len]));
     }
     Ok(count)
 }

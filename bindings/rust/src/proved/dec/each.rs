@@ -15,19 +15,12 @@ use crate::proved::find::{leading_zeros, len_to, len_to_zero};
 ///
 /// `InvalidFrame` if the last block breaks off, with the `decoded_bytes` that [`decode_in_place`](crate::decode_in_place) returns.
 /// The bytes of that block aren't decoded.
-///
-/// ```
-/// # use jcobs::proved::*;
-/// let mut buffer = [3, 10, 11, 2, 12, 0];
-/// assert_eq!(decode_blocks_each(&mut buffer, 5), Ok(4));
-/// assert_eq!(buffer, [10, 11, 0, 12, 12, 0]);
-/// ```
 // A function of its own, so that its loops have all registers of a small processor.
 #[inline(never)]
 pub fn decode_blocks_each(buffer: &mut [u8], end: usize) -> Result<usize, DecodeError> {
     let mut read = 0;
     let mut written = 0;
-    'by_block: while read < end {
+    while read < end {
         let code = buffer[read] as usize;
         if end - read < code {
             return Err(DecodeError::InvalidFrame {
@@ -38,7 +31,7 @@ pub fn decode_blocks_each(buffer: &mut [u8], end: usize) -> Result<usize, Decode
         read += 1;
         // The test is at the end of the loop, because compilers that keep code small leave it there.
         if read != next {
-            'by_byte: loop {
+            loop {
                 buffer[written] = buffer[read];
                 written += 1;
                 read += 1;
@@ -73,7 +66,7 @@ pub(crate) fn decode_in_place_each(buf: &mut [u8]) -> Result<DecodeReport, Decod
 #[inline(never)]
 fn through_piece(source: &[u8], at: usize) -> usize {
     let mut end = at;
-    'by_byte: while end < source.len() {
+    while end < source.len() {
         end += 1;
         if source[end - 1] == 0 {
             break;
@@ -96,15 +89,6 @@ fn ended(written: usize, missing: usize, at: usize) -> Option<(PieceEnd, usize)>
 /// were consumed: leading zeros, the piece, and the zero after it if there is one. Returns `None` if there is no piece.
 ///
 /// It does what [`decode`](crate::decode) does, and counts the consumed bytes in each case. It is small, and uses no vectors.
-///
-/// ```
-/// # use jcobs::proved::*;
-/// let mut dest = [170; 3];
-/// let end = PieceEnd::Message(2);
-/// assert_eq!(decode_piece(&[0, 3, 7, 8, 0, 2], &mut dest), Some((end, 5)));
-/// assert_eq!(dest, [7, 8, 170]);
-/// assert_eq!(decode_piece(&[0, 0], &mut dest), None);
-/// ```
 #[inline(always)]
 pub fn decode_piece(source: &[u8], dest: &mut [u8]) -> Option<(PieceEnd, usize)> {
     let start = leading_zeros(source);
@@ -115,7 +99,7 @@ pub fn decode_piece(source: &[u8], dest: &mut [u8]) -> Option<(PieceEnd, usize)>
     let mut written = 0;
     let mut code = source[start];
     let mut left = code as usize - 1;
-    'by_byte: while at < source.len() {
+    while at < source.len() {
         let byte = source[at];
         at += 1;
         if byte == 0 {
@@ -172,14 +156,14 @@ pub(crate) fn decode_head_each(
     }
     let mut rest = &source[..len_to(source, sentinel)];
     let mut written = 0;
-    'by_block: while !rest.is_empty() {
+    while !rest.is_empty() {
         let code = (rest[0] ^ sentinel) as usize;
         if rest.len() < code {
             return Err(DecodeError::InvalidFrame {
                 decoded_bytes: written,
             });
         }
-        'by_byte: for byte in &rest[1..code] {
+        for byte in &rest[1..code] {
             if dest.len() <= written {
                 return Err(DecodeError::TargetBufTooSmall);
             }

@@ -3,14 +3,11 @@
 
 use crate::proved::block::FULL_BLOCK_BYTES;
 use crate::proved::cobs_bytes::window::{WIDE_WINDOW, has_vectors};
-use crate::proved::dec::decode;
 use crate::proved::dec::each::decode_head_each;
 use crate::proved::dec::span::{decode_span, kept_len, message_len};
 use crate::proved::dec::unbuffered::START;
-use crate::proved::error::{DecodeError, DecodeVecError};
+use crate::proved::error::DecodeError;
 use crate::proved::find::{len_without_end, position_or_len};
-#[cfg(feature = "alloc")]
-use alloc::vec::Vec;
 
 /// Decodes the blocks of a source that has no sentinel, and returns the length of their output.
 fn decode_blocks(source: &[u8], dest: &mut [u8], sentinel: u8) -> Result<usize, DecodeError> {
@@ -44,14 +41,6 @@ fn decode_blocks(source: &[u8], dest: &mut [u8], sentinel: u8) -> Result<usize, 
 ///
 /// Frames for another sentinel than 0 are from Cheshire and Baker's paper; the results for broken ones are a choice of
 /// this library.
-///
-/// ```
-/// # use jcobs::proved::*;
-/// let mut dest = [170; 5];
-/// let len = decode_with_sentinel(&[252, 245, 244, 253, 243, 255], &mut dest, 255);
-/// assert_eq!(len, Ok(4));
-/// assert_eq!(dest, [10, 11, 0, 12, 170]);
-/// ```
 #[inline]
 pub fn decode_with_sentinel(
     source: &[u8],
@@ -73,58 +62,4 @@ pub fn decode_with_sentinel(
     }
     let end = position_or_len(source, sentinel);
     decode_blocks(&source[..end], dest, sentinel)
-}
-
-/// Returns the message of the first frame of the source, in a vector of exactly its bytes.
-///
-/// The frame is found and read as in [`decode`]. Memory is allocated once, for as many bytes as the source has, so a
-/// message always fits and `TargetBufTooSmall` is never returned.
-///
-/// # Errors
-///
-/// `Decode(EmptyFrame)` if the source is empty, and then nothing is allocated. Otherwise `Memory` if memory ran out, or
-/// `Decode` with the error of [`decode`].
-///
-/// ```
-/// # use jcobs::proved::*;
-/// # #[cfg(feature = "alloc")] {
-/// let message = decode_vec(b"\x06hello\0")?;
-/// assert_eq!(message.as_slice(), b"hello".as_slice());
-/// # }
-/// # Ok::<(), Box<dyn std::error::Error>>(())
-/// ```
-#[cfg(feature = "alloc")]
-pub fn decode_vec(source: &[u8]) -> Result<Vec<u8>, DecodeVecError> {
-    if source.is_empty() {
-        return Err(DecodeVecError::Decode(DecodeError::EmptyFrame));
-    }
-    let mut message = crate::memory::filled(0, source.len()).map_err(DecodeVecError::Memory)?;
-    let report = decode(source, &mut message).map_err(DecodeVecError::Decode)?;
-    message.truncate(report.frame_size());
-    Ok(message)
-}
-
-/// Returns the message of the frame at the front of the source, for any sentinel, in a vector of exactly its bytes.
-///
-/// The frame is read as in [`decode_with_sentinel`], up to the first sentinel or the source's end; a leading sentinel
-/// returns an empty vector. Memory is allocated, and errors are returned, as in [`decode_vec`].
-///
-/// ```
-/// # use jcobs::proved::*;
-/// # #[cfg(feature = "alloc")] {
-/// let message = decode_vec_with_sentinel(&[252, 245, 244, 253, 243], 255)?;
-/// assert_eq!(message.as_slice(), [10, 11, 0, 12].as_slice());
-/// # }
-/// # Ok::<(), Box<dyn std::error::Error>>(())
-/// ```
-#[cfg(feature = "alloc")]
-pub fn decode_vec_with_sentinel(source: &[u8], sentinel: u8) -> Result<Vec<u8>, DecodeVecError> {
-    if source.is_empty() {
-        return Err(DecodeVecError::Decode(DecodeError::EmptyFrame));
-    }
-    let mut message = crate::memory::filled(0, source.len()).map_err(DecodeVecError::Memory)?;
-    let len =
-        decode_with_sentinel(source, &mut message, sentinel).map_err(DecodeVecError::Decode)?;
-    message.truncate(len);
-    Ok(message)
 }

@@ -13,7 +13,9 @@ use crate::proved::error::DecodeError;
 /// let end = decoder.feed_piece(&[2, 7, 0]);
 /// assert_eq!(end, Some((PieceEnd::Message(1), 3)));
 /// ```
-#[derive(Debug, Clone, Copy, PartialEq, Eq)]
+#[derive(Debug, Clone, Copy, PartialEq, Eq, Hash)]
+#[cfg_attr(feature = "serde", derive(serde::Serialize, serde::Deserialize))]
+#[cfg_attr(feature = "defmt", derive(defmt::Format))]
 pub enum PieceEnd {
     /// The piece is a frame. Its message is this many bytes at the front of the decoder's buffer.
     Message(usize),
@@ -38,6 +40,7 @@ impl PieceEnd {
     /// assert_eq!(end, Some(PieceEnd::Broken(1)));
     /// ```
     #[inline(always)]
+    #[must_use]
     pub fn reported(returned: Result<Option<usize>, DecodeError>) -> Option<PieceEnd> {
         match returned {
             Ok(None) | Err(DecodeError::EmptyFrame) => None,
@@ -90,7 +93,7 @@ pub trait FrameDecoder {
     /// assert_eq!(end, Some((PieceEnd::Message(1), 2)));
     /// ```
     fn feed_piece(&mut self, stream: &[u8]) -> Option<(PieceEnd, usize)> {
-        'by_byte: for (i, byte) in stream.iter().enumerate() {
+        for (i, byte) in stream.iter().enumerate() {
             let returned = self.feed_byte(*byte);
             if *byte == 0 {
                 if let Some(end) = PieceEnd::reported(returned) {
@@ -109,51 +112,4 @@ pub trait FrameDecoder {
     /// assert_eq!(CobsDecoderHeapless::<2>::new().buffer(), [0, 0].as_slice());
     /// ```
     fn buffer(&self) -> &[u8];
-}
-
-/// A decoder that lends its buffer for writing.
-///
-/// Writing replaces the bytes of the buffer. It changes neither the decoder's state nor which slice the buffer is. So
-/// if a decoder has taken the front of a piece (`PhaseAfter`), the results of this piece stay the same; only the bytes
-/// of its message are then unspecified.
-///
-/// Each streaming decoder also has a method `dest_mut` of its own. The slice of a `CobsDecoder` is itself borrowed, so
-/// a caller of that method knows only the bytes of the slice as long as it is borrowed. Such a caller writes with
-/// [`write_dest`](WriteBuffer::write_dest), or in code that is generic over this trait.
-///
-/// ```
-/// # use jcobs::proved::*;
-/// let mut buffer = [0; 3];
-/// let mut decoder = CobsDecoder::new(&mut buffer);
-/// assert_eq!(decoder.push(&[3, 7]), Ok(None));
-/// decoder.write_dest(0, &[9]);
-/// assert_eq!(decoder.feed(8), Ok(None));
-/// assert_eq!(decoder.feed(0), Ok(Some(2)));
-/// assert_eq!(decoder.dest(), [9, 8, 0].as_slice());
-/// ```
-pub trait WriteBuffer: FrameDecoder {
-    /// Returns the whole buffer, for writing. Its bytes are then those that the caller has written.
-    ///
-    /// ```
-    /// # use jcobs::proved::*;
-    /// let mut decoder = CobsDecoderHeapless::<2>::new();
-    /// WriteBuffer::dest_mut(&mut decoder).fill(9);
-    /// assert_eq!(decoder.buffer(), [9, 9].as_slice());
-    /// ```
-    fn dest_mut(&mut self) -> &mut [u8];
-
-    /// Writes the bytes of `source` over those of the buffer, from index `at` on.
-    ///
-    /// Precondition: they fit, so `at` plus their number is at most the length of the buffer.
-    ///
-    /// ```
-    /// # use jcobs::proved::*;
-    /// let mut decoder = CobsDecoderHeapless::<3>::new();
-    /// decoder.write_dest(1, &[8, 9]);
-    /// assert_eq!(decoder.buffer(), [0, 8, 9].as_slice());
-    /// ```
-    fn write_dest(&mut self, at: usize, source: &[u8]) {
-        let dest = self.dest_mut();
-        dest[at..at + source.len()].copy_from_slice(source);
-    }
 }

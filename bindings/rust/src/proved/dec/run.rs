@@ -23,7 +23,7 @@ pub(crate) const SPAN_MAX: usize = FULL_BLOCK_BYTES - 1;
 fn write_rows(dest: &mut [u8], at: usize, bytes: &[u8], byte: u8) -> usize {
     let most = bytes.len().min(dest.len().saturating_sub(at)).min(SPAN_MAX);
     let mut len = 0;
-    'by_row: while WINDOW <= most - len && is_all(bytes, len, byte) {
+    while WINDOW <= most - len && is_all(bytes, len, byte) {
         write_row(dest, at + len, 0);
         len += WINDOW;
     }
@@ -203,7 +203,7 @@ impl UnbufferedDecoder {
         // A copy, so that it stays in registers.
         let mut here = *self;
         let mut taken = 0;
-        'by_step: while taken < bytes.len() {
+        while taken < bytes.len() {
             let step = here.take_part(dest, &bytes[taken..], sentinel);
             taken += step;
             if step == 0 {

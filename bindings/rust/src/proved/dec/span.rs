@@ -64,7 +64,7 @@ pub(crate) fn decode_span(source: &[u8], dest: &mut [u8], sentinel: u8) -> Optio
 /// aren't kept. The first `left` bytes belong to a block that began before `bytes`. Each byte is XORed with the sentinel.
 pub(crate) fn kept_len(bytes: &[u8], left: usize, sentinel: u8) -> (usize, bool) {
     let mut at = left;
-    'by_block: while at < bytes.len() {
+    while at < bytes.len() {
         let rest = bytes.len() - at;
         let code = (bytes[at] ^ sentinel) as usize;
         if rest < code {

@@ -16,7 +16,7 @@ use crate::proved::error::DecodeError;
 /// assert!(matches!(state.feed(1), Ok(DecodeResult::DataContinue(0))));
 /// assert!(matches!(state.feed(0), Ok(DecodeResult::DataComplete)));
 /// ```
-#[derive(Debug, Clone, PartialEq, Eq)]
+#[derive(Debug, Clone, PartialEq, Eq, Hash)]
 pub enum DecoderState {
     /// No nonzero byte has come since the last sentinel.
     Idle,
@@ -38,7 +38,7 @@ pub enum DecoderState {
 /// assert!(matches!(state.feed(1), Ok(DecodeResult::DataStart)));
 /// assert!(matches!(state.feed(0), Ok(DecodeResult::DataComplete)));
 /// ```
-#[derive(Debug, Clone, Copy, PartialEq, Eq)]
+#[derive(Debug, Clone, Copy, PartialEq, Eq, Hash)]
 pub enum DecodeResult {
     /// This byte adds no byte to the message.
     NoData,

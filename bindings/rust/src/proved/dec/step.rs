@@ -107,7 +107,7 @@ impl UnbufferedDecoder {
         let mut here = *self;
         let mut taken = 0;
         if here.too_long == 0 {
-            'by_byte: while taken < bytes.len() {
+            while taken < bytes.len() {
                 let byte = bytes[taken] ^ sentinel;
                 taken += 1;
                 if byte != 0 {
@@ -122,7 +122,7 @@ impl UnbufferedDecoder {
             }
         }
         // If a piece is too long, only its end matters.
-        'to_end: while taken < bytes.len() {
+        while taken < bytes.len() {
             let byte = bytes[taken] ^ sentinel;
             taken += 1;
             if byte == 0 {

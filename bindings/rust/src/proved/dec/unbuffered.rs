@@ -17,7 +17,7 @@ use crate::proved::find::{front_len, position_or_len};
 /// assert_eq!(decoder.push(&mut buffer, &[4, 7, 8]), Ok(None));
 /// assert!(matches!(decoder.phase(), DecoderPhase::Within { missing: 1, .. }));
 /// ```
-#[derive(Debug, Clone, Copy, PartialEq, Eq)]
+#[derive(Debug, Clone, Copy, PartialEq, Eq, Hash)]
 pub enum DecoderPhase {
     /// No piece has begun.
     Idle,
@@ -66,7 +66,7 @@ pub enum DecoderPhase {
 // zero before it. So for a nonzero byte only the number of missing bytes is tested, and for a code whether a zero comes
 // before it.
 #[repr(C)]
-#[derive(Debug, Clone, Copy, PartialEq, Eq)]
+#[derive(Debug, Clone, Copy, PartialEq, Eq, Hash)]
 pub struct UnbufferedDecoder {
     /// How many bytes of this piece's output are written.
     pub written: usize,
@@ -103,6 +103,7 @@ impl UnbufferedDecoder {
     /// assert_eq!(report.map(|report| report.frame_size()), Some(0));
     /// # Ok::<(), Box<dyn std::error::Error>>(())
     /// ```
+    #[must_use]
     pub const fn new() -> Self {
         START
     }
@@ -121,7 +122,8 @@ impl UnbufferedDecoder {
     /// assert_eq!(second.feed(&mut buffer, 0), Ok(Some(3)));
     /// assert!(buffer.starts_with(&[7, 8, 9]));
     /// ```
-    pub fn from_phase(phase: DecoderPhase) -> Self {
+    #[must_use]
+    pub const fn from_phase(phase: DecoderPhase) -> Self {
         match phase {
             DecoderPhase::Idle => START,
             DecoderPhase::Within {
@@ -148,7 +150,8 @@ impl UnbufferedDecoder {
     ///
     /// assert_eq!(UnbufferedDecoder::new().phase(), DecoderPhase::Idle);
     /// ```
-    pub fn phase(&self) -> DecoderPhase {
+    #[must_use]
+    pub const fn phase(&self) -> DecoderPhase {
         if self.too_long != 0 {
             return DecoderPhase::TooLong;
         }
@@ -173,7 +176,8 @@ impl UnbufferedDecoder {
     /// assert!(!decoder.is_idle());
     /// ```
     #[inline(always)]
-    pub fn is_idle(&self) -> bool {
+    #[must_use]
+    pub const fn is_idle(&self) -> bool {
         self.written == 0 && self.missing == 0 && self.joint == 0 && self.too_long == 0
     }
 
@@ -239,7 +243,7 @@ impl UnbufferedDecoder {
         bytes: &[u8],
     ) -> Result<Option<DecodeReport>, PushError> {
         let mut at = 0;
-        'by_run: while at < bytes.len() {
+        while at < bytes.len() {
             at += self.take_at_once(dest, &bytes[at..]);
             if at < bytes.len() {
                 let parsed_size = at + 1;
@@ -303,7 +307,7 @@ impl UnbufferedDecoder {
     #[inline(never)]
     fn feed_piece_long(&mut self, dest: &mut [u8], bytes: &[u8]) -> Option<(PieceEnd, usize)> {
         let mut taken = 0;
-        'by_run: while taken < bytes.len() {
+        while taken < bytes.len() {
             if self.too_long != 0 {
                 // The piece is too long for the buffer: its bytes are skipped through its zero.
                 let rest = &bytes[taken..];

@@ -24,21 +24,6 @@ use crate::proved::find::{leading_zeros, len_without_end};
 ///   block included, `decoded_bytes` says how many these are, and the others are as they were.
 ///
 /// The format is that of Cheshire and Baker's paper; the results for a broken frame are a choice of this library.
-///
-/// ```
-/// # use jcobs::proved::*;
-/// let mut dest = [170; 12];
-/// let report = decode(b"\0\x0chello world\0\x02a", &mut dest)?;
-/// assert_eq!(report.parsed_size(), 14);
-/// assert_eq!(report.frame_size(), 11);
-/// assert_eq!(&dest, b"hello world\xaa");
-///
-/// let mut dest = [170; 3];
-/// let broken = DecodeError::InvalidFrame { decoded_bytes: 2 };
-/// assert_eq!(decode(&[4, 1, 2, 0], &mut dest), Err(broken));
-/// assert_eq!(dest, [1, 2, 170]);
-/// # Ok::<(), Box<dyn std::error::Error>>(())
-/// ```
 pub fn decode(source: &[u8], dest: &mut [u8]) -> Result<DecodeReport, DecodeError> {
     if !has_vectors() {
         return decode_each(source, dest);
@@ -79,14 +64,6 @@ fn decode_long(source: &[u8], dest: &mut [u8]) -> Result<DecodeReport, DecodeErr
 /// It decodes a source that has 2 to 65 bytes before its first zero, and nothing after that zero, if `dest` has room
 /// for one byte fewer than the frame has. [`decode`] calls it first. It calls nothing itself, so that it can be
 /// compiled into a function that decodes small frames.
-///
-/// ```
-/// # use jcobs::proved::*;
-/// let mut dest = [170; 3];
-/// assert!(decode_short(b"\x03hi\0", &mut dest).is_some());
-/// assert_eq!(&dest, b"hi\xaa");
-/// assert_eq!(decode_short(b"\x03hi\0\x02", &mut dest), None);
-/// ```
 #[inline(always)]
 pub fn decode_short(source: &[u8], dest: &mut [u8]) -> Option<Result<DecodeReport, DecodeError>> {
     if source.is_empty() {

@@ -45,7 +45,7 @@ fn mark_first(dest: &mut [u8], index: usize, next: usize, zeros: u64) -> (usize,
 fn mark_zeros(dest: &mut [u8], index: usize, next: usize, zeros: u64) -> usize {
     let mut index = index;
     let mut zeros = zeros;
-    'by_zero: while zeros != 0 {
+    while zeros != 0 {
         (index, zeros) = mark_first(dest, index, next, zeros);
         if zeros != 0 {
             (index, zeros) = mark_first(dest, index, next, zeros);
@@ -66,7 +66,7 @@ pub(crate) fn append_few(
 ) -> EncoderProgress {
     let mut index = progress.index;
     let mut next = index + progress.code as usize;
-    'by_byte: for read in 0..len {
+    for read in 0..len {
         let byte = source[read];
         dest[next] = byte;
         dest[index] = (next - index) as u8;
@@ -107,7 +107,7 @@ pub(crate) fn append_short(
 #[inline(always)]
 fn write_codes_of_zeros(source: &[u8], dest: &mut [u8], at: usize) -> usize {
     let mut len = 0;
-    'by_row: while len + WINDOW < source.len() && zeros_at::<32>(source, len) == ALL_ZEROS {
+    while len + WINDOW < source.len() && zeros_at::<32>(source, len) == ALL_ZEROS {
         write_row(dest, at + len, 1);
         len += WINDOW;
     }
@@ -133,7 +133,7 @@ fn append_windows(
         return (0, start);
     }
     let last = source.len() - WINDOW;
-    'by_window: while read < last {
+    while read < last {
         let window = copy_at::<32>(source, read, dest, next);
         if window == 0 {
             if next - index < FULL_CODE - WINDOW {
@@ -176,7 +176,7 @@ fn append_long_run(
 ) -> (usize, EncoderProgress) {
     let mut progress = progress;
     let mut read = 0;
-    'by_block: while read < run {
+    while read < run {
         let EncoderProgress { index, code, .. } = progress;
         let next = index + code as usize;
         let len = (FULL_CODE - code as usize).min(run - read);
@@ -208,7 +208,7 @@ pub(crate) fn append_rest(
     progress: EncoderProgress,
 ) -> EncoderProgress {
     let (mut read, mut progress) = append_long_run(source, run, dest, progress);
-    'by_run: while read < source.len() {
+    while read < source.len() {
         let (front, reached) = append_windows(&source[read..], dest, progress);
         read += front;
         let rest = &source[read..];

@@ -14,7 +14,7 @@ pub(crate) fn write_each(source: &[u8], dest: &mut [u8]) -> usize {
     let mut index = 0;
     let mut next = 1;
     let mut read = 0;
-    'by_part: while read < source.len() {
+    while read < source.len() {
         if next - index == FULL_CODE {
             dest[index] = FULL_CODE as u8;
             index = next;
@@ -22,7 +22,7 @@ pub(crate) fn write_each(source: &[u8], dest: &mut [u8]) -> usize {
         }
         let rest = &source[read..];
         let len = rest.len().min(FULL_CODE - (next - index));
-        'by_byte: for i in 0..len {
+        for i in 0..len {
             let byte = rest[i];
             if byte == 0 {
                 dest[index] = (next - index) as u8;
@@ -43,15 +43,6 @@ pub(crate) fn write_each(source: &[u8], dest: &mut [u8]) -> usize {
 ///
 /// # Errors
 /// Those of [`try_encode`](crate::try_encode).
-///
-/// ```
-/// # use jcobs::proved::*;
-/// let mut dest = [170; 5];
-/// assert_eq!(try_encode_each(b"hello", &mut dest), Err(DestBufTooSmallError));
-/// assert_eq!(dest, [170; 5]);
-/// assert_eq!(try_encode_each(b"hell", &mut dest), Ok(5));
-/// assert_eq!(&dest, b"\x05hell");
-/// ```
 pub fn try_encode_each(source: &[u8], dest: &mut [u8]) -> Result<usize, DestBufTooSmallError> {
     if !has_room(1, source, dest.len()) {
         return Err(DestBufTooSmallError);

@@ -13,17 +13,10 @@ use crate::proved::max_encoding_overhead;
 ///
 /// Precondition: `buffer` has at least [`max_encoding_length`](crate::max_encoding_length) of `len` bytes, so the message
 /// lies within it.
-///
-/// ```
-/// # use jcobs::proved::*;
-/// let mut buffer = *b"\0hello..";
-/// assert_eq!(encode_in_place(&mut buffer, 5), 6);
-/// assert_eq!(&buffer, b"\x06hello..");
-/// ```
 pub fn encode_in_place(buffer: &mut [u8], len: usize) -> usize {
     let before = max_encoding_overhead(len);
     let mut encoder = UnbufferedEncoder::new();
-    'by_byte: for taken in 0..len {
+    for taken in 0..len {
         let byte = buffer[before + taken];
         encoder.append_byte(buffer, byte);
     }

@@ -1,7 +1,7 @@
 // Made by bindings/rust/translate.py from `crates/cobs/src/enc/progress.rt`: change that file, and run it again.
 //! The state of a frame that is being written.
 
-/// How much of a frame is in the buffer, in plain numbers: the state of an [`UnbufferedEncoder`](crate::proved::UnbufferedEncoder).
+/// How much of a frame is in the buffer, in plain numbers: the state of an [`UnbufferedEncoder`](crate::UnbufferedEncoder).
 ///
 /// ```
 /// use jcobs::UnbufferedEncoder;
@@ -13,7 +13,7 @@
 /// assert_eq!((progress.index, progress.code, progress.is_full), (0, 6, false));
 /// # Ok::<(), Box<dyn std::error::Error>>(())
 /// ```
-#[derive(Debug, Clone, Copy, PartialEq, Eq)]
+#[derive(Debug, Clone, Copy, PartialEq, Eq, Hash)]
 pub struct EncoderProgress {
     /// The index in the buffer at which the code of the open block belongs.
     pub index: usize,

@@ -12,7 +12,7 @@ use memchr::memrchr;
 fn fits_each(code: u8, bytes: &[u8], spare: usize) -> bool {
     let mut left = spare;
     let mut code = code;
-    'by_byte: for i in 0..bytes.len() {
+    for i in 0..bytes.len() {
         if code == FULL {
             left -= 1;
             if left == 0 {
@@ -64,7 +64,7 @@ fn fits(code: usize, source: &[u8], room: usize) -> Option<usize> {
     let mut counted = 0;
     let mut read = 0;
     let mut first = 0;
-    'by_run: while FULL_BLOCK_BYTES - run < source.len() - read {
+    while FULL_BLOCK_BYTES - run < source.len() - read {
         let end = read + (FULL_BLOCK_BYTES - run);
         if let Some(zero) = memrchr(0, &source[read..end]) {
             read += zero + 1;

@@ -11,7 +11,7 @@
 /// assert!(matches!(state.push(7), PushResult::AddSingle(7)));
 /// assert!(matches!(state.push(0), PushResult::ModifyFromStartAndSkip((0, 2))));
 /// ```
-#[derive(Debug, Clone, Copy, PartialEq, Eq)]
+#[derive(Debug, Clone, Copy, PartialEq, Eq, Hash)]
 pub enum PushResult {
     /// The byte is appended.
     AddSingle(u8),
@@ -48,7 +48,7 @@ pub enum PushResult {
 /// output[2] = 1;
 /// assert_eq!(output, [2, 7, 1]);
 /// ```
-#[derive(Debug, Clone)]
+#[derive(Debug, Clone, PartialEq, Eq, Hash)]
 pub struct EncoderState {
     code_index: usize,
     code: u8,
@@ -80,6 +80,7 @@ impl EncoderState {
     ///
     /// assert!(EncoderState::default().can_push());
     /// ```
+    #[must_use]
     pub fn can_push(&self) -> bool {
         self.code_index < usize::MAX - self.code as usize
     }
@@ -125,6 +126,7 @@ impl EncoderState {
     ///
     /// assert_eq!(EncoderState::default().finalize(), (0, 1));
     /// ```
+    #[must_use]
     pub fn finalize(self) -> (usize, u8) {
         (self.code_index, self.code)
     }

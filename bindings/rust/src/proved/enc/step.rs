@@ -177,7 +177,7 @@ impl UnbufferedEncoder {
     fn append_each(&mut self, dest: &mut [u8], bytes: &[u8]) {
         // A copy, so that the numbers stay in registers.
         let mut encoder = *self;
-        'by_byte: for i in 0..bytes.len() {
+        for i in 0..bytes.len() {
             encoder.append_byte(dest, bytes[i]);
         }
         self.index = encoder.index;

@@ -29,7 +29,7 @@ use crate::proved::error::DestBufTooSmallError;
 /// # Ok::<(), Box<dyn std::error::Error>>(())
 /// ```
 #[repr(C)]
-#[derive(Debug, Clone, Copy, PartialEq, Eq)]
+#[derive(Debug, Clone, Copy, PartialEq, Eq, Hash)]
 pub struct UnbufferedEncoder {
     /// The index in the buffer at which the code of the open block belongs.
     pub index: usize,
@@ -53,6 +53,7 @@ impl UnbufferedEncoder {
     /// assert_eq!(UnbufferedEncoder::new().finalize(&mut buffer), Ok(1));
     /// assert_eq!(buffer, [1, 170]);
     /// ```
+    #[must_use]
     pub const fn new() -> Self {
         UnbufferedEncoder {
             index: 0,
@@ -76,7 +77,8 @@ impl UnbufferedEncoder {
     /// # Ok::<(), Box<dyn std::error::Error>>(())
     /// ```
     #[inline]
-    pub fn from_progress(progress: EncoderProgress) -> Self {
+    #[must_use]
+    pub const fn from_progress(progress: EncoderProgress) -> Self {
         UnbufferedEncoder {
             index: progress.index,
             taken: progress.code.wrapping_sub(1),
@@ -93,7 +95,8 @@ impl UnbufferedEncoder {
     /// assert_eq!((progress.index, progress.code), (0, 1));
     /// ```
     #[inline]
-    pub fn progress(&self) -> EncoderProgress {
+    #[must_use]
+    pub const fn progress(&self) -> EncoderProgress {
         EncoderProgress {
             index: self.index,
             code: self.taken.wrapping_add(1),

@@ -1,0 +1,94 @@
+//! Messages over tokio: a codec for the streams and sinks of `tokio-util`.
+
+use std::boxed::Box;
+use std::io::{self, ErrorKind};
+
+use bytes::{BufMut, Bytes, BytesMut};
+use tokio_util::codec::{Decoder, Encoder};
+
+use crate::dec::{DecodeError, UnbufferedDecoder};
+
+/// A codec for [`Framed`](tokio_util::codec::Framed), which makes a stream and a sink of messages of anything that reads and writes
+/// bytes.
+///
+/// It decodes the bytes as they come. So it keeps `max_len` bytes, and no frame, however long it is.
+///
+/// An item of the stream is a message, or why a frame has none, as from [`MessageReader`](crate::MessageReader): a stream ends at an
+/// error, and the frame after a damaged one isn't affected. If the source ends inside a frame, the error is
+/// [`UnexpectedEof`](ErrorKind::UnexpectedEof). Each message is sent as its frame and a zero. The crate `cobs` doesn't have this type.
+///
+/// ```
+/// use bytes::BytesMut;
+/// use jcobs::{DecodeError, MessageCodec};
+/// use tokio_util::codec::{Decoder, Encoder};
+///
+/// let mut codec = MessageCodec::new(4);
+/// let mut line = BytesMut::new();
+/// codec.encode(b"hi", &mut line)?;
+/// codec.encode(b"hello", &mut line)?;
+/// assert_eq!(line, b"\x03hi\0\x06hello\0"[..]);
+///
+/// assert_eq!(codec.decode(&mut line)?, Some(Ok(b"hi"[..].into())));
+/// assert_eq!(codec.decode(&mut line)?, Some(Err(DecodeError::TargetBufTooSmall)));
+/// assert_eq!(codec.decode(&mut line)?, None);
+/// # Ok::<(), std::io::Error>(())
+/// ```
+#[derive(Debug, Clone)]
+pub struct MessageCodec {
+    decoder: UnbufferedDecoder,
+    message: Box<[u8]>,
+}
+
+impl MessageCodec {
+    /// Makes a codec that receives messages of up to `max_len` bytes. It allocates that many. What it sends may be longer.
+    #[must_use]
+    pub fn new(max_len: usize) -> Self {
+        Self {
+            decoder: UnbufferedDecoder::new(),
+            message: std::vec![0; max_len].into_boxed_slice(),
+        }
+    }
+}
+
+impl Decoder for MessageCodec {
+    type Item = Result<Bytes, DecodeError>;
+    type Error = io::Error;
+
+    fn decode(&mut self, bytes: &mut BytesMut) -> io::Result<Option<Self::Item>> {
+        let ended = self.decoder.feed_piece(&mut self.message, bytes);
+        let taken = ended.map_or(bytes.len(), |(_, taken)| taken);
+        drop(bytes.split_to(taken));
+        Ok(ended.map(|(end, _)| {
+            let len = end.into_result()?;
+            Ok(Bytes::copy_from_slice(&self.message[..len]))
+        }))
+    }
+
+    fn decode_eof(&mut self, bytes: &mut BytesMut) -> io::Result<Option<Self::Item>> {
+        match self.decode(bytes)? {
+            None if !self.decoder.is_idle() => Err(io::Error::new(
+                ErrorKind::UnexpectedEof,
+                "the source ended inside a frame",
+            )),
+            item => Ok(item),
+        }
+    }
+}
+
+impl<M: AsRef<[u8]>> Encoder<M> for MessageCodec {
+    type Error = io::Error;
+
+    fn encode(&mut self, message: M, bytes: &mut BytesMut) -> io::Result<()> {
+        let message = message.as_ref();
+        let room = crate::max_encoding_length(message.len()) + 1;
+        bytes.reserve(room);
+        // The spare room of `bytes`, which is joined to it again.
+        let mut frame = bytes.split_off(bytes.len());
+        frame.resize(room, 0);
+        let len = crate::encode(message, &mut frame);
+        frame.truncate(len);
+        frame.put_u8(0);
+        bytes.unsplit(frame);
+        Ok(())
+    }
+}
