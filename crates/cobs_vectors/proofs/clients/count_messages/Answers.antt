@@ -9,10 +9,10 @@ use Rattle.cobs.specs.Fields.Decoders.{owned_buffer}
 use Rattle.cobs.specs.Laws.{StreamLaw}
 use Rattle.cobs.specs.Push.{PushesBytes, consumed, consumed_size, error_outcomes, last_result, pushed_outcomes}
 use Rattle.cobs.specs.Stream.{Outcome, Message, Broken, TooLong, stream_outcomes, unended}
-use Rattle.cobs.specs.declared.error.DecodeError.{DecodeError}
-use Rattle.cobs.specs.declared.error.DecodeError.TheVariants.{EmptyFrame, InvalidFrame, TargetBufTooSmall}
-use Rattle.cobs.specs.declared.error.DecodeReport.{DecodeReport}
-use Rattle.cobs.specs.declared.error.PushError.{PushError}
+use Rattle.cobs.specs.declared.DecodeError.{DecodeError}
+use Rattle.cobs.specs.declared.DecodeError.TheVariants.{EmptyFrame, InvalidFrame, TargetBufTooSmall}
+use Rattle.cobs.specs.declared.DecodeReport.{DecodeReport}
+use Rattle.cobs.specs.declared.PushError.{PushError}
 use Rattle.cobs_vectors.specs.Relayed.{messages_of}
 use Rattle.cobs_vectors.proofs.clients.count_messages.Goals as goal
 
