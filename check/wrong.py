@@ -96,7 +96,7 @@ ENCODER = [
     ("jcobs_encoder_append_each", "state", "self->full = encoder.full;", 0, "self->full = 0;"),
     ("jcobs_encoder_push_each", "fits", "dest_len - encoder->index))", 0, "dest_len))"),
     ("jcobs_encode_terminated", "ok", "to[length] = 0;", 0, "to[length] = 1;"),
-    ("jcobs_finish_terminated", "ok", "returned.length + 1", 0, "returned.length"),
+    ("jcobs_finish_terminated", "ok", "found.count + 1", 0, "found.count"),
     ("jcobs_write_each", "open", "index = next;", 0, "index = next + 1;"),
     ("jcobs_write_each", "inner_fulls", "dest[index] = JCOBS_FULL_CODE;", 0, ";"),
     ("jcobs_write_each", "byte", "source + read", 0, "source"),

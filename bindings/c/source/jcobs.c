@@ -913,16 +913,16 @@ jcobs_answer jcobs_encoder_finish(jcobs_encoder *encoder, void *buffer, size_t b
 /* Ends the message, and writes a zero after its frame, if both fit the buffer. */
 static jcobs_answer jcobs_finish_terminated(jcobs_encoder *encoder, unsigned char *buffer, size_t buffer_len)
 {
-    if (buffer_len == 0) {
+    if (buffer_len < 2) {
         return jcobs_too_small();
     }
     size_t last = buffer_len - 1;
-    jcobs_answer returned = jcobs_finish(encoder, buffer, last);
-    if (returned.status != JCOBS_OK) {
-        return jcobs_answered(returned.status, returned.consumed, returned.length);
+    jcobs_outcome found = jcobs_encoder_finalize(encoder, buffer, last);
+    if (found.kind == JCOBS_IS_OK) {
+        buffer[found.count] = 0;
+        return jcobs_done(0, found.count + 1);
     }
-    buffer[returned.length] = 0;
-    return jcobs_done(returned.consumed, returned.length + 1);
+    return jcobs_too_small();
 }
 
 /* Ends the message, as jcobs_encoder_finish does, and writes a zero after its frame, if both fit.
