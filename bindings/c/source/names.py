@@ -6,7 +6,7 @@ FUNCTIONS = {
     "close": "jcobs_close_block",
     "done": "jcobs_ok_answer",
     "encode_in_place": "jcobs_write_in_place",
-    "end_after": "jcobs_find_end",
+    "through_piece": "jcobs_find_end",
     "end_of": "jcobs_encoder_length",
     "ended": "jcobs_ended_piece",
     "held": "jcobs_decoder_length",
@@ -66,7 +66,7 @@ COMMENTS = {
         "",
     )],
     "UnbufferedEncoder::feed_len": [(", as [`feed`](UnbufferedEncoder::feed) does, and", ", if it fits, and")],
-    "end_after": [("whose next byte is at `at`: after", "that source[at] belongs to: after")],
+    "through_piece": [("whose next byte is at `at`: after", "that source[at] belongs to: after")],
     "ended": [("after `at` bytes of the source", "after `at` bytes of the source in all")],
     "result_by": [("given the message's length or the error", "given how the frame ended")],
     "result_of": [(

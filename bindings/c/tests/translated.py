@@ -33,7 +33,7 @@ PAIRS = {
     "cobs_abi/message": "write_frame",
     "cobs/lib": "max_encoding_overhead",
     "cobs/find": "leading_zeros len_to_zero",
-    "cobs/dec/each": "decode_blocks_each find_end=end_after ended_piece=ended decode_piece",
+    "cobs/dec/each": "decode_blocks_each find_end=through_piece ended_piece=ended decode_piece",
     "cobs/dec/kind": "kind_by_blocks",
     "cobs/dec/step": "joint_after decoder_take_byte=take_byte decoder_end=end decoder_step=step decoder_feed_each=feed_each",
     "cobs/dec/unbuffered": "decoder_is_idle=is_idle",

@@ -4,6 +4,8 @@ use core::iter::FusedIterator;
 use core::mem;
 
 use crate::dec::{DecodeError, decode_in_place};
+use crate::proved::len_to_zero;
+use crate::simd::HAS_VECTORS;
 #[cfg(feature = "alloc")]
 use crate::{enc::encode, max_encoding_length, memory::AllocError};
 #[cfg(feature = "alloc")]
@@ -30,6 +32,15 @@ pub fn frames(stream: &[u8]) -> Frames<'_> {
     Frames { rest: stream }
 }
 
+/// Returns the index of the first zero.
+fn first_zero(bytes: &[u8]) -> Option<usize> {
+    if HAS_VECTORS {
+        return memchr::memchr(0, bytes);
+    }
+    let len = len_to_zero(bytes);
+    (len < bytes.len()).then_some(len)
+}
+
 /// An iterator over the frames of a recorded stream. [`frames`] makes it.
 #[derive(Debug, Clone)]
 pub struct Frames<'a> {
@@ -52,7 +63,7 @@ impl<'a> Iterator for Frames<'a> {
     #[inline]
     fn next(&mut self) -> Option<&'a [u8]> {
         loop {
-            let end = memchr::memchr(0, self.rest)?;
+            let end = first_zero(self.rest)?;
             let frame = &self.rest[..end];
             self.rest = &self.rest[end + 1..];
             if !frame.is_empty() {
@@ -116,7 +127,7 @@ impl<'a> Iterator for MessagesInPlace<'a> {
     #[inline]
     fn next(&mut self) -> Option<Self::Item> {
         loop {
-            let end = memchr::memchr(0, self.rest)?;
+            let end = first_zero(self.rest)?;
             let (frame, rest) = mem::take(&mut self.rest).split_at_mut(end);
             self.rest = &mut rest[1..];
             if !frame.is_empty() {

@@ -99,7 +99,7 @@ size() { # CALL: the bytes of code and data of the program that makes it
 sizes() {
     found='bytes of flash'
     none=$(size none) || { cat "$work/linked"; return 1; }
-    for call in feed push encoder decode 'in place' encode; do
+    for call in feed push encoder decode sentinel 'in place' encode; do
         bytes=$(size "$call") || { cat "$work/linked"; return 1; }
         found="$found, $call $((bytes - none))"
         # A call handles single bytes, and may need one function of the C library.

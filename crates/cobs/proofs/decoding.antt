@@ -14,3 +14,4 @@ pub mod ReadsLemmas
 pub mod BlockLemmas
 pub mod InPlaceLemmas
 pub mod MoveLemmas
+pub mod WrittenLemmas

@@ -62,6 +62,21 @@ pub fn len_to_zero(bytes: &[u8]) -> usize
     bytes.len() - rest.len()
 }
 
+/// Returns how many bytes come before the first one that equals `byte`: all of them if there is none. It uses no vectors.
+#[inline(always)]
+pub(crate) fn len_to(bytes: &[u8], byte: u8) -> usize
+    ensures within { result ≤ length bytes.now }
+    ensures before { All (λ other. other ≢ byte) (take result bytes.now) }
+    ensures stop { result < length bytes.now → slice_index bytes.now result ≡ byte }
+{
+    'by_byte: for i in 0..bytes.len() {
+        if bytes[i] == byte {
+            return i;
+        }
+    }
+    bytes.len()
+}
+
 /// Returns the index of the first zero of a source, or the source's length if there is none.
 #[inline(always)]
 pub(crate) fn zero_or_len(source: &[u8]) -> usize

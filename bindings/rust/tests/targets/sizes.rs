@@ -39,6 +39,12 @@ pub fn start(bytes: &[u8], to: &mut [u8]) -> usize {
     by::decode(bytes, to).map_or(0, |report| report.frame_size())
 }
 
+#[cfg(call = "sentinel")]
+#[unsafe(no_mangle)]
+pub fn start(bytes: &[u8], to: &mut [u8], sentinel: u8) -> usize {
+    by::decode_with_sentinel(bytes, to, sentinel).unwrap_or(0)
+}
+
 #[cfg(call = "in place")]
 #[unsafe(no_mangle)]
 pub fn start(bytes: &mut [u8]) -> usize {

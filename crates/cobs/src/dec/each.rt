@@ -1,18 +1,18 @@
 //! Decoding one byte after another, for targets without vectors.
 ghost use Rattle.std.specs.Prelude.{◌≡◌, ◌≢◌, ◌+◌, ◌≤◌, ◌++◌, Some, length, min, take, drop};
-ghost use Rattle.cobs.specs.Decode.{first_output, head_result, in_place, in_place_report, result_of_decode};
+ghost use Rattle.cobs.specs.Decode.{first_output, head_result, in_place, in_place_report, result_of_decode, result_of_sentinel_decode};
 ghost use Rattle.cobs.specs.FirstPiece.{end_of_first};
 ghost use Rattle.cobs.specs.Grammar.{HasNoZero};
 ghost use Rattle.cobs.specs.Overwritten.{overwritten};
 ghost use Rattle.cobs.specs.Piece.{kept_output};
+ghost use Rattle.cobs.specs.Sentinel.{xor_each};
 ghost use Rattle.cobs.specs.Stream.{head};
 ghost use Rattle.cobs.specs.declared.dec.frame_decoder.PieceEnd.TheVariants.{Broken, Message};
 
-use crate::block::FULL_CODE;
+use crate::block::{FULL, FULL_CODE};
 use crate::dec::frame_decoder::PieceEnd;
-use crate::dec::step::FULL;
 use crate::error::{DecodeError, DecodeReport};
-use crate::find::{leading_zeros, len_to_zero};
+use crate::find::{leading_zeros, len_to, len_to_zero};
 
 /// Decodes the blocks in the first `end` bytes of the buffer in their own place, one byte after another, and returns the
 /// message's length. Every byte after the message is as it was. It is small, and uses no vectors. (A choice of this library.)
@@ -86,7 +86,7 @@ pub(crate) fn decode_in_place_each(buf: &mut [u8]) -> Result<DecodeReport, Decod
 /// Returns where the piece ends whose next byte is at `at`: after its zero, or at the end of the source.
 // A function of its own, so that the loops of its caller have all registers of a small processor.
 #[inline(never)]
-fn end_after(source: &[u8], at: usize) -> usize
+fn through_piece(source: &[u8], at: usize) -> usize
     requires within { at ≤ length source.now }
     ensures end { result ≡ min (length source.now) (at + length (head (drop at source.now)) + 1) }
 {
@@ -147,7 +147,7 @@ pub fn decode_piece(source: &[u8], dest: &mut [u8]) -> Option<(PieceEnd, usize)>
         }
         if left != 0 {
             if written == dest.len() {
-                return Some((PieceEnd::TooLong, end_after(source, at)));
+                return Some((PieceEnd::TooLong, through_piece(source, at)));
             }
             dest[written] = byte;
             written += 1;
@@ -155,7 +155,7 @@ pub fn decode_piece(source: &[u8], dest: &mut [u8]) -> Option<(PieceEnd, usize)>
         } else {
             if code != FULL {
                 if written == dest.len() {
-                    return Some((PieceEnd::TooLong, end_after(source, at)));
+                    return Some((PieceEnd::TooLong, through_piece(source, at)));
                 }
                 dest[written] = 0;
                 written += 1;
@@ -186,4 +186,44 @@ pub(crate) fn decode_each(source: &[u8], dest: &mut [u8]) -> Result<DecodeReport
         PieceEnd::Broken(decoded_bytes) => Err(DecodeError::InvalidFrame { decoded_bytes }),
         PieceEnd::TooLong => Err(DecodeError::TargetBufTooSmall),
     }
+}
+
+/// Does what [`decode_with_sentinel`](crate::decode_with_sentinel) does, one byte after another.
+pub(crate) fn decode_head_each(
+    source: &[u8],
+    dest: &mut [u8],
+    sentinel: u8,
+) -> Result<usize, DecodeError>
+    ensures returned { result ≡ result_of_sentinel_decode (xor_each sentinel source.now) (length dest.old) }
+    ensures buffer { dest.new ≡ overwritten dest.old (kept_output (head (xor_each sentinel source.now))) }
+{
+    if source.is_empty() {
+        return Err(DecodeError::EmptyFrame);
+    }
+    let mut rest = &source[..len_to(source, sentinel)];
+    let mut written = 0;
+    'by_block: while !rest.is_empty() {
+        let code = (rest[0] ^ sentinel) as usize;
+        if rest.len() < code {
+            return Err(DecodeError::InvalidFrame {
+                decoded_bytes: written,
+            });
+        }
+        'by_byte: for byte in &rest[1..code] {
+            if dest.len() <= written {
+                return Err(DecodeError::TargetBufTooSmall);
+            }
+            dest[written] = *byte ^ sentinel;
+            written += 1;
+        }
+        rest = &rest[code..];
+        if code != FULL_CODE && !rest.is_empty() {
+            if dest.len() <= written {
+                return Err(DecodeError::TargetBufTooSmall);
+            }
+            dest[written] = 0;
+            written += 1;
+        }
+    }
+    Ok(written)
 }

@@ -11,11 +11,12 @@ ghost use Rattle.cobs.specs.declared.error.DecodeError.TheVariants.{EmptyFrame, 
 
 use crate::block::FULL_BLOCK_BYTES;
 use crate::dec::decode;
+use crate::dec::each::decode_head_each;
 use crate::dec::span::{decode_span, kept_len, message_len};
 use crate::dec::unbuffered::START;
 use crate::error::{DecodeError, DecodeVecError};
 use crate::find::{len_without_end, position_or_len};
-use cobs_bytes::window::WIDE_WINDOW;
+use cobs_bytes::window::{WIDE_WINDOW, has_vectors};
 use std::alloc::Global;
 
 /// Decodes the blocks of a source that has no sentinel, and returns the length of their output.
@@ -73,6 +74,9 @@ pub fn decode_with_sentinel(
     ensures only { let f = xor_each sentinel source.now in IsPiece f → (m : List ℕ)
         → ReturnsMessage result dest.new m → Reads f m × (length m ≤ length dest.old) }
 {
+    if !has_vectors() {
+        return decode_head_each(source, dest, sentinel);
+    }
     if source.is_empty() {
         return Err(DecodeError::EmptyFrame);
     }

@@ -33,8 +33,8 @@ fn move_back(buffer: &mut [u8], at: usize, read: usize, len: usize)
 
 impl UnbufferedDecoder {
     /// Takes the bytes of one step from the buffer to which it also writes. They begin at `read` and end before `end`.
-    /// Returns how many it took. It does what `take_part` does, except that it may take only the first bytes of a long
-    /// block.
+    /// Returns how many it took. It does what `take_part` does, but takes one row of codes of 1 per step, and never lacks
+    /// room.
     #[inline(always)]
     fn take_part_in_place(&mut self, buffer: &mut [u8], read: usize, end: usize) -> usize
         requires going { self.old.too_long ≡ 0 }

@@ -6,13 +6,10 @@ ghost use Rattle.cobs.specs.Fields.Decoders.{phase_of};
 ghost use Rattle.cobs.specs.Sentinel.{xor_each};
 ghost use Rattle.cobs.specs.Step.{next_phase, next_buffer, next_result, end_result};
 
-use crate::block::FULL_CODE;
+use crate::block::FULL;
 use crate::dec::frame_decoder::PieceEnd;
 use crate::dec::unbuffered::{START, UnbufferedDecoder};
 use crate::error::DecodeError;
-
-/// The code of a full block, as a byte.
-pub(crate) const FULL: u8 = FULL_CODE as u8;
 
 /// Returns the value of `joint` after a block with this code.
 #[inline(always)]

@@ -5,14 +5,11 @@ ghost use Rattle.cobs.specs.OpenBlock.{IsPlaceIn, end_after};
 ghost use Rattle.cobs.specs.Fields.Progress.{reached_at};
 ghost use Rattle.cobs.specs.Internal.Taking.{IsFirstRun, TakesFront};
 
-use crate::block::{FULL_BLOCK_BYTES, FULL_CODE};
+use crate::block::{FULL, FULL_BLOCK_BYTES};
 use crate::enc::blocks::{append, append_rest};
 use crate::enc::progress::EncoderProgress;
 use crate::find::position_or_len;
 use memchr::memrchr;
-
-/// The code of a full block, as a byte.
-const FULL: u8 = FULL_CODE as u8;
 
 /// Returns whether fewer than `spare` blocks become full and are followed by another byte, if the open block with this
 /// code takes these bytes. Each such block needs one byte of the frame for the code after it.

@@ -1,11 +1,10 @@
 // Made by bindings/rust/translate.py from `crates/cobs/src/dec/each.rt`: change that file, and run it again.
 //! Decoding one byte after another, for targets without vectors.
 
-use crate::proved::block::FULL_CODE;
+use crate::proved::block::{FULL, FULL_CODE};
 use crate::proved::dec::frame_decoder::PieceEnd;
-use crate::proved::dec::step::FULL;
 use crate::proved::error::{DecodeError, DecodeReport};
-use crate::proved::find::{leading_zeros, len_to_zero};
+use crate::proved::find::{leading_zeros, len_to, len_to_zero};
 
 /// Decodes the blocks in the first `end` bytes of the buffer in their own place, one byte after another, and returns the
 /// message's length. Every byte after the message is as it was. It is small, and uses no vectors.
@@ -72,7 +71,7 @@ pub(crate) fn decode_in_place_each(buf: &mut [u8]) -> Result<DecodeReport, Decod
 /// Returns where the piece ends whose next byte is at `at`: after its zero, or at the end of the source.
 // A function of its own, so that the loops of its caller have all registers of a small processor.
 #[inline(never)]
-fn end_after(source: &[u8], at: usize) -> usize {
+fn through_piece(source: &[u8], at: usize) -> usize {
     let mut end = at;
     'by_byte: while end < source.len() {
         end += 1;
@@ -124,7 +123,7 @@ pub fn decode_piece(source: &[u8], dest: &mut [u8]) -> Option<(PieceEnd, usize)>
         }
         if left != 0 {
             if written == dest.len() {
-                return Some((PieceEnd::TooLong, end_after(source, at)));
+                return Some((PieceEnd::TooLong, through_piece(source, at)));
             }
             dest[written] = byte;
             written += 1;
@@ -132,7 +131,7 @@ pub fn decode_piece(source: &[u8], dest: &mut [u8]) -> Option<(PieceEnd, usize)>
         } else {
             if code != FULL {
                 if written == dest.len() {
-                    return Some((PieceEnd::TooLong, end_after(source, at)));
+                    return Some((PieceEnd::TooLong, through_piece(source, at)));
                 }
                 dest[written] = 0;
                 written += 1;
@@ -160,4 +159,41 @@ pub(crate) fn decode_each(source: &[u8], dest: &mut [u8]) -> Result<DecodeReport
         PieceEnd::Broken(decoded_bytes) => Err(DecodeError::InvalidFrame { decoded_bytes }),
         PieceEnd::TooLong => Err(DecodeError::TargetBufTooSmall),
     }
+}
+
+/// Does what [`decode_with_sentinel`](crate::decode_with_sentinel) does, one byte after another.
+pub(crate) fn decode_head_each(
+    source: &[u8],
+    dest: &mut [u8],
+    sentinel: u8,
+) -> Result<usize, DecodeError> {
+    if source.is_empty() {
+        return Err(DecodeError::EmptyFrame);
+    }
+    let mut rest = &source[..len_to(source, sentinel)];
+    let mut written = 0;
+    'by_block: while !rest.is_empty() {
+        let code = (rest[0] ^ sentinel) as usize;
+        if rest.len() < code {
+            return Err(DecodeError::InvalidFrame {
+                decoded_bytes: written,
+            });
+        }
+        'by_byte: for byte in &rest[1..code] {
+            if dest.len() <= written {
+                return Err(DecodeError::TargetBufTooSmall);
+            }
+            dest[written] = *byte ^ sentinel;
+            written += 1;
+        }
+        rest = &rest[code..];
+        if code != FULL_CODE && !rest.is_empty() {
+            if dest.len() <= written {
+                return Err(DecodeError::TargetBufTooSmall);
+            }
+            dest[written] = 0;
+            written += 1;
+        }
+    }
+    Ok(written)
 }

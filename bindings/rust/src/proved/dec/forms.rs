@@ -2,8 +2,9 @@
 //! The forms of `decode` for any sentinel, and into a vector.
 
 use crate::proved::block::FULL_BLOCK_BYTES;
-use crate::proved::cobs_bytes::window::WIDE_WINDOW;
+use crate::proved::cobs_bytes::window::{WIDE_WINDOW, has_vectors};
 use crate::proved::dec::decode;
+use crate::proved::dec::each::decode_head_each;
 use crate::proved::dec::span::{decode_span, kept_len, message_len};
 use crate::proved::dec::unbuffered::START;
 use crate::proved::error::{DecodeError, DecodeVecError};
@@ -57,6 +58,9 @@ pub fn decode_with_sentinel(
     dest: &mut [u8],
     sentinel: u8,
 ) -> Result<usize, DecodeError> {
+    if !has_vectors() {
+        return decode_head_each(source, dest, sentinel);
+    }
     if source.is_empty() {
         return Err(DecodeError::EmptyFrame);
     }

@@ -16,7 +16,8 @@ use crate::proved::find::zero_or_len;
 pub(crate) const SPAN_MAX: usize = FULL_BLOCK_BYTES - 1;
 
 /// Takes rows of 32 bytes from the front of `bytes`, as long as each byte of a row is `byte`, and writes a row of zeros for
-/// each, from `at` on. It stops if there is no room for a row, and after at most seven rows. Returns how many zeros it wrote.
+/// each, from `at` on. It stops if there is no room for a row, and after seven rows: more would be longer than a span, and its
+/// caller takes the rows as one. Returns how many zeros it wrote.
 // A function of its own, so that the walk keeps its registers.
 #[inline(never)]
 fn write_rows(dest: &mut [u8], at: usize, bytes: &[u8], byte: u8) -> usize {
@@ -63,6 +64,7 @@ impl UnbufferedDecoder {
         let len = (self.missing as usize)
             .min(bytes.len() - 1)
             .min(dest.len().saturating_sub(at));
+        // The buffer may even be shorter than what was written, if it isn't that of the earlier calls.
         if len == 0 {
             return 1;
         }

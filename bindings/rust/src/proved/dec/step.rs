@@ -1,13 +1,10 @@
 // Made by bindings/rust/translate.py from `crates/cobs/src/dec/step.rt`: change that file, and run it again.
 //! The step of a streaming decoder for each byte, and the loop of such steps.
 
-use crate::proved::block::FULL_CODE;
+use crate::proved::block::FULL;
 use crate::proved::dec::frame_decoder::PieceEnd;
 use crate::proved::dec::unbuffered::{START, UnbufferedDecoder};
 use crate::proved::error::DecodeError;
-
-/// The code of a full block, as a byte.
-pub(crate) const FULL: u8 = FULL_CODE as u8;
 
 /// Returns the value of `joint` after a block with this code.
 #[inline(always)]

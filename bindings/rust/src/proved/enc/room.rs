@@ -1,14 +1,11 @@
 // Made by bindings/rust/translate.py from `crates/cobs/src/enc/room.rt`: change that file, and run it again.
 //! Decides whether a frame fits, before a byte of it is written, and then encodes.
 
-use crate::proved::block::{FULL_BLOCK_BYTES, FULL_CODE};
+use crate::proved::block::{FULL, FULL_BLOCK_BYTES};
 use crate::proved::enc::blocks::{append, append_rest};
 use crate::proved::enc::progress::EncoderProgress;
 use crate::proved::find::position_or_len;
 use memchr::memrchr;
-
-/// The code of a full block, as a byte.
-const FULL: u8 = FULL_CODE as u8;
 
 /// Returns whether fewer than `spare` blocks become full and are followed by another byte, if the open block with this
 /// code takes these bytes. Each such block needs one byte of the frame for the code after it.

@@ -24,11 +24,11 @@ by_byte-init c = read-first c.args.source.now c.args.dest.now _ c.leading_zeros-
 -- a byte of the block
 pub returns-then-written-dest-clause-answer : goal.returns-then-written-dest-clause-answer
 returns-then-written-dest-clause-answer c =
-    (over-byte c.by_byte.invariant c.by_byte-test.true c.if-byte-eq0.false c.if-left-ne0.true (omega arith) c.end_after.ensures.end).answer
+    (over-byte c.by_byte.invariant c.by_byte-test.true c.if-byte-eq0.false c.if-left-ne0.true (omega arith) c.through_piece.ensures.end).answer
 
 pub returns-then-written-dest-clause-buffer : goal.returns-then-written-dest-clause-buffer
 returns-then-written-dest-clause-buffer c =
-    (over-byte c.by_byte.invariant c.by_byte-test.true c.if-byte-eq0.false c.if-left-ne0.true (omega arith) c.end_after.ensures.end).buffer
+    (over-byte c.by_byte.invariant c.by_byte-test.true c.if-byte-eq0.false c.if-left-ne0.true (omega arith) c.through_piece.ensures.end).buffer
 
 pub by_byte-preserved-then-left-ne0 : goal.by_byte-preserved-then-left-ne0
 by_byte-preserved-then-left-ne0 c = read-byte c.by_byte.invariant c.by_byte-test.true c.if-byte-eq0.false c.if-left-ne0.true c.if-written-dest.false
@@ -36,12 +36,12 @@ by_byte-preserved-then-left-ne0 c = read-byte c.by_byte.invariant c.by_byte-test
 -- a code after a block that isn't full, and one after a full block
 pub returns-then-written-dest-2-clause-answer : goal.returns-then-written-dest-2-clause-answer
 returns-then-written-dest-2-clause-answer c =
-    let after = c.end_after-then-written-dest-2.ensures.end in
+    let after = c.through_piece-then-written-dest-2.ensures.end in
     (over-zero c.by_byte.invariant c.by_byte-test.true c.if-byte-eq0.false c.if-left-ne0.false (ne_eqb _ 255 c.if-code.true) (omega arith) after).answer
 
 pub returns-then-written-dest-2-clause-buffer : goal.returns-then-written-dest-2-clause-buffer
 returns-then-written-dest-2-clause-buffer c =
-    let after = c.end_after-then-written-dest-2.ensures.end in
+    let after = c.through_piece-then-written-dest-2.ensures.end in
     (over-zero c.by_byte.invariant c.by_byte-test.true c.if-byte-eq0.false c.if-left-ne0.false (ne_eqb _ 255 c.if-code.true) (omega arith) after).buffer
 
 pub by_byte-preserved : goal.by_byte-preserved

@@ -1,6 +1,6 @@
 use Rattle.std.proofs.Common.{◌-◌, ◌≤◌, drop, length, take}
 use Rattle.cobs.specs.Grammar.{HasNoZero}
-use Rattle.cobs.proofs.dec.each.end_after.Given as goal
+use Rattle.cobs.proofs.dec.each.through_piece.Given as goal
 
 -- the bytes from `at` to `end` have no zero
 abbrev pub invariant-by_byte : goal.invariant-by_byte

@@ -5,7 +5,7 @@ use Rattle.std.proofs.lemmas.List.Elements.{All-push}
 use Rattle.cobs.specs.Grammar.{HasNoZero}
 use Rattle.cobs.specs.Stream.{head}
 use Rattle.cobs.proofs.decoding.HeadLemmas.{front_is_head}
-use Rattle.cobs.proofs.dec.each.end_after.Goals as goal
+use Rattle.cobs.proofs.dec.each.through_piece.Goals as goal
 
 module _ (source : List ℕ) (at end : ℕ) (after : at ≤ end) (none : HasNoZero (take (end - at) (drop at source))) where
   abbrev rest : List ℕ

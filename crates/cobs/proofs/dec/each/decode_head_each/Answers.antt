@@ -1,0 +1,194 @@
+-- What is left of the kept output begins with the bytes of the open block (`kept-block`), and each is written if it has room.
+use Rattle.std.proofs.Common.{All, ◌≡◌, ◌≢◌, ◌∙◌, ◌+◌, ◌-◌, ◌<◌, ◌≤◌, ◌⊎◌, ◌++◌, ◌∷◌, [], ℕ, List, Result, true, false, length, take, drop, get_or, refl, sym, ap, arith, inl, inr, Bool, eqb}
+use Rattle.std.proofs.lemmas.Bool.{eqb-true, eqb-false}
+use Rattle.std.proofs.lemmas.List.{drop_all, drop_more, drop-map, get_or-map, length-map, take-map}
+use Rattle.std.proofs.lemmas.List.Elements.{All-drop, All-get_or, All-take}
+use Rattle.std.specs.Int.Bits.{bit_xor}
+use Rattle.cobs.specs.Decode.{result_of_sentinel_decode}
+use Rattle.cobs.specs.Grammar.{HasNoZero}
+use Rattle.cobs.specs.Overwritten.{overwritten}
+use Rattle.cobs.specs.Piece.{kept_output}
+use Rattle.cobs.specs.Sentinel.{xor_each}
+use Rattle.cobs.specs.Stream.{head}
+use Rattle.cobs.specs.declared.error.DecodeError.{DecodeError}
+use Rattle.cobs.proofs.decoding.HeadlineLemmas.{xored_below}
+use Rattle.cobs.proofs.decoding.KeptLemmas.{kept_output-empty}
+use Rattle.cobs.proofs.decoding.SourceSteps.{nothing_kept, result_of_sentinel_decode-head, xor_head, xor_no_zero}
+use Rattle.cobs.proofs.decoding.WrittenLemmas.{code-some, Decoded, Written, all-written, buffer-full, kept-block, kept-none, whole-block, whole-none, whole_left, written-more, written-none, zero_before, zero_before-none, zero_before-some}
+use Rattle.cobs.proofs.format.SentinelLemmas.{front_xored, rest_xored}
+use Rattle.cobs.proofs.dec.each.decode_head_each.Goals as goal
+use Rattle.cobs.proofs.dec.each.decode_head_each.Goals.{else-code-ne-FULL_CODE-via-then-code-ne-FULL_CODE+else-not-is_empty, else-code-ne-FULL_CODE-via-else-code-ne-FULL_CODE}
+
+-- no code is left, or more
+none-left : (rest : List ℕ) (empty : Bool) → empty ≡ eqb (length rest) 0 → empty ≡ true → length rest ≡ 0
+none-left rest empty is e = eqb-true (length rest) 0 (sym is ∙ e)
+
+some-left : (rest : List ℕ) (empty : Bool) → empty ≡ eqb (length rest) 0 → empty ≡ false → 0 < length rest
+some-left rest empty is e = omega (arith, eqb-false (length rest) 0 (sym is ∙ e))
+
+no-bytes : (s : ℕ) (bytes : List ℕ) → length bytes ≡ 0 → xor_each s bytes ≡ []
+no-bytes s [] none = refl
+no-bytes s (b ∷ bytes) none = absurd (omega arith)
+
+-- the next byte of a block
+more-bytes : (s : ℕ) (items tail : List ℕ) (k : ℕ) → k < length items → xor_each s (drop k items) ++ tail ≡ bit_xor (get_or items k 0) s ∷ (xor_each s (drop (k + 1) items) ++ tail)
+more-bytes s items tail k less = ap (λ (x : List ℕ). xor_each s x ++ tail) (drop_more items k 0 less)
+
+-- after the last one
+bytes-ended : (h old buffer : List ℕ) (written s : ℕ) (items tail : List ℕ) (k : ℕ) → Written h old buffer written (xor_each s (drop k items) ++ tail) → length items ≤ k → Written h old buffer written tail
+bytes-ended h old buffer written s items tail k w all = rw (drop_all k items all) at w
+
+module _ (source old : List ℕ) (s : ℕ) where
+  abbrev h : List ℕ
+  h = head (xor_each s source)
+
+  -- the clauses, by the bytes before the first sentinel
+  answered : (buffer : List ℕ) (result : Result ℕ DecodeError) → 0 < length source → Decoded h old buffer result
+      → record { returned : result ≡ result_of_sentinel_decode (xor_each s source) (length old); buffer : buffer ≡ overwritten old (kept_output h) }
+  answered buffer result some d = record { returned = d.0 ∙ result_of_sentinel_decode-head source s (length old) some; buffer = d.1 }
+
+-- a block of the frame, by its code
+module _ (rest : List ℕ) (s : ℕ) where
+  abbrev p : List ℕ
+  p = xor_each s rest
+
+  abbrev code : ℕ
+  code = bit_xor (get_or rest 0 0) s
+
+  abbrev items : List ℕ
+  items = take (code - 1) (drop 1 rest)
+
+  long : length p ≡ length rest
+  long = length-map rest (λ b. bit_xor b s)
+
+  items-are : xor_each s items ≡ take (code - 1) (drop 1 p)
+  items-are = sym (ap (take (code - 1)) (drop-map (λ b. bit_xor b s) 1 rest) ∙ take-map (λ b. bit_xor b s) (code - 1) (drop 1 rest))
+
+  module _ (some : 0 < length rest) where
+    p-some : 0 < length p
+    p-some = omega (arith, long)
+
+    is : code ≡ get_or p 0 0
+    is = sym (get_or-map (λ b. bit_xor b s) rest 0 0 0 some)
+
+    -- that is whole
+    module _ (nonzero : HasNoZero p) (below : All (λ b. b < 256) p) (fits : code ≤ length rest) where
+      p-fits : code ≤ length p
+      p-fits = omega (arith, long)
+
+      small : code < 256
+      small = omega (arith, is, All-get_or (λ b. b < 256) p 0 0 p-some below)
+
+      begun : (h old buffer : List ℕ) (written : ℕ) → Written h old buffer written (kept_output p)
+          → Written h old buffer written (xor_each s items ++ (zero_before code (drop code p) ++ kept_output (drop code p)))
+      begun h old buffer written w = rw (items-are, ← kept-block p code p-some is nonzero small p-fits) w
+
+      -- and the bytes after it
+      abbrev next : List ℕ
+      next = take (length rest - code) (drop code rest)
+
+      next-is : xor_each s next ≡ drop code p
+      next-is = rest_xored rest s code
+
+      next-long : length (drop code p) ≡ length next
+      next-long = sym (ap length next-is) ∙ length-map next (λ b. bit_xor b s)
+
+      -- with a zero before them
+      next-zero : 0 < length next → code ≢ 255 → zero_before code (drop code p) ++ kept_output (drop code p) ≡ 0 ∷ kept_output (drop code p)
+      next-zero more other = ap (λ (x : List ℕ). x ++ kept_output (drop code p)) (zero_before-some code (drop code p) (omega (arith, next-long)) other)
+
+      ended : (h old buffer : List ℕ) (written : ℕ) → whole_left h ≡ whole_left p → Written h old buffer written (kept_output (drop code p))
+          → record { nonzero : HasNoZero (xor_each s next); below : All (λ b. b < 256) (xor_each s next); whole : whole_left h ≡ whole_left (xor_each s next); written : Written h old buffer written (kept_output (xor_each s next)) }
+      ended h old buffer written whole w = record {
+        nonzero = rw next-is (All-drop (λ b. b ≢ 0) code p nonzero);
+        below = rw next-is (All-drop (λ b. b < 256) code p below);
+        whole = rw next-is (whole ∙ whole-block p code p-some is nonzero small p-fits);
+        written = rw next-is w;
+      }
+
+pub returns-then-is_empty-clause-buffer : goal.returns-then-is_empty-clause-buffer
+returns-then-is_empty-clause-buffer c = nothing_kept c.args.source.now c.args.dest.now c.args.sentinel (none-left _ _ c.is_empty.ensures c.if-is_empty.true)
+
+pub by_block-init : goal.by_block-init
+by_block-init c =
+    let e = c.len_to.ensures in
+    let is = xor_head c.args.source.now c.len_to.result c.args.sentinel e.within e.before e.stop in
+    record {
+      nonzero = xor_no_zero c.args.source.now c.len_to.result c.args.sentinel e.within e.before e.stop;
+      below = rw front_xored (All-take (λ b. b < 256) c.len_to.result _ (xored_below c.args.sentinel c.args.source.now c.ranges.sentinel.fits c.type_inv.source));
+      whole = ap whole_left (sym is);
+      written = rw is (written-none _ _);
+    }
+
+pub returns-then-rest-code : goal.returns-then-rest-code
+returns-then-rest-code c =
+    let i = c.by_block.invariant in
+    let rest : List ℕ = c.by_block.rest.now in
+    let s : ℕ = c.args.sentinel in
+    let some = some-left rest _ c.is_empty-in-by_block.ensures c.by_block-test.true in
+    let less : length (xor_each s rest) < code rest s = omega (arith, long rest s, c.if-rest-code.true) in
+    answered _ _ _ _ _ (some-left _ _ c.is_empty.ensures c.if-is_empty.false)
+    (all-written i.written (kept-none _ _ (p-some rest s some) (is rest s some) less) false (i.whole ∙ whole-none _ _ (p-some rest s some) (is rest s some) less))
+
+pub slice_bounds-byte-items-count : goal.slice_bounds-byte-items-count
+slice_bounds-byte-items-count c =
+    let rest : List ℕ = c.by_block.rest.now in
+    let s : ℕ = c.args.sentinel in
+    let some = some-left rest _ c.is_empty-in-by_block.ensures c.by_block-test.true in
+    code-some _ _ (p-some rest s some) (is rest s some) c.by_block.invariant.nonzero
+
+pub slice_bounds-byte-items-start : goal.slice_bounds-byte-items-start
+slice_bounds-byte-items-start c = omega (arith, slice_bounds-byte-items-count c)
+
+pub by_byte-init : goal.by_byte-init
+by_byte-init c =
+    let i = c.by_block.invariant in
+    begun c.by_block.rest.now c.args.sentinel (some-left _ _ c.is_empty-in-by_block.ensures c.by_block-test.true) i.nonzero i.below c.if-rest-code.false _ _ _ _ i.written
+
+pub by_byte-preserved : goal.by_byte-preserved
+by_byte-preserved c = written-more c.by_byte.invariant _ _ (more-bytes _ _ _ _ c.by_byte-test.true) c.if-dest-written.false
+
+pub returns-then-dest-written : goal.returns-then-dest-written
+returns-then-dest-written c =
+    answered _ _ _ _ _ (some-left _ _ c.is_empty.ensures c.if-is_empty.false) (buffer-full c.by_byte.invariant _ _ (more-bytes _ _ _ _ c.by_byte-test.true) c.if-dest-written.true)
+
+pub returns-then-dest-written-2 : goal.returns-then-dest-written-2
+returns-then-dest-written-2 c =
+    let i = c.by_block.invariant in
+    let rest : List ℕ = c.by_block.rest.now in
+    let s : ℕ = c.args.sentinel in
+    let some = some-left rest _ c.is_empty-in-by_block.ensures c.by_block-test.true in
+    let w = bytes-ended _ _ _ _ _ _ _ _ c.by_byte.invariant c.by_byte-test.false in
+    let zero = next-zero rest s some i.nonzero i.below c.if-rest-code.false (some-left _ _ c.is_empty-then-code-ne-FULL_CODE.ensures c.if-not-is_empty.true) c.if-code-ne-FULL_CODE.true in
+    answered _ _ _ _ _ (some-left _ _ c.is_empty.ensures c.if-is_empty.false) (buffer-full w _ _ zero c.if-dest-written-2.true)
+
+pub by_block-preserved-then-not-is_empty : goal.by_block-preserved-then-not-is_empty
+by_block-preserved-then-not-is_empty c =
+    let i = c.by_block.invariant in
+    let rest : List ℕ = c.by_block.rest.now in
+    let s : ℕ = c.args.sentinel in
+    let some = some-left rest _ c.is_empty-in-by_block.ensures c.by_block-test.true in
+    let w = bytes-ended _ _ _ _ _ _ _ _ c.by_byte.invariant c.by_byte-test.false in
+    let zero = next-zero rest s some i.nonzero i.below c.if-rest-code.false (some-left _ _ c.is_empty-then-code-ne-FULL_CODE.ensures c.if-not-is_empty.true) c.if-code-ne-FULL_CODE.true in
+    ended rest s some i.nonzero i.below c.if-rest-code.false _ _ _ _ i.whole (written-more w _ _ zero c.if-dest-written-2.false)
+
+pub by_block-preserved : goal.by_block-preserved
+by_block-preserved c =
+    let i = c.by_block.invariant in
+    let rest : List ℕ = c.by_block.rest.now in
+    let s : ℕ = c.args.sentinel in
+    let some = some-left rest _ c.is_empty-in-by_block.ensures c.by_block-test.true in
+    let long = next-long rest s some i.nonzero i.below c.if-rest-code.false in
+    let none : (length (drop (code rest s) (xor_each s rest)) ≡ 0) ⊎ (code rest s ≡ 255) = elim c.else-code-ne-FULL_CODE.branch [
+      | else-code-ne-FULL_CODE-via-then-code-ne-FULL_CODE+else-not-is_empty w ↦ inl (long ∙ none-left _ _ w.is_empty-then-code-ne-FULL_CODE.ensures w.if-not-is_empty.false)
+      | else-code-ne-FULL_CODE-via-else-code-ne-FULL_CODE w ↦ inr w.if-code-ne-FULL_CODE.false
+    ] in
+    let w = bytes-ended _ _ _ _ _ _ _ _ c.by_byte.invariant c.by_byte-test.false in
+    ended rest s some i.nonzero i.below c.if-rest-code.false _ _ _ _ i.whole (rw (zero_before-none _ _ none) at w)
+
+pub returns : goal.returns
+returns c =
+    let i = c.by_block.invariant in
+    let s : ℕ = c.args.sentinel in
+    let is : xor_each s c.by_block.rest.now ≡ [] = no-bytes s _ (none-left _ _ c.is_empty-in-by_block.ensures c.by_block-test.false) in
+    answered _ _ _ _ _ (some-left _ _ c.is_empty.ensures c.if-is_empty.false) (all-written i.written (ap kept_output is ∙ kept_output-empty) true (i.whole ∙ ap whole_left is))

@@ -1,0 +1,142 @@
+-- The kept output of a piece, written to the front of a buffer byte by byte, and what of it comes from each block.
+use Rattle.std.proofs.Common.{◌≡◌, ◌≢◌, ◌∙◌, ◌+◌, ◌-◌, ◌<◌, ◌≤◌, ◌⊎◌, ◌==◌, ℕ, suc, Bool, true, false, cond, if◌then◌else◌, List, [], ◌∷◌, ◌++◌, length, take, drop, get_or, set, Result, Ok, Err, refl, sym, ap, arith, inl, inr, append_assoc, append-nil, length-append, length-drop, length-take-le, take-append-drop, take_all, take_at}
+use Rattle.std.proofs.lemmas.Bool.{eq-eqb, ne_eqb, true≢false}
+use Rattle.std.proofs.lemmas.List.{drop-drop, drop_all, drop_more, set_at}
+use Rattle.std.proofs.lemmas.List.Elements.{All-drop, All-get_or, All-take}
+use Rattle.cobs.specs.Decode.{head_result, head_result_within}
+use Rattle.cobs.specs.Grammar.{HasNoZero, IsBlock, joint}
+use Rattle.cobs.specs.Overwritten.{overwritten}
+use Rattle.cobs.specs.Piece.{is_whole, kept_output}
+use Rattle.cobs.specs.declared.error.DecodeError.{DecodeError}
+use Rattle.cobs.specs.declared.error.DecodeError.TheVariants.{InvalidFrame, TargetBufTooSmall}
+use Rattle.cobs.proofs.decoding.KeptLemmas.{all-kept, block-whole, broken-part, front-kept, front-whole, kept-broken, kept_output-empty}
+use Rattle.cobs.proofs.decoding.PieceCuts.{output-last}
+use Rattle.cobs.proofs.decoding.SourceSteps.{result-fits, result-too_long}
+
+-- WHAT OF IT COMES FROM A BLOCK
+
+-- whether the remaining bytes are whole, or there are none
+abbrev pub whole_left : List ℕ → Bool
+whole_left [] = true
+whole_left (byte ∷ bytes) = is_whole (byte ∷ bytes)
+
+-- the zero between a block with this code and these bytes, if there is one
+abbrev pub zero_before : ℕ → List ℕ → List ℕ
+zero_before code [] = []
+zero_before code (byte ∷ bytes) = if code == 255 then [] else 0 ∷ []
+
+pub zero_before-none : (code : ℕ) (next : List ℕ) → (length next ≡ 0) ⊎ (code ≡ 255) → zero_before code next ≡ []
+zero_before-none code [] none = refl
+zero_before-none code (byte ∷ next) (inl last) = absurd (omega arith)
+zero_before-none code (byte ∷ next) (inr full) = rw (eq-eqb code 255 full) refl
+
+pub zero_before-some : (code : ℕ) (next : List ℕ) → 0 < length next → code ≢ 255 → zero_before code next ≡ 0 ∷ []
+zero_before-some code [] some other = absurd (omega arith)
+zero_before-some code (byte ∷ next) some other = rw (ne_eqb code 255 other) refl
+
+kept-joined : (code : ℕ) (bytes next : List ℕ) → IsBlock (code ∷ bytes) → kept_output ((code ∷ bytes) ++ next) ≡ bytes ++ (zero_before code next ++ kept_output next)
+kept-joined code bytes [] is =
+    ap kept_output (append-nil (code ∷ bytes)) ∙ all-kept (code ∷ bytes) (block-whole (code ∷ bytes) is) ∙ output-last code bytes (omega (arith, is.0))
+    ∙ sym (ap (λ (x : List ℕ). bytes ++ x) kept_output-empty ∙ append-nil bytes)
+kept-joined code bytes (byte ∷ next) is = front-kept (code ∷ bytes) (byte ∷ next) is (λ e. cc) ∙ append_assoc bytes (joint (code ∷ bytes)) (kept_output (byte ∷ next))
+
+whole-joined : (block next : List ℕ) → IsBlock block → whole_left (block ++ next) ≡ whole_left next
+whole-joined [] next is = absurd is
+whole-joined (code ∷ bytes) [] is = ap whole_left (append-nil (code ∷ bytes)) ∙ block-whole (code ∷ bytes) is
+whole-joined (code ∷ bytes) (byte ∷ next) is = front-whole (code ∷ bytes) (byte ∷ next) is (λ e. cc)
+
+-- some bytes that begin with this code
+module _ (p : List ℕ) (code : ℕ) (some : 0 < length p) (is : code ≡ get_or p 0 0) where
+  front : p ≡ code ∷ drop 1 p
+  front = drop_more p 0 0 some ∙ ap (λ (k : ℕ). k ∷ drop 1 p) (sym is)
+
+  -- and break off inside its block
+  module _ (less : length p < code) where
+    pub kept-none : kept_output p ≡ []
+    kept-none = ap kept_output front ∙ kept-broken code (drop 1 p) (omega (arith, length-drop 1 p))
+
+    pub whole-none : whole_left p ≡ false
+    whole-none = ap whole_left front ∙ broken-part code (drop 1 p) (omega (arith, length-drop 1 p))
+
+  module _ (nonzero : HasNoZero p) where
+    pub code-some : 0 < code
+    code-some = omega (arith, is, All-get_or (λ byte. byte ≢ 0) p 0 0 some nonzero)
+
+    -- or have the whole block
+    module _ (below : code < 256) (fits : code ≤ length p) where
+      abbrev bytes : List ℕ
+      bytes = take (code - 1) (drop 1 p)
+
+      block : IsBlock (code ∷ bytes)
+      block = (omega (arith, length-take-le (code - 1) (drop 1 p), length-drop 1 p, code-some), below, All-take (λ byte. byte ≢ 0) (code - 1) (drop 1 p) (All-drop (λ byte. byte ≢ 0) 1 p nonzero))
+
+      cut : p ≡ (code ∷ bytes) ++ drop code p
+      cut =
+          let next : 1 + (code - 1) ≡ code = omega (arith, code-some) in
+          front ∙ ap (λ (x : List ℕ). code ∷ x) (sym (take-append-drop (code - 1) (drop 1 p)) ∙ ap (λ (x : List ℕ). bytes ++ x) (drop-drop (code - 1) 1 p ∙ ap (λ (k : ℕ). drop k p) next))
+
+      pub kept-block : kept_output p ≡ bytes ++ (zero_before code (drop code p) ++ kept_output (drop code p))
+      kept-block = ap kept_output cut ∙ kept-joined code bytes (drop code p) block
+
+      pub whole-block : whole_left p ≡ whole_left (drop code p)
+      whole-block = ap whole_left cut ∙ whole-joined (code ∷ bytes) (drop code p) block
+
+-- THE BYTES IN THE BUFFER
+
+-- the first bytes of what is kept of h are at the buffer's front, and these are left; its other bytes are as they were
+pub record Written (h old buffer : List ℕ) (written : ℕ) (left : List ℕ) : Type 0 where
+  pub done : List ℕ
+  pub count : length done ≡ written
+  pub room : written ≤ length old
+  pub holds : buffer ≡ done ++ drop written old
+  pub kept : kept_output h ≡ done ++ left
+
+pub written-none : (h old : List ℕ) → Written h old old 0 (kept_output h)
+written-none h old = record { done = []; count = refl; room = omega arith; holds = refl; kept = refl }
+
+-- the result and the buffer of a decoder of h
+abbrev pub Decoded : List ℕ → List ℕ → List ℕ → Result ℕ DecodeError → Type 0
+Decoded h old buffer result = (result ≡ head_result_within h (length old)) × (buffer ≡ overwritten old (kept_output h))
+
+result-of : (h : List ℕ) (whole : Bool) (n : ℕ) → whole_left h ≡ whole → length (kept_output h) ≡ n → cond whole (Ok n) (Err (InvalidFrame n)) ≡ head_result h
+result-of [] true n w is = ap Ok (sym is ∙ ap length kept_output-empty)
+result-of [] false n w is = absurd (true≢false w)
+result-of (byte ∷ h) true n w is = grind (arith, all-kept)
+result-of (byte ∷ h) false n w is = grind arith
+
+module _ {h old buffer : List ℕ} {written : ℕ} {left : List ℕ} (s : Written h old buffer written left) where
+  pub written-long : length buffer ≡ length old
+  written-long = ap length s.holds ∙ omega (arith, length-append s.done (drop written old), length-drop written old, s.count, s.room)
+
+  -- nothing is left, and h is whole or not
+  pub all-written : left ≡ [] → (whole : Bool) → whole_left h ≡ whole → Decoded h old buffer (cond whole (Ok written) (Err (InvalidFrame written)))
+  all-written none whole w =
+      let kept : kept_output h ≡ s.done = s.kept ∙ ap (λ (x : List ℕ). s.done ++ x) none ∙ append-nil s.done in
+      let count : length (kept_output h) ≡ written = ap length kept ∙ s.count in
+      let all : take (length old) s.done ≡ s.done = take_all (length old) s.done (omega (arith, s.count, s.room)) in (
+        result-of h whole written w count ∙ result-fits h (length old) (omega (arith, count, s.room)),
+        s.holds ∙ sym (ap (overwritten old) kept ∙ ap (λ (x : List ℕ). x ++ drop (length s.done) old) all ∙ ap (λ (n : ℕ). s.done ++ drop n old) s.count),
+      )
+
+  -- the next byte
+  module _ (byte : ℕ) (more : List ℕ) (next : left ≡ byte ∷ more) where
+    pub written-more : written < length buffer → Written h old (set buffer written byte) (written + 1) more
+    written-more room =
+        let less : written < length old = omega (arith, written-long) in
+        record {
+          done = s.done ++ byte ∷ [];
+          count = omega (arith, length-append s.done (byte ∷ []), s.count);
+          room = omega arith;
+          holds = ap (λ (x : List ℕ). set x written byte) (s.holds ∙ ap (λ (x : List ℕ). s.done ++ x) (drop_more old written 0 less)) ∙ set_at s.done _ (drop (written + 1) old) byte written s.count
+              ∙ sym (append_assoc s.done (byte ∷ []) (drop (written + 1) old));
+          kept = s.kept ∙ ap (λ (x : List ℕ). s.done ++ x) next ∙ sym (append_assoc s.done (byte ∷ []) more);
+        }
+
+    -- for which there is no room
+    pub buffer-full : length buffer ≤ written → Decoded h old buffer (Err TargetBufTooSmall)
+    buffer-full no-room =
+        let full : length old ≡ length s.done = omega (arith, written-long, s.count, s.room) in
+        let long : length (kept_output h) ≡ length s.done + suc (length more) = ap length (s.kept ∙ ap (λ (x : List ℕ). s.done ++ x) next) ∙ length-append s.done (byte ∷ more) in (
+          result-too_long h (length old) (omega arith),
+          s.holds ∙ sym (grind (arith, take_at, drop_all)),
+        )
