@@ -319,7 +319,7 @@ def attribute(source, out, text):
         source.skip()
     elif text.startswith("#[derive("):
         source.at, source.derive = source.at + 1, (text, len(out))
-    elif re.match(r"#\[(error\(|inline|repr\(C\))", text):
+    elif re.match(r"#\[(error\(|inline|cold\]|repr\(C\))", text):
         out.append(source.lines[source.at])
         source.at += 1
     else:

@@ -69,6 +69,7 @@ class Function(Statements):
             c_name = self.name_of_self(kind) if name == "self" else name if given else self.c_name(name)
             words.append(self.declared(kind, c_name))
             self.env[own] = Value(c_name, kind)
+        self.declared_names = {re.search(r"\w+$", word)[0]: 0 for word in words}
         for name, tree in self.constants.items():
             self.env[name] = self.value(tree)
         return words

@@ -33,6 +33,7 @@ VARIABLES = {
     "decode_byte": {"found": "piece"},
     "decode_piece": {"dest": "message"},
     "encode_in_place": {"len": "message_len"},
+    "has_room": {"len": "total"},
     "held": {"room": "buffer_len"},
     "jcobs_decode_in_place": {"size": "decoded"},
     "max_encoding_overhead": {"source_len": "message_len"},

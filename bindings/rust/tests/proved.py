@@ -41,7 +41,7 @@ VECTOR = r" let mut (\w+) = Vec :: new \( \) ;"
 CONST = ["max_encoding_length", "max_encoding_overhead", "new", "new"]
 # The attributes that this folder has; those of the sources are about proofs, derives and texts of errors.
 ATTRIBUTES = re.compile(
-    r'# \[ (inline( \( (always|never) \))?|repr \( C \)|derive \( [\w ,]+ \)|cfg \( feature = "(alloc|std)" \)'
+    r'# \[ (cold|inline( \( (always|never) \))?|repr \( C \)|derive \( [\w ,]+ \)|cfg \( feature = "(alloc|std)" \)'
     r'|cfg_attr \( feature = "(serde|defmt)" , derive \( [\w :,]+ \) \)) \]'
 )
 # Paths of the sources, and the same ones here.

@@ -464,11 +464,11 @@ size_t jcobs_max_length(size_t message_len)
 }
 
 /* Returns whether spare bytes cover the overhead of every message of len bytes: whether len is at most 254 times
- * spare. It needs no division, for which small processors have no instruction. So that no product is too large, it
- * compares halves, and only if spare isn't clearly enough. */
+ * spare. That is so exactly if the sum of len and two times spare is at most 256 times spare. So it divides by 256
+ * only: small processors have no instruction for other divisions. */
 static JCOBS_INLINE int jcobs_covers_overhead(size_t len, size_t spare)
 {
-    return len / 128 < spare || len - len / 2 <= 127 * spare;
+    return (len + 2 * spare - 1) / 256 < spare;
 }
 
 /* Returns whether fewer than spare blocks become full and are followed by another byte, if the open block with
@@ -499,8 +499,9 @@ static JCOBS_INLINE int jcobs_has_room(unsigned char code, const unsigned char *
     if (room <= held || room - held <= len) {
         return 0;
     }
-    size_t spare = room - held - len;
-    return jcobs_covers_overhead(held + len, spare) || jcobs_fits_each(code, bytes, len, spare);
+    size_t total = held + len;
+    size_t spare = room - total;
+    return jcobs_covers_overhead(total, spare) || jcobs_fits_each(code, bytes, len, spare);
 }
 
 /* Writes the frame of the message, one byte after another. */

@@ -17,7 +17,7 @@ use crate::max_encoding_overhead;
 /// begins with it. Every byte of `buffer` after the frame stays as it was, even if it belongs to the message.
 ///
 /// Precondition: `buffer` has at least [`max_encoding_length`](crate::max_encoding_length) of `len` bytes, so the message
-/// lies within it. (This call is this library's own.)
+/// lies within it. (A choice of this library.)
 ///
 /// ```
 /// let mut buffer = *b"\0hello..";

@@ -1,5 +1,5 @@
 //! Decides whether a frame fits, before a byte of it is written, and then encodes.
-ghost use Rattle.std.specs.Prelude.{◌≡◌, ◌<◌, ◌≤◌, ◌+◌, ◌↔◌, IfSome, IsSome, IsTrue, false, length};
+ghost use Rattle.std.specs.Prelude.{◌≡◌, ◌<◌, ◌≤◌, ◌+◌, ◌^◌, ◌↔◌, IfSome, IsSome, IsTrue, false, length};
 ghost use Rattle.cobs.specs.Length.{max_encoded_len, open_len};
 ghost use Rattle.cobs.specs.OpenBlock.{IsPlaceIn, end_after};
 ghost use Rattle.cobs.specs.Fields.Progress.{reached_at};
@@ -34,15 +34,16 @@ fn fits_each(code: u8, bytes: &[u8], spare: usize) -> bool
     true
 }
 
-/// Returns whether `spare` bytes cover the overhead of every message of `len` bytes: whether `len` is at most 254 times `spare`. It
-/// needs no division, for which small processors have no instruction. So that no product is too large, it compares halves, and
-/// only if `spare` isn't clearly enough.
+/// Returns whether `spare` bytes cover the overhead of every message of `len` bytes: whether `len` is at most 254 times
+/// `spare`. That is so exactly if the sum of `len` and two times `spare` is at most 256 times `spare`. So it divides by 256
+/// only: small processors have no instruction for other divisions.
 #[inline(always)]
 fn covers_overhead(len: usize, spare: usize) -> bool
     requires some { 0 < spare }
+    requires room { len + spare < 2 ^ 63 }
     ensures { IsTrue result ↔ (max_encoded_len len ≤ len + spare) }
 {
-    len / 128 < spare || len - len / 2 <= 127 * spare
+    (len + 2 * spare - 1) / 256 < spare
 }
 
 /// Returns whether `room` bytes, counted from the code of an open block, are enough for the frame if the block takes
@@ -53,14 +54,16 @@ fn covers_overhead(len: usize, spare: usize) -> bool
 pub(crate) fn has_room(code: u8, bytes: &[u8], room: usize) -> bool
     requires some { 0 < code }
     requires open_block { code < 255 }
+    requires room { room < 2 ^ 63 }
     ensures fits { IsTrue result ↔ (open_len code bytes.now ≤ room) }
 {
     let held = code as usize - 1;
     if room <= held || room - held <= bytes.len() {
         return false;
     }
-    let spare = room - held - bytes.len();
-    covers_overhead(held + bytes.len(), spare) || fits_each(code, bytes, spare)
+    let len = held + bytes.len();
+    let spare = room - len;
+    covers_overhead(len, spare) || fits_each(code, bytes, spare)
 }
 
 /// Returns whether `room` bytes, counted from the index of an open block with this code, are enough for the frame if
@@ -129,13 +132,11 @@ pub(crate) fn try_append(source: &[u8], dest: &mut [u8], progress: &mut EncoderP
     // Field by field, here and below: fields that were stored one by one can't be loaded at once without waiting.
     let start = EncoderProgress { ..*progress };
     let room = dest.len() - start.index;
-    let code = start.code as usize;
-    // The length from the open block's code on, if no block becomes full. At most (most - 2) / 254 full blocks are followed by
-    // another byte.
-    let most = code + source.len();
+    // The bytes of the message from the open block on.
+    let len = start.code as usize - 1 + source.len();
     let mut run = 0;
-    if room < most + (most - 2) / FULL_BLOCK_BYTES {
-        match fits(code, source, room) {
+    if room <= len || !covers_overhead(len, room - len) {
+        match fits(start.code as usize, source, room) {
             Some(first) => run = first,
             None => return false,
         }

@@ -12,7 +12,7 @@ use crate::proved::max_encoding_overhead;
 /// begins with it. Every byte of `buffer` after the frame stays as it was, even if it belongs to the message.
 ///
 /// Precondition: `buffer` has at least [`max_encoding_length`](crate::max_encoding_length) of `len` bytes, so the message
-/// lies within it. (This call is this library's own.)
+/// lies within it.
 ///
 /// ```
 /// # use jcobs::proved::*;

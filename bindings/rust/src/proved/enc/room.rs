@@ -25,12 +25,12 @@ fn fits_each(code: u8, bytes: &[u8], spare: usize) -> bool {
     true
 }
 
-/// Returns whether `spare` bytes cover the overhead of every message of `len` bytes: whether `len` is at most 254 times `spare`. It
-/// needs no division, for which small processors have no instruction. So that no product is too large, it compares halves, and
-/// only if `spare` isn't clearly enough.
+/// Returns whether `spare` bytes cover the overhead of every message of `len` bytes: whether `len` is at most 254 times
+/// `spare`. That is so exactly if the sum of `len` and two times `spare` is at most 256 times `spare`. So it divides by 256
+/// only: small processors have no instruction for other divisions.
 #[inline(always)]
 fn covers_overhead(len: usize, spare: usize) -> bool {
-    len / 128 < spare || len - len / 2 <= 127 * spare
+    (len + 2 * spare - 1) / 256 < spare
 }
 
 /// Returns whether `room` bytes, counted from the code of an open block, are enough for the frame if the block takes
@@ -42,8 +42,9 @@ pub(crate) fn has_room(code: u8, bytes: &[u8], room: usize) -> bool {
     if room <= held || room - held <= bytes.len() {
         return false;
     }
-    let spare = room - held - bytes.len();
-    covers_overhead(held + bytes.len(), spare) || fits_each(code, bytes, spare)
+    let len = held + bytes.len();
+    let spare = room - len;
+    covers_overhead(len, spare) || fits_each(code, bytes, spare)
 }
 
 /// Returns whether `room` bytes, counted from the index of an open block with this code, are enough for the frame if
@@ -98,13 +99,11 @@ pub(crate) fn try_append(source: &[u8], dest: &mut [u8], progress: &mut EncoderP
     // Field by field, here and below: fields that were stored one by one can't be loaded at once without waiting.
     let start = EncoderProgress { ..*progress };
     let room = dest.len() - start.index;
-    let code = start.code as usize;
-    // The length from the open block's code on, if no block becomes full. At most (most - 2) / 254 full blocks are followed by
-    // another byte.
-    let most = code + source.len();
+    // The bytes of the message from the open block on.
+    let len = start.code as usize - 1 + source.len();
     let mut run = 0;
-    if room < most + (most - 2) / FULL_BLOCK_BYTES {
-        match fits(code, source, room) {
+    if room <= len || !covers_overhead(len, room - len) {
+        match fits(start.code as usize, source, room) {
             Some(first) => run = first,
             None => return false,
         }

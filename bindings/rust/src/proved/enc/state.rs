@@ -73,7 +73,7 @@ impl Default for EncoderState {
 
 impl EncoderState {
     /// Returns whether another byte can be pushed: whether the index of the next block fits a `usize`, whatever the
-    /// byte is. (This call is this library's own.)
+    /// byte is.
     ///
     /// ```
     /// use jcobs::EncoderState;
@@ -101,20 +101,21 @@ impl EncoderState {
     /// ```
     #[inline]
     pub fn push(&mut self, byte: u8) -> PushResult {
-        if byte == 0 {
-            let returned = PushResult::ModifyFromStartAndSkip((self.code_index, self.code));
-            self.code_index += self.code as usize;
-            self.code = 1;
-            return returned;
+        let index = self.code_index;
+        if byte != 0 {
+            self.code += 1;
+            if self.code == 255 {
+                let code = full_code();
+                self.code_index = index + 255;
+                self.code = 1;
+                return PushResult::ModifyFromStartAndPushAndSkip((index, code, byte));
+            }
+            return PushResult::AddSingle(byte);
         }
-        self.code += 1;
-        if self.code == 255 {
-            let returned = PushResult::ModifyFromStartAndPushAndSkip((self.code_index, 255, byte));
-            self.code_index += 255;
-            self.code = 1;
-            return returned;
-        }
-        PushResult::AddSingle(byte)
+        let code = self.code;
+        self.code_index = index + code as usize;
+        self.code = 1;
+        PushResult::ModifyFromStartAndSkip((index, code))
     }
 
     /// Ends the message. Returns the index in the output at which the last code belongs, and that code.
@@ -127,4 +128,13 @@ impl EncoderState {
     pub fn finalize(self) -> (usize, u8) {
         (self.code_index, self.code)
     }
+}
+
+/// Returns the code of a full block.
+// Compilers take the branch to a call of a cold function as rare. Without that, they compute the results for all three cases
+// and choose one without a branch, which is slower.
+#[cold]
+#[inline(never)]
+fn full_code() -> u8 {
+    255
 }
