@@ -60,7 +60,6 @@ ENDS = {
 # Comments: what a function's says, and what it says in C; those of "" in each. The words in quotes that are left are names of C.
 COMMENTS = {
     "": [(" (A choice of this library.)", "")],
-    "PieceEnd::reported": [],
     "UnbufferedDecoder::feed_each": [(
         " For the sentinel 0 it does what [`feed_piece`](Self::feed_piece) does. It has no search and no copy of slices, so it is"
         " small, and fast for a few bytes.",
@@ -75,7 +74,6 @@ COMMENTS = {
         "a call with `len` bytes, in which this piece ended or none, and with a buffer of `room` bytes",
     )],
     "decode_piece": [("Returns `None` if there is no piece.", "It returns JCOBS_END_NONE if there is no piece.")],
-    "jcobs_encoder_finish_terminated": [],
     "kind_by_blocks": [(
         ", as [`frame_kind`] does. It goes from one code to the next, and doesn't search the bytes for a zero.",
         ", given bytes without a zero. It goes from one code to the next.",

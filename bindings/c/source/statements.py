@@ -147,7 +147,7 @@ class Statements(Expressions):
         saved = self.env.get(name)
         self.env[name] = Value(name, USIZE)
         self.inside(body)
-        self.env[name] = saved  # its name in C is the same
+        self.env[name] = saved
         self.put("}")
 
     def declare(self, name, kind):

@@ -1,8 +1,8 @@
 /* jcobs.c: the calls of jcobs.h in one file of C, for any processor and compiler. Written by translate.py: don't edit it.
  *
- * Compile it with your program, by C99 or later or as C++, with jcobs.h beside it or in the include path. All that is
- * static in it are constants, the texts of jcobs_strerror. It allocates nothing, and names no function of a C library; a
- * compiler may call memset or memcpy for some of its lines.
+ * Compile it with your program, by C99 or later or as C++, with jcobs.h beside it or in the include path. It has no
+ * variables that stay, only a constant table with the texts of jcobs_strerror. It allocates nothing, and names no function
+ * of a C library; a compiler may call memset or memcpy for some of its lines.
  *
  * What is proved: the functions of crates/cobs_small, for lengths of 64 bits, on any contents of the buffers and the
  * states. Each meets its contract, accesses only the buffers that it is given, and returns. The comment over a function
@@ -10,10 +10,12 @@
  * contracts are defined in crates/cobs_abi/specs and crates/cobs/specs.
  *
  * What is not proved, but tested: that this text does the same. translate.py wrote each function from the one in Rattle,
- * and your compiler compiles it. Lengths have the width of your size_t. bindings/c/tests/run.sh compares two million
- * calls with those of the proved module itself. It and tests/device.sh run this file on processors with 16, 32 and 64
- * bits and both byte orders: the vectors of conformance/ (but on the one with 16 bits), and random calls compared with
- * plain C, with states of random bytes. The calls from jcobs_xor on are written by hand, and tested in the same way.
+ * and your compiler compiles it. Lengths have the width of your size_t. bindings/c/tests/translated.py, which shares
+ * nothing with translate.py, compares the two texts: conditions, loops, operators, numbers, calls and the use of names.
+ * bindings/c/tests/run.sh compares two million calls with those of the proved module itself. It and tests/device.sh run
+ * this file on processors with 16, 32 and 64 bits and both byte orders: the vectors of conformance/ (but on the one with
+ * 16 bits), and random calls compared with plain C, with states of random bytes. The calls from jcobs_xor on are written
+ * by hand, and tested in the same way.
  */
 #include "jcobs.h"
 
@@ -34,11 +36,7 @@ typedef char jcobs_size_t_is_no_shorter_than_int[sizeof(size_t) >= sizeof(unsign
 #define JCOBS_NOINLINE __attribute__((noinline))
 #endif
 #else
-#if defined(__cplusplus) || (defined(__STDC_VERSION__) && __STDC_VERSION__ >= 199901L)
 #define JCOBS_INLINE inline
-#else
-#define JCOBS_INLINE
-#endif
 #define JCOBS_NOINLINE
 #endif
 

@@ -2,8 +2,9 @@
 """Writes jcobs.c from the proved functions in Rattle: translate.py [--check] [CRATES]
 
 Each exported function of crates/cobs_small, and each function that it reaches, becomes one of C with the same statements, names and
-comments; the exported ones have the names that jcobs.h gives their arguments, and say what their contract says. kinds.py says what
-becomes of types. A form that isn't known is an error, with its function. What comes before and after them is in top.c and rest.c.
+comments; names.py says which names and comments are others in C. The exported ones have the names that jcobs.h gives their arguments,
+and say what their contract says. A function that only passes its parameters on isn't written. kinds.py says what becomes of types. A
+form that isn't known is an error, with its function. What comes before and after the functions is in top.c and rest.c.
 The file is written here and to ../device/src; with --check both are compared and not written.
 """
 
@@ -19,6 +20,8 @@ from program import Program
 from rattle import Unknown
 
 HERE = Path(__file__).resolve().parent
+
+
 class Output:
     """The functions in the order that C wants, and the types and constants that they use."""
 
@@ -27,7 +30,7 @@ class Output:
         self.contracts = header.contracts(sorted((crates / "cobs_small/src").glob("*.rt")))
         self.names, self.texts, self.constants = {}, [], {}
         self.structs, self.starts, self.made, self.unused = {}, {}, set(), set()
-        self.replaced = set()  # of names.COMMENTS
+        self.reached, self.replaced = set(), set()  # functions, and what was replaced in their comments
         self.enums = header.enums(include)
         # The structs of jcobs.h, by the names of their members.
         self.given = {tuple(name for _, name in it.values()): of for of, it in header.structs(include).items()}
@@ -40,6 +43,7 @@ class Output:
             made = Function(self, crate, path, item)
             if made.is_exported and (inner := self.only_passes_on(found)) and self.is_part(inner[0][2]):
                 made.take_body(*inner[0], inner[1])
+            self.reached |= {item[1], made.name_here}
             owner, _, method = item[1].rpartition("::")
             of = self.owner(self.program.find(owner, path, crate)[2], made) if owner else "jcobs"
             name = item[1] if made.is_exported else names.FUNCTIONS.get(item[1]) or f"{of}_{snake(method)}"
@@ -163,7 +167,9 @@ def translated(crates):
                 out.function(found)
     rest = (HERE / "rest.c").read_text().rstrip()
     if unused := {(of, old) for of, pairs in names.COMMENTS.items() if of for old, _ in pairs} - out.replaced:
-        raise Unknown(f"comments that no function has: {unused}")
+        raise Unknown(f"names.py has comments that no function has: {unused}")
+    if unused := {*names.FUNCTIONS, *names.VARIABLES} - {"", *out.reached, "UnbufferedEncoder::reset"}:
+        raise Unknown(f"names.py names functions that nothing calls: {unused}")
     if missing := set(out.contracts) - set(out.names.values()):
         raise Unknown(f"not written: {missing}")
     parts = [(HERE / "top.c").read_text().rstrip(), *out.types(), *out.texts, rest]
