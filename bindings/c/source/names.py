@@ -67,11 +67,15 @@ COMMENTS = {
     )],
     "UnbufferedEncoder::feed_len": [(", as [`feed`](UnbufferedEncoder::feed) does, and", ", if it fits, and")],
     "through_piece": [("whose next byte is at `at`: after", "that source[at] belongs to: after")],
-    "ended": [("after `at` bytes of the source", "after `at` bytes of the source in all")],
+    "ended": [(
+        "the result for a piece that ended after this many bytes of output, with this many bytes of its last block missing, and after"
+        " `at` bytes of the source",
+        "the piece that ended in front of source[at], after this many bytes of output, with this many bytes of its last block missing",
+    )],
     "result_by": [("given the message's length or the error", "given how the frame ended")],
     "result_of": [(
         "a call that took these of `len` bytes, into a buffer of `room` bytes",
-        "a call with `len` bytes, in which this piece ended or none, and with a buffer of `room` bytes",
+        "a call that took `len` bytes or those through this piece's end, if it has ended. The buffer has `room` bytes",
     )],
     "decode_piece": [("Returns `None` if there is no piece.", "It returns JCOBS_END_NONE if there is no piece.")],
     "kind_by_blocks": [(

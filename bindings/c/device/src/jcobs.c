@@ -178,8 +178,8 @@ static JCOBS_NOINLINE size_t jcobs_find_end(const unsigned char *source, size_t 
     return end;
 }
 
-/* Returns the result for a piece that ended after this many bytes of output, with this many bytes of its last
- * block missing, and after at bytes of the source in all. */
+/* Returns the piece that ended in front of source[at], after this many bytes of output, with this many bytes of
+ * its last block missing. */
 static JCOBS_INLINE jcobs_piece jcobs_ended_piece(size_t written, size_t missing, size_t at)
 {
     if (missing == 0) {
@@ -383,8 +383,8 @@ static JCOBS_INLINE size_t jcobs_decoder_length(const jcobs_decoder *decoder, si
     return jcobs_min(decoder->written, buffer_len);
 }
 
-/* Returns the result of a call with len bytes, in which this piece ended or none, and with a buffer of buffer_len
- * bytes. */
+/* Returns the result of a call that took len bytes or those through this piece's end, if it has ended. The buffer
+ * has buffer_len bytes. */
 static JCOBS_INLINE jcobs_answer jcobs_decoder_answer(const jcobs_decoder *decoder, jcobs_piece piece, size_t len,
                                                       size_t buffer_len)
 {
