@@ -81,6 +81,8 @@ class Statements(Expressions):
     def do_comment(self, statement):
         width = 116 - len(INDENT) * self.depth
         lines = textwrap.wrap(self.in_c(" ".join(statement[1])), width - 6)
+        if not lines:
+            return
         self.put("/* " + f"\n{INDENT * self.depth} * ".join(lines) + " */")
 
     def do_do(self, statement):

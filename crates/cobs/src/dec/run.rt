@@ -110,6 +110,18 @@ impl UnbufferedDecoder {
         1 + len
     }
 
+    /// Notes the last block of a span as the open one: its code, and how many of its bytes are missing.
+    #[inline(always)]
+    fn settle(&mut self, last: (u8, u8))
+        ensures full { last.0 ≡ 255 → self.new.joint ≡ 0 }
+        ensures other { last.0 ≢ 255 → self.new.joint ≡ 1 }
+        ensures rest { self.new ≡ record self.old { joint = self.new.joint; missing = last.1 } }
+    {
+        let (code, missing) = last;
+        self.joint = joint_after(code);
+        self.missing = missing;
+    }
+
     /// Takes `len` bytes that were moved to the end of the output. None of them is a zero, and no full block ends in them.
     #[inline(always)]
     pub(crate) fn take_moved(&mut self, dest: &mut [u8], len: usize)
@@ -133,9 +145,7 @@ impl UnbufferedDecoder {
             return;
         }
         // The open block is missing as many bytes as one that a code of one more opens.
-        let (code, missing) = write_zeros_at_codes(&mut dest[at..at + len], missing + 1);
-        self.joint = joint_after(code);
-        self.missing = missing;
+        self.settle(write_zeros_at_codes(&mut dest[at..at + len], missing + 1));
     }
 
     /// Takes these bytes, which were copied to the end of the output, each XORed with the sentinel. None of them is the
@@ -163,10 +173,8 @@ impl UnbufferedDecoder {
             self.missing -= len as u8;
             return;
         }
-        // As in `take_moved`.
-        let ends = write_zeros_at_copied(&mut dest[at..at + len], copied, missing + 1, sentinel);
-        self.joint = joint_after(ends.0);
-        self.missing = ends.1;
+        // The open block is missing as many bytes as one that a code of one more opens.
+        self.settle(write_zeros_at_copied(&mut dest[at..at + len], copied, missing + 1, sentinel));
     }
 
     /// Takes up to 253 bytes, in which no full block ends. Returns how many: 0 if the first has no room.

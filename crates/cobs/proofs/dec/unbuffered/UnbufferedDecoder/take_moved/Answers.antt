@@ -8,5 +8,5 @@ returns-then-len-missing-clause-fed c before xs room long is =
 
 pub returns-clause-fed : goal.returns-clause-fed
 returns-clause-fed c before xs room long is =
-    let j = c.joint_after-self.ensures in
-    marked c.args.self.now c.args.len c.args.dest.now c.requires.nonzero before xs room long is c.requires.going c.requires.full c.requires.few (omega arith) _ _ _ _ c.write_zeros_at_codes-code.ensures (joint-is _ _ j.full j.other)
+    let j = c.settle.ensures in
+    rw j.rest (marked c.args.self.now c.args.len c.args.dest.now c.requires.nonzero before xs room long is c.requires.going c.requires.full c.requires.few (omega arith) _ _ _ _ c.write_zeros_at_codes.ensures (joint-is _ _ j.full j.other))
