@@ -114,9 +114,9 @@ extern "C" {
 #define JCOBS_VERSION (JCOBS_VERSION_MAJOR * 10000 + JCOBS_VERSION_MINOR * 100 + JCOBS_VERSION_PATCH)
 
 /* Comes before each prototype. For jcobs.c in one translation unit with the code that calls it, define it as static
- * and include jcobs.c. Compilers then warn of each call that the code doesn't make (-Wunused-function); GCC and Clang
- * don't if you define it as static __attribute__((unused)). In a library, define it as what exports a function or
- * hides it, such as __attribute__((visibility("hidden"))). */
+ * and include jcobs.c; as static inline, so that no compiler warns of the calls that the code doesn't make
+ * (-Wunused-function). In a library, define it as what exports a function or hides it, such as
+ * __attribute__((visibility("hidden"))). */
 #ifndef JCOBS_API
 #define JCOBS_API
 #endif

@@ -136,10 +136,10 @@ class Output:
     def types(self):
         """What stands before the functions."""
         lines = [(f"JCOBS_{name} = {value}", says) for name, (value, says) in sorted(self.constants.items())]
-        marks = [","] * (len(lines) - 1) + [""]
-        width = max(len(text + mark) for (text, _), mark in zip(lines, marks))
-        words = [f"    {text + mark:{width}} /* {says} */" for (text, says), mark in zip(lines, marks)]
-        yield "enum {\n" + "\n".join(words) + "\n};"
+        texts = [f"{text}," for text, _ in lines[:-1]] + [text for text, _ in lines[-1:]]
+        width = max(map(len, texts), default=0)
+        words = [f"    {text:{width}} /* {says} */\n" for text, (_, says) in zip(texts, lines)]
+        yield from ["enum {\n" + "".join(words) + "};"] if words else []
         for name, (item, function) in list(self.structs.items()):
             if name not in self.given.values():
                 yield from self.written_struct(name, item, function)
@@ -166,19 +166,25 @@ def translated(crates):
             if "cobs_small" in path.parts and found[2][0] == "fn" and any("no_mangle" in it for it in found[2][6]):
                 out.function(found)
     rest = (HERE / "rest.c").read_text().rstrip()
+    if missing := set(out.contracts) - set(out.names.values()):
+        raise Unknown(f"not written: {missing}")
+    parts = [(HERE / "top.c").read_text().rstrip(), *out.types(), *out.texts, rest]
+    return "\n\n".join(parts) + "\n", out
+
+
+def want_used(out):
+    """Each name and each comment of names.py is one of these crates."""
     if unused := {(of, old) for of, pairs in names.COMMENTS.items() if of for old, _ in pairs} - out.replaced:
         raise Unknown(f"names.py has comments that no function has: {unused}")
     if unused := {*names.FUNCTIONS, *names.VARIABLES} - {"", *out.reached, "UnbufferedEncoder::reset"}:
         raise Unknown(f"names.py names functions that nothing calls: {unused}")
-    if missing := set(out.contracts) - set(out.names.values()):
-        raise Unknown(f"not written: {missing}")
-    parts = [(HERE / "top.c").read_text().rstrip(), *out.types(), *out.texts, rest]
-    return "\n\n".join(parts) + "\n"
 
 
 def main():
     words = [it for it in sys.argv[1:] if it != "--check"]
-    made = translated(Path(words[0]).resolve() if words else HERE.parents[2] / "crates")
+    made, out = translated(Path(words[0]).resolve() if words else HERE.parents[2] / "crates")
+    if not words:
+        want_used(out)
     for target in (HERE / "jcobs.c", HERE.parent / "device/src/jcobs.c"):
         if "--check" not in sys.argv:
             target.write_text(made)
