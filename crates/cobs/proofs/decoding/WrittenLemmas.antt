@@ -1,7 +1,7 @@
 -- The kept output of a piece, written to the front of a buffer byte by byte, and what of it comes from each block.
-use Rattle.std.proofs.Common.{◌≡◌, ◌≢◌, ◌∙◌, ◌+◌, ◌-◌, ◌<◌, ◌≤◌, ◌⊎◌, ◌==◌, ℕ, suc, Bool, true, false, cond, if◌then◌else◌, List, [], ◌∷◌, ◌++◌, length, take, drop, get_or, set, Result, Ok, Err, refl, sym, ap, arith, inl, inr, append_assoc, append-nil, length-append, length-drop, length-take-le, take-append-drop, take_all, take_at}
+use Rattle.std.proofs.Common.{◌≡◌, ◌≢◌, ◌∙◌, ◌+◌, ◌-◌, ◌<◌, ◌≤◌, ◌⊎◌, ◌==◌, ℕ, suc, Bool, true, false, cond, if◌then◌else◌, List, [], ◌∷◌, ◌++◌, length, take, drop, get_or, set, Result, Ok, Err, refl, sym, ap, arith, inl, inr, append_assoc, append-nil, drop_at, length-append, length-drop, length-take-le, take-append-drop, take_all, take_at}
 use Rattle.std.proofs.lemmas.Bool.{eq-eqb, ne_eqb, true≢false}
-use Rattle.std.proofs.lemmas.List.{drop-drop, drop_all, drop_more, set_at}
+use Rattle.std.proofs.lemmas.List.{drop-drop, drop_all, drop_more, get_or-drop, set_at}
 use Rattle.std.proofs.lemmas.List.Elements.{All-drop, All-get_or, All-take}
 use Rattle.cobs.specs.Decode.{head_result, head_result_within}
 use Rattle.cobs.specs.Grammar.{HasNoZero, IsBlock, joint}
@@ -108,15 +108,31 @@ module _ {h old buffer : List ℕ} {written : ℕ} {left : List ℕ} (s : Writte
   pub written-long : length buffer ≡ length old
   written-long = ap length s.holds ∙ omega (arith, length-append s.done (drop written old), length-drop written old, s.count, s.room)
 
+  -- the other bytes
+  pub written-behind : (k : ℕ) → written ≤ k → get_or buffer k 0 ≡ get_or old k 0
+  written-behind k order =
+      let sum : written + (k - written) ≡ k = omega arith in
+      let same : drop written buffer ≡ drop written old = ap (drop written) s.holds ∙ drop_at s.done (drop written old) written s.count in
+      ap (λ (i : ℕ). get_or buffer i 0) (sym sum) ∙ sym (get_or-drop written buffer (k - written) 0) ∙ ap (λ (xs : List ℕ). get_or xs (k - written) 0) same ∙ get_or-drop written old (k - written) 0
+      ∙ ap (λ (i : ℕ). get_or old i 0) sum
+
   -- nothing is left, and h is whole or not
-  pub all-written : left ≡ [] → (whole : Bool) → whole_left h ≡ whole → Decoded h old buffer (cond whole (Ok written) (Err (InvalidFrame written)))
-  all-written none whole w =
-      let kept : kept_output h ≡ s.done = s.kept ∙ ap (λ (x : List ℕ). s.done ++ x) none ∙ append-nil s.done in
-      let count : length (kept_output h) ≡ written = ap length kept ∙ s.count in
-      let all : take (length old) s.done ≡ s.done = take_all (length old) s.done (omega (arith, s.count, s.room)) in (
-        result-of h whole written w count ∙ result-fits h (length old) (omega (arith, count, s.room)),
-        s.holds ∙ sym (ap (overwritten old) kept ∙ ap (λ (x : List ℕ). x ++ drop (length s.done) old) all ∙ ap (λ (n : ℕ). s.done ++ drop n old) s.count),
-      )
+  module _ (none : left ≡ []) where
+    kept-done : kept_output h ≡ s.done
+    kept-done = s.kept ∙ ap (λ (x : List ℕ). s.done ++ x) none ∙ append-nil s.done
+
+    kept-long : length (kept_output h) ≡ written
+    kept-long = ap length kept-done ∙ s.count
+
+    pub in-place : (whole : Bool) → whole_left h ≡ whole → (cond whole (Ok written) (Err (InvalidFrame written)) ≡ head_result h) × (buffer ≡ overwritten old (kept_output h))
+    in-place whole w =
+        let all : take (length old) s.done ≡ s.done = take_all (length old) s.done (omega (arith, s.count, s.room)) in (
+          result-of h whole written w kept-long,
+          s.holds ∙ sym (ap (overwritten old) kept-done ∙ ap (λ (x : List ℕ). x ++ drop (length s.done) old) all ∙ ap (λ (n : ℕ). s.done ++ drop n old) s.count),
+        )
+
+    pub all-written : (whole : Bool) → whole_left h ≡ whole → Decoded h old buffer (cond whole (Ok written) (Err (InvalidFrame written)))
+    all-written whole w = let d = in-place whole w in (d.0 ∙ result-fits h (length old) (omega (arith, kept-long, s.room)), d.1)
 
   -- the next byte
   module _ (byte : ℕ) (more : List ℕ) (next : left ≡ byte ∷ more) where

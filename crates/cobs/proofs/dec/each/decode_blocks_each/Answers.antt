@@ -1,88 +1,184 @@
--- The loop over a block's bytes has moved as many as it has read. `InPlaceLemmas` has a lemma for a block with a zero after it, for
--- one without, and for one that breaks off.
-use Rattle.std.proofs.Common.{◌≡◌, ◌≢◌, ◌+◌, ◌-◌, ◌<◌, ◌≤◌, ◌⊎◌, ℕ, List, [], length, get_or, set, arith, refl, inl, inr}
-use Rattle.cobs.proofs.decoding.BlockLemmas.{code-some}
-use Rattle.cobs.proofs.decoding.InPlaceLemmas.{DecodedInPlace, all-read, at, broken, stepped-plain, stepped-zero}
-use Rattle.cobs.proofs.decoding.MoveLemmas.{Moved, moved-more, moved-none}
+-- What is left of the kept output begins with the bytes of the open block (`kept-block`), and each is moved to its place.
+use Rattle.std.proofs.Common.{◌≡◌, ◌≢◌, ◌∙◌, ◌+◌, ◌-◌, ◌<◌, ◌≤◌, ◌⊎◌, ◌++◌, ◌∷◌, [], ℕ, suc, List, true, false, length, take, drop, get_or, set, refl, sym, ap, arith, inl, inr, length-drop, length-take-le}
+use Rattle.std.proofs.lemmas.List.{drop-drop, drop_all, drop_more, get_or-drop, get_or-take}
+use Rattle.std.proofs.lemmas.List.Elements.{All-drop}
+use Rattle.cobs.specs.Grammar.{HasNoZero}
+use Rattle.cobs.specs.Piece.{kept_output}
+use Rattle.cobs.proofs.decoding.KeptLemmas.{kept_output-empty}
+use Rattle.cobs.proofs.decoding.WrittenLemmas.{Written, code-some, in-place, kept-block, kept-none, whole-block, whole-none, whole_left, written-behind, written-long, written-more, written-none, zero_before, zero_before-none, zero_before-some}
 use Rattle.cobs.proofs.dec.each.decode_blocks_each.Goals as goal
-use Rattle.cobs.proofs.dec.each.decode_blocks_each.Goals.{then-read-next+then-read-next-2, else-read-next, else-code-ne-FULL_CODE-via-then-code-ne-FULL_CODE+else-read-end, else-code-ne-FULL_CODE-via-else-code-ne-FULL_CODE}
+use Rattle.cobs.proofs.dec.each.decode_blocks_each.Goals.{Joined-read-next, then-read-next+then-read-next-2, else-read-next, else-code-ne-FULL_CODE-via-then-code-ne-FULL_CODE+else-read-end, else-code-ne-FULL_CODE-via-else-code-ne-FULL_CODE}
 
--- one more byte, at the places that the loop has
-one-more : {old now : List ℕ} {from to n at end : ℕ} → Moved old from to n now → to ≤ from → from + n < length old → length now ≡ length old → at ≡ from + n → end ≡ to + n → Moved old from to (n + 1) (set now end (get_or now at 0))
-one-more {old} {now} {from} {to} {n} m order within len is ends = rw (is, ends) (moved-more old from to n now m order within len)
+module _ (old : List ℕ) (end : ℕ) (fits : end ≤ length old) where
+  abbrev h : List ℕ
+  h = take end old
+
+  long : length h ≡ end
+  long = length-take-le end old fits
+
+  -- the next byte of a block, which is still in its old place
+  module _ {buffer left : List ℕ} {written : ℕ} (w : Written h old buffer written left) (read : ℕ) (order : written ≤ read) (here : read < end) where
+    byte-is : get_or buffer read 0 ≡ get_or h read 0
+    byte-is = written-behind w read order ∙ sym (get_or-take end old read 0 here)
+
+    next-byte : (next : ℕ) (tail : List ℕ) → read < next → take (next - read) (drop read h) ++ tail ≡ get_or buffer read 0 ∷ (take (next - (read + 1)) (drop (read + 1) h) ++ tail)
+    next-byte next tail more =
+        let one : next - read ≡ suc (next - (read + 1)) = omega arith in
+        ap (λ (x : List ℕ). take (next - read) x ++ tail) (drop_more h read 0 (omega (arith, long)))
+        ∙ ap (λ (k : ℕ). take k (get_or h read 0 ∷ drop (read + 1) h) ++ tail) one ∙ ap (λ (b : ℕ). b ∷ (take (next - (read + 1)) (drop (read + 1) h) ++ tail)) (sym byte-is)
+
+    -- the last one
+    last-byte : (next : ℕ) (tail : List ℕ) → left ≡ take (next - read) (drop read h) ++ tail → read + 1 ≡ next → written < length buffer → Written h old (set buffer written (get_or buffer read 0)) (written + 1) tail
+    last-byte next tail e last room =
+        let none : next - (read + 1) ≡ 0 = omega arith in
+        let m = written-more w (get_or buffer read 0) (take (next - (read + 1)) (drop (read + 1) h) ++ tail) (e ∙ next-byte next tail (omega arith)) room in
+        rw none at m
+
+    -- the code of a block
+    module _ (nonzero : HasNoZero h) (small : (i : ℕ) → get_or old i 0 < 256) where
+      abbrev code : ℕ
+      code = get_or buffer read 0
+
+      abbrev p : List ℕ
+      p = drop read h
+
+      p-long : length p ≡ end - read
+      p-long = length-drop read h ∙ ap (λ (n : ℕ). n - read) long
+
+      some : 0 < length p
+      some = omega (arith, p-long)
+
+      is : code ≡ get_or p 0 0
+      is = byte-is ∙ sym (get_or-drop read h 0 0 ∙ ap (λ (k : ℕ). get_or h k 0) (omega arith))
+
+      p-nonzero : HasNoZero p
+      p-nonzero = All-drop (λ b. b ≢ 0) read h nonzero
+
+      below : code < 256
+      below = omega (arith, written-behind w read order, small read)
+
+      positive : 0 < code
+      positive = code-some p code some is p-nonzero
+
+      module _ (whole : code ≤ end - read) where
+        p-fits : code ≤ length p
+        p-fits = omega (arith, p-long)
+
+        begun : left ≡ kept_output p → Written h old buffer written (take (code - 1) (drop (read + 1) h) ++ (zero_before code (drop (read + code) h) ++ kept_output (drop (read + code) h)))
+        begun e = rw (← drop-drop 1 read h, ← drop-drop code read h, ← kept-block p code some is p-nonzero below p-fits, ← e) w
+
+        whole-next : whole_left p ≡ whole_left (drop (read + code) h)
+        whole-next = whole-block p code some is p-nonzero below p-fits ∙ ap whole_left (drop-drop code read h)
 
 -- the bytes of the block with this code are moved, up to `r` and to `w`
-record BlockMoved (buffer : List ℕ) (read written code : ℕ) (after : List ℕ) (r w : ℕ) : Type 0 where
-  read-is : r ≡ read + code
-  written-is : w ≡ written + (code - 1)
-  moved : Moved buffer (read + 1) written (code - 1) after
-
--- none, for a block without bytes
-none-moved : {buffer after : List ℕ} {read written code r w : ℕ} → read + 1 ≡ read + code → after ≡ buffer → r ≡ read + 1 → w ≡ written → BlockMoved buffer read written code after r w
-none-moved {buffer} {after} {read} {written} {code} one is r-is w-is =
-    let none : code - 1 ≡ 0 = omega arith in
-    record { read-is = omega arith; written-is = omega arith; moved = rw (none, is) (moved-none buffer (read + 1) written) }
-
--- all, when the loop has moved n and then the last one
-all-moved : {buffer after : List ℕ} {read written code r w : ℕ} (n : ℕ) → r ≡ read + code → r ≡ read + 1 + n + 1 → w ≡ written + n + 1 → Moved buffer (read + 1) written (n + 1) after → BlockMoved buffer read written code after r w
-all-moved {buffer} {after} {read} {written} {code} n r-is n-is w-is m =
-    let all : code - 1 ≡ n + 1 = omega arith in
-    record { read-is = r-is; written-is = omega arith; moved = rw all m }
-
-module _ {old buffer after : List ℕ} {end read written r w : ℕ} (s : DecodedInPlace old end buffer read written) (here : read < end) (whole : get_or buffer read 0 ≤ end - read)
-    (m : BlockMoved buffer read written (get_or buffer read 0) after r w) where
-  next-zero : r < end → get_or buffer read 0 ≢ 255 → DecodedInPlace old end (set after w 0) r (w + 1)
-  next-zero far other =
-      let r-is = m.read-is in
-      rw r-is (stepped-zero _ _ _ _ _ s here whole after w m.written-is m.moved.front m.moved.rest (omega arith) other)
-
-  next-plain : (end ≤ r) ⊎ (get_or buffer read 0 ≡ 255) → DecodedInPlace old end after r w
-  next-plain none-due = rw m.read-is (stepped-plain _ _ _ _ _ s here whole after w m.written-is m.moved.front m.moved.rest (rw m.read-is at none-due))
+record BlockMoved (old : List ℕ) (end code next : ℕ) (after : List ℕ) (r w : ℕ) : Type 0 where
+  read-is : r ≡ next
+  order : w < r
+  written : Written (take end old) old after w (zero_before code (drop next (take end old)) ++ kept_output (drop next (take end old)))
 
 pub by_block-init : goal.by_block-init
 by_block-init c =
     let below = λ (i : ℕ). (let fits = c.type_inv.buffer i in let n : get_or c.args.buffer.now i 0 < 256 = omega arith in n) in
-    record { fits = c.requires.within; nonzero = c.requires.nonzero; below = below; order = omega arith; within = omega arith; done = []; count = refl; holds = refl; kept = refl; whole = refl }
+    record { order = omega arith; within = omega arith; below = below; whole = refl; written = written-none _ _ }
 
 pub returns-then-end-read : goal.returns-then-end-read
 returns-then-end-read c =
-    let both = broken _ _ _ _ _ c.by_block.invariant c.by_block-test.true c.if-end-read.true in
+    let i = c.by_block.invariant in
+    let old : List ℕ = c.args.buffer.now in
+    let here : c.by_block.read < c.args.end = c.by_block-test.true in
+    let is-code = is old c.args.end c.requires.within i.written c.by_block.read i.order here c.requires.nonzero i.below in
+    let p-some = some old c.args.end c.requires.within i.written c.by_block.read i.order here c.requires.nonzero i.below in
+    let less : length (drop c.by_block.read (take c.args.end old)) < get_or c.by_block.buffer c.by_block.read 0
+    = omega (arith, c.if-end-read.true, p-long old c.args.end c.requires.within i.written c.by_block.read i.order here c.requires.nonzero i.below) in
+    let both = in-place i.written (kept-none _ _ p-some is-code less) false (i.whole ∙ whole-none _ _ p-some is-code less) in
     record { returned = both.0; buffer = both.1 }
 
 pub by_byte-init : goal.by_byte-init
 by_byte-init c =
-    let some = code-some _ _ _ (at _ _ _ _ _ c.by_block.invariant c.by_block-test.true) in
-    record { n = 0; left = omega arith; read = omega arith; written = omega arith; moved = moved-none _ _ _ }
+    let i = c.by_block.invariant in
+    let old : List ℕ = c.args.buffer.now in
+    let here : c.by_block.read < c.args.end = c.by_block-test.true in
+    let b = begun old c.args.end c.requires.within i.written c.by_block.read i.order here c.requires.nonzero i.below c.if-end-read.false refl in
+    let some = positive old c.args.end c.requires.within i.written c.by_block.read i.order here c.requires.nonzero i.below in
+    let rest : c.by_block.read + get_or c.by_block.buffer c.by_block.read 0 - (c.by_block.read + 1) ≡ get_or c.by_block.buffer c.by_block.read 0 - 1 = omega arith in
+    record { from = omega arith; order = omega arith; left = omega (arith, some, c.if-read-next.true); written = rw rest b }
 
 pub by_byte-preserved : goal.by_byte-preserved
 by_byte-preserved c =
     let s = c.by_byte.invariant in
-    let d = c.by_block.invariant in
-    record { n = s.n + 1; left = omega arith; read = omega arith; written = omega arith; moved = one-more s.moved (omega arith) (omega arith) (omega arith) s.read s.written }
+    let here : c.by_byte.read < c.args.end = omega (arith, s.left, c.if-end-read.false) in
+    record {
+      from = omega (arith, s.from);
+      order = omega (arith, s.order);
+      left = omega (arith, s.left, c.if-read-next-2.false);
+      written = written-more s.written _ _ (next-byte c.args.buffer.now c.args.end c.requires.within s.written c.by_byte.read (omega (arith, s.order)) here _ _ s.left) (omega (arith, written-long s.written, s.order, c.requires.within));
+    }
+
+-- where the block ends
+moved : (c : Joined-read-next) → let code = get_or c.by_block.buffer c.by_block.read 0 in
+    BlockMoved c.args.buffer.now c.args.end code (c.by_block.read + code) c.if-read-next.buffer c.if-read-next.read c.if-read-next.written
+moved c =
+    let i = c.by_block.invariant in
+    let code : ℕ = get_or c.by_block.buffer c.by_block.read 0 in
+    elim c.if-read-next.branch [
+      | then-read-next+then-read-next-2 w ↦ (let s = w.by_byte.invariant in
+          let here : w.by_byte.read < c.args.end = omega (arith, s.left, c.if-end-read.false) in
+          let room : w.by_byte.written < length w.by_byte.buffer = omega (arith, written-long s.written, s.order, here, c.requires.within) in
+          record {
+            read-is = omega arith;
+            order = omega (arith, s.order);
+            written = rw (w.buffer-is, w.written-is) (last-byte _ _ c.requires.within s.written w.by_byte.read (omega (arith, s.order)) here _ _ refl w.if-read-next-2.true room);
+          })
+      | else-read-next w ↦ (let none : code - 1 ≡ 0 = omega arith in
+          record {
+            read-is = omega arith;
+            order = omega (arith, i.order);
+            written = rw (w.buffer-is, w.written-is) (rw none at (begun _ _ c.requires.within i.written _ i.order c.by_block-test.true c.requires.nonzero i.below c.if-end-read.false refl));
+          })
+    ]
+
+-- and that the bytes from there on are whole if all are
+whole-from : (c : Joined-read-next) → whole_left (take c.args.end c.args.buffer.now) ≡ whole_left (drop c.if-read-next.read (take c.args.end c.args.buffer.now))
+whole-from c =
+    let i = c.by_block.invariant in
+    rw (moved c).read-is (i.whole ∙ whole-next _ _ c.requires.within i.written _ i.order c.by_block-test.true c.requires.nonzero i.below c.if-end-read.false)
 
 pub by_block-preserved-then-read-end : goal.by_block-preserved-then-read-end
 by_block-preserved-then-read-end c =
-    next-zero c.by_block.invariant c.by_block-test.true c.if-end-read.false
-    (elim c.if-read-next.branch [
-      | then-read-next+then-read-next-2 w ↦ (let s = w.by_byte.invariant in let d = c.by_block.invariant in
-          all-moved s.n (omega arith) (omega arith) (omega arith) (rw w.buffer-is (one-more s.moved (omega arith) (omega arith) (omega arith) s.read s.written)))
-      | else-read-next w ↦ none-moved w.if-read-next.false w.buffer-is w.read-is w.written-is
-    ]) c.if-read-end.true c.if-code-ne-FULL_CODE.true
+    let m = moved (goal.at.by_block-preserved-then-read-end c).Joined-read-next in
+    let next : ℕ = c.by_block.read + get_or c.by_block.buffer c.by_block.read 0 in
+    let h : List ℕ = take c.args.end c.args.buffer.now in
+    let far : 0 < length (drop next h) = omega (arith, length-drop next h, long c.args.buffer.now c.args.end c.requires.within, m.read-is, c.if-read-end.true) in
+    let zero = ap (λ (x : List ℕ). x ++ kept_output (drop next h)) (zero_before-some _ _ far c.if-code-ne-FULL_CODE.true) in
+    record {
+      order = omega (arith, m.order);
+      within = omega (arith, c.if-read-end.true);
+      below = c.by_block.invariant.below;
+      whole = whole-from (goal.at.by_block-preserved-then-read-end c).Joined-read-next;
+      written = rw m.read-is (written-more m.written _ _ zero (omega (arith, written-long m.written, m.order, c.if-read-end.true, c.requires.within)));
+    }
 
 pub by_block-preserved : goal.by_block-preserved
 by_block-preserved c =
-    next-plain c.by_block.invariant c.by_block-test.true c.if-end-read.false
-    (elim c.if-read-next.branch [
-      | then-read-next+then-read-next-2 w ↦ (let s = w.by_byte.invariant in let d = c.by_block.invariant in
-          all-moved s.n (omega arith) (omega arith) (omega arith) (rw w.buffer-is (one-more s.moved (omega arith) (omega arith) (omega arith) s.read s.written)))
-      | else-read-next w ↦ none-moved w.if-read-next.false w.buffer-is w.read-is w.written-is
-    ])
-    (elim c.else-code-ne-FULL_CODE.branch [
-      | else-code-ne-FULL_CODE-via-then-code-ne-FULL_CODE+else-read-end w ↦ inl (omega (arith, w.if-read-end.false))
+    let m = moved (goal.at.by_block-preserved c).Joined-read-next in
+    let next : ℕ = c.by_block.read + get_or c.by_block.buffer c.by_block.read 0 in
+    let h : List ℕ = take c.args.end c.args.buffer.now in
+    let none-due : (length (drop next h) ≡ 0) ⊎ (get_or c.by_block.buffer c.by_block.read 0 ≡ 255) = elim c.else-code-ne-FULL_CODE.branch [
+      | else-code-ne-FULL_CODE-via-then-code-ne-FULL_CODE+else-read-end w ↦
+          inl (omega (arith, length-drop next h, long c.args.buffer.now c.args.end c.requires.within, m.read-is, w.if-read-end.false))
       | else-code-ne-FULL_CODE-via-else-code-ne-FULL_CODE w ↦ inr w.if-code-ne-FULL_CODE.false
-    ])
+    ] in
+    record {
+      order = omega (arith, m.order);
+      within = omega (arith, m.read-is, c.if-end-read.false);
+      below = c.by_block.invariant.below;
+      whole = whole-from (goal.at.by_block-preserved c).Joined-read-next;
+      written = rw m.read-is (rw (zero_before-none _ _ none-due) at m.written);
+    }
 
 pub returns : goal.returns
 returns c =
-    let both = all-read _ _ _ _ _ c.by_block.invariant c.by_block-test.false in
+    let i = c.by_block.invariant in
+    let none : drop c.by_block.read (take c.args.end c.args.buffer.now) ≡ [] = drop_all c.by_block.read _ (omega (arith, long c.args.buffer.now c.args.end c.requires.within, c.by_block-test.false)) in
+    let both = in-place i.written (ap kept_output none ∙ kept_output-empty) true (i.whole ∙ ap whole_left none) in
     record { returned = both.0; buffer = both.1 }

@@ -1,23 +1,33 @@
-use Rattle.std.proofs.Common.{◌≡◌, ◌+◌, ◌-◌, ◌<◌, ℕ}
-use Rattle.cobs.proofs.decoding.InPlaceLemmas.{DecodedInPlace}
-use Rattle.cobs.proofs.decoding.MoveLemmas.{Moved}
+use Rattle.std.proofs.Common.{◌≡◌, ◌++◌, ◌-◌, ◌<◌, ◌≤◌, ℕ, drop, get_or, take}
+use Rattle.cobs.specs.Piece.{kept_output}
+use Rattle.cobs.proofs.decoding.WrittenLemmas.{Written, whole_left, zero_before}
 use Rattle.cobs.proofs.dec.each.decode_blocks_each.Given as goal
 
+-- the blocks before `read` are decoded
 abbrev pub invariant-by_block : goal.invariant-by_block
-invariant-by_block l = DecodedInPlace l.fn.buffer l.end l.buffer l.read l.written
+invariant-by_block l =
+    let h = take l.end l.fn.buffer in
+    record {
+      order : l.written ≤ l.read;
+      within : l.read ≤ l.end;
+      below : (i : ℕ) → get_or l.fn.buffer i 0 < 256;
+      whole : whole_left h ≡ whole_left (drop l.read h);
+      written : Written h l.fn.buffer l.buffer l.written (kept_output (drop l.read h));
+    }
 
 abbrev pub decreases-by_block : goal.decreases-by_block
 decreases-by_block l = l.end - l.read
 
--- n bytes of the block are moved
+-- and the first bytes of a block
 abbrev pub invariant-by_byte : goal.invariant-by_byte
-invariant-by_byte l = record {
-  n : ℕ;
-  left : l.read < l.next;
-  read : l.read ≡ l.initial.read + n;
-  written : l.written ≡ l.initial.written + n;
-  moved : Moved l.initial.buffer l.initial.read l.initial.written n l.buffer;
-}
+invariant-by_byte l =
+    let h = take l.end l.fn.buffer in
+    record {
+      from : l.initial.read ≤ l.read;
+      order : l.written < l.read;
+      left : l.read < l.next;
+      written : Written h l.fn.buffer l.buffer l.written (take (l.next - l.read) (drop l.read h) ++ (zero_before l.code (drop l.next h) ++ kept_output (drop l.next h)));
+    }
 
 abbrev pub decreases-by_byte : goal.decreases-by_byte
 decreases-by_byte l = l.next - l.read
