@@ -462,11 +462,12 @@ size_t jcobs_max_length(size_t message_len)
 }
 
 /* Returns whether spare bytes cover the overhead of every message of len bytes: whether len is at most 254 times
- * spare. That is so exactly if the sum of len and two times spare is at most 256 times spare. So it divides by 256
- * only: small processors have no instruction for other divisions. */
+ * spare. That is so exactly if half of len, rounded up, and spare are together at most 128 times spare. So it
+ * divides by powers of two only, because small processors have no instruction for other divisions, and no sum is
+ * too large. */
 static JCOBS_INLINE int jcobs_covers_overhead(size_t len, size_t spare)
 {
-    return (len + 2 * spare - 1) / 256 < spare;
+    return (len - len / 2 + spare - 1) / 128 < spare;
 }
 
 /* Returns whether fewer than spare blocks become full and are followed by another byte, if the open block with

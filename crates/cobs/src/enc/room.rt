@@ -35,15 +35,15 @@ fn fits_each(code: u8, bytes: &[u8], spare: usize) -> bool
 }
 
 /// Returns whether `spare` bytes cover the overhead of every message of `len` bytes: whether `len` is at most 254 times
-/// `spare`. That is so exactly if the sum of `len` and two times `spare` is at most 256 times `spare`. So it divides by 256
-/// only: small processors have no instruction for other divisions.
+/// `spare`. That is so exactly if half of `len`, rounded up, and `spare` are together at most 128 times `spare`. So it divides
+/// by powers of two only, because small processors have no instruction for other divisions, and no sum is too large.
 #[inline(always)]
 fn covers_overhead(len: usize, spare: usize) -> bool
     requires some { 0 < spare }
-    requires room { len + spare < 2 ^ 63 }
+    requires room { len + spare < 2 ^ 64 }
     ensures { IsTrue result ↔ (max_encoded_len len ≤ len + spare) }
 {
-    (len + 2 * spare - 1) / 256 < spare
+    (len - len / 2 + spare - 1) / 128 < spare
 }
 
 /// Returns whether `room` bytes, counted from the code of an open block, are enough for the frame if the block takes
@@ -54,7 +54,6 @@ fn covers_overhead(len: usize, spare: usize) -> bool
 pub(crate) fn has_room(code: u8, bytes: &[u8], room: usize) -> bool
     requires some { 0 < code }
     requires open_block { code < 255 }
-    requires room { room < 2 ^ 63 }
     ensures fits { IsTrue result ↔ (open_len code bytes.now ≤ room) }
 {
     let held = code as usize - 1;

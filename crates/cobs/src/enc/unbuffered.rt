@@ -31,7 +31,7 @@ use cobs_bytes::window::has_vectors;
 /// assert!(rt; buffer.starts_with(b"\x06hello"));
 /// ```
 #[repr(C)]
-#[derive(Debug, Clone, Copy)]
+#[derive(Debug, Clone, Copy, PartialEq, Eq)]
 pub struct UnbufferedEncoder {
     /// The index in the buffer at which the code of the open block belongs.
     pub index: usize,

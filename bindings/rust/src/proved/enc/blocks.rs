@@ -6,8 +6,8 @@ use crate::proved::cobs_bytes::window::{WINDOW, copy_at, copy_window, write_row,
 use crate::proved::enc::progress::EncoderProgress;
 use crate::proved::find::position_or_len;
 
-/// Fewer bytes are appended one by one: in the Rust crate that is faster than a window.
-pub(crate) const FEW: usize = 8;
+/// Fewer bytes are appended one by one: in the Rust crate that is faster than a window. `push_few` takes up to this number.
+pub(crate) const APPEND_EACH_BELOW: usize = 8;
 
 /// The mask of a window that has only zeros.
 const ALL_ZEROS: u64 = 0xffff_ffff;
@@ -22,7 +22,7 @@ fn progress_at(index: usize, next: usize, is_full: bool) -> EncoderProgress {
     }
 }
 
-/// Returns whether `len` bytes are at least one and at most a window, and can't fill the open block.
+/// Returns whether `len` is from 1 to the length of a window, and this number of bytes can't fill the open block.
 #[inline(always)]
 pub(crate) fn fits_window_and_block(progress: EncoderProgress, len: usize) -> bool {
     0 < len && len <= WINDOW && progress.code as usize + len < FULL_CODE
@@ -87,7 +87,7 @@ pub(crate) fn append_short(
     test_for_none: bool,
 ) -> EncoderProgress {
     let len = source.len();
-    if len < FEW {
+    if len < APPEND_EACH_BELOW {
         return append_few(source, len, dest, progress);
     }
     let start = progress.index;

@@ -26,11 +26,11 @@ fn fits_each(code: u8, bytes: &[u8], spare: usize) -> bool {
 }
 
 /// Returns whether `spare` bytes cover the overhead of every message of `len` bytes: whether `len` is at most 254 times
-/// `spare`. That is so exactly if the sum of `len` and two times `spare` is at most 256 times `spare`. So it divides by 256
-/// only: small processors have no instruction for other divisions.
+/// `spare`. That is so exactly if half of `len`, rounded up, and `spare` are together at most 128 times `spare`. So it divides
+/// by powers of two only, because small processors have no instruction for other divisions, and no sum is too large.
 #[inline(always)]
 fn covers_overhead(len: usize, spare: usize) -> bool {
-    (len + 2 * spare - 1) / 256 < spare
+    (len - len / 2 + spare - 1) / 128 < spare
 }
 
 /// Returns whether `room` bytes, counted from the code of an open block, are enough for the frame if the block takes

@@ -3,7 +3,7 @@
 
 use crate::proved::block::{FULL_BLOCK_BYTES, FULL_CODE};
 use crate::proved::enc::UnbufferedEncoder;
-use crate::proved::enc::blocks::{FEW, append_few};
+use crate::proved::enc::blocks::{APPEND_EACH_BELOW, append_few};
 use crate::proved::enc::room::has_room;
 use crate::proved::error::DestBufTooSmallError;
 
@@ -133,7 +133,7 @@ impl UnbufferedEncoder {
         let len = bytes.len();
         let taken = self.taken as usize;
         let room = dest.len().saturating_sub(self.index);
-        if len == 0 || FEW < len || 253 < taken + len || room <= taken + len {
+        if len == 0 || APPEND_EACH_BELOW < len || 253 < taken + len || room <= taken + len {
             return false;
         }
         *self = UnbufferedEncoder::from_progress(append_few(bytes, len, dest, self.progress()));

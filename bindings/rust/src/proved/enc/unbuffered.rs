@@ -29,7 +29,7 @@ use crate::proved::error::DestBufTooSmallError;
 /// # Ok::<(), Box<dyn std::error::Error>>(())
 /// ```
 #[repr(C)]
-#[derive(Debug, Clone, Copy)]
+#[derive(Debug, Clone, Copy, PartialEq, Eq)]
 pub struct UnbufferedEncoder {
     /// The index in the buffer at which the code of the open block belongs.
     pub index: usize,
