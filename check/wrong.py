@@ -67,8 +67,8 @@ DECODER = [
     ("jcobs_decode", "decoded", "piece.consumed, message_len)", 0, "piece.consumed, piece.count)"),
 ]  # fmt: skip
 ENCODER = [
-    ("jcobs_covers_overhead", "", "2 * spare - 1", 0, "2 * spare - 2"),
-    ("jcobs_covers_overhead", "", "/ 256 < spare", 0, "/ 256 <= spare"),
+    ("jcobs_covers_overhead", "", "/ 128 < spare", 0, "/ 128 <= spare"),
+    ("jcobs_covers_overhead", "", "len - len / 2", 0, "len / 2"),
     ("jcobs_has_room", "", "room - held <= len", 0, "room - held < len"),
     ("jcobs_encoder_append_byte", "code", "buffer[encoder->index] = code;", 0, "buffer[encoder->index] = 255;"),
     ("jcobs_encoder_append_byte", "index", "encoder->index = next;", 0, "encoder->index = next + 1;"),
