@@ -123,6 +123,7 @@ if has "$node" nodejs 'Node'; then
 fi
 if has python3 python3 'the documents'; then
     part 'C: jcobs.c is translated from the proved module' "$c/source/translate.py" --check
+    part 'C: its functions are the proved ones' "$c/tests/translated.py"
     if rustfmt --version >/dev/null 2>&1; then
         part 'Rust: its functions are the proved ones' "$root/bindings/rust/tests/proved.py"
     else

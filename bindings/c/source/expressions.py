@@ -2,7 +2,8 @@
 
 import re
 
-from kinds import BOOL, BYTE, FOUND, NUMBERS, OUTCOME, SCALARS, USIZE, Kinds, Slice, Value, snake
+import names
+from kinds import BOOL, BYTE, END, FRAME, NUMBERS, PIECE, SCALARS, USIZE, Kinds, Slice, Value
 from rattle import Unknown
 
 # What jcobs.h calls these.
@@ -24,6 +25,8 @@ class Expressions(Kinds):
         return method(tree, expected)
 
     def on_number(self, tree, expected):
+        if tree[1] in names.NUMBERS:
+            return self.on_path(("path", names.NUMBERS[tree[1]]), expected)
         if int(tree[1], 0) > 32767:
             raise Unknown(f"{self.name}: {tree[1]} may not fit an int")
         return Value(tree[1], expected or USIZE, literal=True)
@@ -36,16 +39,16 @@ class Expressions(Kinds):
         if name in self.env:
             return self.env[name]
         if name == "None":
-            return self.outcome("None", [], expected)
+            return self.ended("None", [], expected)
         if item := self.variant(name):
             return self.constructed(name, [], item)
         crate, path, item = self.find(name)
         if item[0] != "const":
             raise Unknown(f"{self.name}: {name}")
         there = self.other(crate, path, name)
-        if item[3][0] == "struct":
-            return there.value(item[3])
-        text = CONSTANTS.get(name) or self.out.constant(name, there.number(item[3]))
+        if item[3][0] == "as" and item[3][1][0] == "path":  # the same constant, as a number of another type
+            return Value(there.on_path(item[3][1], expected).text, item[2], literal=True)
+        text = CONSTANTS.get(name) or self.out.constant(name, there.number(item[3]), item[4])
         return Value(text, item[2], literal=True)
 
     def number(self, tree):
@@ -62,28 +65,33 @@ class Expressions(Kinds):
             return {"+": a + b, "-": a - b, "*": a * b}[tree[1]]
         raise Unknown(f"{self.name}: constant {tree}")
 
-    def outcome(self, kind, words, expected=OUTCOME):
-        words = [*words, *["0"] * (1 + (expected == FOUND) - len(words))]
-        name = "jcobs_found_of" if expected == FOUND else "jcobs_outcome_of"
-        self.out.helpers.add(name)
-        return Value(f"{name}({self.out.kind(kind)}, {', '.join(words)})", FOUND if expected == FOUND else OUTCOME)
+    def ended(self, variant, words, expected=END):
+        """How a piece or a frame ended, and its numbers; those that it hasn't are 0."""
+        kind = PIECE if expected == PIECE else END
+        words = [self.end_kind(variant), *words, *["0"] * (1 + (kind == PIECE) - len(words))]
+        return Value(f"jcobs_make_{kind[0]}({', '.join(words)})", kind)
+
+    def end_kind(self, variant):
+        """The kind of end that a variant says."""
+        kinds = [kind for kind, variants in names.ENDS.items() if variant.rsplit("::", 1)[-1] in variants]
+        if len(kinds) != 1:
+            raise Unknown(f"{self.name}: {variant} is no end")
+        return kinds[0]
 
     def constructed(self, name, values, item):
         """A variant of an enum."""
         kind = name.rsplit("::", 1)[1]
         if not any(fields for _, fields in item[2]):
             return Value(self.out.variant(item, kind), ("path", item[1], []))
-        return self.outcome(kind, [it.text for it in values])
+        return self.ended(kind, [it.text for it in values])
 
     def on_struct(self, tree, expected):
         if item := self.variant(tree[1]):
             return self.constructed(tree[1], [self.value(it) for _, it in tree[2]], item)
         item = self.find(tree[1])[2]
         fields = dict(tree[2])
-        made = Value("", ("path", item[1], []))
-        made.fields = [(name, self.value(fields[name], kind)) for name, kind in item[2]]
-        made.text = f"{self.out.constructor(item, self)}({', '.join(it.text for _, it in made.fields)})"
-        return made
+        words = [self.value(fields[name], kind).text for name, kind in item[2]]
+        return Value(f"{self.out.constructor(item, self)}({', '.join(words)})", ("path", item[1], []))
 
     def on_field(self, tree, expected):
         of = self.value(tree[2])
@@ -129,14 +137,15 @@ class Expressions(Kinds):
         of = self.value(tree[1])
         if of.literal or self.c_type(of.kind) == self.c_type(tree[2]):
             return Value(of.text, tree[2], of.level, of.literal)
-        return Value(f"({self.c_type(tree[2])}){of.at(15)}", tree[2], 15)
+        made = Value(f"({self.c_type(tree[2])}){of.at(15)}", tree[2], 15)
+        made.widened = of if (of.kind, tree[2]) == (BYTE, USIZE) else None
+        return made
 
     def on_binary(self, tree, expected):
         _, sign, left, right = tree
         logical = sign in ("&&", "||")
         wanted = None if logical or sign in COMPARED else expected
-        a = self.value(left, wanted)
-        b = self.value(right, wanted)
+        a, b = self.without_casts(self.value(left, wanted), self.value(right, wanted), sign)
         if a.literal != b.literal:
             a.kind = b.kind = b.kind if a.literal else a.kind
         level = LEVELS[sign]
@@ -149,6 +158,15 @@ class Expressions(Kinds):
             return Value(f"(unsigned char)({text})", BYTE, 15)
         return Value(text, a.kind, level)
 
+    def without_casts(self, a, b, sign):
+        """Without the casts of a byte to a size_t that C makes by itself: beside a size_t, or beside a constant in a comparison."""
+        if (a.kind, b.kind) == (USIZE, USIZE):
+            if b.widened and (not a.literal or sign in COMPARED) and not a.widened:
+                b = b.widened
+            elif a.widened and (not b.literal or sign in COMPARED) and not b.widened:
+                a = a.widened
+        return a, b
+
     def is_simple(self, tree):
         """Whether an if is a value of C."""
         _, condition, then, other = tree
@@ -160,9 +178,23 @@ class Expressions(Kinds):
         if not self.is_simple(tree):
             raise Unknown(f"{self.name}: if as a value")
         a, b = (self.value(it[0][1], expected) for it in tree[2:])
-        if (a.text, b.text) == ("1", "0") and a.kind == BOOL:
+        if (a.text, b.text) == ("1", "0") and a.kind[1] in ("bool", "u32"):  # C's comparisons are 1 and 0
             return self.value(tree[1])
         return Value(f"{self.value(tree[1]).at(1)} ? {a.at(1)} : {b.at(0)}", b.kind if a.literal else a.kind, 0)
+
+    def on_match(self, tree, expected):
+        """Some end, with the consumed bytes, or none, whose numbers say nothing."""
+        (some, with_count), (none, nothing) = tree[2]
+        end, name = self.value(tree[1]), some[2][0][1]
+        if end.kind != END or none != ("variant", "None", []) or nothing != [("value", ("path", "None"))]:
+            raise Unknown(f"{self.name}: match as a value")
+        self.env[name] = end
+        return self.value(with_count[0][1], PIECE)
+
+    def is_with_count(self, tree):
+        """Whether a match is `Some(end) => Some((end, count))`, and nothing for nothing."""
+        arms = [body for _, body in tree[2]] if tree[0] == "match" else []
+        return len(arms) == 2 and arms[0][0][1][:2] == ("call", "Some") and arms[0][0][1][2][0][0] == "tuple"
 
     def on_tuple(self, tree, expected):
         if tree[1]:
@@ -182,16 +214,16 @@ class Expressions(Kinds):
     def wrapped(self, name, tree, expected):
         if expected == BOOL:  # a Result of nothing
             return Value("1" if name == "Ok" else "0", BOOL, literal=True)
+        if expected == FRAME:
+            return Value(f"jcobs_make_frame({f'1, {self.value(tree).text}' if name == 'Ok' else '0, 0'})", FRAME)
         if name == "Some" and tree[0] == "tuple":
             end, count = (self.value(it) for it in tree[1])
-            if end.text.startswith("jcobs_outcome_of("):
-                return self.outcome_text(f"{end.text[17:-1]}, {count.text}")
+            if end.text.startswith("jcobs_make_end("):
+                return Value(f"jcobs_make_piece({end.text[15:-1]}, {count.text})", PIECE)
             self.want_simple(end)
-            return self.outcome_text(f"{end.at(20)}.kind, {end.at(20)}.count, {count.text}")
-        if tree[0] == "path" and tree[1] not in (*self.env, "None") and self.is_unit(tree[1]):
-            return self.outcome(tree[1], [])
+            return Value(f"jcobs_make_piece({end.at(20)}.kind, {end.at(20)}.count, {count.text})", PIECE)
         of = self.value(tree)
-        return of if of.kind == OUTCOME else self.outcome(name, [of.text])
+        return of if of.kind == END else self.ended(name, [of.text])
 
     def want_simple(self, *values):
         """These are written twice, so none calls anything."""
@@ -199,19 +231,17 @@ class Expressions(Kinds):
             if re.search(r"\w\(", value.text):
                 raise Unknown(f"{self.name}: {value.text} twice")
 
-    def is_unit(self, name):
-        if self.variant(name):
-            return False
-        return self.find(name)[2][0] == "struct"
-
-    def outcome_text(self, text):
-        self.out.helpers.add("jcobs_found_of")
-        return Value(f"jcobs_found_of({text})", FOUND)
-
     def called(self, found, args, receiver=None):
-        crate, path, item = found
-        name = self.out.function(found)
+        crate, path, item = found = self.out.behind(found)
         there = self.other(crate, path, item[1])
+        if there.is_same(item):
+            return self.value(args[0])
+        if item[1] in names.WRITTEN_OUT:
+            there.env["self"] = receiver
+            return there.value(item[4][0][1], there.kind_of(item[3]))
+        if start := there.resets(item):
+            return Value(f"{start}_start({receiver.text})", None)
+        name = self.out.function(found)
         words = []
         for i, (param, kind) in enumerate(item[2]):
             given = receiver if receiver and i == 0 else self.value(args[i - bool(receiver)], there.kind_of(kind))
@@ -221,16 +251,50 @@ class Expressions(Kinds):
                 words.append(f"*{given.at(15)}")
             else:
                 words.append(given.text)
-        made = Value(f"{name}({', '.join(words)})", there.kind_of(item[3]))
+        return Value(f"{name}({', '.join(words)})", there.kind_of(item[3]))
+
+    def is_same(self, item):
+        """Whether a function gives what it takes: in C both are a jcobs_end of the same kind."""
         body = item[4]
-        if not item[2] and isinstance(body, list) and len(body) == 1 and body[0][1][0] in ("struct", "path"):
-            made.fields = getattr(there.value(body[0][1]), "fields", None)  # a start
-        return made
+        if not (isinstance(body, list) and len(body) == 1 and body[0][0] == "value" and body[0][1][0] == "match"):
+            return False
+        if len(item[2]) != 1 or body[0][1][1] != ("path", item[2][0][0]) or self.kind_of(item[3]) != END:
+            return False
+        for pattern, arm in body[0][1][2]:
+            patterns = [self.innermost(it) for it in (pattern[1] if pattern[0] == "or" else [pattern])]
+            for each in patterns:
+                fields = [it if each[0] == "variant" else it[1] for it in each[2]]
+                self.env = {it[1]: Value(it[1], USIZE) for it in fields if it[0] == "name"}
+                taken = self.ended(each[1], [*self.env])
+                if len(arm) != 1 or self.value(arm[0][1], END).text != taken.text:
+                    return False
+        return True
+
+    def start(self, tree):
+        """The struct of jcobs.h of which this is the start, with each member 0."""
+        while tree[0] in ("call", "path"):
+            is_other = tree[1] == "None" or tree[1] in self.env if tree[0] == "path" else tree[2]
+            if is_other or self.variant(tree[1]):
+                return None
+            crate, path, item = self.find(tree[1])
+            self = self.other(crate, path, item[1])
+            body = [item[3]] if item[0] == "const" else [it[1] for it in item[4]] if item[0] == "fn" else []
+            if len(body) != 1:
+                return None
+            tree = body[0]
+        if tree[0] != "struct" or self.variant(tree[1]) or {it for _, it in tree[2]} != {("number", "0")}:
+            return None
+        return self.out.started(self.find(tree[1])[2], self)
+
+    def resets(self, item):
+        """The struct that a method only puts back to the start."""
+        if not isinstance(item[4], list) or len(item[4]) != 1 or item[4][0][:3] != ("assign", "=", ("deref", ("path", "self"))):
+            return None
+        return self.start(item[4][0][3])
 
     def on_method(self, tree, expected):
         _, name, of, args = tree
         if name == "unwrap_or" and of[0] == "method" and of[1] == "checked_add":
-            self.out.helpers.add("jcobs_sum_or")
             words = [self.value(it).text for it in (of[2], of[3][0], args[0])]
             return Value(f"jcobs_sum_or({', '.join(words)})", USIZE)
         value = self.value(of)
@@ -241,22 +305,19 @@ class Expressions(Kinds):
                 return Value(f"{value.length} == 0", BOOL, 6)
             raise Unknown(f"{self.name}: {name} of a slice")
         if name in ("is_err", "is_ok"):
-            text = value.text if value.kind == BOOL else f"{value.at(20)}.kind == {self.out.kind('Ok')}"
-            return Value(text, BOOL, 20 if value.kind == BOOL else 6) if name == "is_ok" else self.negated(text, value)
+            text = value.text if value.kind == BOOL else f"{value.at(20)}.fits"
+            return Value(text, BOOL) if name == "is_ok" else Value(f"!{text}", BOOL, 15)
         kind = value.kind[2] if value.kind[0] == "ref" else value.kind
         if kind[0] == "path" and kind[1] in NUMBERS:
             return self.of_number(name, value, kind, args)
         receiver = value if value.kind[0] == "ref" else Value(f"&{value.at(15)}", ("ref", True, kind), 15)
         return self.called(self.find(f"{kind[1]}::{name}"), args, receiver)
 
-    def negated(self, text, value):
-        return Value(f"!{text}", BOOL, 15) if value.kind == BOOL else Value(text.replace("==", "!="), BOOL, 6)
-
     def of_number(self, name, value, kind, args):
         other = self.value(args[0], kind)
+        if name == "min" and kind == USIZE:
+            return Value(f"jcobs_min({value.text}, {other.text})", kind)
         self.want_simple(value, other)
-        if name == "min":
-            return Value(f"{value.at(8)} < {other.at(8)} ? {value.text} : {other.text}", kind, 0)
         if name == "div_ceil":
             by = other.at(11)
             return Value(f"{value.at(10)} / {by} + ({value.at(10)} % {by} != 0 ? 1 : 0)", kind, 9)

@@ -3,6 +3,7 @@
 import re
 import textwrap
 
+import names
 from kinds import Slice, Value
 from rattle import Unknown
 from statements import INDENT, Statements
@@ -17,7 +18,18 @@ class Function(Statements):
         self.out, self.crate, self.path = out, crate, path
         _, self.name, self.params, self.result, self.body, self.docs, self.attributes = item
         self.is_exported = any("no_mangle" in it for it in self.attributes)
+        self.name_here = self.name  # of the function whose body this is
+        self.passed, self.constants = {}, {}  # what it calls this function's parameters, and its parameters that are constants
         self.lines, self.depth, self.env, self.declared_names = [], 1, {}, {}
+
+    def take_body(self, crate, path, item, args):
+        """Takes the body of a function that nothing else calls, and to which this one only passes its parameters on."""
+        self.crate, self.path, self.body, self.name_here = crate, path, item[4], item[1]
+        for (name, _), arg in zip(item[2], args):
+            if arg[0] == "path":
+                self.passed[arg[1]] = name
+            else:
+                self.constants[name] = arg
 
     def other(self, crate, path, name):
         """What stands for another function, or a constant, of another file."""
@@ -30,9 +42,9 @@ class Function(Statements):
         self.block(self.body, bool(self.result))
         text = "\n".join(self.lines)
         for name, kind in self.params:
-            if not self.is_exported and is_slice(kind) and not re.search(rf"(?<!\w){name}_len(?!\w)", text):
+            if not self.is_exported and is_slice(kind) and not re.search(rf"\b{self.length_name(name)}\b", text):
                 self.out.unused.add((self.path, self.name, name))
-                params.remove(f"size_t {name}_len")
+                params.remove(f"size_t {self.length_name(name)}")
         lines = [it for line in self.with_pointers(text).split("\n") for it in wrapped(line)]
         first = declarations(lines)
         if 0 < first < len(lines):
@@ -44,31 +56,43 @@ class Function(Statements):
         words, given = [], self.out.calls[self.name].params if self.is_exported else None
         at = 0
         for name, kind in self.params:
+            own = self.passed.get(name, name)
             if is_slice(kind):
-                pointer, length = (given[at][1], given[at + 1][1]) if given else (name, f"{name}_len")
+                pointer, length = (given[at][1], given[at + 1][1]) if given else (self.c_name(name), self.length_name(name))
                 const = "" if kind[1] else "const "
                 words += [f"{const}unsigned char *{pointer}", f"size_t {length}"]
-                self.env[name] = Slice(f"@{pointer}@" if given else pointer, length, kind[1])
+                self.env[own] = Slice(f"@{pointer}@" if given else pointer, length, kind[1])
                 at += 2
                 continue
             at += 1
             kind = self.kind_of(kind)
-            c_name = self.name_of_self(kind) if name == "self" else name
+            c_name = self.name_of_self(kind) if name == "self" else name if given else self.c_name(name)
             words.append(self.declared(kind, c_name))
-            self.env[name] = Value(c_name, kind)
+            self.env[own] = Value(c_name, kind)
+        self.declared_names = {re.search(r"\w+$", word)[0]: 0 for word in words}
+        for name, tree in self.constants.items():
+            self.env[name] = self.value(tree)
         return words
 
+    def c_name(self, name):
+        """The name of a parameter or a variable in C."""
+        return names.VARIABLES.get(self.name_here, {}).get(name) or names.VARIABLES[""].get(name, name)
+
+    def length_name(self, name):
+        wanted = self.c_name(f"{name}_len")
+        return wanted if wanted != f"{name}_len" else f"{self.c_name(name)}_len"
+
     def name_of_self(self, kind):
-        """A method's object: the last word of its type, unless another is called that."""
-        name = self.out.struct(self.item(kind), self).rsplit("_", 1)[-1]
-        return "self" if f"('name', '{name}'" in str(self.body) else name
+        """A method's object: the last word of its type."""
+        return self.out.struct(self.item(kind), self).rsplit("_", 1)[-1]
 
     def with_pointers(self, text):
         """An exported function's void pointers, cast where they are passed on, or in variables if bytes are read or written."""
         for name, kind in self.params if self.is_exported else []:
             if not is_slice(kind):
                 continue
-            pointer = self.env[name].pointer if isinstance(self.env.get(name), Slice) else f"@{name}@"
+            own = self.passed.get(name, name)
+            pointer = self.env[own].pointer if isinstance(self.env.get(own), Slice) else f"@{name}@"
             cast = f"{'' if kind[1] else 'const '}unsigned char *"
             if f"{pointer}[" in text or text.count(pointer) > 1:
                 local = "to" if kind[1] else "from"
@@ -79,12 +103,32 @@ class Function(Statements):
 
     def comment(self):
         docs = self.docs[: self.docs.index("")] if "" in self.docs else self.docs
-        text = re.sub(r"\[`([^`]*)`\](\([^)]*\))?", r"\1", " ".join(docs)).replace("`", "")
-        lines = textwrap.wrap(text, 112)
+        lines = textwrap.wrap(self.in_c(" ".join(docs)), 112)
         if self.is_exported:
             says, source = self.out.contracts[self.name][1:]
             lines += textwrap.wrap(f"Proved, by the contract in {source}: {says}", 112)
         return "/* " + "\n * ".join(lines) + " */"
+
+    def in_c(self, text):
+        """A comment, with the names that things have in C."""
+        for old, new in [*names.COMMENTS[""], *names.COMMENTS.get(self.name_here, [])]:
+            if old in text:
+                self.out.replaced.add((self.name_here, old))
+                text = text.replace(old, new)
+        return re.sub(r"\[?`([^`]*)`\]?(\([^)]*\))?", lambda found: self.word_in_c(found[1]), text)
+
+    def word_in_c(self, word):
+        """What stands in quotes in a comment: the name of a parameter or a variable, a number, or another function."""
+        if self.c_name(word) != word or word in self.known_names():
+            return self.c_name(word)
+        if word in self.out.calls or not re.search(r"[A-Za-z]", word) or any(word in fields for fields in self.out.given):
+            return word
+        raise Unknown(f"{self.name}: its comment names {word}, which C doesn't know")
+
+    def known_names(self):
+        """The names that its comments may have: of its parameters, its variables and the members of structs."""
+        found = re.findall(r"'(?:name|for|field)', '(\w+)'", str(self.body))
+        return {name for name, _ in self.params} | set(found)
 
     def head(self, params):
         if self.is_exported:

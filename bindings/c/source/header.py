@@ -56,6 +56,11 @@ def structs(header):
     return found
 
 
+def enums(header):
+    """For each enum the words of its values, without JCOBS_."""
+    return {name: re.findall(r"^    JCOBS_(\w+) =", body, re.M) for name, body in re.findall(r"^enum (\w+) \{\n(.*?)^\}", header, re.S | re.M)}
+
+
 def calls(header):
     """The calls that the header declares, in its order."""
     found = {}

@@ -1,8 +1,8 @@
 """The types of Rattle as those of C.
 
-A struct is one of C, and so is a slice's pointer and length. An enum without fields is one of C too. An enum with fields, an Option
-or a Result is a jcobs_outcome, a kind and a number; with a second number it is a jcobs_found. A Result of nothing is an int, whether
-it is Ok.
+A struct is one of C, and so is a slice's pointer and length. An enum without fields is the one of jcobs.h with these variants. How
+a piece or a frame ended, an enum with fields, an Option or a Result, is a jcobs_end; with the number of consumed bytes it is a
+jcobs_piece. A Result of a length whose error says nothing is a jcobs_frame. A Result of nothing is an int, whether it is Ok.
 """
 
 import re
@@ -12,7 +12,7 @@ from rattle import Unknown
 SCALARS = {"usize": "size_t", "u8": "unsigned char", "u32": "unsigned int", "bool": "int"}
 NUMBERS = ("usize", "u8", "u32")
 USIZE, BYTE, BOOL = (("path", it, []) for it in ("usize", "u8", "bool"))
-OUTCOME, FOUND = ("outcome",), ("found",)
+END, PIECE, FRAME = ("end",), ("piece",), ("frame",)
 
 
 def snake(name):
@@ -25,6 +25,7 @@ class Value:
 
     def __init__(self, text, kind, level=20, literal=False):
         self.text, self.kind, self.level, self.literal = text, kind, level, literal
+        self.widened = None  # of a cast to a size_t, the byte
 
     def at(self, level):
         return self.text if self.level >= level else f"({self.text})"
@@ -55,17 +56,19 @@ class Kinds:
         if kind[1] == "Result" and kind[2][0] == ("tuple", []):
             return BOOL
         if kind[1] == "Option" and kind[2][0][0] == "tuple":
-            return FOUND
+            return PIECE
+        if kind[1] == "Result" and self.item(kind[2][1])[0] == "struct":
+            return FRAME
         if kind[1] in ("Option", "Result"):
-            return OUTCOME
+            return END
         item = self.find(kind[1])[2]
-        return OUTCOME if item[0] == "enum" and any(fields for _, fields in item[2]) else kind
+        return END if item[0] == "enum" and any(fields for _, fields in item[2]) else kind
 
     def c_type(self, kind, name=""):
         kind = self.kind_of(kind)
         if kind is None:
             return "void"
-        if kind in (OUTCOME, FOUND):
+        if kind in (END, PIECE, FRAME):
             return f"jcobs_{kind[0]}"
         if kind[0] == "ref":
             return f"{'' if kind[1] else 'const '}{self.c_type(kind[2])} *"
@@ -76,7 +79,7 @@ class Kinds:
         if kind[1] in SCALARS:
             return SCALARS[kind[1]]
         if self.item(kind)[0] == "enum":
-            return f"enum jcobs_{snake(kind[1])}"
+            return f"enum {self.out.enum(self.item(kind))}"
         return self.out.struct(self.item(kind), self)
 
     def declared(self, kind, name):

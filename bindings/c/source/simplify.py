@@ -1,5 +1,5 @@
 #!/usr/bin/env python3
-"""Writes cobs_small.ll, which translate.py reads, of the module that rt makes: simplify.py MODULE CLANG cobs_small.ll
+"""Writes cobs_small.ll, with which the tests compare jcobs.c, of the module that rt makes: simplify.py MODULE CLANG cobs_small.ll
 
 MODULE is LLVM text. Of the exported functions, which only put some address in place of a null pointer and call the proved
 function of the same name, the latter are kept under the exported names. All others are put into their callers. CLANG,

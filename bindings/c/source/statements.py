@@ -3,8 +3,9 @@
 import re
 import textwrap
 
-from expressions import CONSTANTS, Expressions
-from kinds import BYTE, FOUND, OUTCOME, SCALARS, USIZE, Slice, Value
+import names
+from expressions import Expressions
+from kinds import BYTE, END, FRAME, PIECE, USIZE, Slice, Value
 from rattle import Unknown
 
 INDENT = "    "
@@ -20,7 +21,12 @@ class Statements(Expressions):
         self.lines.append(INDENT * self.depth + text)
 
     def block(self, statements, returns=False, keep=None):
-        for statement in statements:
+        for at, statement in enumerate(statements):
+            if self.is_let_else_of_match(statements[at:]) and returns:
+                return self.let_match(statement, statements[at + 1][1])
+            if copied := self.whole_copy(statements[at:]):
+                self.put(copied[0])
+                return self.block(statements[at + copied[1] :], returns, keep)
             if statement[0] == "value":
                 self.tail(statement[1], returns, keep)
             else:
@@ -47,31 +53,36 @@ class Statements(Expressions):
         if tree[0] == "if" and not ((returns or keep) and self.is_simple(tree)):
             return self.branches(tree, returns, keep)
         if keep:
-            parts = tree[1] if tree[0] == "tuple" else [tree]
-            values = [self.value(it, to.kind) for it, to in zip(parts, keep)]
-            for to, value in zip(keep, values):
-                self.put(f"{to.text} = {value.text};")
+            self.put(f"{keep.text} = {self.value(tree, keep.kind).text};")
             return None
         value = self.value(tree, self.kind_of(self.result) if returns else None)
         if returns:
-            self.put(f"return {self.without_copy(value)};")
+            self.put(f"return {value.text};")
         elif value.text:
             self.put(f"{value.text};")
         return None
 
-    def without_copy(self, value):
-        """A struct that is in a variable, made anew: a copy of it may be a call of memcpy."""
-        item = (
-            self.item(value.kind) if value.kind and value.kind[0] == "path" and value.kind[1] not in SCALARS else None
-        )
-        if not item or item[0] != "struct" or not re.fullmatch(r"\w+", value.text):
-            return value.text
-        words = ", ".join(f"{value.text}.{name}" for name, _ in item[2])
-        return f"{self.out.constructor(item, self)}({words})"
+    def whole_copy(self, statements):
+        """Assignments to each member of a struct from another, as one, and their number."""
+        first = statements[0]
+        if first[0] != "assign" or first[1] != "=" or first[2][0] != "field" or first[3][0] != "field":
+            return None
+        to, of = first[2][2], first[3][2]
+        if to[0] != "path" or of[0] != "path" or of[1] not in self.env or to[1] not in self.env:
+            return None
+        pointer, value = self.env[to[1]], self.env[of[1]]
+        if pointer.kind != ("ref", True, value.kind):
+            return None
+        fields = [it for it, _ in self.item(value.kind)[2]]
+        if statements[: len(fields)] != [("assign", "=", ("field", it, to), ("field", it, of)) for it in fields]:
+            return None
+        return f"*{pointer.text} = {value.text};", len(fields)
 
     def do_comment(self, statement):
         width = 116 - len(INDENT) * self.depth
-        lines = textwrap.wrap(" ".join(statement[1]).replace("`", ""), width - 6)
+        lines = textwrap.wrap(self.in_c(" ".join(statement[1])), width - 6)
+        if not lines:
+            return
         self.put("/* " + f"\n{INDENT * self.depth} * ".join(lines) + " */")
 
     def do_do(self, statement):
@@ -88,17 +99,11 @@ class Statements(Expressions):
         to = self.value(left)
         if isinstance(to, Slice):
             return self.shortened(to, right)
-        # A state that is made of the start of another: a phase has more numbers than an outcome, so the start stands for it.
-        if right[0] == "call" and right[1].endswith("::at") and right[2][0][0] == "method":
-            if right[2][0][2][0] == "call" and right[2][0][2][1].endswith("::new"):
-                right = ("path", f"{right[1][:-4].upper()}_START")
+        if start := self.start(right):
+            self.put(f"{start}_start({to.text[1:] if to.text.startswith('*') else f'&{to.text}'});")
+            return None
         value = self.value(right, to.kind)
-        if fields := getattr(value, "fields", None):
-            # One by one, as a copy of a struct may be a call of memcpy.
-            of = to.text[1:] + "->" if to.text.startswith("*") else to.text + "."
-            for name, field in fields:
-                self.put(f"{of}{name} = {field.text};")
-        elif sign in ("+=", "-=") and value.text == "1":
+        if sign in ("+=", "-=") and value.text == "1":
             self.put(f"{to.text}{'++' if sign == '+=' else '--'};")
         elif sign == "=" or to.kind != BYTE:
             self.put(f"{to.text} {sign} {value.text};")
@@ -128,9 +133,12 @@ class Statements(Expressions):
         self.put("}")
 
     def do_loop(self, statement):
-        self.put("for (;;) {")
-        self.inside(statement[1])
-        self.put("}")
+        *body, last = statement[1]
+        if last[0] not in ("do", "value") or last[1][0] != "if" or last[1][2:] != ([("break",)], None) or "('break'" in str(body):
+            raise Unknown(f"{self.name}: a loop whose one end isn't at the end")
+        self.put("do {")
+        self.inside(body)
+        self.put(f"}} while ({self.value(('not', last[1][1])).text});")
 
     def do_for(self, statement):
         _, name, over, body = statement
@@ -145,24 +153,20 @@ class Statements(Expressions):
         self.put("}")
 
     def declare(self, name, kind):
-        """A new variable; a second of a name in a function gets a name of its own."""
-        self.env[name] = Value(name, kind)
-        if name in self.declared_names and self.declared_names[name] < self.depth:
-            raise Unknown(f"{self.name}: {name} shadows another")
-        self.declared_names[name] = self.depth
-        return self.declared(kind, name)
+        """A new variable."""
+        c_name = self.c_name(name)
+        self.env[name] = Value(c_name, kind)
+        if c_name in self.declared_names and self.declared_names[c_name] < self.depth:
+            raise Unknown(f"{self.name}: {c_name} shadows another")
+        self.declared_names[c_name] = self.depth
+        return self.declared(kind, c_name)
 
     def do_let(self, statement):
         _, pattern, kind, tree, other = statement
         if other is not None:
             return self.let_else(pattern, tree, other)
         if pattern[0] == "name":
-            return self.let_name(pattern[1], kind, tree)
-        if pattern[0] == "tuple" and tree[0] == "match":
-            names = [it[1] for it in pattern[1]]
-            for name, of in zip(names, self.kinds_of_tuple(tree)):
-                self.put(f"{self.declare(name, of)};")
-            return self.tail(tree, False, [self.env[it] for it in names])
+            return self.let_name(pattern[1], kind, tree, pattern[2])
         if pattern[0] == "tuple" and tree[0] == "tuple":
             for each, part in zip(pattern[1], tree[1]):
                 self.let_name(each[1], None, part)
@@ -174,11 +178,17 @@ class Statements(Expressions):
             return None
         raise Unknown(f"{self.name}: let {pattern}")
 
-    def let_name(self, name, kind, tree):
-        if tree[0] == "match" or (tree[0] == "if" and not self.is_simple(tree)):
+    def let_name(self, name, kind, tree, is_mutable=False):
+        if tree[0] == "match" and not self.is_with_count(tree) or (tree[0] == "if" and not self.is_simple(tree)):
             self.put(f"{self.declare(name, self.kind_of_branches(tree))};")
-            return self.tail(tree, False, [self.env[name]])
+            return self.tail(tree, False, self.env[name])
+        if start := self.start(tree):
+            self.put(f"{self.declare(name, ('path', tree[1].rpartition('::')[0], []))} = {start.upper()}_INIT;")
+            return None
         value = self.value(tree, kind)
+        if tree[0] == "method" and tree[1] == "len" and tree[2][0] == "path" and not is_mutable:
+            self.env[name] = value  # a slice keeps its length
+            return None
         is_moved_on = f"('assign', '=', ('path', '{name}'" in str(self.body)
         if isinstance(value, Slice) and (is_moved_on or self.depth > 1):
             return self.let_part(name, value)
@@ -187,7 +197,8 @@ class Statements(Expressions):
         if isinstance(value, Slice) or value.text == name:
             self.env[name] = value  # a part of a slice, or a copy of a parameter, which isn't used again
             return None
-        self.put(f"{self.declare(name, value.kind)} = {value.text};")
+        kind, value = value.kind, value.widened or value  # a byte becomes a size_t by itself
+        self.put(f"{self.declare(name, kind)} = {value.text};")
         return None
 
     def let_part(self, name, part):
@@ -210,27 +221,39 @@ class Statements(Expressions):
                     return value.kind
         return USIZE
 
-    def kinds_of_tuple(self, tree):
-        """The types of a match's tuples: a status, or a length."""
-        tuples = [it[1][1] for _, body in tree[2] for it in body if it[0] == "value" and it[1][0] == "tuple"]
-        return [("path", "u32", []) if part[0] == "path" and part[1] in CONSTANTS else USIZE for part in tuples[0]]
+    def is_let_else_of_match(self, statements):
+        """A `let .. else`, and a match of the end that it names."""
+        if len(statements) != 2 or statements[0][0] != "let" or not statements[0][4] or statements[1][0] != "value":
+            return False
+        inner, tree = statements[0][1][2][0], statements[1][1]
+        return tree[0] == "match" and inner[0] == "tuple" and tree[1] == ("path", inner[1][0][1])
+
+    def let_match(self, statement, tree):
+        """These two as one switch, in which what the `else` returns comes last."""
+        _, pattern, _, of, other = statement
+        end, consumed = (it[1] for it in pattern[2][0][1])
+        text = self.in_variable(self.value(of))
+        self.env[end], self.env[consumed] = Value(text, PIECE), Value(f"{text}.consumed", USIZE)
+        none = (("variant", "None", []), [("value", other[0][1])])
+        self.matched(("match", tree[1], [*tree[2], none]), True, None)
+
+    def in_variable(self, value):
+        """How a piece or a frame ended, in a variable."""
+        if re.fullmatch(r"\w+", value.text):
+            return value.text
+        name = {PIECE: "piece", END: "end", FRAME: "result"}[value.kind]
+        self.put(f"{self.declare(name, value.kind)} = {value.text};")
+        return name
 
     def let_else(self, pattern, tree, other):
-        value = self.value(tree)
-        inner, text = pattern[2][0], value.text
-        if not re.fullmatch(r"\w+", text):
-            name = inner[1] if inner[0] == "name" else "found"
-            self.put(f"{self.declare(name, value.kind)} = {text};")
-            text = name
-        self.put(f"if ({text}.kind == {self.out.kind('None')}) {{")
+        value, inner = self.value(tree), pattern[2][0]
+        if inner[0] != "name" or value.kind != END:
+            raise Unknown(f"{self.name}: let {pattern}")
+        text = self.in_variable(value)
+        self.put(f"if ({text}.kind == {self.end_kind('None')}) {{")
         self.inside(other, True)
         self.put("}")
-        if inner[0] == "name":
-            self.env[inner[1]] = Value(text, OUTCOME)
-        else:
-            first, second = inner[1]
-            self.env[first[1]] = Value(text, OUTCOME)
-            self.env[second[1]] = Value(f"{text}.consumed", USIZE)
+        self.env[inner[1]] = Value(text, END)
 
     def condition(self, tree):
         """The text of a condition; for `if let`, what it names is declared before."""
@@ -239,13 +262,23 @@ class Statements(Expressions):
         _, pattern, found = tree
         if pattern[0] != "variant" or pattern[1] != "Some" or pattern[2][0][0] != "name":
             raise Unknown(f"{self.name}: if let {pattern}")
-        name, value = pattern[2][0][1], self.value(found)
-        self.put(f"{self.declare(name, value.kind)} = {value.text};")
-        return f"{name}.kind != {self.out.kind('None')}"
+        value = self.value(found)
+        if value.kind != END:
+            raise Unknown(f"{self.name}: if let of {value.text}")
+        text = self.in_variable(value)
+        self.env[pattern[2][0][1]] = Value(text, END)
+        return f"{text}.kind != {self.end_kind('None')}"
 
     def branches(self, tree, returns, keep):
         _, condition, then, other = tree
-        self.put(f"if ({self.condition(condition)}) {{")
+        text = self.condition(condition)
+        if not other and len(then) == 1 and then[0][0] in ("do", "value") and then[0][1][0] == "if" and not then[0][1][3]:
+            mark, inner = len(self.lines), then[0][1]
+            both = f"{text} && {self.condition(inner[1])}"
+            if len(self.lines) > mark or "||" in both:
+                raise Unknown(f"{self.name}: {both}")
+            text, then = both, inner[2]
+        self.put(f"if ({text}) {{")
         self.inside(then, returns, keep)
         is_chain = other and len(other) == 1 and other[0][0] in ("do", "value") and other[0][1][0] == "if"
         if is_chain and other[0][1][1][0] != "let":
@@ -265,25 +298,39 @@ class Statements(Expressions):
     def matched(self, tree, returns, keep):
         _, of, arms = tree
         value = self.value(of)
-        text, is_plain = value.text, value.kind not in (OUTCOME, FOUND)
-        if not is_plain and not re.fullmatch(r"\w+", text):
-            self.put(f"{self.declare('found', value.kind)} = {text};")
-            text = "found"
-        if len(arms) == 2 and not is_plain and arms[0][0][0] != "or":
-            return self.either(arms, text, returns, keep)
-        self.put(f"switch ({text}{'' if is_plain else '.kind'}) {{")
-        for i, (pattern, body) in enumerate(arms):
+        if value.kind == FRAME:
+            return self.either(arms, self.in_variable(value), returns, keep)
+        if value.kind not in (END, PIECE):
+            return self.same_constant(value, arms)
+        text, found = self.in_variable(value), []
+        self.put(f"switch ({text}.kind) {{")
+        for at, (pattern, body) in enumerate(arms):
             patterns = [self.innermost(it) for it in (pattern[1] if pattern[0] == "or" else [pattern])]
-            for each in patterns if i < len(arms) - 1 else []:
-                name = each[1].rsplit("::", 1)[-1]
-                self.put(f"case {self.value(('path', each[1])).text if is_plain else self.out.kind(name)}:")
-            if i == len(arms) - 1:
-                self.put("default:")
+            found += [self.end_kind(each[1]) for each in patterns]
+            for each in patterns:
+                self.put(f"case {self.end_kind(each[1])}:")
+            if returns and at == len(arms) - 1:  # after the switch: a compiler may ask for a result there
+                self.put(f"{INDENT}break;")
+                continue
             self.arm(patterns[0], body, text, returns, keep)
             if not self.lines[-1].strip().startswith("return"):
                 self.put(f"{INDENT}break;")
         self.put("}")
+        if sorted(found) != sorted(names.ENDS):
+            raise Unknown(f"{self.name}: the match of {text} has {found}")
+        if returns:
+            self.depth -= 1
+            self.arm(patterns[0], body, text, returns, keep)
+            self.depth += 1
         return None
+
+    def same_constant(self, value, arms):
+        """A match of an enum that gives each variant's constant of jcobs.h: the value itself."""
+        for pattern, body in arms:
+            constant = self.value(("path", pattern[1])).text
+            if len(body) != 1 or self.value(body[0][1]).text != constant:
+                raise Unknown(f"{self.name}: {constant} isn't returned as it is")
+        self.put(f"return {value.text};")
 
     def innermost(self, pattern):
         wrappers = ("Some", "Ok", "Err")
@@ -291,20 +338,22 @@ class Statements(Expressions):
             pattern = pattern[2][0]
         return pattern
 
-    def arm(self, pattern, body, text, returns, keep):
+    def arm(self, pattern, body, text, returns, keep, number="count"):
         saved = dict(self.env)
         if pattern[0] in ("variant", "struct"):
             for field in pattern[2] if pattern[0] == "variant" else [it[1] for it in pattern[2]]:
                 if field[0] == "name":
-                    self.env[field[1]] = Value(f"{text}.count", USIZE)
+                    self.env[field[1]] = Value(f"{text}.{number}", USIZE)
         self.inside(body, returns, keep)
         self.env = saved
 
     def either(self, arms, text, returns, keep):
-        """A match of two arms as an if."""
-        (first, then), (second, other) = ((self.innermost(pattern), body) for pattern, body in arms)
-        self.put(f"if ({text}.kind == {self.out.kind(first[1].rsplit('::', 1)[-1])}) {{")
-        self.arm(first, then, text, returns, keep)
+        """A match of a frame's length or an error, as an if."""
+        (first, then), (second, other) = arms
+        if first[1] != "Ok" or second[1] != "Err":
+            raise Unknown(f"{self.name}: match of {text}")
+        self.put(f"if ({text}.fits) {{")
+        self.arm(first, then, text, returns, keep, "length")
         if self.lines[-1].strip().startswith("return"):
             self.put("}")
             self.depth -= 1

@@ -22,6 +22,8 @@ class Tokens:
             kind, word = found.lastgroup, found[0]
             if kind == "comment":
                 before.append(word[2:].strip())
+            elif kind == "doc" and word.startswith("//!"):
+                continue  # of the file
             elif kind == "doc":
                 self.tokens.append(("doc", word[3:].strip(), [], text.count("\n", 0, found.start()) + 1))
             elif kind != "space":

@@ -1,7 +1,8 @@
 /* jcobs.c: the calls of jcobs.h in one file of C, for any processor and compiler. Written by translate.py: don't edit it.
  *
  * Compile it with your program, by C99 or later or as C++, with jcobs.h beside it or in the include path. It has no
- * variables, allocates nothing, and names no function of a C library; a compiler may call memset for some of its lines.
+ * variables that stay, only a constant table with the texts of jcobs_strerror. It allocates nothing, and names no function
+ * of a C library; a compiler may call memset or memcpy for some of its lines.
  *
  * What is proved: the functions of crates/cobs_small, for lengths of 64 bits, on any contents of the buffers and the
  * states. Each meets its contract, accesses only the buffers that it is given, and returns. The comment over a function
@@ -9,10 +10,12 @@
  * contracts are defined in crates/cobs_abi/specs and crates/cobs/specs.
  *
  * What is not proved, but tested: that this text does the same. translate.py wrote each function from the one in Rattle,
- * and your compiler compiles it. Lengths have the width of your size_t. bindings/c/tests/run.sh compares two million
- * calls with those of the proved module itself. It and tests/device.sh run this file on processors with 16, 32 and 64
- * bits and both byte orders: the vectors of conformance/ (but on the one with 16 bits), and random calls compared with
- * plain C, with states of random bytes. The calls from jcobs_xor on are written by hand, and tested in the same way.
+ * and your compiler compiles it. Lengths have the width of your size_t. bindings/c/tests/translated.py, which shares
+ * nothing with translate.py, compares the two texts: conditions, loops, operators, numbers, calls and the use of names.
+ * bindings/c/tests/run.sh compares two million calls with those of the proved module itself. It and tests/device.sh run
+ * this file on processors with 16, 32 and 64 bits and both byte orders: the vectors of conformance/ (but on the one with
+ * 16 bits), and random calls compared with plain C, with states of random bytes. The calls from jcobs_xor on are written
+ * by hand, and tested in the same way.
  */
 #include "jcobs.h"
 
@@ -33,16 +36,65 @@ typedef char jcobs_size_t_is_no_shorter_than_int[sizeof(size_t) >= sizeof(unsign
 #define JCOBS_NOINLINE __attribute__((noinline))
 #endif
 #else
-#if defined(__cplusplus) || (defined(__STDC_VERSION__) && __STDC_VERSION__ >= 199901L)
 #define JCOBS_INLINE inline
-#else
-#define JCOBS_INLINE
-#endif
 #define JCOBS_NOINLINE
 #endif
 
-/* Makes a result. It is written by hand. */
-static JCOBS_INLINE jcobs_answer jcobs_answered(JCOBS_STATUS status, size_t consumed, size_t length)
+/* How a piece of a stream ended. A piece is what is between two zeros: a frame, or one that is broken. */
+enum jcobs_end_kind {
+    JCOBS_END_MESSAGE,  /* it is the frame of a message with this many bytes */
+    JCOBS_END_BROKEN,   /* it breaks off inside a block, and decodes to this many bytes */
+    JCOBS_END_TOO_LONG, /* it decodes to more bytes than the buffer has room for */
+    JCOBS_END_NONE      /* it hasn't ended, or there is none: the numbers say nothing */
+};
+
+typedef struct jcobs_end {
+    enum jcobs_end_kind kind;
+    size_t count; /* how many bytes, of a message or a broken piece */
+} jcobs_end;
+
+static JCOBS_INLINE jcobs_end jcobs_make_end(enum jcobs_end_kind kind, size_t count)
+{
+    jcobs_end end;
+
+    end.kind = kind;
+    end.count = count;
+    return end;
+}
+
+/* The same, and how many bytes were consumed. */
+typedef struct jcobs_piece {
+    enum jcobs_end_kind kind;
+    size_t count;
+    size_t consumed;
+} jcobs_piece;
+
+static JCOBS_INLINE jcobs_piece jcobs_make_piece(enum jcobs_end_kind kind, size_t count, size_t consumed)
+{
+    jcobs_piece piece;
+
+    piece.kind = kind;
+    piece.count = count;
+    piece.consumed = consumed;
+    return piece;
+}
+
+/* The length of an encoder's frame, if it fits the buffer. */
+typedef struct jcobs_frame {
+    int fits;
+    size_t length;
+} jcobs_frame;
+
+static JCOBS_INLINE jcobs_frame jcobs_make_frame(int fits, size_t length)
+{
+    jcobs_frame frame;
+
+    frame.fits = fits;
+    frame.length = length;
+    return frame;
+}
+
+static JCOBS_INLINE jcobs_answer jcobs_make_answer(JCOBS_STATUS status, size_t consumed, size_t length)
 {
     jcobs_answer answer;
 
@@ -50,4 +102,15 @@ static JCOBS_INLINE jcobs_answer jcobs_answered(JCOBS_STATUS status, size_t cons
     answer.consumed = consumed;
     answer.length = length;
     return answer;
+}
+
+static JCOBS_INLINE size_t jcobs_min(size_t a, size_t b)
+{
+    return a < b ? a : b;
+}
+
+/* Returns the sum, or the other number if the sum doesn't fit. */
+static size_t jcobs_sum_or(size_t a, size_t b, size_t other)
+{
+    return b > (size_t)-1 - a ? other : a + b;
 }

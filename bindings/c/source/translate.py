@@ -2,8 +2,9 @@
 """Writes jcobs.c from the proved functions in Rattle: translate.py [--check] [CRATES]
 
 Each exported function of crates/cobs_small, and each function that it reaches, becomes one of C with the same statements, names and
-comments; the exported ones have the names that jcobs.h gives their arguments, and say what their contract says. kinds.py says what
-becomes of types. A form that isn't known is an error, with its function. What comes before and after them is in top.c and rest.c.
+comments; names.py says which names and comments are others in C. The exported ones have the names that jcobs.h gives their arguments,
+and say what their contract says. A function that only passes its parameters on isn't written. kinds.py says what becomes of types. A
+form that isn't known is an error, with its function. What comes before and after the functions is in top.c and rest.c.
 The file is written here and to ../device/src; with --check both are compared and not written.
 """
 
@@ -12,36 +13,13 @@ import sys
 from pathlib import Path
 
 import header
+import names
 from function import Function, wrapped
 from kinds import snake
 from program import Program
 from rattle import Unknown
 
 HERE = Path(__file__).resolve().parent
-HELPERS = {
-    "jcobs_sum_or": """/* The sum, or the other number if the sum doesn't fit. */
-static size_t jcobs_sum_or(size_t a, size_t b, size_t other)
-{
-    return b > (size_t)-1 - a ? other : a + b;
-}""",
-    "jcobs_outcome_of": """static JCOBS_INLINE jcobs_outcome jcobs_outcome_of(int kind, size_t count)
-{
-    jcobs_outcome outcome;
-
-    outcome.kind = kind;
-    outcome.count = count;
-    return outcome;
-}""",
-    "jcobs_found_of": """static JCOBS_INLINE jcobs_found jcobs_found_of(int kind, size_t count, size_t consumed)
-{
-    jcobs_found found;
-
-    found.kind = kind;
-    found.count = count;
-    found.consumed = consumed;
-    return found;
-}""",
-}
 
 
 class Output:
@@ -50,8 +28,10 @@ class Output:
     def __init__(self, crates, include):
         self.program, self.calls = Program(crates), header.calls(include)
         self.contracts = header.contracts(sorted((crates / "cobs_small/src").glob("*.rt")))
-        self.names, self.texts, self.kinds, self.constants = {}, [], [], {}
-        self.structs, self.enums, self.helpers, self.unused = {}, {}, set(), set()
+        self.names, self.texts, self.constants = {}, [], {}
+        self.structs, self.starts, self.made, self.unused = {}, {}, set(), set()
+        self.reached, self.replaced = set(), set()  # functions, and what was replaced in their comments
+        self.enums = header.enums(include)
         # The structs of jcobs.h, by the names of their members.
         self.given = {tuple(name for _, name in it.values()): of for of, it in header.structs(include).items()}
 
@@ -61,11 +41,14 @@ class Output:
         key = (path, item[1])
         if key not in self.names:
             made = Function(self, crate, path, item)
+            if made.is_exported and (inner := self.only_passes_on(found)) and self.is_part(inner[0][2]):
+                made.take_body(*inner[0], inner[1])
+            self.reached |= {item[1], made.name_here}
             owner, _, method = item[1].rpartition("::")
             of = self.owner(self.program.find(owner, path, crate)[2], made) if owner else "jcobs"
-            name = item[1] if made.is_exported else f"{of}_{snake(method)}"
+            name = item[1] if made.is_exported else names.FUNCTIONS.get(item[1]) or f"{of}_{snake(method)}"
             if not made.is_exported and (name in self.calls or name in self.names.values()):
-                name += "_inside"  # of the call that has this name
+                raise Unknown(f"{item[1]}: there is a {name} already")
             self.names[key] = name
             try:
                 self.texts.append(made.written())
@@ -73,20 +56,66 @@ class Output:
                 raise Unknown(f"{path.name}, {item[1]}: {what!r}") from what
         return self.names[key]
 
-    def kind(self, name):
-        name = f"JCOBS_IS_{snake(name).upper()}"
-        if name not in self.kinds:
-            self.kinds.append(name)
-        return name
+    def only_passes_on(self, found):
+        """The function to which this one only passes its parameters on, in their order, and constants; and these arguments."""
+        crate, path, item = found
+        body = item[4]
+        if not isinstance(body, list) or len(body) != 1 or body[0][0] != "value" or body[0][1][0] not in ("call", "method"):
+            return None
+        kind, name, *rest = body[0][1]
+        args = rest[0] if kind == "call" else [rest[0], *rest[1]]
+        own = [("path", it) for it, _ in item[2]]
+        if args[: len(own)] != own or any(it[0] != "number" for it in args[len(own) :]):
+            return None
+        if kind == "method":
+            of = item[2][0][1]
+            if of[0] != "ref" or of[2][0] != "path":
+                return None
+            name = f"{of[2][1]}::{name}"
+        try:
+            return self.program.find(name, path, crate), args
+        except Unknown:
+            return None
 
-    def constant(self, name, value):
-        if self.constants.setdefault(name, value) != value or value > 255:
+    def behind(self, found):
+        """The function itself, or the one to which it only passes its parameters on."""
+        inner = None if any("no_mangle" in it for it in found[2][6]) else self.only_passes_on(found)
+        return self.behind(inner[0]) if inner and len(inner[1]) == len(found[2][2]) else found
+
+    def is_part(self, item):
+        """Whether a function is called once, and so is written where it is called."""
+        places = [it for found in self.program.named.values() for it in found if it[2][0] == "fn"]
+        calls = [(crate, path, str(it[4]).count(f"('call', '{item[1]}', ")) for crate, path, it in places]
+        count = sum(count for crate, path, count in calls if count and self.program.find(item[1], path, crate)[2] is item)
+        return count == 1 and item[1] not in names.APART
+
+    def constant(self, name, value, docs):
+        """A constant, whose comment is the first sentence of its own up to a comma."""
+        says = re.match(r"(.*?)(?:,|\.$|$)", " ".join(docs))[1]
+        says = says[:1].lower() + says[1:]
+        if self.constants.setdefault(name, (value, says))[0] != value or value > 255:
             raise Unknown(f"{name} has two values, or may not fit a size_t")
         return f"JCOBS_{name}"
 
+    def enum(self, item):
+        """The name of an enum: that of jcobs.h with the same variants."""
+        wanted = [snake(it).upper() for it, _ in item[2]]
+        for name, words in self.enums.items():
+            if words == wanted:
+                return name
+        raise Unknown(f"{item[1]}: jcobs.h has no such enum")
+
     def variant(self, item, name):
-        self.enums[item[1]] = item
-        return f"JCOBS_{snake(item[1])}_{snake(name)}".upper()
+        self.enum(item)
+        return f"JCOBS_{snake(name).upper()}"
+
+    def started(self, item, function):
+        """The name of the struct of jcobs.h for which there is a start, with each member 0."""
+        name = self.struct(item, function)
+        if name not in self.given.values():
+            return None
+        self.starts.setdefault(name, [it for it, _ in item[2]])
+        return name
 
     def struct(self, item, function):
         """The name of a struct: that of jcobs.h with the same members, or a new one."""
@@ -99,63 +128,63 @@ class Output:
         return self.struct(item, function) if item[0] == "struct" else f"jcobs_{snake(item[1])}"
 
     def constructor(self, item, function):
-        name = self.struct(item, function)
-        return "jcobs_answered" if name == "jcobs_answer" else f"{name}_of"
-
-    def drop_uncalled(self, rest):
-        """Drops the functions that nothing calls: if `*this = new()` becomes an assignment to each member, `new` isn't called."""
-        for key, name in reversed(list(self.names.items())):
-            called = sum(len(re.findall(rf"\b{name}\(", text)) for text in [*self.texts, rest])
-            if name not in self.calls and called == 1:
-                self.texts = [text for text in self.texts if not re.search(rf"^static.*\b{name}\(", text, re.M)]
-                del self.names[key]
+        """The function that makes a struct of its members."""
+        name = f"jcobs_make_{self.struct(item, function).rsplit('_', 1)[-1]}"
+        self.made.add(name)
+        return name
 
     def types(self):
         """What stands before the functions."""
-        texts = "\n".join(self.texts)
-        lines = [f"    JCOBS_{name} = {value}" for name, value in sorted(self.constants.items())]
-        yield "enum {\n" + ",\n".join(lines) + "\n};"
-        for item in self.enums.values():
-            words = ", ".join(f"JCOBS_{snake(item[1])}_{snake(it)}".upper() for it, _ in item[2])
-            yield f"enum jcobs_{snake(item[1])} {{ {words} }};"
-        yield "/* What a step came to. */\nenum {\n    " + ",\n    ".join(self.kinds) + "\n};"
-        yield "typedef struct jcobs_outcome {\n    int kind;     /* one of these */\n    size_t count; /* its number, if it has one */\n} jcobs_outcome;"
-        if "jcobs_found" in texts:
-            yield "typedef struct jcobs_found {\n    int kind;\n    size_t count;\n    size_t consumed; /* how many bytes it took */\n} jcobs_found;"
+        lines = [(f"JCOBS_{name} = {value}", says) for name, (value, says) in sorted(self.constants.items())]
+        texts = [f"{text}," for text, _ in lines[:-1]] + [text for text, _ in lines[-1:]]
+        width = max(map(len, texts), default=0)
+        words = [f"    {text:{width}} /* {says} */\n" for text, (_, says) in zip(texts, lines)]
+        yield from ["enum {\n" + "".join(words) + "};"] if words else []
         for name, (item, function) in list(self.structs.items()):
-            yield from self.written_struct(name, item, function, texts)
-        yield from (text for name, text in HELPERS.items() if f"{name}(" in texts)
+            if name not in self.given.values():
+                yield from self.written_struct(name, item, function)
+        for name, fields in self.starts.items():
+            of = name.rsplit("_", 1)[-1]
+            body = "".join(f"    {of}->{it} = 0;\n" for it in fields)
+            yield f"/* Puts the {of} to the start, as {name.upper()}_INIT does. */\nstatic JCOBS_INLINE void {name}_start({name} *{of})\n{{\n{body}}}"
 
-    def written_struct(self, name, item, function, texts):
-        fields = [(field, function.declared(kind, field)) for field, kind in item[2]]
-        if name not in self.given.values():
-            members = "".join(f"    {text};\n" for _, text in fields)
-            yield f"typedef struct {name} {{\n{members}}} {name};"
-        if f"{name}_of(" in texts:
-            short = name.rsplit("_", 1)[-1]
-            body = "".join(f"    {short}.{field} = {field};\n" for field, _ in fields)
-            params = ", ".join(text for _, text in fields)
-            head = "\n".join(wrapped(f"static JCOBS_INLINE {name} {name}_of({params})"))
+    def written_struct(self, name, item, function):
+        fields = [function.declared(kind, field) for field, kind in item[2]]
+        members = "".join(f"    {text};\n" for text in fields)
+        yield f"typedef struct {name} {{\n{members}}} {name};"
+        short = name.rsplit("_", 1)[-1]
+        if f"jcobs_make_{short}" in self.made:
+            body = "".join(f"    {short}.{field} = {field};\n" for field, _ in item[2])
+            head = "\n".join(wrapped(f"static JCOBS_INLINE {name} jcobs_make_{short}({', '.join(fields)})"))
             yield f"{head}\n{{\n    {name} {short};\n\n{body}    return {short};\n}}"
 
 
 def translated(crates):
     out = Output(crates, (HERE.parent / "include/jcobs.h").read_text())
-    for path, (names, _) in out.program.files.items():
-        for found in names.values():
+    for path, (items, _) in out.program.files.items():
+        for found in items.values():
             if "cobs_small" in path.parts and found[2][0] == "fn" and any("no_mangle" in it for it in found[2][6]):
                 out.function(found)
     rest = (HERE / "rest.c").read_text().rstrip()
-    out.drop_uncalled(rest)
     if missing := set(out.contracts) - set(out.names.values()):
         raise Unknown(f"not written: {missing}")
     parts = [(HERE / "top.c").read_text().rstrip(), *out.types(), *out.texts, rest]
-    return "\n\n".join(parts) + "\n"
+    return "\n\n".join(parts) + "\n", out
+
+
+def want_used(out):
+    """Each name and each comment of names.py is one of these crates."""
+    if unused := {(of, old) for of, pairs in names.COMMENTS.items() if of for old, _ in pairs} - out.replaced:
+        raise Unknown(f"names.py has comments that no function has: {unused}")
+    if unused := {*names.FUNCTIONS, *names.VARIABLES} - {"", *out.reached, "UnbufferedEncoder::reset"}:
+        raise Unknown(f"names.py names functions that nothing calls: {unused}")
 
 
 def main():
     words = [it for it in sys.argv[1:] if it != "--check"]
-    made = translated(Path(words[0]).resolve() if words else HERE.parents[2] / "crates")
+    made, out = translated(Path(words[0]).resolve() if words else HERE.parents[2] / "crates")
+    if not words:
+        want_used(out)
     for target in (HERE / "jcobs.c", HERE.parent / "device/src/jcobs.c"):
         if "--check" not in sys.argv:
             target.write_text(made)

@@ -40,6 +40,17 @@ one_unit() {
     ! nm "$work/unit" | grep ' T jcobs_'
 }
 
+# A program that makes no call: no compiler warns of that.
+no_calls() {
+    printf '#define JCOBS_API static inline\n#include "%s/source/jcobs.c"\nint main(void) { return 0; }\n' "$PWD" >"$work/unit.c"
+    for compiler in gcc clang; do
+        command -v $compiler >/dev/null || continue
+        for level in -O0 -O2; do
+            $compiler -std=c99 $level $flags -Iinclude -c "$work/unit.c" -o "$work/unit.o" || return 1
+        done
+    done
+}
+
 # In a shared library the calls are exported, or hidden, as JCOBS_API says.
 exported() { # JCOBS_API FLAG..: prints the calls that the library exports
     api=$1
@@ -143,7 +154,7 @@ END
 
 # A form that it doesn't know, or whose meaning could be another in C, is an error.
 translator_refuses() {
-    translated 'message_len / 254' | grep -q "isn't what" || { translated 'message_len / 254'; return 1; }
+    translated 'message_len / 250' | grep -q "isn't what" || { translated 'message_len / 250'; return 1; }
     while read -r body; do
         translated "$body" | grep -q '^translate.py: unknown: ' || { echo "$body"; translated "$body"; return 1; }
     done <<'END'

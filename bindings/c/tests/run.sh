@@ -320,6 +320,7 @@ part 'enums that are short' short_enums
 part 'enums that are short, on AVR and Hexagon' short_enums_on_devices
 part 'jcobs.c in one translation unit, static' one_unit static -Wno-unused-function
 part 'jcobs.c in one translation unit, static inline' one_unit 'static inline'
+part 'jcobs.c in one translation unit, static inline: no warning of calls that are not made' no_calls
 part 'jcobs.c in a shared library: exported, or hidden' exports
 part '1,000,000 random calls between pages without access' "$at/guard" 1000000
 for chunk in 1 7 4096; do

@@ -13,9 +13,9 @@ use Rattle.cobs.specs.declared.UnbufferedEncoder.{UnbufferedEncoder}
 use Rattle.cobs_abi.proofs.WritesLemmas.{Writes-failed, Writes-terminated, behind_terminator}
 use Rattle.cobs_abi.specs.Encode.{Writes}
 use Rattle.cobs_abi.specs.Frames.{IsFrameOnWire, IsFrameOnWireFor}
-use Rattle.cobs_abi.specs.Stream.{Finishes}
+use Rattle.cobs_abi.specs.Stream.{Finishes, IsFreshEncoder}
 use Rattle.cobs_abi.specs.declared.answer.Answer.{Answer}
-use Rattle.cobs_abi.specs.declared.answer.TheConstants.{OK}
+use Rattle.cobs_abi.specs.declared.answer.TheConstants.{OK, TOO_SMALL}
 pub use Rattle.cobs_bytes.proofs.bytes.XoredLemmas.{xor_each-zero}
 
 -- of `law_6`
@@ -49,6 +49,47 @@ module _ (free : (f : List ℕ) (s : ℕ) → IsFrame f → All (λ byte. byte �
         bound = f.bound;
         len = length-append changed (drop result.length part) ∙ omega (arith, len, within, f.len, length-drop result.length part);
       }
+
+-- what `finalize` ensures, as the result of a call
+module _ {encoder encoder' : UnbufferedEncoder} {buffer buffer' : List ℕ} where
+  -- it wrote a frame of n bytes
+  pub Finishes-finalized : {n : ℕ} → length buffer ≢ 0
+      → ((m : List ℕ) → CobsEncoderAfter buffer (reached_by encoder) m → n ≡ encoded_len m)
+      → ((m : List ℕ) → CobsEncoderAfter buffer (reached_by encoder) m → IsFrameOnWire (take n buffer') m)
+      → n ≡ end_of (reached_by encoder) → n ≤ length buffer → IsFreshEncoder encoder'
+      → drop n buffer' ≡ drop n buffer → length buffer' ≡ length buffer
+      → Finishes 0 IsFrameOnWire encoder buffer (record { status = OK; consumed = 0; length = n }) encoder' buffer'
+  Finishes-finalized {n} some len wanted end within fresh rest same = record {
+    writes = λ m h. record {
+      fits = λ _. ap (λ (n : ℕ). record { status = OK; consumed = 0; length = n }) (omega (arith, len m h));
+      wanted = λ _. wanted m h;
+      too_small = λ long. absurd (omega (arith, long, len m h, within));
+      rest = rest;
+    };
+    place = λ _. omega (arith, end);
+    fresh = λ _. fresh;
+    too_small = λ other. absurd (other refl);
+    rejected = λ other. absurd (other refl);
+    empty = λ none. absurd (some none);
+    rest = rest;
+    bound = within;
+    len = same;
+  }
+
+  -- it wrote nothing, since the encoder hasn't taken a message in this buffer
+  pub Finishes-refused : ((m : List ℕ) → CobsEncoderAfter buffer (reached_by encoder) m → ⊥) → buffer' ≡ buffer → encoder' ≡ encoder
+      → Finishes 0 IsFrameOnWire encoder buffer (record { status = TOO_SMALL; consumed = 0; length = 0 }) encoder' buffer'
+  Finishes-refused none same kept = record {
+    writes = λ m h. absurd (none m h);
+    place = λ ok. absurd (omega (arith, ok));
+    fresh = λ ok. absurd (omega (arith, ok));
+    too_small = λ _. refl;
+    rejected = λ _. kept;
+    empty = λ _. refl;
+    rest = ap (drop 0) same;
+    bound = omega arith;
+    len = ap (λ (l : List ℕ). length l) same;
+  }
 
 -- of `law_2` and `law_13`
 module _ (counted : (f m : List ℕ) → IsEncodedFrame f m → length f ≡ encoded_len m) (end : (slice m : List ℕ) (reached : Reached) → CobsEncoderAfter slice reached m → end_of reached ≡ encoded_len m) where

@@ -56,15 +56,22 @@ pub fn too_small() -> Answer
 pub fn result_by(consumed: usize, room: usize, size: Result<usize, DecodeError>) -> Answer
     ensures { result ≡ result_by consumed room size }
 {
-    let (status, length) = match size {
-        Ok(length) => (OK, length),
-        Err(DecodeError::EmptyFrame) => (EMPTY, 0),
-        Err(DecodeError::InvalidFrame { decoded_bytes }) => (BROKEN, decoded_bytes),
-        Err(DecodeError::TargetBufTooSmall) => (TOO_SMALL, room),
-    };
-    Answer {
-        status,
-        consumed,
-        length,
+    match size {
+        Ok(length) => done(consumed, length),
+        Err(DecodeError::InvalidFrame { decoded_bytes }) => Answer {
+            status: BROKEN,
+            consumed,
+            length: decoded_bytes,
+        },
+        Err(DecodeError::TargetBufTooSmall) => Answer {
+            status: TOO_SMALL,
+            consumed,
+            length: room,
+        },
+        Err(DecodeError::EmptyFrame) => Answer {
+            status: EMPTY,
+            consumed,
+            length: 0,
+        },
     }
 }

@@ -83,12 +83,14 @@ pub fn decode_byte(decoder: &mut UnbufferedDecoder, buffer: &mut [u8], byte: u8)
 {
     law_17();
     let room = buffer.len();
-    let returned = decoder.feed(buffer, byte);
+    let mut end = PieceEnd::reported(decoder.feed(buffer, byte));
+    // Only a zero ends a piece.
     if byte != 0 {
-        return result_of(decoder, None, 1, room);
+        end = None;
     }
-    let Some(end) = PieceEnd::reported(returned) else {
-        return result_of(decoder, None, 1, room);
+    let found = match end {
+        Some(end) => Some((end, 1)),
+        None => None,
     };
-    result_of(decoder, Some((end, 1)), 1, room)
+    result_of(decoder, found, 1, room)
 }

@@ -7,7 +7,7 @@ ghost use Rattle.cobs_abi.specs.Encode.{EncodesInPlace};
 ghost use Rattle.cobs_abi.specs.Frames.{IsFrameOnWire, IsTerminatedFrame};
 ghost use Rattle.cobs_abi.specs.Stream.{EncodesNext, Finishes};
 
-use crate::answer::{Answer, OK, done, too_small};
+use crate::answer::{Answer, done, too_small};
 use cobs::laws::{law_2, law_13};
 use cobs::{UnbufferedEncoder, encode_in_place, max_encoding_overhead};
 
@@ -74,16 +74,17 @@ pub fn finish_terminated(encoder: &mut UnbufferedEncoder, buffer: &mut [u8]) -> 
 {
     law_2();
     law_13();
-    if buffer.is_empty() {
+    if buffer.len() < 2 {
         return too_small();
     }
     let last = buffer.len() - 1;
-    let returned = finish(encoder, &mut buffer[..last]);
-    if returned.status != OK {
-        return returned;
+    match encoder.finalize(&mut buffer[..last]) {
+        Ok(length) => {
+            buffer[length] = 0;
+            done(0, length + 1)
+        }
+        Err(_) => too_small(),
     }
-    buffer[returned.length] = 0;
-    done(returned.consumed, returned.length + 1)
 }
 
 /// Encodes the message of `message_len` bytes that is in the buffer, in place, if the longest frame of a message of

@@ -1,7 +1,8 @@
 /* jcobs.c: the calls of jcobs.h in one file of C, for any processor and compiler. Written by translate.py: don't edit it.
  *
  * Compile it with your program, by C99 or later or as C++, with jcobs.h beside it or in the include path. It has no
- * variables, allocates nothing, and names no function of a C library; a compiler may call memset for some of its lines.
+ * variables that stay, only a constant table with the texts of jcobs_strerror. It allocates nothing, and names no function
+ * of a C library; a compiler may call memset or memcpy for some of its lines.
  *
  * What is proved: the functions of crates/cobs_small, for lengths of 64 bits, on any contents of the buffers and the
  * states. Each meets its contract, accesses only the buffers that it is given, and returns. The comment over a function
@@ -9,10 +10,12 @@
  * contracts are defined in crates/cobs_abi/specs and crates/cobs/specs.
  *
  * What is not proved, but tested: that this text does the same. translate.py wrote each function from the one in Rattle,
- * and your compiler compiles it. Lengths have the width of your size_t. bindings/c/tests/run.sh compares two million
- * calls with those of the proved module itself. It and tests/device.sh run this file on processors with 16, 32 and 64
- * bits and both byte orders: the vectors of conformance/ (but on the one with 16 bits), and random calls compared with
- * plain C, with states of random bytes. The calls from jcobs_xor on are written by hand, and tested in the same way.
+ * and your compiler compiles it. Lengths have the width of your size_t. bindings/c/tests/translated.py, which shares
+ * nothing with translate.py, compares the two texts: conditions, loops, operators, numbers, calls and the use of names.
+ * bindings/c/tests/run.sh compares two million calls with those of the proved module itself. It and tests/device.sh run
+ * this file on processors with 16, 32 and 64 bits and both byte orders: the vectors of conformance/ (but on the one with
+ * 16 bits), and random calls compared with plain C, with states of random bytes. The calls from jcobs_xor on are written
+ * by hand, and tested in the same way.
  */
 #include "jcobs.h"
 
@@ -33,16 +36,65 @@ typedef char jcobs_size_t_is_no_shorter_than_int[sizeof(size_t) >= sizeof(unsign
 #define JCOBS_NOINLINE __attribute__((noinline))
 #endif
 #else
-#if defined(__cplusplus) || (defined(__STDC_VERSION__) && __STDC_VERSION__ >= 199901L)
 #define JCOBS_INLINE inline
-#else
-#define JCOBS_INLINE
-#endif
 #define JCOBS_NOINLINE
 #endif
 
-/* Makes a result. It is written by hand. */
-static JCOBS_INLINE jcobs_answer jcobs_answered(JCOBS_STATUS status, size_t consumed, size_t length)
+/* How a piece of a stream ended. A piece is what is between two zeros: a frame, or one that is broken. */
+enum jcobs_end_kind {
+    JCOBS_END_MESSAGE,  /* it is the frame of a message with this many bytes */
+    JCOBS_END_BROKEN,   /* it breaks off inside a block, and decodes to this many bytes */
+    JCOBS_END_TOO_LONG, /* it decodes to more bytes than the buffer has room for */
+    JCOBS_END_NONE      /* it hasn't ended, or there is none: the numbers say nothing */
+};
+
+typedef struct jcobs_end {
+    enum jcobs_end_kind kind;
+    size_t count; /* how many bytes, of a message or a broken piece */
+} jcobs_end;
+
+static JCOBS_INLINE jcobs_end jcobs_make_end(enum jcobs_end_kind kind, size_t count)
+{
+    jcobs_end end;
+
+    end.kind = kind;
+    end.count = count;
+    return end;
+}
+
+/* The same, and how many bytes were consumed. */
+typedef struct jcobs_piece {
+    enum jcobs_end_kind kind;
+    size_t count;
+    size_t consumed;
+} jcobs_piece;
+
+static JCOBS_INLINE jcobs_piece jcobs_make_piece(enum jcobs_end_kind kind, size_t count, size_t consumed)
+{
+    jcobs_piece piece;
+
+    piece.kind = kind;
+    piece.count = count;
+    piece.consumed = consumed;
+    return piece;
+}
+
+/* The length of an encoder's frame, if it fits the buffer. */
+typedef struct jcobs_frame {
+    int fits;
+    size_t length;
+} jcobs_frame;
+
+static JCOBS_INLINE jcobs_frame jcobs_make_frame(int fits, size_t length)
+{
+    jcobs_frame frame;
+
+    frame.fits = fits;
+    frame.length = length;
+    return frame;
+}
+
+static JCOBS_INLINE jcobs_answer jcobs_make_answer(JCOBS_STATUS status, size_t consumed, size_t length)
 {
     jcobs_answer answer;
 
@@ -52,48 +104,21 @@ static JCOBS_INLINE jcobs_answer jcobs_answered(JCOBS_STATUS status, size_t cons
     return answer;
 }
 
-enum {
-    JCOBS_FULL = 255,
-    JCOBS_FULL_BLOCK_BYTES = 254,
-    JCOBS_FULL_CODE = 255
-};
-
-enum jcobs_frame_kind { JCOBS_FRAME_KIND_NOT_A_FRAME, JCOBS_FRAME_KIND_CANONICAL, JCOBS_FRAME_KIND_LONGER };
-
-/* What a step came to. */
-enum {
-    JCOBS_IS_NONE,
-    JCOBS_IS_TOO_LONG,
-    JCOBS_IS_MESSAGE,
-    JCOBS_IS_BROKEN,
-    JCOBS_IS_EMPTY_FRAME,
-    JCOBS_IS_SOME,
-    JCOBS_IS_INVALID_FRAME,
-    JCOBS_IS_TARGET_BUF_TOO_SMALL,
-    JCOBS_IS_DEST_BUF_TOO_SMALL_ERROR,
-    JCOBS_IS_OK
-};
-
-typedef struct jcobs_outcome {
-    int kind;     /* one of these */
-    size_t count; /* its number, if it has one */
-} jcobs_outcome;
-
-typedef struct jcobs_found {
-    int kind;
-    size_t count;
-    size_t consumed; /* how many bytes it took */
-} jcobs_found;
-
-static JCOBS_INLINE jcobs_encoder jcobs_encoder_of(size_t index, unsigned char taken, unsigned char full)
+static JCOBS_INLINE size_t jcobs_min(size_t a, size_t b)
 {
-    jcobs_encoder encoder;
-
-    encoder.index = index;
-    encoder.taken = taken;
-    encoder.full = full;
-    return encoder;
+    return a < b ? a : b;
 }
+
+/* Returns the sum, or the other number if the sum doesn't fit. */
+static size_t jcobs_sum_or(size_t a, size_t b, size_t other)
+{
+    return b > (size_t)-1 - a ? other : a + b;
+}
+
+enum {
+    JCOBS_FULL_BLOCK_BYTES = 254, /* the number of bytes of a full block after its code */
+    JCOBS_FULL_CODE = 255         /* the code of a full block */
+};
 
 typedef struct jcobs_progress {
     size_t index;
@@ -101,7 +126,7 @@ typedef struct jcobs_progress {
     int is_full;
 } jcobs_progress;
 
-static JCOBS_INLINE jcobs_progress jcobs_progress_of(size_t index, unsigned char code, int is_full)
+static JCOBS_INLINE jcobs_progress jcobs_make_progress(size_t index, unsigned char code, int is_full)
 {
     jcobs_progress progress;
 
@@ -111,32 +136,24 @@ static JCOBS_INLINE jcobs_progress jcobs_progress_of(size_t index, unsigned char
     return progress;
 }
 
-/* The sum, or the other number if the sum doesn't fit. */
-static size_t jcobs_sum_or(size_t a, size_t b, size_t other)
+/* Puts the decoder to the start, as JCOBS_DECODER_INIT does. */
+static JCOBS_INLINE void jcobs_decoder_start(jcobs_decoder *decoder)
 {
-    return b > (size_t)-1 - a ? other : a + b;
+    decoder->written = 0;
+    decoder->missing = 0;
+    decoder->joint = 0;
+    decoder->too_long = 0;
 }
 
-static JCOBS_INLINE jcobs_outcome jcobs_outcome_of(int kind, size_t count)
+/* Puts the encoder to the start, as JCOBS_ENCODER_INIT does. */
+static JCOBS_INLINE void jcobs_encoder_start(jcobs_encoder *encoder)
 {
-    jcobs_outcome outcome;
-
-    outcome.kind = kind;
-    outcome.count = count;
-    return outcome;
+    encoder->index = 0;
+    encoder->taken = 0;
+    encoder->full = 0;
 }
 
-static JCOBS_INLINE jcobs_found jcobs_found_of(int kind, size_t count, size_t consumed)
-{
-    jcobs_found found;
-
-    found.kind = kind;
-    found.count = count;
-    found.consumed = consumed;
-    return found;
-}
-
-/* Returns how many zeros the source begins with, which decode skips before a frame. (A choice of this library.) */
+/* Returns how many zeros the source begins with. */
 static size_t jcobs_leading_zeros(const unsigned char *source, size_t source_len)
 {
     for (size_t i = 0; i < source_len; i++) {
@@ -147,8 +164,8 @@ static size_t jcobs_leading_zeros(const unsigned char *source, size_t source_len
     return source_len;
 }
 
-/* Returns where the piece ends whose next byte is at at: after its zero, or at the end of the source. */
-static JCOBS_NOINLINE size_t jcobs_through_piece(const unsigned char *source, size_t source_len, size_t at)
+/* Returns where the piece ends that source[at] belongs to: after its zero, or at the end of the source. */
+static JCOBS_NOINLINE size_t jcobs_find_end(const unsigned char *source, size_t source_len, size_t at)
 {
     size_t end = at;
 
@@ -161,26 +178,26 @@ static JCOBS_NOINLINE size_t jcobs_through_piece(const unsigned char *source, si
     return end;
 }
 
-/* Returns the result for a piece that ended after this many bytes of output, with this many bytes of its last
- * block missing, and after at bytes of the source. */
-static JCOBS_INLINE jcobs_found jcobs_ended(size_t written, size_t missing, size_t at)
+/* Returns the piece that ended in front of source[at], after this many bytes of output, with this many bytes of
+ * its last block missing. */
+static JCOBS_INLINE jcobs_piece jcobs_ended_piece(size_t written, size_t missing, size_t at)
 {
     if (missing == 0) {
-        return jcobs_found_of(JCOBS_IS_MESSAGE, written, at);
+        return jcobs_make_piece(JCOBS_END_MESSAGE, written, at);
     }
-    return jcobs_found_of(JCOBS_IS_BROKEN, written, at);
+    return jcobs_make_piece(JCOBS_END_BROKEN, written, at);
 }
 
-/* Decodes the first piece of the source into dest, one byte after another, and returns how it ended, and how many
- * bytes were consumed: leading zeros, the piece, and the zero after it if there is one. Returns None if there is
- * no piece. */
-static JCOBS_INLINE jcobs_found jcobs_decode_piece(const unsigned char *source, size_t source_len, unsigned char *dest,
-                                                   size_t dest_len)
+/* Decodes the first piece of the source into message, one byte after another, and returns how it ended, and how
+ * many bytes were consumed: leading zeros, the piece, and the zero after it if there is one. It returns
+ * JCOBS_END_NONE if there is no piece. */
+static JCOBS_INLINE jcobs_piece jcobs_decode_piece(const unsigned char *source, size_t source_len,
+                                                   unsigned char *message, size_t message_len)
 {
     size_t start = jcobs_leading_zeros(source, source_len);
 
     if (start == source_len) {
-        return jcobs_found_of(JCOBS_IS_NONE, 0, 0);
+        return jcobs_make_piece(JCOBS_END_NONE, 0, 0);
     }
     size_t at = start + 1;
     size_t written = 0;
@@ -193,32 +210,32 @@ static JCOBS_INLINE jcobs_found jcobs_decode_piece(const unsigned char *source, 
             break;
         }
         if (left != 0) {
-            if (written == dest_len) {
-                return jcobs_found_of(JCOBS_IS_TOO_LONG, 0, jcobs_through_piece(source, source_len, at));
+            if (written == message_len) {
+                return jcobs_make_piece(JCOBS_END_TOO_LONG, 0, jcobs_find_end(source, source_len, at));
             }
-            dest[written] = byte;
+            message[written] = byte;
             written++;
             left--;
         } else {
-            if (code != JCOBS_FULL) {
-                if (written == dest_len) {
-                    return jcobs_found_of(JCOBS_IS_TOO_LONG, 0, jcobs_through_piece(source, source_len, at));
+            if (code != JCOBS_FULL_CODE) {
+                if (written == message_len) {
+                    return jcobs_make_piece(JCOBS_END_TOO_LONG, 0, jcobs_find_end(source, source_len, at));
                 }
-                dest[written] = 0;
+                message[written] = 0;
                 written++;
             }
             code = byte;
             left = (size_t)code - 1;
         }
     }
-    return jcobs_ended(written, left, at);
+    return jcobs_ended_piece(written, left, at);
 }
 
 /* Returns the result of a call that succeeded: this many bytes were taken, and this many are at the front of the
  * buffer. */
-static jcobs_answer jcobs_done(size_t consumed, size_t length)
+static jcobs_answer jcobs_ok_answer(size_t consumed, size_t length)
 {
-    return jcobs_answered(JCOBS_OK, consumed, length);
+    return jcobs_make_answer(JCOBS_OK, consumed, length);
 }
 
 /* Decodes the first frame of the source to the front of message.
@@ -226,53 +243,44 @@ static jcobs_answer jcobs_done(size_t consumed, size_t length)
  * message_len, as COBS is defined; a buffer as long as the source is never too small. */
 jcobs_answer jcobs_decode(const void *source, size_t source_len, void *message, size_t message_len)
 {
-    jcobs_found found = jcobs_decode_piece((const unsigned char *)source, source_len, (unsigned char *)message,
+    jcobs_piece piece = jcobs_decode_piece((const unsigned char *)source, source_len, (unsigned char *)message,
                                            message_len);
 
-    if (found.kind == JCOBS_IS_NONE) {
-        return jcobs_answered(JCOBS_EMPTY, source_len, 0);
+    switch (piece.kind) {
+    case JCOBS_END_MESSAGE:
+        return jcobs_ok_answer(piece.consumed, piece.count);
+    case JCOBS_END_BROKEN:
+        return jcobs_make_answer(JCOBS_BROKEN, piece.consumed, piece.count);
+    case JCOBS_END_TOO_LONG:
+        return jcobs_make_answer(JCOBS_TOO_SMALL, piece.consumed, message_len);
+    case JCOBS_END_NONE:
+        break;
     }
-    switch (found.kind) {
-    case JCOBS_IS_MESSAGE:
-        return jcobs_done(found.consumed, found.count);
-    case JCOBS_IS_BROKEN:
-        return jcobs_answered(JCOBS_BROKEN, found.consumed, found.count);
-    default:
-        return jcobs_answered(JCOBS_TOO_SMALL, found.consumed, message_len);
-    }
+    return jcobs_make_answer(JCOBS_EMPTY, source_len, 0);
 }
 
 /* Makes the decoder idle, even if its state is corrupt.
  * Proved, by the contract in decoder.rt: then the decoder has taken nothing, whatever its state was. */
 void jcobs_decoder_reset(jcobs_decoder *decoder)
 {
-    decoder->written = 0;
-    decoder->missing = 0;
-    decoder->joint = 0;
-    decoder->too_long = 0;
-}
-
-/* Returns whether no piece has begun, so that the next byte that isn't a zero begins one. */
-static JCOBS_INLINE int jcobs_decoder_is_idle_inside(const jcobs_decoder *decoder)
-{
-    return decoder->written == 0 && decoder->missing == 0 && decoder->joint == 0 && decoder->too_long == 0;
+    jcobs_decoder_start(decoder);
 }
 
 /* Returns 1 if no piece is open, and 0 otherwise.
  * Proved, by the contract in decoder.rt: the result is 1 exactly if no piece is open. */
 unsigned int jcobs_decoder_is_idle(const jcobs_decoder *decoder)
 {
-    return jcobs_decoder_is_idle_inside(decoder) ? 1 : 0;
+    return decoder->written == 0 && decoder->missing == 0 && decoder->joint == 0 && decoder->too_long == 0;
 }
 
 /* Returns the value of joint after a block with this code. */
 static JCOBS_INLINE unsigned char jcobs_joint_after(unsigned char code)
 {
-    return code == JCOBS_FULL ? 0 : 1;
+    return code == JCOBS_FULL_CODE ? 0 : 1;
 }
 
 /* Takes a byte of a piece, and writes its output to the buffer. */
-static JCOBS_INLINE void jcobs_decoder_take_byte(jcobs_decoder *decoder, unsigned char *dest, size_t dest_len,
+static JCOBS_INLINE void jcobs_decoder_take_byte(jcobs_decoder *decoder, unsigned char *buffer, size_t buffer_len,
                                                  unsigned char byte)
 {
     if (decoder->too_long != 0) {
@@ -282,155 +290,116 @@ static JCOBS_INLINE void jcobs_decoder_take_byte(jcobs_decoder *decoder, unsigne
      * branches, which a processor predicts, are faster than one write of a chosen byte. */
     size_t at = decoder->written;
     if (decoder->missing != 0) {
-        if (dest_len <= at) {
+        if (buffer_len <= at) {
             decoder->too_long = 1;
             return;
         }
-        dest[at] = byte;
+        buffer[at] = byte;
         decoder->written = at + 1;
         decoder->missing--;
         return;
     }
     if (decoder->joint != 0) {
-        if (dest_len <= at) {
+        if (buffer_len <= at) {
             decoder->too_long = 1;
             return;
         }
-        dest[at] = 0;
+        buffer[at] = 0;
         decoder->written = at + 1;
     }
     decoder->missing = (unsigned char)(byte - 1);
     decoder->joint = jcobs_joint_after(byte);
 }
 
-/* Returns how a piece has ended, given the result of feed for its zero, or None if no piece had begun. */
-static JCOBS_INLINE jcobs_outcome jcobs_piece_end_reported(jcobs_outcome returned)
-{
-    switch (returned.kind) {
-    case JCOBS_IS_NONE:
-    case JCOBS_IS_EMPTY_FRAME:
-        return jcobs_outcome_of(JCOBS_IS_NONE, 0);
-    case JCOBS_IS_SOME:
-        return jcobs_outcome_of(JCOBS_IS_MESSAGE, returned.count);
-    case JCOBS_IS_INVALID_FRAME:
-        return jcobs_outcome_of(JCOBS_IS_BROKEN, returned.count);
-    default:
-        return jcobs_outcome_of(JCOBS_IS_TOO_LONG, 0);
-    }
-}
-
 /* Takes a zero, which ends a piece if one has begun. The buffer has this length. */
-static JCOBS_INLINE jcobs_outcome jcobs_decoder_end(jcobs_decoder *decoder, size_t len)
+static JCOBS_INLINE jcobs_end jcobs_decoder_end(jcobs_decoder *decoder, size_t buffer_len)
 {
-    jcobs_decoder ended = *decoder;
+    jcobs_decoder before = *decoder;
 
-    decoder->written = 0;
-    decoder->missing = 0;
-    decoder->joint = 0;
-    decoder->too_long = 0;
-    if (ended.too_long != 0) {
-        return jcobs_outcome_of(JCOBS_IS_TARGET_BUF_TOO_SMALL, 0);
+    jcobs_decoder_start(decoder);
+    if (before.too_long != 0) {
+        return jcobs_make_end(JCOBS_END_TOO_LONG, 0);
     }
-    if (ended.missing != 0) {
-        return jcobs_outcome_of(JCOBS_IS_INVALID_FRAME, ended.written);
+    if (before.missing != 0) {
+        return jcobs_make_end(JCOBS_END_BROKEN, before.written);
     }
     /* This happens only if the caller now passes a shorter buffer, since no more bytes are counted than were
      * written. */
-    if (len < ended.written) {
-        return jcobs_outcome_of(JCOBS_IS_TARGET_BUF_TOO_SMALL, 0);
+    if (buffer_len < before.written) {
+        return jcobs_make_end(JCOBS_END_TOO_LONG, 0);
     }
-    if (ended.written == 0 && ended.joint == 0) {
-        return jcobs_outcome_of(JCOBS_IS_NONE, 0);
+    if (before.written == 0 && before.joint == 0) {
+        return jcobs_make_end(JCOBS_END_NONE, 0);
     }
-    return jcobs_outcome_of(JCOBS_IS_SOME, ended.written);
+    return jcobs_make_end(JCOBS_END_MESSAGE, before.written);
 }
 
 /* Takes bytes of a stream of frames for this sentinel, one step for each byte. It stops after the sentinel that
- * ends the first piece, or takes all bytes if no piece ends. For the sentinel 0 it does what feed_piece does. It
- * has no search and no copy of slices, so it is small, and fast for a few bytes. (A choice of this library.) */
-static JCOBS_INLINE jcobs_found jcobs_decoder_feed_each(jcobs_decoder *decoder, unsigned char *dest, size_t dest_len,
-                                                        const unsigned char *bytes, size_t bytes_len,
+ * ends the first piece, or takes all bytes if no piece ends. */
+static JCOBS_INLINE jcobs_piece jcobs_decoder_feed_each(jcobs_decoder *decoder, unsigned char *buffer,
+                                                        size_t buffer_len, const unsigned char *bytes, size_t len,
                                                         unsigned char sentinel)
 {
     /* A copy, so that it stays in registers: compilers read the fields again after each byte that is written. */
-    jcobs_decoder here = *decoder;
+    jcobs_decoder state = *decoder;
     size_t taken = 0;
-    if (here.too_long == 0) {
-        while (taken < bytes_len) {
+    if (state.too_long == 0) {
+        while (taken < len) {
             unsigned char byte = (unsigned char)(bytes[taken] ^ sentinel);
             taken++;
             if (byte != 0) {
-                jcobs_decoder_take_byte(&here, dest, dest_len, byte);
-                if (here.too_long != 0) {
+                jcobs_decoder_take_byte(&state, buffer, buffer_len, byte);
+                if (state.too_long != 0) {
                     break;
                 }
             } else {
-                jcobs_outcome end = jcobs_piece_end_reported(jcobs_decoder_end(&here, dest_len));
-                if (end.kind != JCOBS_IS_NONE) {
-                    decoder->written = 0;
-                    decoder->missing = 0;
-                    decoder->joint = 0;
-                    decoder->too_long = 0;
-                    return jcobs_found_of(end.kind, end.count, taken);
+                jcobs_end end = jcobs_decoder_end(&state, buffer_len);
+                if (end.kind != JCOBS_END_NONE) {
+                    jcobs_decoder_start(decoder);
+                    return jcobs_make_piece(end.kind, end.count, taken);
                 }
             }
         }
     }
     /* If a piece is too long, only its end matters. */
-    while (taken < bytes_len) {
+    while (taken < len) {
         unsigned char byte = (unsigned char)(bytes[taken] ^ sentinel);
         taken++;
         if (byte == 0) {
-            decoder->written = 0;
-            decoder->missing = 0;
-            decoder->joint = 0;
-            decoder->too_long = 0;
-            return jcobs_found_of(JCOBS_IS_TOO_LONG, 0, taken);
+            jcobs_decoder_start(decoder);
+            return jcobs_make_piece(JCOBS_END_TOO_LONG, 0, taken);
         }
     }
-    /* One by one: with an assignment of the whole, rustc needs 24 bytes more for a push on a Cortex-M4. */
-    decoder->written = here.written;
-    decoder->missing = here.missing;
-    decoder->joint = here.joint;
-    decoder->too_long = here.too_long;
-    return jcobs_found_of(JCOBS_IS_NONE, 0, 0);
+    *decoder = state;
+    return jcobs_make_piece(JCOBS_END_NONE, 0, 0);
 }
 
-/* Returns how many bytes of an open message a buffer of room bytes holds. */
-static JCOBS_INLINE size_t jcobs_held(const jcobs_decoder *decoder, size_t room)
+/* Returns how many bytes of an open message a buffer of buffer_len bytes holds. */
+static JCOBS_INLINE size_t jcobs_decoder_length(const jcobs_decoder *decoder, size_t buffer_len)
 {
     if (decoder->too_long != 0) {
-        return room;
+        return buffer_len;
     }
-    return decoder->written < room ? decoder->written : room;
+    return jcobs_min(decoder->written, buffer_len);
 }
 
-/* Returns the result of a call that took these of len bytes, into a buffer of room bytes. */
-static JCOBS_INLINE jcobs_answer jcobs_result_of(const jcobs_decoder *decoder, jcobs_found found, size_t len,
-                                                 size_t room)
+/* Returns the result of a call that took len bytes or those through this piece's end, if it has ended. The buffer
+ * has buffer_len bytes. */
+static JCOBS_INLINE jcobs_answer jcobs_decoder_answer(const jcobs_decoder *decoder, jcobs_piece piece, size_t len,
+                                                      size_t buffer_len)
 {
-    if (found.kind == JCOBS_IS_NONE) {
-        return jcobs_answered(JCOBS_MORE, len, jcobs_held(decoder, room));
+    switch (piece.kind) {
+    case JCOBS_END_MESSAGE:
+        return jcobs_ok_answer(piece.consumed, piece.count);
+    case JCOBS_END_BROKEN:
+        /* The count is at most buffer_len, unless the state is corrupt. */
+        return jcobs_make_answer(JCOBS_BROKEN, piece.consumed, jcobs_min(piece.count, buffer_len));
+    case JCOBS_END_TOO_LONG:
+        return jcobs_make_answer(JCOBS_TOO_SMALL, piece.consumed, buffer_len);
+    case JCOBS_END_NONE:
+        break;
     }
-    switch (found.kind) {
-    case JCOBS_IS_MESSAGE:
-        return jcobs_done(found.consumed, found.count);
-    case JCOBS_IS_BROKEN:
-        /* The count is at most room, unless the state is corrupt. */
-        return jcobs_answered(JCOBS_BROKEN, found.consumed, found.count < room ? found.count : room);
-    default:
-        return jcobs_answered(JCOBS_TOO_SMALL, found.consumed, room);
-    }
-}
-
-/* Takes bytes of a stream of frames for this sentinel, through the sentinel that ends the first piece, or all of
- * them if no piece ends. */
-static JCOBS_INLINE jcobs_answer jcobs_decode_each(jcobs_decoder *decoder, unsigned char *buffer, size_t buffer_len,
-                                                   const unsigned char *bytes, size_t bytes_len, unsigned char sentinel)
-{
-    jcobs_found found = jcobs_decoder_feed_each(decoder, buffer, buffer_len, bytes, bytes_len, sentinel);
-
-    return jcobs_result_of(decoder, found, bytes_len, buffer_len);
+    return jcobs_make_answer(JCOBS_MORE, len, jcobs_decoder_length(decoder, buffer_len));
 }
 
 /* Takes bytes of the stream, through the zero that ends the first piece, or all of them if no piece ends. Even if
@@ -440,45 +409,24 @@ static JCOBS_INLINE jcobs_answer jcobs_decode_each(jcobs_decoder *decoder, unsig
  * and buffer. */
 jcobs_answer jcobs_decoder_push(jcobs_decoder *decoder, void *buffer, size_t buffer_len, const void *bytes, size_t len)
 {
-    return jcobs_decode_each(decoder, (unsigned char *)buffer, buffer_len, (const unsigned char *)bytes, len, 0);
+    jcobs_piece piece = jcobs_decoder_feed_each(decoder, (unsigned char *)buffer, buffer_len,
+                                                (const unsigned char *)bytes, len, 0);
+
+    return jcobs_decoder_answer(decoder, piece, len, buffer_len);
 }
 
 /* Takes the next byte of the stream, and writes its output to the buffer. */
-static JCOBS_INLINE jcobs_outcome jcobs_decoder_step(jcobs_decoder *decoder, unsigned char *dest, size_t dest_len,
-                                                     unsigned char byte)
+static JCOBS_INLINE jcobs_end jcobs_decoder_step(jcobs_decoder *decoder, unsigned char *buffer, size_t buffer_len,
+                                                 unsigned char byte)
 {
     if (byte == 0) {
-        return jcobs_decoder_end(decoder, dest_len);
+        return jcobs_decoder_end(decoder, buffer_len);
     }
-    jcobs_decoder_take_byte(decoder, dest, dest_len, byte);
+    jcobs_decoder_take_byte(decoder, buffer, buffer_len, byte);
     if (decoder->too_long != 0) {
-        return jcobs_outcome_of(JCOBS_IS_TARGET_BUF_TOO_SMALL, 0);
+        return jcobs_make_end(JCOBS_END_TOO_LONG, 0);
     }
-    return jcobs_outcome_of(JCOBS_IS_NONE, 0);
-}
-
-/* Takes the next byte of the stream, with this buffer, as CobsDecoder::feed does, with its errors. */
-static JCOBS_INLINE jcobs_outcome jcobs_decoder_feed_inside(jcobs_decoder *decoder, unsigned char *dest,
-                                                            size_t dest_len, unsigned char byte)
-{
-    return jcobs_decoder_step(decoder, dest, dest_len, byte);
-}
-
-/* Takes the next byte of a stream of frames, whose sentinel is zero. */
-static JCOBS_INLINE jcobs_answer jcobs_decode_byte(jcobs_decoder *decoder, unsigned char *buffer, size_t buffer_len,
-                                                   unsigned char byte)
-{
-    size_t room = buffer_len;
-    jcobs_outcome returned = jcobs_decoder_feed_inside(decoder, buffer, buffer_len, byte);
-
-    if (byte != 0) {
-        return jcobs_result_of(decoder, jcobs_found_of(JCOBS_IS_NONE, 0, 0), 1, room);
-    }
-    jcobs_outcome end = jcobs_piece_end_reported(returned);
-    if (end.kind == JCOBS_IS_NONE) {
-        return jcobs_result_of(decoder, jcobs_found_of(JCOBS_IS_NONE, 0, 0), 1, room);
-    }
-    return jcobs_result_of(decoder, jcobs_found_of(end.kind, end.count, 1), 1, room);
+    return jcobs_make_end(JCOBS_END_NONE, 0);
 }
 
 /* Takes one byte of the stream, as a push of that byte does.
@@ -487,16 +435,23 @@ static JCOBS_INLINE jcobs_answer jcobs_decode_byte(jcobs_decoder *decoder, unsig
  * and buffer. */
 jcobs_answer jcobs_decoder_feed(jcobs_decoder *decoder, void *buffer, size_t buffer_len, unsigned char byte)
 {
-    return jcobs_decode_byte(decoder, (unsigned char *)buffer, buffer_len, byte);
+    jcobs_end end = jcobs_decoder_step(decoder, (unsigned char *)buffer, buffer_len, byte);
+
+    /* Only a zero ends a piece. */
+    if (byte != 0) {
+        end = jcobs_make_end(JCOBS_END_NONE, 0);
+    }
+    jcobs_piece piece = jcobs_make_piece(end.kind, end.count, 1);
+    return jcobs_decoder_answer(decoder, piece, 1, buffer_len);
 }
 
-/* Returns how many bytes longer than its message an encoded frame is at most, for a message of source_len bytes. */
-static size_t jcobs_max_encoding_overhead(size_t source_len)
+/* Returns how many bytes longer than its message an encoded frame is at most, for a message of message_len bytes. */
+static size_t jcobs_max_encoding_overhead(size_t message_len)
 {
-    if (source_len == 0) {
+    if (message_len == 0) {
         return 1;
     }
-    return source_len / 254 + (source_len % 254 != 0 ? 1 : 0);
+    return message_len / JCOBS_FULL_BLOCK_BYTES + (message_len % JCOBS_FULL_BLOCK_BYTES != 0 ? 1 : 0);
 }
 
 /* Returns the length of the longest frame of a message of message_len bytes, or 0 if that number doesn't fit.
@@ -517,12 +472,12 @@ static JCOBS_INLINE int jcobs_covers_overhead(size_t len, size_t spare)
 
 /* Returns whether fewer than spare blocks become full and are followed by another byte, if the open block with
  * this code takes these bytes. Each such block needs one byte of the frame for the code after it. */
-static int jcobs_fits_each(unsigned char code, const unsigned char *bytes, size_t bytes_len, size_t spare)
+static int jcobs_fits_each(unsigned char code, const unsigned char *bytes, size_t len, size_t spare)
 {
     size_t left = spare;
 
-    for (size_t i = 0; i < bytes_len; i++) {
-        if (code == JCOBS_FULL) {
+    for (size_t i = 0; i < len; i++) {
+        if (code == JCOBS_FULL_CODE) {
             left--;
             if (left == 0) {
                 return 0;
@@ -536,79 +491,78 @@ static int jcobs_fits_each(unsigned char code, const unsigned char *bytes, size_
 
 /* Returns whether room bytes, counted from the code of an open block, are enough for the frame if the block takes
  * these bytes. It reads the bytes only if their number doesn't decide that. */
-static JCOBS_INLINE int jcobs_has_room(unsigned char code, const unsigned char *bytes, size_t bytes_len, size_t room)
+static JCOBS_INLINE int jcobs_has_room(unsigned char code, const unsigned char *bytes, size_t len, size_t room)
 {
     size_t held = (size_t)code - 1;
 
-    if (room <= held || room - held <= bytes_len) {
+    if (room <= held || room - held <= len) {
         return 0;
     }
-    size_t len = held + bytes_len;
-    size_t spare = room - len;
-    return jcobs_covers_overhead(len, spare) || jcobs_fits_each(code, bytes, bytes_len, spare);
+    size_t total = held + len;
+    size_t spare = room - total;
+    return jcobs_covers_overhead(total, spare) || jcobs_fits_each(code, bytes, len, spare);
 }
 
-/* Does what encode does, one byte at a time. */
-static size_t jcobs_write_each(const unsigned char *source, size_t source_len, unsigned char *dest)
+/* Writes the frame of the message, one byte after another. */
+static size_t jcobs_write_each(const unsigned char *message, size_t message_len, unsigned char *frame)
 {
     size_t index = 0;
     size_t next = 1;
     size_t read = 0;
 
-    while (read < source_len) {
+    while (read < message_len) {
         if (next - index == JCOBS_FULL_CODE) {
-            dest[index] = JCOBS_FULL_CODE;
+            frame[index] = JCOBS_FULL_CODE;
             index = next;
             next++;
         }
-        const unsigned char *rest = source + read;
-        size_t rest_len = source_len - read;
-        size_t len = rest_len < JCOBS_FULL_CODE - (next - index) ? rest_len : JCOBS_FULL_CODE - (next - index);
+        const unsigned char *rest = message + read;
+        size_t rest_len = message_len - read;
+        size_t len = jcobs_min(rest_len, JCOBS_FULL_CODE - (next - index));
         for (size_t i = 0; i < len; i++) {
             unsigned char byte = rest[i];
             if (byte == 0) {
-                dest[index] = (unsigned char)(next - index);
+                frame[index] = (unsigned char)(next - index);
                 index = next;
             } else {
-                dest[next] = byte;
+                frame[next] = byte;
             }
             next++;
         }
         read += len;
     }
-    dest[index] = (unsigned char)(next - index);
+    frame[index] = (unsigned char)(next - index);
     return next;
 }
 
-/* Does what try_encode does, one byte at a time: in less code and more time, for small devices. It reads the
- * message twice only if dest is shorter than the longest frame of a message of that length. (A choice of this
- * library.) */
-static jcobs_outcome jcobs_try_encode_each(const unsigned char *source, size_t source_len, unsigned char *dest,
-                                           size_t dest_len)
+/* Writes the frame of the message, if it fits. It reads the message twice only if frame is shorter than the
+ * longest frame of a message of that length. */
+static jcobs_frame jcobs_try_encode_each(const unsigned char *message, size_t message_len, unsigned char *frame,
+                                         size_t frame_len)
 {
-    if (!jcobs_has_room(1, source, source_len, dest_len)) {
-        return jcobs_outcome_of(JCOBS_IS_DEST_BUF_TOO_SMALL_ERROR, 0);
+    if (!jcobs_has_room(1, message, message_len, frame_len)) {
+        return jcobs_make_frame(0, 0);
     }
-    return jcobs_outcome_of(JCOBS_IS_OK, jcobs_write_each(source, source_len, dest));
+    return jcobs_make_frame(1, jcobs_write_each(message, message_len, frame));
 }
 
 /* Writes the frame of the message to the front of the buffer, if it fits, and returns its length in bytes.
  * Otherwise it returns 0, and nothing is written. */
-static JCOBS_NOINLINE size_t jcobs_write_frame(const unsigned char *message, size_t message_len, unsigned char *buffer,
-                                               size_t buffer_len)
+static JCOBS_NOINLINE size_t jcobs_write_frame(const unsigned char *message, size_t message_len, unsigned char *frame,
+                                               size_t frame_len)
 {
-    jcobs_outcome found = jcobs_try_encode_each(message, message_len, buffer, buffer_len);
+    jcobs_frame result = jcobs_try_encode_each(message, message_len, frame, frame_len);
 
-    if (found.kind == JCOBS_IS_OK) {
-        return found.count;
+    if (result.fits) {
+        return result.length;
     }
     return 0;
 }
 
 /* Returns the result of a call that consumed and wrote nothing, because the buffer is too short. */
-static jcobs_answer jcobs_too_small(void)
+static jcobs_answer jcobs_too_small_answer(void)
 {
-    return jcobs_answered(JCOBS_TOO_SMALL, 0, 0);
+    return jcobs_make_answer(JCOBS_TOO_SMALL, 0, 0);
 }
 
 /* Writes the frame of the message to the front of the buffer frame, if it fits. Otherwise nothing is written.
@@ -619,9 +573,9 @@ jcobs_answer jcobs_encode(const void *message, size_t message_len, void *frame, 
     size_t length = jcobs_write_frame((const unsigned char *)message, message_len, (unsigned char *)frame, frame_len);
 
     if (length == 0) {
-        return jcobs_too_small();
+        return jcobs_too_small_answer();
     }
-    return jcobs_done(message_len, length);
+    return jcobs_ok_answer(message_len, length);
 }
 
 /* Writes the frame of the message and a zero after it to the front of the buffer frame, if both fit. Otherwise
@@ -633,40 +587,33 @@ jcobs_answer jcobs_encode_terminated(const void *message, size_t message_len, vo
     unsigned char *const to = (unsigned char *)frame;
 
     if (frame_len == 0) {
-        return jcobs_too_small();
+        return jcobs_too_small_answer();
     }
     size_t last = frame_len - 1;
     size_t length = jcobs_write_frame((const unsigned char *)message, message_len, to, last);
     if (length == 0) {
-        return jcobs_too_small();
+        return jcobs_too_small_answer();
     }
     to[length] = 0;
-    return jcobs_done(message_len, length + 1);
-}
-
-/* Makes an encoder that has taken nothing yet. Its buffer needs at least one byte, because the frame of the empty
- * message has one. */
-static jcobs_encoder jcobs_encoder_new(void)
-{
-    return jcobs_encoder_of(0, 0, 0);
+    return jcobs_ok_answer(message_len, length + 1);
 }
 
 /* Takes the next byte of the message, for which there is room. */
-static JCOBS_INLINE void jcobs_encoder_append_byte(jcobs_encoder *encoder, unsigned char *dest, unsigned char byte)
+static JCOBS_INLINE void jcobs_encoder_append_byte(jcobs_encoder *encoder, unsigned char *buffer, unsigned char byte)
 {
     unsigned char code = (unsigned char)(encoder->taken + 1);
-    size_t next = encoder->index + (size_t)code;
+    size_t next = encoder->index + code;
 
     if (byte == 0) {
-        dest[encoder->index] = code;
+        buffer[encoder->index] = code;
         encoder->index = next;
         encoder->taken = 0;
         encoder->full = 0;
         return;
     }
-    dest[next] = byte;
-    if ((size_t)code == JCOBS_FULL_BLOCK_BYTES) {
-        dest[encoder->index] = JCOBS_FULL_CODE;
+    buffer[next] = byte;
+    if (code == JCOBS_FULL_BLOCK_BYTES) {
+        buffer[encoder->index] = JCOBS_FULL_CODE;
         encoder->index = next + 1;
         encoder->taken = 0;
         encoder->full = 1;
@@ -678,50 +625,37 @@ static JCOBS_INLINE void jcobs_encoder_append_byte(jcobs_encoder *encoder, unsig
 
 /* Writes the open block's code, if that is part of the frame, and returns where the frame ends. The byte in its
  * place may have any value before. */
-static JCOBS_INLINE size_t jcobs_close(unsigned char *dest, size_t dest_len, jcobs_progress progress)
+static JCOBS_INLINE size_t jcobs_close_block(unsigned char *buffer, size_t buffer_len, jcobs_progress progress)
 {
     size_t index = progress.index;
     unsigned char code = progress.code;
 
-    if (index < dest_len) {
-        dest[index] = progress.is_full ? dest[index] : code;
+    if (index < buffer_len) {
+        buffer[index] = progress.is_full ? buffer[index] : code;
     }
     if (progress.is_full) {
         return index;
     }
-    return index + (size_t)code;
+    return index + code;
 }
 
 /* Returns the encoder's progress: how much of the frame is in the buffer. */
 static jcobs_progress jcobs_encoder_progress(const jcobs_encoder *encoder)
 {
-    return jcobs_progress_of(encoder->index, (unsigned char)(encoder->taken + 1), encoder->full != 0);
+    return jcobs_make_progress(encoder->index, (unsigned char)(encoder->taken + 1), encoder->full != 0);
 }
 
 /* Encodes a message in its own buffer, and returns the length of its frame in bytes. */
-static size_t jcobs_encode_in_place_inside(unsigned char *buffer, size_t buffer_len, size_t len)
+static size_t jcobs_write_in_place(unsigned char *buffer, size_t buffer_len, size_t message_len)
 {
-    size_t before = jcobs_max_encoding_overhead(len);
-    jcobs_encoder encoder = jcobs_encoder_new();
+    size_t before = jcobs_max_encoding_overhead(message_len);
+    jcobs_encoder encoder = JCOBS_ENCODER_INIT;
 
-    for (size_t taken = 0; taken < len; taken++) {
+    for (size_t taken = 0; taken < message_len; taken++) {
         unsigned char byte = buffer[before + taken];
         jcobs_encoder_append_byte(&encoder, buffer, byte);
     }
-    return jcobs_close(buffer, buffer_len, jcobs_encoder_progress(&encoder));
-}
-
-/* Encodes the message of message_len bytes that is in the buffer, in place, if the longest frame of a message of
- * that length fits. */
-static jcobs_answer jcobs_encode_within(unsigned char *buffer, size_t buffer_len, size_t message_len)
-{
-    size_t room = buffer_len;
-
-    if (room < message_len || room - message_len < jcobs_max_encoding_overhead(message_len)) {
-        return jcobs_too_small();
-    }
-    size_t length = jcobs_encode_in_place_inside(buffer, buffer_len, message_len);
-    return jcobs_done(message_len, length);
+    return jcobs_close_block(buffer, buffer_len, jcobs_encoder_progress(&encoder));
 }
 
 /* Encodes the message of message_len bytes that is in the buffer, after the room for the other bytes of the
@@ -730,74 +664,64 @@ static jcobs_answer jcobs_encode_within(unsigned char *buffer, size_t buffer_len
  * after that are as they were; if it doesn't, the status is TOO_SMALL, and the buffer is as it was. */
 jcobs_answer jcobs_encode_in_place(void *buffer, size_t buffer_len, size_t message_len)
 {
-    return jcobs_encode_within((unsigned char *)buffer, buffer_len, message_len);
+    if (buffer_len < message_len || buffer_len - message_len < jcobs_max_encoding_overhead(message_len)) {
+        return jcobs_too_small_answer();
+    }
+    size_t length = jcobs_write_in_place((unsigned char *)buffer, buffer_len, message_len);
+    return jcobs_ok_answer(message_len, length);
 }
 
 /* Puts the encoder back to the start, even if its state is corrupt: it has then taken nothing.
  * Proved, by the contract in encoder.rt: then the encoder has taken nothing, whatever its state was. */
 void jcobs_encoder_reset(jcobs_encoder *encoder)
 {
-    encoder->index = 0;
-    encoder->taken = 0;
-    encoder->full = 0;
+    jcobs_encoder_start(encoder);
 }
 
 /* Returns whether this progress is possible in a buffer of this length. */
-static JCOBS_INLINE int jcobs_encoder_is_within(const jcobs_encoder *encoder, size_t len)
+static JCOBS_INLINE int jcobs_encoder_is_within(const jcobs_encoder *encoder, size_t buffer_len)
 {
-    if (253 < encoder->taken || len < encoder->index) {
+    if (253 < encoder->taken || buffer_len < encoder->index) {
         return 0;
     }
-    return encoder->full != 0 || (size_t)encoder->taken < len - encoder->index;
+    return encoder->full != 0 || encoder->taken < buffer_len - encoder->index;
 }
 
 /* Takes the next bytes of the message, for which there is room, one at a time. */
-static JCOBS_INLINE void jcobs_encoder_append_each(jcobs_encoder *self, unsigned char *dest, const unsigned char *bytes,
-                                                   size_t bytes_len)
+static JCOBS_INLINE void jcobs_encoder_append_each(jcobs_encoder *encoder, unsigned char *buffer,
+                                                   const unsigned char *bytes, size_t len)
 {
     /* A copy, so that the numbers stay in registers. */
-    jcobs_encoder encoder = *self;
-    for (size_t i = 0; i < bytes_len; i++) {
-        jcobs_encoder_append_byte(&encoder, dest, bytes[i]);
+    jcobs_encoder state = *encoder;
+    for (size_t i = 0; i < len; i++) {
+        jcobs_encoder_append_byte(&state, buffer, bytes[i]);
     }
-    self->index = encoder.index;
-    self->taken = encoder.taken;
-    self->full = encoder.full;
+    *encoder = state;
 }
 
 /* Takes the next bytes of the message, one at a time. */
-static int jcobs_encoder_push_each(jcobs_encoder *encoder, unsigned char *dest, size_t dest_len,
-                                   const unsigned char *bytes, size_t bytes_len)
+static int jcobs_encoder_push_each(jcobs_encoder *encoder, unsigned char *buffer, size_t buffer_len,
+                                   const unsigned char *bytes, size_t len)
 {
-    if (!jcobs_encoder_is_within(encoder, dest_len)) {
+    if (!jcobs_encoder_is_within(encoder, buffer_len)) {
         return 0;
     }
-    if (bytes_len == 0) {
+    if (len == 0) {
         return 1;
     }
-    if (!jcobs_has_room((unsigned char)(encoder->taken + 1), bytes, bytes_len, dest_len - encoder->index)) {
+    if (!jcobs_has_room((unsigned char)(encoder->taken + 1), bytes, len, buffer_len - encoder->index)) {
         return 0;
     }
-    jcobs_encoder_append_each(encoder, dest, bytes, bytes_len);
+    jcobs_encoder_append_each(encoder, buffer, bytes, len);
     return 1;
 }
 
 /* Returns the length of the frame that an encoder has written so far. */
-static JCOBS_INLINE size_t jcobs_end_of(const jcobs_encoder *encoder)
+static JCOBS_INLINE size_t jcobs_encoder_length(const jcobs_encoder *encoder)
 {
     jcobs_progress progress = jcobs_encoder_progress(encoder);
 
-    return progress.is_full ? progress.index : progress.index + (size_t)progress.code;
-}
-
-/* Takes the next bytes of a message, if the frame of all bytes so far fits the buffer. */
-static jcobs_answer jcobs_encode_each(jcobs_encoder *encoder, unsigned char *buffer, size_t buffer_len,
-                                      const unsigned char *bytes, size_t bytes_len)
-{
-    if (!jcobs_encoder_push_each(encoder, buffer, buffer_len, bytes, bytes_len)) {
-        return jcobs_too_small();
-    }
-    return jcobs_done(bytes_len, jcobs_end_of(encoder));
+    return progress.is_full ? progress.index : progress.index + progress.code;
 }
 
 /* Takes the next bytes of a message, if the frame of all bytes so far fits the buffer. Even if the state is
@@ -807,11 +731,14 @@ static jcobs_answer jcobs_encode_each(jcobs_encoder *encoder, unsigned char *buf
  * within bytes and buffer. */
 jcobs_answer jcobs_encoder_push(jcobs_encoder *encoder, void *buffer, size_t buffer_len, const void *bytes, size_t len)
 {
-    return jcobs_encode_each(encoder, (unsigned char *)buffer, buffer_len, (const unsigned char *)bytes, len);
+    if (!jcobs_encoder_push_each(encoder, (unsigned char *)buffer, buffer_len, (const unsigned char *)bytes, len)) {
+        return jcobs_too_small_answer();
+    }
+    return jcobs_ok_answer(len, jcobs_encoder_length(encoder));
 }
 
 /* Takes the next byte of the message, for which there is room, and returns the length of the frame so far. */
-static JCOBS_INLINE size_t jcobs_encoder_append_one(jcobs_encoder *encoder, unsigned char *dest, unsigned char byte)
+static JCOBS_INLINE size_t jcobs_encoder_append_one(jcobs_encoder *encoder, unsigned char *buffer, unsigned char byte)
 {
     size_t index = encoder->index;
     size_t code = (size_t)encoder->taken + 1;
@@ -819,13 +746,13 @@ static JCOBS_INLINE size_t jcobs_encoder_append_one(jcobs_encoder *encoder, unsi
 
     encoder->full = 0;
     if (byte == 0) {
-        dest[index] = (unsigned char)code;
+        buffer[index] = (unsigned char)code;
         encoder->index = next;
         code = 0;
     } else {
-        dest[next] = byte;
+        buffer[next] = byte;
         if (code == JCOBS_FULL_BLOCK_BYTES) {
-            dest[index] = JCOBS_FULL_CODE;
+            buffer[index] = JCOBS_FULL_CODE;
             encoder->index = next + 1;
             encoder->full = 1;
             code = 0;
@@ -835,30 +762,29 @@ static JCOBS_INLINE size_t jcobs_encoder_append_one(jcobs_encoder *encoder, unsi
     return next + 1;
 }
 
-/* Takes the next byte of the message, as feed does, and returns the length that the frame has if the message ends
- * with this byte. (A choice of this library.) */
-static JCOBS_INLINE jcobs_outcome jcobs_encoder_feed_len(jcobs_encoder *encoder, unsigned char *dest, size_t dest_len,
-                                                         unsigned char byte)
+/* Takes the next byte of the message, if it fits, and returns the length that the frame has if the message ends
+ * with this byte. */
+static JCOBS_INLINE jcobs_frame jcobs_encoder_feed_len(jcobs_encoder *encoder, unsigned char *buffer, size_t buffer_len,
+                                                       unsigned char byte)
 {
-    size_t room = dest_len;
     size_t code = (size_t)encoder->taken + 1;
 
-    if (JCOBS_FULL_BLOCK_BYTES < code || room < encoder->index || room - encoder->index <= code) {
-        return jcobs_outcome_of(JCOBS_IS_DEST_BUF_TOO_SMALL_ERROR, 0);
+    if (JCOBS_FULL_BLOCK_BYTES < code || buffer_len < encoder->index || buffer_len - encoder->index <= code) {
+        return jcobs_make_frame(0, 0);
     }
-    return jcobs_outcome_of(JCOBS_IS_OK, jcobs_encoder_append_one(encoder, dest, byte));
+    return jcobs_make_frame(1, jcobs_encoder_append_one(encoder, buffer, byte));
 }
 
 /* Takes the next byte of a message, if the frame of all bytes so far fits the buffer. */
 static jcobs_answer jcobs_encode_byte(jcobs_encoder *encoder, unsigned char *buffer, size_t buffer_len,
                                       unsigned char byte)
 {
-    jcobs_outcome found = jcobs_encoder_feed_len(encoder, buffer, buffer_len, byte);
+    jcobs_frame result = jcobs_encoder_feed_len(encoder, buffer, buffer_len, byte);
 
-    if (found.kind == JCOBS_IS_OK) {
-        return jcobs_done(1, found.count);
+    if (result.fits) {
+        return jcobs_ok_answer(1, result.length);
     }
-    return jcobs_too_small();
+    return jcobs_too_small_answer();
 }
 
 /* Takes the next byte of a message, as a push of that byte does.
@@ -870,37 +796,16 @@ jcobs_answer jcobs_encoder_feed(jcobs_encoder *encoder, void *buffer, size_t buf
     return jcobs_encode_byte(encoder, (unsigned char *)buffer, buffer_len, byte);
 }
 
-/* Puts the encoder back to the start: it has then taken nothing. */
-static void jcobs_encoder_reset_inside(jcobs_encoder *encoder)
-{
-    encoder->index = 0;
-    encoder->taken = 0;
-    encoder->full = 0;
-}
-
 /* Ends the message, and returns the length of its encoded frame in bytes. The buffer begins with that frame, and
  * the encoder is ready for the next message. Every byte after the frame is as it was. */
-static jcobs_outcome jcobs_encoder_finalize(jcobs_encoder *encoder, unsigned char *dest, size_t dest_len)
+static jcobs_frame jcobs_encoder_close(jcobs_encoder *encoder, unsigned char *buffer, size_t buffer_len)
 {
-    if (!jcobs_encoder_is_within(encoder, dest_len)) {
-        return jcobs_outcome_of(JCOBS_IS_DEST_BUF_TOO_SMALL_ERROR, 0);
+    if (!jcobs_encoder_is_within(encoder, buffer_len)) {
+        return jcobs_make_frame(0, 0);
     }
-    size_t len = jcobs_close(dest, dest_len, jcobs_encoder_progress(encoder));
-    jcobs_encoder_reset_inside(encoder);
-    return jcobs_outcome_of(JCOBS_IS_OK, len);
-}
-
-/* Ends the message, if its frame fits the buffer. */
-static jcobs_answer jcobs_finish(jcobs_encoder *encoder, unsigned char *buffer, size_t buffer_len)
-{
-    if (buffer_len == 0) {
-        return jcobs_too_small();
-    }
-    jcobs_outcome found = jcobs_encoder_finalize(encoder, buffer, buffer_len);
-    if (found.kind == JCOBS_IS_OK) {
-        return jcobs_done(0, found.count);
-    }
-    return jcobs_too_small();
+    size_t len = jcobs_close_block(buffer, buffer_len, jcobs_encoder_progress(encoder));
+    jcobs_encoder_start(encoder);
+    return jcobs_make_frame(1, len);
 }
 
 /* Ends the message, if its frame fits the buffer. Even if the state is corrupt, the buffer keeps its length, and
@@ -910,22 +815,14 @@ static jcobs_answer jcobs_finish(jcobs_encoder *encoder, unsigned char *buffer, 
  * were. */
 jcobs_answer jcobs_encoder_finish(jcobs_encoder *encoder, void *buffer, size_t buffer_len)
 {
-    return jcobs_finish(encoder, (unsigned char *)buffer, buffer_len);
-}
-
-/* Ends the message, and writes a zero after its frame, if both fit the buffer. */
-static jcobs_answer jcobs_finish_terminated(jcobs_encoder *encoder, unsigned char *buffer, size_t buffer_len)
-{
     if (buffer_len == 0) {
-        return jcobs_too_small();
+        return jcobs_too_small_answer();
     }
-    size_t last = buffer_len - 1;
-    jcobs_answer returned = jcobs_finish(encoder, buffer, last);
-    if (returned.status != JCOBS_OK) {
-        return jcobs_answered(returned.status, returned.consumed, returned.length);
+    jcobs_frame result = jcobs_encoder_close(encoder, (unsigned char *)buffer, buffer_len);
+    if (result.fits) {
+        return jcobs_ok_answer(0, result.length);
     }
-    buffer[returned.length] = 0;
-    return jcobs_done(returned.consumed, returned.length + 1);
+    return jcobs_too_small_answer();
 }
 
 /* Ends the message, as jcobs_encoder_finish does, and writes a zero after its frame, if both fit.
@@ -934,43 +831,42 @@ static jcobs_answer jcobs_finish_terminated(jcobs_encoder *encoder, unsigned cha
  * buffer are as they were. */
 jcobs_answer jcobs_encoder_finish_terminated(jcobs_encoder *encoder, void *buffer, size_t buffer_len)
 {
-    return jcobs_finish_terminated(encoder, (unsigned char *)buffer, buffer_len);
+    unsigned char *const to = (unsigned char *)buffer;
+
+    if (buffer_len < 2) {
+        return jcobs_too_small_answer();
+    }
+    size_t last = buffer_len - 1;
+    jcobs_frame result = jcobs_encoder_close(encoder, to, last);
+    if (result.fits) {
+        to[result.length] = 0;
+        return jcobs_ok_answer(0, result.length + 1);
+    }
+    return jcobs_too_small_answer();
 }
 
-/* Returns the result of a decoding call that took this many bytes, into a buffer of room bytes, given the
- * message's length or the error. */
-static jcobs_answer jcobs_result_by(size_t consumed, size_t room, jcobs_outcome size)
+/* Returns the result of a decoding call that took this many bytes, into a buffer of buffer_len bytes, given how
+ * the frame ended. */
+static jcobs_answer jcobs_in_place_answer(size_t consumed, size_t buffer_len, jcobs_end decoded)
 {
-    JCOBS_STATUS status;
-    size_t length;
-
-    switch (size.kind) {
-    case JCOBS_IS_OK:
-        status = JCOBS_OK;
-        length = size.count;
-        break;
-    case JCOBS_IS_EMPTY_FRAME:
-        status = JCOBS_EMPTY;
-        length = 0;
-        break;
-    case JCOBS_IS_INVALID_FRAME:
-        status = JCOBS_BROKEN;
-        length = size.count;
-        break;
-    default:
-        status = JCOBS_TOO_SMALL;
-        length = room;
+    switch (decoded.kind) {
+    case JCOBS_END_MESSAGE:
+        return jcobs_ok_answer(consumed, decoded.count);
+    case JCOBS_END_BROKEN:
+        return jcobs_make_answer(JCOBS_BROKEN, consumed, decoded.count);
+    case JCOBS_END_TOO_LONG:
+        return jcobs_make_answer(JCOBS_TOO_SMALL, consumed, buffer_len);
+    case JCOBS_END_NONE:
         break;
     }
-    return jcobs_answered(status, consumed, length);
+    return jcobs_make_answer(JCOBS_EMPTY, consumed, 0);
 }
 
-/* Returns how many bytes come before the first zero: all of them if there is none. It uses no vectors, so that it
- * is small. (A choice of this library.) */
-static JCOBS_NOINLINE size_t jcobs_len_to_zero(const unsigned char *bytes, size_t bytes_len)
+/* Returns how many bytes come before the first zero: all of them if there is none. */
+static JCOBS_NOINLINE size_t jcobs_len_to_zero(const unsigned char *bytes, size_t len)
 {
     const unsigned char *rest = bytes;
-    size_t rest_len = bytes_len;
+    size_t rest_len = len;
 
     while (rest_len >= 4) {
         if (rest[0] == 0 || rest[1] == 0 || rest[2] == 0 || rest[3] == 0) {
@@ -983,41 +879,37 @@ static JCOBS_NOINLINE size_t jcobs_len_to_zero(const unsigned char *bytes, size_
         rest++;
         rest_len--;
     }
-    return bytes_len - rest_len;
+    return len - rest_len;
 }
 
 /* Decodes the blocks in the first end bytes of the buffer in their own place, one byte after another, and returns
- * the message's length. Every byte after the message is as it was. It is small, and uses no vectors. (A choice of
- * this library.) */
-static JCOBS_NOINLINE jcobs_outcome jcobs_decode_blocks_each(unsigned char *buffer, size_t end)
+ * the message's length. Every byte after the message is as it was. */
+static JCOBS_NOINLINE jcobs_end jcobs_decode_blocks_each(unsigned char *buffer, size_t end)
 {
     size_t read = 0;
     size_t written = 0;
 
     while (read < end) {
-        size_t code = (size_t)buffer[read];
+        size_t code = buffer[read];
         if (end - read < code) {
-            return jcobs_outcome_of(JCOBS_IS_INVALID_FRAME, written);
+            return jcobs_make_end(JCOBS_END_BROKEN, written);
         }
         size_t next = read + code;
         read++;
         /* The test is at the end of the loop, because compilers that keep code small leave it there. */
         if (read != next) {
-            for (;;) {
+            do {
                 buffer[written] = buffer[read];
                 written++;
                 read++;
-                if (read == next) {
-                    break;
-                }
-            }
+            } while (read != next);
         }
         if (code != JCOBS_FULL_CODE && read < end) {
             buffer[written] = 0;
             written++;
         }
     }
-    return jcobs_outcome_of(JCOBS_IS_OK, written);
+    return jcobs_make_end(JCOBS_END_MESSAGE, written);
 }
 
 /* Decodes the frame at the front of the buffer in place.
@@ -1026,36 +918,34 @@ static JCOBS_NOINLINE jcobs_outcome jcobs_decode_blocks_each(unsigned char *buff
 jcobs_answer jcobs_decode_in_place(void *buffer, size_t buffer_len)
 {
     unsigned char *const to = (unsigned char *)buffer;
-    size_t room = buffer_len;
 
     if (buffer_len == 0) {
-        return jcobs_result_by(0, room, jcobs_outcome_of(JCOBS_IS_EMPTY_FRAME, 0));
+        return jcobs_in_place_answer(0, buffer_len, jcobs_make_end(JCOBS_END_NONE, 0));
     }
     size_t end = jcobs_len_to_zero(to, buffer_len);
-    jcobs_outcome size = jcobs_decode_blocks_each(to, end);
-    return jcobs_result_by(room < end + 1 ? room : end + 1, room, size);
+    jcobs_end decoded = jcobs_decode_blocks_each(to, end);
+    return jcobs_in_place_answer(jcobs_min(buffer_len, end + 1), buffer_len, decoded);
 }
 
-/* Returns the kind of a frame, as frame_kind does. It goes from one code to the next, and doesn't search the bytes
- * for a zero. (A choice of this library.) */
-static enum jcobs_frame_kind jcobs_kind_by_blocks(const unsigned char *bytes, size_t bytes_len)
+/* Returns the kind of a frame, given bytes without a zero. It goes from one code to the next. */
+static enum jcobs_kind jcobs_kind_by_blocks(const unsigned char *bytes, size_t len)
 {
     size_t read = 0;
     int after_full = 0;
 
-    while (read < bytes_len) {
-        size_t code = (size_t)bytes[read];
-        size_t left = bytes_len - read;
+    while (read < len) {
+        size_t code = bytes[read];
+        size_t left = len - read;
         if (left < code) {
-            return JCOBS_FRAME_KIND_NOT_A_FRAME;
+            return JCOBS_NOT_A_FRAME;
         }
         if (left == code) {
-            return after_full && code == 1 ? JCOBS_FRAME_KIND_LONGER : JCOBS_FRAME_KIND_CANONICAL;
+            return after_full && code == 1 ? JCOBS_LONGER : JCOBS_CANONICAL;
         }
         after_full = code == JCOBS_FULL_CODE;
         read += code;
     }
-    return JCOBS_FRAME_KIND_NOT_A_FRAME;
+    return JCOBS_NOT_A_FRAME;
 }
 
 /* Returns whether the bytes are a frame, and which one of their message.
@@ -1068,14 +958,7 @@ unsigned int jcobs_frame_kind(const void *bytes, size_t len)
     if (jcobs_len_to_zero(from, len) < len) {
         return JCOBS_NOT_A_FRAME;
     }
-    switch (jcobs_kind_by_blocks(from, len)) {
-    case JCOBS_FRAME_KIND_NOT_A_FRAME:
-        return JCOBS_NOT_A_FRAME;
-    case JCOBS_FRAME_KIND_CANONICAL:
-        return JCOBS_CANONICAL;
-    default:
-        return JCOBS_LONGER;
-    }
+    return jcobs_kind_by_blocks(from, len);
 }
 
 /* The calls from here on are written by hand, around those above. */
@@ -1083,10 +966,10 @@ unsigned int jcobs_frame_kind(const void *bytes, size_t len)
 static void jcobs_xor(void *bytes, size_t len, unsigned char sentinel)
 {
     unsigned char *at = (unsigned char *)bytes;
-    size_t i;
 
-    for (i = 0; i < len; i++)
+    for (size_t i = 0; i < len; i++) {
         at[i] = (unsigned char)(at[i] ^ sentinel);
+    }
 }
 
 jcobs_answer jcobs_encode_with_sentinel(const void *message, size_t message_len, void *frame, size_t frame_len,
@@ -1112,42 +995,51 @@ jcobs_answer jcobs_encode_terminated_with_sentinel(const void *message, size_t m
 jcobs_answer jcobs_decode_with_sentinel(const void *source, size_t source_len, void *message, size_t message_len,
                                         unsigned char sentinel)
 {
-    const unsigned char *from = (const unsigned char *)source;
+    const unsigned char *const from = (const unsigned char *)source;
+    unsigned char *const to = (unsigned char *)message;
     jcobs_decoder decoder = JCOBS_DECODER_INIT;
     jcobs_answer answer = {JCOBS_EMPTY, 0, 0};
     size_t end = 0;
     size_t whole = 0;
-    size_t i;
 
-    if (source_len == 0)
+    if (source_len == 0) {
         return answer;
-    while (end < source_len && from[end] != sentinel)
+    }
+    while (end < source_len && from[end] != sentinel) {
         end++;
-    while (whole < end && (size_t)(from[whole] ^ sentinel) <= end - whole)
+    }
+    while (whole < end && (size_t)(from[whole] ^ sentinel) <= end - whole) {
         whole += (size_t)(from[whole] ^ sentinel);
-    for (i = 0; i < whole; i++)
-        answer = jcobs_decoder_feed(&decoder, message, message_len, (unsigned char)(from[i] ^ sentinel));
-    if (whole < end)
-        answer = jcobs_decoder_feed(&decoder, message, message_len, 1);
+    }
+    for (size_t i = 0; i < whole; i++) {
+        jcobs_decoder_take_byte(&decoder, to, message_len, (unsigned char)(from[i] ^ sentinel));
+    }
+    if (whole < end) {
+        jcobs_decoder_take_byte(&decoder, to, message_len, 1);
+    }
     answer = jcobs_decoder_feed(&decoder, message, message_len, 0);
-    if (answer.status == JCOBS_MORE)
+    if (answer.status == JCOBS_MORE) {
         answer.status = JCOBS_OK;
-    if (answer.status == JCOBS_OK && whole < end)
+    }
+    if (answer.status == JCOBS_OK && whole < end) {
         answer.status = JCOBS_BROKEN;
+    }
     answer.consumed = end < source_len ? end + 1 : end;
     return answer;
 }
 
 jcobs_answer jcobs_decode_in_place_with_sentinel(void *buffer, size_t buffer_len, unsigned char sentinel)
 {
-    const unsigned char *from = (const unsigned char *)buffer;
+    const unsigned char *const from = (const unsigned char *)buffer;
     jcobs_answer answer = {JCOBS_OK, 1, 0};
     size_t end = 0;
 
-    while (end < buffer_len && from[end] != sentinel)
+    while (end < buffer_len && from[end] != sentinel) {
         end++;
-    if (end == 0 && buffer_len > 0)
+    }
+    if (end == 0 && buffer_len > 0) {
         return answer;
+    }
     jcobs_xor(buffer, end, sentinel);
     answer = jcobs_decode_in_place(buffer, end);
     answer.consumed = end < buffer_len ? end + 1 : end;
@@ -1157,13 +1049,15 @@ jcobs_answer jcobs_decode_in_place_with_sentinel(void *buffer, size_t buffer_len
 jcobs_answer jcobs_decoder_push_with_sentinel(jcobs_decoder *decoder, void *buffer, size_t buffer_len,
                                               const void *bytes, size_t len, unsigned char sentinel)
 {
-    const unsigned char *from = (const unsigned char *)bytes;
+    const unsigned char *const from = (const unsigned char *)bytes;
     jcobs_answer answer = jcobs_decoder_push(decoder, buffer, buffer_len, bytes, 0);
-    size_t i;
+    size_t taken = 0;
 
-    for (i = 0; i < len && answer.status == JCOBS_MORE; i++)
-        answer = jcobs_decoder_feed(decoder, buffer, buffer_len, (unsigned char)(from[i] ^ sentinel));
-    answer.consumed = i;
+    while (taken < len && answer.status == JCOBS_MORE) {
+        answer = jcobs_decoder_feed(decoder, buffer, buffer_len, (unsigned char)(from[taken] ^ sentinel));
+        taken++;
+    }
+    answer.consumed = taken;
     return answer;
 }
 
@@ -1194,14 +1088,17 @@ size_t jcobs_strerror(unsigned int status, char *text, size_t text_len)
                                       "there is no frame",
                                       "unknown status"};
     const char *from = words[status < 5 ? status : 5];
-    size_t len;
+    size_t len = 0;
 
-    for (len = 0; from[len] != '\0'; len++) {
-        if (len + 1 < text_len)
+    while (from[len] != '\0') {
+        if (len + 1 < text_len) {
             text[len] = from[len];
+        }
+        len++;
     }
-    if (text_len > 0)
-        text[len < text_len ? len : text_len - 1] = '\0';
+    if (text_len > 0) {
+        text[jcobs_min(len, text_len - 1)] = '\0';
+    }
     return len;
 }
 

@@ -84,8 +84,8 @@
  *   the call, or for a streaming call as they were before the frame or message began. The only exception is
  *   jcobs_decode_in_place_with_sentinel.
  *
- * The output of the whole blocks ends with the zero between the last of them and the block that is cut off, unless
- * that last one is full: that of 02 41 05 42 is 41 00.
+ * In a broken frame the whole blocks are those in front of the block that is cut off. Their output includes the
+ * zero after the last of them, unless that one is full: for 02 41 05 42 it is 41 00.
  *
  * In the source of decode, decode_with_sentinel and decode_in_place no sentinel has to follow the frame: without
  * one the frame ends with the source, and consumed is the source's length. A frame that was cut off between two of
@@ -114,7 +114,8 @@ extern "C" {
 #define JCOBS_VERSION (JCOBS_VERSION_MAJOR * 10000 + JCOBS_VERSION_MINOR * 100 + JCOBS_VERSION_PATCH)
 
 /* Comes before each prototype. For jcobs.c in one translation unit with the code that calls it, define it as static
- * and include jcobs.c; in a library, as what exports a function or hides it, such as
+ * and include jcobs.c; as static inline, so that no compiler warns of the calls that the code doesn't make
+ * (-Wunused-function). In a library, define it as what exports a function or hides it, such as
  * __attribute__((visibility("hidden"))). */
 #ifndef JCOBS_API
 #define JCOBS_API
@@ -299,7 +300,7 @@ JCOBS_API jcobs_answer jcobs_decoder_push(jcobs_decoder *decoder, void *buffer, 
  *          status TOO_SMALL, consumed the same, length buffer_len: the output is longer, and its first bytes are there
  *          status MORE, consumed len, length of what the buffer has of an unfinished message */
 
-/* Takes one byte, as jcobs_decoder_push of that byte does. In the built library it is faster than a push. */
+/* Takes one byte, as jcobs_decoder_push of that byte does, and faster. */
 JCOBS_API jcobs_answer jcobs_decoder_feed(jcobs_decoder *decoder, void *buffer, size_t buffer_len,
                                           unsigned char byte) JCOBS_STATE JCOBS_WRITES(2, 3) JCOBS_CHECKED;
 /* returns: as jcobs_decoder_push, consumed 1 */
@@ -332,7 +333,7 @@ JCOBS_API jcobs_answer jcobs_encoder_push(jcobs_encoder *encoder, void *buffer, 
  *          status TOO_SMALL, consumed 0, length 0, exactly if the frame of all that was taken and these bytes doesn't
  *              fit: the state and the buffer are as they were */
 
-/* Takes one byte, as jcobs_encoder_push of that byte does. */
+/* Takes one byte, as jcobs_encoder_push of that byte does, and faster. */
 JCOBS_API jcobs_answer jcobs_encoder_feed(jcobs_encoder *encoder, void *buffer, size_t buffer_len,
                                           unsigned char byte) JCOBS_STATE JCOBS_WRITES(2, 3) JCOBS_CHECKED;
 /* returns: as jcobs_encoder_push, consumed 1 or 0 */

@@ -1,31 +1,24 @@
 -- A byte that ends no piece, and one that ends it, as `law_17` says.
 use Rattle.std.proofs.Common.{[], ◌∷◌, refl, sym, ◌∙◌, arith}
+use Rattle.cobs_abi.proofs.decoding.decode_byte.Goals.{then-byte-ne0, else-byte-ne0, in-Some, in-None}
 use Rattle.cobs_abi.proofs.decoding.decode_byte.Goals as goal
 
--- a byte that ends no piece, and one that ends it, as `law_17` says
-pub returns-then-byte-ne0 : goal.returns-then-byte-ne0
-returns-then-byte-ne0 c =
-    let law = c.law_17.ensures in
-    let feeds = c.feed-returned.ensures.feeds in
-    record {
-      decodes = c.result_of.ensures.decodes c.args.decoder.now c.args.buffer.now (c.args.byte ∷ []) c.feed-returned.new.dest refl refl
-          (law.byte (c.args.byte ∷ []) _ _ _ _ _ _ _ 0 (omega arith) (law.nothing _ _) feeds (λ z. absurd (c.if-byte-ne0.true z)));
-    }
-
-pub returns-in_default : goal.returns-in_default
-returns-in_default c =
-    let law = c.law_17.ensures in
-    let feeds = c.feed-returned.ensures.feeds in
-    record {
-      decodes = c.result_of-in_default.ensures.decodes c.args.decoder.now c.args.buffer.now (c.args.byte ∷ []) c.feed-returned.new.dest refl refl
-          (law.byte (c.args.byte ∷ []) _ _ _ _ _ _ _ 0 (omega arith) (law.nothing _ _) feeds (λ _. sym c.reported.ensures.end ∙ c.in_default.is));
-    }
-
+-- a byte that ends a piece, and one that ends none, as `law_17` says
 pub returns : goal.returns
 returns c =
     let law = c.law_17.ensures in
-    let feeds = c.feed-returned.ensures.feeds in
+    let feeds = c.feed.ensures.feeds in
     record {
-      decodes = c.result_of-2.ensures.decodes c.args.decoder.now c.args.buffer.now (c.args.byte ∷ []) c.feed-returned.new.dest refl refl
-          (law.end (c.args.byte ∷ []) _ _ _ _ _ _ _ _ 0 (omega arith) (law.nothing _ _) feeds c.if-byte-ne0.false (sym c.reported.ensures.end ∙ c.in-Some.is));
+      decodes = c.result_of.ensures.decodes c.args.decoder.now c.args.buffer.now (c.args.byte ∷ []) c.feed.new.dest refl refl
+          (elim c.match-end.branch [
+            | in-Some w ↦ rw w.found-is (elim c.if-byte-ne0.branch [
+              | then-byte-ne0 v ↦ let no = sym v.end-is ∙ w.in-Some.is in absurd cc
+              | else-byte-ne0 v ↦ law.end (c.args.byte ∷ []) _ _ _ _ _ _ _ _ 0 (omega arith) (law.nothing _ _) feeds v.if-byte-ne0.false (sym c.reported-end.ensures.end ∙ sym v.end-is ∙ w.in-Some.is)
+            ])
+            | in-None w ↦ rw w.found-is (law.byte (c.args.byte ∷ []) _ _ _ _ _ _ _ 0 (omega arith) (law.nothing _ _) feeds (λ z.
+                elim c.if-byte-ne0.branch [
+                  | then-byte-ne0 v ↦ absurd (v.if-byte-ne0.true z)
+                  | else-byte-ne0 v ↦ sym c.reported-end.ensures.end ∙ sym v.end-is ∙ w.in-None.is
+                ]))
+          ]);
     }
