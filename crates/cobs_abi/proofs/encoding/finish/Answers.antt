@@ -1,3 +1,4 @@
+-- The clauses of `finalize` are those of `Finishes` with no bytes added, for a frame that fits and for one that doesn't.
 use Rattle.std.proofs.Common.{◌≢◌, length, sym, ◌∙◌}
 use Rattle.std.proofs.lemmas.Bool.{eqb-false}
 use Rattle.cobs_abi.proofs.FinishLemmas.{Finishes-finalized, Finishes-refused}

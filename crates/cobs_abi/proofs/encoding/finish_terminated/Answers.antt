@@ -1,3 +1,5 @@
+-- The frame is ended in the buffer without its last byte, and the zero is written after it (`Finishes-terminated`); if
+-- that has no room, the call fails (`Finishes-no_room`).
 use Rattle.std.proofs.Common.{◌-◌, ◌∙◌, ◌++◌, ◌∷◌, [], ℕ, List, length, length-take-le, refl, sym, subst, arith}
 use Rattle.cobs.specs.Grammar.{IsEncodedFrame}
 use Rattle.cobs_abi.specs.Frames.{IsFrameOnWire, IsTerminatedFrame}
