@@ -235,7 +235,6 @@ fn each_room() {
         let case = Case::of(message);
         for room in 0..=case.frame.len() + 3 {
             case.check_whole(room);
-            case.check_steps(room);
             case.check_pushes(room, message.len() / 3);
         }
     };
@@ -244,6 +243,16 @@ fn each_room() {
     } else {
         some_messages(&TAILS[2..], check);
     }
+}
+
+#[test]
+fn each_room_by_steps() {
+    some_messages(&TAILS[2..], |message| {
+        let case = Case::of(message);
+        for room in 0..=case.frame.len() + 1 {
+            case.check_steps(room);
+        }
+    });
 }
 
 #[test]
