@@ -26,12 +26,11 @@ BENCH = Path(__file__).resolve().parents[2] / "bench"
 CALLS = BENCH / "src/calls.rs"
 # Why a call is slower than that of `cobs`, in the rows below LEAST.
 LEAST = 0.8
-SHORT, INLINED, UNKNOWN = 1, 2, 3
+SHORT, INLINED = 1, 2
 REASONS = {
     "encoder 8": INLINED, "encoder 64": INLINED, "push 8": SHORT, "push 64": SHORT, "push whole": SHORT,
     "counted feed": INLINED, "method feed": INLINED, "counted push 1": INLINED, "counted push 4": INLINED, "counted push 8": SHORT,
     "tried encoder 1": INLINED, "tried encoder 4": INLINED, "tried encoder 8": INLINED,
-    "encoder state": UNKNOWN,
 }  # fmt: skip
 WHO = re.findall(r'"(.*?)"', re.search(r"pub const WHO: .*?=\s*\[(.*?)\];", CALLS.read_text(), re.S)[1])
 PLACES = [WHO.index(name) for name in ("libjcobs", "jcobs", "cobs")]
