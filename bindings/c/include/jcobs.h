@@ -1,9 +1,9 @@
 /* jcobs.h: Consistent Overhead Byte Stuffing (COBS).
  *
- * COBS encodes a message, any bytes, as a frame that never contains one byte value, the sentinel. So the sentinel
- * can mark where frames end on a serial line, in a stream or in a file. The sentinel is 0, or the one that is
- * passed to a call. A frame is 1 byte longer than a message of up to 254 bytes, and at most 1 byte more for each
- * 254 bytes, or part of them, after these.
+ * COBS encodes a message, any bytes, as a frame that never contains one byte value, the sentinel. So the sentinel can
+ * mark where frames end on a serial line, in a stream or in a file. The sentinel is 0, or the one that is passed to a
+ * call. The frame of a message of up to 254 bytes is 1 byte longer than the message. A longer message costs at most 1
+ * more byte for each further 254 bytes, or part of 254.
  *
  * To receive, in reads of any size:
  *
@@ -69,8 +69,8 @@
  * accesses memory outside the buffers, each call returns, and consumed and length are within the buffers.
  *
  * While a call runs, nothing else may change its buffers or its state: no other thread or process, no interrupt or
- * signal handler, no DMA transfer. The library may read a byte twice, and if the byte has changed in between, the
- * call may access memory outside the buffers or never return. Pass what a transfer has finished, or a copy.
+ * signal handler, no DMA transfer. The library may read a byte twice, and if the byte has changed in between, the call
+ * may access memory outside the buffers or never return. Pass bytes whose transfer has finished, or a copy of them.
  *
  * No function allocates, locks, or keeps a pointer or anything else from one call to the next: a call depends only on
  * its arguments. So calls on different buffers and states may run at the same time, in signal handlers too.
@@ -87,11 +87,12 @@
  * In a broken frame the whole blocks are those in front of the block that is cut off. Their output includes the
  * zero after the last of them, unless that one is full: for 02 41 05 42 it is 41 00.
  *
- * In the source of decode, decode_with_sentinel and decode_in_place no sentinel has to follow the frame: without
- * one the frame ends with the source, and consumed is the source's length. A frame that was cut off between two of
- * its blocks is a frame too, with status OK: if a sentinel has to follow, test source[consumed - 1]. In
- * place too: no call changes the sentinel or the bytes after it. The streaming decoder reports a frame only
- * at its sentinel. COBS has no checksum: damage that turns a frame into another one isn't noticed.
+ * In the source of decode, decode_with_sentinel and decode_in_place no sentinel has to follow the frame: without one
+ * the frame ends with the source, and consumed is the source's length. A frame that was cut off between two of its
+ * blocks is a frame too, with status OK. If your protocol ends each frame with a sentinel, test whether
+ * source[consumed - 1] is one. In place too: no call changes the sentinel or the bytes after it. The streaming decoder
+ * reports a frame only at its sentinel. COBS has no checksum: damage that turns a frame into another one isn't
+ * noticed.
  *
  * Built for x86-64, the library needs x86-64-v2 (SSE4.2 and POPCNT: Intel since 2009, AMD since 2011); for
  * aarch64, ARMv8-A. It has call frame information for debuggers, but no unwind tables, and no call throws or unwinds.
@@ -113,8 +114,8 @@ extern "C" {
 #define JCOBS_VERSION_PATCH 0
 #define JCOBS_VERSION (JCOBS_VERSION_MAJOR * 10000 + JCOBS_VERSION_MINOR * 100 + JCOBS_VERSION_PATCH)
 
-/* Comes before each prototype. For jcobs.c in one translation unit with the code that calls it, define it as static
- * and include jcobs.c; as static inline, so that no compiler warns of the calls that the code doesn't make
+/* Comes before each prototype. To compile jcobs.c in one translation unit with the code that calls it, define it as
+ * static, and include jcobs.c. Define it as static inline if the compiler warns of calls that the code doesn't make
  * (-Wunused-function). In a library, define it as what exports a function or hides it, such as
  * __attribute__((visibility("hidden"))). */
 #ifndef JCOBS_API
@@ -122,8 +123,8 @@ extern "C" {
 #endif
 
 /* The type of a status in jcobs_answer has the size of unsigned int in every language, on every target and with
- * -fshort-enums. It is jcobs_status if the compiler knows that this has that size: then -Wswitch checks a switch
- * over it. */
+ * -fshort-enums. If jcobs_status has that size with this compiler, the type is jcobs_status, and -Wswitch checks a
+ * switch over it. */
 #if (defined(__cplusplus) && __cplusplus >= 201103L) || (defined(__STDC_VERSION__) && __STDC_VERSION__ >= 202311L)
 #define JCOBS_ENUM(name) enum name : unsigned int
 #define JCOBS_STATUS jcobs_status
@@ -183,8 +184,8 @@ typedef struct jcobs_encoder {
 #define JCOBS_ENCODER_INIT {0, 0, 0}
 /* clang-format on */
 
-/* What GCC and Clang check of a call: that its result is used and its state isn't NULL, and GCC also that the pointers
- * have room for the lengths. The numbers are those of a pointer and of its length among the arguments. */
+/* GCC and Clang check that the result of a call is used and that its state isn't NULL. GCC also checks that the
+ * pointers have room for the lengths. The numbers are those of a pointer and of its length among the arguments. */
 #ifdef __GNUC__
 #define JCOBS_CHECKED __attribute__((warn_unused_result))
 #define JCOBS_STATE __attribute__((nonnull(1)))
@@ -237,9 +238,9 @@ JCOBS_API jcobs_answer jcobs_encode_terminated_with_sentinel(const void *message
     JCOBS_WRITES(3, 4) JCOBS_CHECKED;
 /* returns: as jcobs_encode_terminated */
 
-/* Encodes a message in its own buffer, if there is no second one. The message_len bytes of the message lie in the
- * buffer from JCOBS_MAX_OVERHEAD(message_len) on; the bytes before them don't matter. Afterwards the buffer begins with
- * the frame that jcobs_encode writes. */
+/* Encodes a message in its own buffer, so that no second buffer is needed. The message_len bytes of the message lie in
+ * the buffer from JCOBS_MAX_OVERHEAD(message_len) on; the bytes before them don't matter. Afterwards the buffer begins
+ * with the frame that jcobs_encode writes. */
 #define JCOBS_MAX_OVERHEAD(message_len) (JCOBS_MAX_LENGTH(message_len) - sizeof(char) * (message_len))
 JCOBS_API jcobs_answer jcobs_encode_in_place(void *buffer, size_t buffer_len, size_t message_len)
     JCOBS_CHANGES(1, 2) JCOBS_CHECKED;
@@ -303,18 +304,18 @@ JCOBS_API jcobs_answer jcobs_decoder_push(jcobs_decoder *decoder, void *buffer, 
 /* Takes one byte, as jcobs_decoder_push of that byte does, and faster. */
 JCOBS_API jcobs_answer jcobs_decoder_feed(jcobs_decoder *decoder, void *buffer, size_t buffer_len,
                                           unsigned char byte) JCOBS_STATE JCOBS_WRITES(2, 3) JCOBS_CHECKED;
-/* returns: as jcobs_decoder_push, consumed 1 */
+/* returns: as jcobs_decoder_push; consumed is 1 */
 
-/* Takes bytes of a stream of frames for this sentinel, each followed by one, as jcobs_decoder_push does for 0, but
- * slower, byte by byte. */
+/* Takes bytes of a stream in which this sentinel ends each frame, as jcobs_decoder_push does for 0. It works byte by
+ * byte, so it is slower. */
 JCOBS_API jcobs_answer jcobs_decoder_push_with_sentinel(jcobs_decoder *decoder, void *buffer, size_t buffer_len,
                                                         const void *bytes, size_t len,
                                                         unsigned char sentinel) JCOBS_STATE JCOBS_WRITES(2, 3)
     JCOBS_READS(4, 5) JCOBS_CHECKED;
 /* returns: as jcobs_decoder_push, with the sentinel for the zero */
 
-/* Returns whether no frame is open, that is whether all that was pushed is reported. At the end of a stream, 0 says
- * that the last frame has no sentinel. */
+/* Returns whether no frame is open, that is, whether every pushed byte belongs to a frame that has been reported. At
+ * the end of a stream, 0 says that the last frame has no sentinel. */
 JCOBS_API unsigned int jcobs_decoder_is_idle(const jcobs_decoder *decoder) JCOBS_STATE JCOBS_CHECKED;
 /* returns: 1 if no frame is open, and 0 if one has begun */
 
@@ -328,15 +329,15 @@ JCOBS_API void jcobs_encoder_reset(jcobs_encoder *encoder) JCOBS_STATE;
  * Otherwise the contents of the buffer are unspecified. */
 JCOBS_API jcobs_answer jcobs_encoder_push(jcobs_encoder *encoder, void *buffer, size_t buffer_len, const void *bytes,
                                           size_t len) JCOBS_STATE JCOBS_WRITES(2, 3) JCOBS_READS(4, 5) JCOBS_CHECKED;
-/* returns: status OK, consumed len, length of the frame so far, which is there only after finish: that writes the code
- *              of the open block
+/* returns: status OK, consumed len, length of the frame so far. The buffer holds that frame only after finish, which
+ *              writes the code of the open block
  *          status TOO_SMALL, consumed 0, length 0, exactly if the frame of all that was taken and these bytes doesn't
  *              fit: the state and the buffer are as they were */
 
 /* Takes one byte, as jcobs_encoder_push of that byte does, and faster. */
 JCOBS_API jcobs_answer jcobs_encoder_feed(jcobs_encoder *encoder, void *buffer, size_t buffer_len,
                                           unsigned char byte) JCOBS_STATE JCOBS_WRITES(2, 3) JCOBS_CHECKED;
-/* returns: as jcobs_encoder_push, consumed 1 or 0 */
+/* returns: as jcobs_encoder_push; consumed is 1 or 0 */
 
 /* Ends the message: the buffer then begins with its frame, the one that jcobs_encode writes, and the encoder is at
  * the start. */
@@ -363,8 +364,9 @@ JCOBS_API jcobs_answer jcobs_encoder_finish_terminated_with_sentinel(jcobs_encod
     JCOBS_WRITES(2, 3) JCOBS_CHECKED;
 /* returns: as jcobs_encoder_finish_terminated */
 
-/* Writes a short English description of a status to `text`, with a '\0' after it, cut to fit; JCOBS_TEXT_LENGTH bytes
- * are room for it. If text_len is 0, nothing is written. A number that is no status is "unknown status". */
+/* Writes a short English description of a status to `text`, with a '\0' after it. A text that doesn't fit is cut;
+ * JCOBS_TEXT_LENGTH bytes are always enough. If text_len is 0, nothing is written. A number that is no status is
+ * "unknown status". */
 #define JCOBS_TEXT_LENGTH 48
 JCOBS_API size_t jcobs_strerror(unsigned int status, char *text, size_t text_len) JCOBS_WRITES(2, 3);
 /* returns: the length of the whole description */
