@@ -94,10 +94,10 @@
  * reports a frame only at its sentinel. COBS has no checksum: damage that turns a frame into another one isn't
  * noticed.
  *
- * Built for x86-64, the library needs x86-64-v2 (SSE4.2 and POPCNT: Intel since 2009, AMD since 2011); for
- * aarch64, ARMv8-A. It has call frame information for debuggers, but no unwind tables, and no call throws or unwinds.
+ * The built library, libjcobs.a, needs x86-64-v2 on x86-64 (SSE4.2 and POPCNT: Intel since 2009, AMD since 2011), and
+ * ARMv8-A on aarch64. It has call frame information for debuggers, but no unwind tables, and no call throws or unwinds.
  * Its calls begin with landing pads, so that a program which is hardened by IBT, SHSTK or BTI stays so. It calls only
- * memcpy and memmove.
+ * memcpy and memmove. None of this is about jcobs.c, which your compiler builds.
  */
 #ifndef JCOBS_H
 #define JCOBS_H
@@ -112,7 +112,7 @@ extern "C" {
 #define JCOBS_VERSION_MAJOR 1
 #define JCOBS_VERSION_MINOR 0
 #define JCOBS_VERSION_PATCH 0
-#define JCOBS_VERSION (JCOBS_VERSION_MAJOR * 10000 + JCOBS_VERSION_MINOR * 100 + JCOBS_VERSION_PATCH)
+#define JCOBS_VERSION (JCOBS_VERSION_MAJOR * 10000u + JCOBS_VERSION_MINOR * 100u + JCOBS_VERSION_PATCH)
 
 /* Comes before each prototype. To compile jcobs.c in one translation unit with the code that calls it, define it as
  * static, and include jcobs.c. Define it as static inline if the compiler warns of calls that the code doesn't make
@@ -253,12 +253,13 @@ JCOBS_API jcobs_answer jcobs_encode_in_place(void *buffer, size_t buffer_len, si
 JCOBS_API jcobs_answer jcobs_decode(const void *source, size_t source_len, void *message, size_t message_len)
     JCOBS_READS(1, 2) JCOBS_WRITES(3, 4) JCOBS_CHECKED;
 /* returns: status OK, consumed zeros in front, the frame and the zero after it, length of the message
- *          status BROKEN, consumed the same, length of the frame's output up to where it ends
+ *          status BROKEN, consumed the same, length of all its output, with the block that is cut off
  *          status TOO_SMALL, consumed the same, length message_len: the buffer has the output's first bytes
  *          status EMPTY, consumed source_len, length 0: there are no bytes, or only zeros */
 
 /* Decodes the frame at the front of the source, for this sentinel, to the front of `message`. The frame ends at the
- * first sentinel or with the source. No sentinel is skipped: one in front is an empty message. */
+ * first sentinel or with the source. No sentinel is skipped: one in front is an empty message. So for the sentinel 0 its
+ * results aren't always those of jcobs_decode, which skips zeros, and counts the block that is cut off. */
 JCOBS_API jcobs_answer jcobs_decode_with_sentinel(const void *source, size_t source_len, void *message,
                                                   size_t message_len, unsigned char sentinel) JCOBS_READS(1, 2)
     JCOBS_WRITES(3, 4) JCOBS_CHECKED;
@@ -297,7 +298,7 @@ JCOBS_API void jcobs_decoder_reset(jcobs_decoder *decoder) JCOBS_STATE;
 JCOBS_API jcobs_answer jcobs_decoder_push(jcobs_decoder *decoder, void *buffer, size_t buffer_len, const void *bytes,
                                           size_t len) JCOBS_STATE JCOBS_WRITES(2, 3) JCOBS_READS(4, 5) JCOBS_CHECKED;
 /* returns: status OK, consumed through the zero that ends a frame, length of the message
- *          status BROKEN, consumed the same, length of the frame's output up to where it ends
+ *          status BROKEN, consumed the same, length of all its output, with the block that is cut off
  *          status TOO_SMALL, consumed the same, length buffer_len: the output is longer, and its first bytes are there
  *          status MORE, consumed len, length of what the buffer has of an unfinished message */
 
@@ -342,26 +343,26 @@ JCOBS_API jcobs_answer jcobs_encoder_feed(jcobs_encoder *encoder, void *buffer, 
 /* Ends the message: the buffer then begins with its frame, the one that jcobs_encode writes, and the encoder is at
  * the start. */
 JCOBS_API jcobs_answer jcobs_encoder_finish(jcobs_encoder *encoder, void *buffer, size_t buffer_len) JCOBS_STATE
-    JCOBS_WRITES(2, 3) JCOBS_CHECKED;
+    JCOBS_CHANGES(2, 3) JCOBS_CHECKED;
 /* returns: status OK, consumed 0, length of the frame
  *          status TOO_SMALL, consumed 0, length 0, only if the buffer is empty, or isn't the one that was pushed to:
  *              the state and the buffer are as they were */
 
 /* Does the same, with a zero after the frame, which needs one byte more. */
 JCOBS_API jcobs_answer jcobs_encoder_finish_terminated(jcobs_encoder *encoder, void *buffer,
-                                                       size_t buffer_len) JCOBS_STATE JCOBS_WRITES(2, 3) JCOBS_CHECKED;
+                                                       size_t buffer_len) JCOBS_STATE JCOBS_CHANGES(2, 3) JCOBS_CHECKED;
 /* returns: status OK, consumed 0, length of the frame and its zero
  *          status TOO_SMALL, consumed 0, length 0, if both don't fit: the state and the buffer are as they were */
 
-/* Do the same for another sentinel: each byte of the frame is XORed with it. The pushes are those for 0. */
+/* Do the same for another sentinel: each byte of the frame is XORed with it. Push the bytes as for the sentinel 0. */
 JCOBS_API jcobs_answer jcobs_encoder_finish_with_sentinel(jcobs_encoder *encoder, void *buffer, size_t buffer_len,
                                                           unsigned char sentinel) JCOBS_STATE
-    JCOBS_WRITES(2, 3) JCOBS_CHECKED;
+    JCOBS_CHANGES(2, 3) JCOBS_CHECKED;
 /* returns: as jcobs_encoder_finish */
 JCOBS_API jcobs_answer jcobs_encoder_finish_terminated_with_sentinel(jcobs_encoder *encoder, void *buffer,
                                                                      size_t buffer_len,
                                                                      unsigned char sentinel) JCOBS_STATE
-    JCOBS_WRITES(2, 3) JCOBS_CHECKED;
+    JCOBS_CHANGES(2, 3) JCOBS_CHECKED;
 /* returns: as jcobs_encoder_finish_terminated */
 
 /* Writes a short English description of a status to `text`, with a '\0' after it. A text that doesn't fit is cut;
