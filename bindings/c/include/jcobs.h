@@ -258,8 +258,8 @@ JCOBS_API jcobs_answer jcobs_decode(const void *source, size_t source_len, void 
  *          status EMPTY, consumed source_len, length 0: there are no bytes, or only zeros */
 
 /* Decodes the frame at the front of the source, for this sentinel, to the front of `message`. The frame ends at the
- * first sentinel or with the source. No sentinel is skipped: one in front is an empty message. So for the sentinel 0 its
- * results aren't always those of jcobs_decode, which skips zeros, and counts the block that is cut off. */
+ * first sentinel or with the source. No sentinel is skipped: one in front is an empty message. So for the sentinel 0
+ * its results aren't always those of jcobs_decode, which skips zeros, and counts the block that is cut off. */
 JCOBS_API jcobs_answer jcobs_decode_with_sentinel(const void *source, size_t source_len, void *message,
                                                   size_t message_len, unsigned char sentinel) JCOBS_READS(1, 2)
     JCOBS_WRITES(3, 4) JCOBS_CHECKED;
