@@ -175,9 +175,8 @@ mod portable {
 
     #[inline(always)]
     pub fn of_sixteen(mask: &[u8; 16]) -> u64 {
-        let (low, high) = mask.split_at(8);
-        let [low, high] = [low, high].map(|half| *half.first_chunk().expect("8 bytes"));
-        of_word(u64::from_le_bytes(low)) | (of_word(u64::from_le_bytes(high)) << 8)
+        let mask = u128::from_le_bytes(*mask);
+        of_word(mask as u64) | (of_word((mask >> 64) as u64) << 8)
     }
 }
 

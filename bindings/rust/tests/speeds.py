@@ -76,6 +76,7 @@ SIZED = {
     "push": "`push`",
     "encoder": "`CobsEncoder`",
     "decode": "`decode`",
+    "sentinel": "`decode_with_sentinel`",
     "in place": "in place",
     "encode": "`encode`",
 }
