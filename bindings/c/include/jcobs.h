@@ -185,7 +185,9 @@ typedef struct jcobs_encoder {
 /* clang-format on */
 
 /* GCC and Clang check that the result of a call is used and that its state isn't NULL. GCC also checks that the
- * pointers have room for the lengths. The numbers are those of a pointer and of its length among the arguments. */
+ * pointers have room for the lengths. The numbers are those of a pointer and of its length among the arguments. The calls
+ * that finish a message are marked as ones that write, though they read what was pushed: otherwise GCC would warn of an
+ * empty message, whose buffer nothing has written before. */
 #ifdef __GNUC__
 #define JCOBS_CHECKED __attribute__((warn_unused_result))
 #define JCOBS_STATE __attribute__((nonnull(1)))
@@ -343,26 +345,26 @@ JCOBS_API jcobs_answer jcobs_encoder_feed(jcobs_encoder *encoder, void *buffer, 
 /* Ends the message: the buffer then begins with its frame, the one that jcobs_encode writes, and the encoder is at
  * the start. */
 JCOBS_API jcobs_answer jcobs_encoder_finish(jcobs_encoder *encoder, void *buffer, size_t buffer_len) JCOBS_STATE
-    JCOBS_CHANGES(2, 3) JCOBS_CHECKED;
+    JCOBS_WRITES(2, 3) JCOBS_CHECKED;
 /* returns: status OK, consumed 0, length of the frame
  *          status TOO_SMALL, consumed 0, length 0, only if the buffer is empty, or isn't the one that was pushed to:
  *              the state and the buffer are as they were */
 
 /* Does the same, with a zero after the frame, which needs one byte more. */
 JCOBS_API jcobs_answer jcobs_encoder_finish_terminated(jcobs_encoder *encoder, void *buffer,
-                                                       size_t buffer_len) JCOBS_STATE JCOBS_CHANGES(2, 3) JCOBS_CHECKED;
+                                                       size_t buffer_len) JCOBS_STATE JCOBS_WRITES(2, 3) JCOBS_CHECKED;
 /* returns: status OK, consumed 0, length of the frame and its zero
  *          status TOO_SMALL, consumed 0, length 0, if both don't fit: the state and the buffer are as they were */
 
 /* Do the same for another sentinel: each byte of the frame is XORed with it. Push the bytes as for the sentinel 0. */
 JCOBS_API jcobs_answer jcobs_encoder_finish_with_sentinel(jcobs_encoder *encoder, void *buffer, size_t buffer_len,
                                                           unsigned char sentinel) JCOBS_STATE
-    JCOBS_CHANGES(2, 3) JCOBS_CHECKED;
+    JCOBS_WRITES(2, 3) JCOBS_CHECKED;
 /* returns: as jcobs_encoder_finish */
 JCOBS_API jcobs_answer jcobs_encoder_finish_terminated_with_sentinel(jcobs_encoder *encoder, void *buffer,
                                                                      size_t buffer_len,
                                                                      unsigned char sentinel) JCOBS_STATE
-    JCOBS_CHANGES(2, 3) JCOBS_CHECKED;
+    JCOBS_WRITES(2, 3) JCOBS_CHECKED;
 /* returns: as jcobs_encoder_finish_terminated */
 
 /* Writes a short English description of a status to `text`, with a '\0' after it. A text that doesn't fit is cut;
