@@ -95,6 +95,11 @@ impl Case {
                 Some((end, taken)) => (taken, Some(end.into_result())),
             }
         });
+        self.check_buffered(cut);
+        // The other two are slow here, and each byte is the same step to them: at every fifth cut or room.
+        if (cut + self.room) % 5 != 0 {
+            return;
+        }
         let mut decoder = UnbufferedDecoder::new();
         let sentinel = [0, 7, 0xFF][cut % 3];
         self.check(cut, |dest, bytes| {
@@ -104,7 +109,6 @@ impl Case {
                 Some((end, taken)) => (taken, Some(end.into_result())),
             }
         });
-        self.check_buffered(cut);
         #[cfg(feature = "std")]
         self.check_reader(cut);
     }
