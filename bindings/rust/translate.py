@@ -66,7 +66,9 @@ STORED = set("DecodeError DestBufTooSmallError DecodeReport PushError FrameKind 
 REWORDED = {
     "Its results are those of [`CobsDecoder`](crate::CobsDecoder). It has no buffer": "The results of its `feed` are those of\n"
     "[`CobsDecoder`](crate::CobsDecoder). It has no buffer",
-    ", as [`CobsDecoder::push`](crate::CobsDecoder::push) does, with its errors.": ".\nThe error says how many bytes were taken.",
+    ", as [`CobsDecoder::push`](crate::CobsDecoder::push) does: it stops after the first byte for which `feed` doesn't return"
+    " `Ok(None)`. The errors are those of that call.": ".\nIt stops after the first byte for which `feed` doesn't return"
+    " `Ok(None)`. The error says how many bytes were taken.",
     "CobsDecoder::new(&mut buffer); let rejected = PushError": "UnbufferedDecoder::new();\nlet rejected = PushError",
     "decoder.push(&[3, 7, 0, 2, 9, 0]), Err(rejected)": "decoder.push(&mut buffer, &[3, 7, 0, 2, 9, 0]), Err(rejected)",
     "Contracts describe a source by a relation, `step`: it holds if a read with this result may lead from the first state of the"

@@ -30,12 +30,12 @@ pub use coders::{law_15, law_16, law_17, law_18, law_19, law_20, law_21};
 
 /// A frame reads as its output.
 ///
-/// Bytes read as a message exactly if there are some, none is a zero, their last block has all the bytes that its code
-/// counts, and the message is their output. An output is never longer than its piece, and it never gets shorter if a
-/// byte is added to the piece.
+/// Bytes read as a message exactly if there is at least one byte, none is a zero, the last block has all bytes that its
+/// code counts, and the message is the output of the bytes. An output is never longer than its piece, and it never gets
+/// shorter if a byte is added to the piece.
 ///
-/// Each decoder cuts bytes at their codes, which shows whether they are a frame, and of which message. By this law its
-/// users know that it accepts exactly the frames.
+/// Each decoder cuts bytes at their codes. So it finds out whether they are a frame, and of which message. This law
+/// says that it accepts exactly the frames.
 ///
 /// ```
 /// fn is_output(piece: &[u8], message: &[u8], buffer: &mut [u8]) -> bool
@@ -132,8 +132,8 @@ pub fn law_4()
 
 /// Equal frames, equal messages.
 ///
-/// Messages with equal encoded frames are equal, and a frame has only one message. So no information of a message is
-/// lost in its frame, and a receiver reads no other message from it than the one that was sent.
+/// Messages with equal encoded frames are equal, and a frame has only one message. So a frame keeps all information of
+/// its message, and a receiver can't read another message from it.
 ///
 /// ```
 /// fn are_equal(alloc: Global, first: &[u8], second: &[u8]) -> Result<bool, AllocError>

@@ -4,9 +4,9 @@
 //! sentinel can mark where frames end on a serial line, in a stream or in a file, and after damage a receiver finds the
 //! next frame at the next sentinel. A frame is a list of blocks: a code, which counts the block's bytes including
 //! itself, and nonzero bytes. Between two blocks is a zero of the message, unless the first is a full block, with the
-//! code 255. So the frame of a message of up to 254 bytes is one byte longer than the message. A longer message costs at
-//! most one more byte for each further 254 bytes or part of them. The format is that of the paper "Consistent Overhead
-//! Byte Stuffing" by Stuart Cheshire and Mary Baker.
+//! code 255. So the frame of a message of up to 254 bytes is one byte longer than the message. A longer message costs
+//! at most one more byte for each further 254 bytes, or part of 254. The format is that of the paper "Consistent
+//! Overhead Byte Stuffing" by Stuart Cheshire and Mary Baker.
 //!
 //! A message, there and back:
 //!

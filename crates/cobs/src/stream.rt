@@ -55,7 +55,7 @@ fn frame_outcome(alloc: Global, end: PieceEnd, buffer: &[u8]) -> Result<FrameOut
 /// are those of the whole stream. Leading and doubled zeros make no piece.
 ///
 /// If the caller wrote to the decoder's buffer while a piece was open, the bytes of that piece's message are
-/// unspecified. This message is the first outcome. Its length and all later outcomes are as usual.
+/// unspecified. This message is the first outcome. Its length and all later outcomes aren't affected.
 ///
 /// # Errors
 /// `AllocError` if memory for an outcome runs out. Then the outcomes are lost, and the decoder is idle, so the next

@@ -53,7 +53,7 @@ impl Checksum {
         low ^ params.xorout
     }
 
-    /// Returns the register one byte later.
+    /// Returns the register after one more byte.
     fn after_byte(&self, register: u32, byte: u8) -> u32
         ensures after { result ≡ after_byte self.now.params register byte }
     {

@@ -87,8 +87,9 @@ impl Composed {
         ROOM - LINE - 2 * SHORT_LEN < self.len
     }
 
-    /// Adds the text of a short message, if the view shows digits or raw messages without colour, number and time, and if
-    /// there is room. Returns whether it did. So one write can contain the text of many messages.
+    /// Adds the text of a short message and returns true, if there is room, and if the view shows digits without
+    /// colours, numbers and times, or raw messages without numbers. Otherwise returns false. If the view's filter holds
+    /// the message back, its text is empty. So one write can contain the text of many messages.
     #[inline(always)]
     pub fn keep(&mut self, view: &View, piece: &Sight<'_>) -> bool
         ensures kept { IsTrue result → (number : ℕ) (times : Times) → take self.new.len self.new.bytes
@@ -234,7 +235,7 @@ impl Composed {
         self.put(b"\"")
     }
 
-    /// Adds a text as it is written in a string of JSON.
+    /// Adds a text as a part of a JSON string: quotes, backslashes and hidden characters are escaped.
     fn put_escaped(&mut self, text: &str) -> Result<(), Full>
         ensures put { OnOk result (Appends (contents_of self.old) (contents_of self.new) (text_escaped text.now)) }
     {
@@ -262,7 +263,7 @@ impl Composed {
         }
     }
 
-    /// Adds a character as it is written in a string of JSON.
+    /// Adds a character of a JSON string, escaped if it is a quote, a backslash or hidden.
     fn put_char(&mut self, c: char) -> Result<(), Full>
         ensures put { OnOk result (Appends (contents_of self.old) (contents_of self.new) (escaped c)) }
     {

@@ -34,7 +34,7 @@ pub enum Crc {
 /// polynomial and its start are in the high bits.
 #[derive(Debug, PartialEq, Eq, Clone, Copy)]
 pub struct Params {
-    /// How many bytes the checksum has, from 1 to 4.
+    /// The checksum's length in bytes, from 1 to 4.
     pub size: usize,
 
     /// The polynomial without its highest power.

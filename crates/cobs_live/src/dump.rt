@@ -23,7 +23,7 @@ pub fn write_dump<W: Write>(output: &mut W, bytes: &[u8]) -> io::Result<()>
     Ok(())
 }
 
-/// Writes the line of at most sixteen bytes.
+/// Writes one line, for up to sixteen bytes.
 fn write_row<W: Write>(output: &mut W, offset: usize, row: &[u8]) -> io::Result<()>
     requires few { length row.now ≤ 16 }
     ensures written { OnOk result

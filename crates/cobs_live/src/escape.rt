@@ -24,7 +24,7 @@ pub fn is_hidden(c: char) -> bool
         || category == GeneralCategory::ParagraphSeparator
 }
 
-/// Writes a text as it is written in a string of JSON.
+/// Writes a text as a part of a JSON string: quotes, backslashes and hidden characters are escaped.
 pub fn write_escaped<W: Write>(output: &mut W, text: &str) -> io::Result<()>
     ensures written { OnOk result (Appends (W.contents output.old) (W.contents output.new)
         (text_escaped text.now)) }
@@ -102,7 +102,7 @@ fn is_plain_byte(byte: u8) -> bool
     32 <= byte && byte < 127 && byte != b'"' && byte != b'\\'
 }
 
-/// Writes a character as it is written in a string of JSON.
+/// Writes a character of a JSON string, escaped if it is a quote, a backslash or hidden.
 fn write_char<W: Write>(output: &mut W, c: char) -> io::Result<()>
     ensures written { OnOk result
         (Appends (W.contents output.old) (W.contents output.new) (escaped c)) }

@@ -165,8 +165,8 @@ impl<C: Clock + Drop, O: Opener<R> + Drop, R: Read + Drop, W: Write + Drop> Live
     }
 }
 
-/// Returns whether this read says that the line hung up: whether it returned no bytes, or failed for another reason than an
-/// interruption or because it would have blocked.
+/// Returns whether this read says that the line hung up: whether it returned no bytes, or failed with an error other
+/// than "interrupted" or "would block".
 fn is_hang_up(given: &io::Result<usize>) -> bool {
     match given {
         Ok(count) => *count == 0,

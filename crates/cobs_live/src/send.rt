@@ -158,7 +158,7 @@ fn send_message<W: Write + Drop>(
     Ok(())
 }
 
-/// Returns the frame of a message and its sentinel. If a checksum is set, it follows the message in the frame.
+/// Returns the frame of a message, followed by the sentinel. If a checksum is set, the frame has it after the message.
 fn summed_frame(
     alloc: Global,
     sentinel: u8,
@@ -184,7 +184,7 @@ pub fn with_sum(alloc: Global, checksum: &Checksum, message: &[u8]) -> Result<Ve
     Ok(whole)
 }
 
-/// Returns the frame of a message and its sentinel.
+/// Returns the frame of a message, followed by the sentinel.
 fn ended_frame(alloc: Global, sentinel: u8, message: &[u8]) -> Result<Vec<u8>, AllocError>
     ensures frame { IfOk result (λ bytes. IsSent sentinel message.now bytes.items) }
 {

@@ -35,7 +35,7 @@ use std::rt::Clock;
 /// The zero after a short frame is searched for first in this many bytes, which are one vector, and then in [`NEAR`] bytes.
 const NEAREST: usize = 16;
 
-/// The most bytes in which a zero is searched for before all bytes are passed to the decoder.
+/// A zero is searched for in at most this many bytes before all bytes are passed to the decoder.
 const NEAR: usize = 64;
 
 /// The most bytes of a read, 64 KiB. If a read returns fewer, they are shown without waiting for more.
@@ -54,7 +54,7 @@ pub const CHUNK_LEN: usize = 65_536;
 /// the start, or since the counts were last written. A failure to write them is no fault.
 ///
 /// - `ReadFailed`: a read failed, for example because the line hung up. All pieces that had ended before have been
-///   shown, and whether another has begun.
+///   shown, and then whether another one had begun.
 /// - `WriteFailed`: a write or a flush failed. Part of the text may have been written.
 /// - `OutputClosed`: a write or a flush failed because nobody reads the output any more.
 /// - `OutOfMemory`: memory ran out. Nothing was read, and nothing written.
@@ -140,7 +140,7 @@ impl<'a> Watch<'a> {
 
     /// Reads once into `chunk`, shows each piece that ended in the bytes that were read, flushes the output, and
     /// returns whether the input continues. At the end of the input, and if the read failed, it shows whether a piece
-    /// has begun that no sentinel ended. If the line hung up, it shows that too.
+    /// has begun and not ended. If the line hung up, it shows that too.
     ///
     /// Nothing is written before the read. When the read begins, all output has been passed on (`flushed`), so all
     /// pieces that had ended have been shown. An interrupted read is tried again.
@@ -209,8 +209,8 @@ impl<'a> Watch<'a> {
         Ok(true)
     }
 
-    /// Shows whether a piece has begun that no sentinel ended. No bytes follow, because the input has ended or can't be
-    /// read.
+    /// Shows `unfinished` if a piece has begun and no sentinel has ended it. No bytes follow, because the input has
+    /// ended or can't be read.
     fn end<W: Write + Drop>(&self, output: &mut BufWriter<W>) -> Result<(), WatchFault>
         requires flushed { writer_buffer output.old ≡ [] }
         ensures shown { OnOk result (ShowsEnd (phase_of self.now.decoder) self.now.settings.now.view
@@ -225,8 +225,8 @@ impl<'a> Watch<'a> {
         Ok(())
     }
 
-    /// Shows whether a piece has begun that no sentinel ended, and then that the line hung up. The bytes of the next
-    /// connection are skipped up to its first sentinel, because it may begin in the middle of a frame.
+    /// Shows whether a piece has begun and not ended, and then that the line hung up. The bytes of the next connection
+    /// are skipped up to its first sentinel, because it may begin in the middle of a frame.
     fn hang_up<W: Write + Drop>(&mut self, output: &mut BufWriter<W>) -> Result<(), WatchFault>
         requires flushed { writer_buffer output.old ≡ [] }
         ensures shown { OnOk result (ShowsHangUp (phase_of self.old.decoder) self.old.settings.now.view

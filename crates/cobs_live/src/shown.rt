@@ -55,15 +55,16 @@ pub struct Filter {
     /// Whether messages with a wrong checksum are shown.
     pub bad_crc: bool,
 
-    /// Whether it is shown that a piece has begun that no sentinel ended, and that the line hung up.
+    /// Whether `unfinished` and `hung up` are shown.
     pub unfinished: bool,
 
-    /// The least number of bytes to which a piece must decode to be shown, and the greatest. A piece that is too long
-    /// counts as `usize::MAX` bytes.
+    /// The least and the greatest number of decoded bytes of a piece that is shown. A piece that is too long counts as
+    /// `usize::MAX` bytes.
     pub min: usize,
     pub max: usize,
 
-    /// A piece is shown only if its bytes begin with these. If there are any, a piece whose bytes aren't shown is held back.
+    /// A piece is shown only if its bytes begin with these. If this list isn't empty, a piece whose bytes aren't shown
+    /// is held back.
     pub prefix: Vec<u8>,
 }
 
@@ -110,8 +111,8 @@ pub struct Settings {
     pub skip_first: bool,
 }
 
-/// Returns the piece with this end, whose output is in `buffer`. If there is a checksum, each message should end with
-/// it.
+/// Returns the piece that ended as `end` says. Its output is at the front of `buffer`. With a checksum, a message's
+/// last bytes are taken as its checksum.
 pub fn sight_of<'a>(checksum: &Option<Checksum>, end: PieceEnd, buffer: &'a [u8]) -> Sight<'a>
     requires within { IsWithin (length buffer.now) end }
     ensures seen { seen_in result ≡ seen_of checksum.now (outcome_at end buffer.now) }
@@ -152,7 +153,7 @@ pub fn sum_law()
         ≡ whole Message message }
 {}
 
-/// Returns a piece of this kind, all of whose bytes are shown.
+/// Returns a piece of this kind. All its bytes are shown.
 fn whole(kind: Kind, bytes: &[u8]) -> Sight<'_>
     ensures seen { seen_in result ≡ whole kind bytes.now }
 {
@@ -241,7 +242,7 @@ fn write_time<W: Write>(output: &mut W, view: &View, times: &Times) -> io::Resul
     }
 }
 
-/// Shows the end of a stream, given whether a piece has begun that no zero ended.
+/// Shows the end of a stream. `unfinished` says whether a piece had begun.
 pub fn show_end<W: Write>(output: &mut W, view: &View, unfinished: bool) -> io::Result<()>
     ensures shown { OnOk result (Appends (W.contents output.old) (W.contents output.new)
         (shown_end view.now unfinished)) }
@@ -256,7 +257,7 @@ pub fn show_end<W: Write>(output: &mut W, view: &View, unfinished: bool) -> io::
     }
 }
 
-/// Shows that a line hung up, given whether a piece has begun that no zero ended.
+/// Shows that a line hung up. `unfinished` says whether a piece had begun before that; if so, this is shown first.
 pub fn show_hang_up<W: Write>(output: &mut W, view: &View, unfinished: bool) -> io::Result<()>
     ensures shown { OnOk result (Appends (W.contents output.old) (W.contents output.new)
         (shown_hang_up view.now unfinished)) }

@@ -89,7 +89,7 @@ impl<'a> CobsDecoder<'a> {
         self.inner.feed(self.dest, byte)
     }
 
-    /// Takes bytes of the stream, through the first one for which `feed` doesn't return `Ok(None)`.
+    /// Takes the next bytes of the stream, and stops after the first one for which `feed` doesn't return `Ok(None)`.
     ///
     /// - `Ok(None)`: all bytes were taken, and no piece has ended in them.
     /// - `Ok(Some(report))`: a whole frame has ended. `frame_size` is the length of its message, which is at the front
@@ -253,8 +253,8 @@ impl CobsDecoderOwned {
         self.inner.feed(&mut self.dest, byte)
     }
 
-    /// Takes bytes of the stream, through the first one for which `feed` doesn't return `Ok(None)`, as
-    /// [`CobsDecoder::push`](crate::CobsDecoder::push) does, with its errors.
+    /// Takes the next bytes of the stream, as [`CobsDecoder::push`](crate::CobsDecoder::push) does: it stops after the
+    /// first byte for which `feed` doesn't return `Ok(None)`. The errors are those of that call.
     ///
     /// ```
     /// let mut decoder = CobsDecoderOwned::new(alloc, 8)?;

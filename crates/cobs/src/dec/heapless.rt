@@ -91,8 +91,8 @@ impl<const N: usize> CobsDecoderHeapless<N> {
         self.inner.feed(self.dest.as_mut_slice(), byte)
     }
 
-    /// Takes bytes of the stream, through the first one for which `feed` doesn't return `Ok(None)`, as
-    /// [`CobsDecoder::push`](crate::CobsDecoder::push) does, with its errors.
+    /// Takes the next bytes of the stream, as [`CobsDecoder::push`](crate::CobsDecoder::push) does: it stops after the
+    /// first byte for which `feed` doesn't return `Ok(None)`. The errors are those of that call.
     ///
     /// ```
     /// let mut decoder = CobsDecoderHeapless::<8>::new();

@@ -21,7 +21,8 @@ use crate::find::{len_without_end, zero_or_len};
 use cobs_bytes::lanes::{copy_xored_short, move_to_front, xor_bytes};
 use cobs_bytes::window::{WIDE_WINDOW, WINDOW, has_vectors, is_all, write_row};
 
-/// Moves the `len` bytes from `read` on back to `at`, which is at most `read`. Bytes that no moved byte replaces stay.
+/// Moves the `len` bytes from `read` on back to `at`, which is at most `read`. Bytes that no moved byte overwrites stay
+/// as they are.
 #[inline(always)]
 fn move_back(buffer: &mut [u8], at: usize, read: usize, len: usize)
     requires behind { at ≤ read }
@@ -33,8 +34,8 @@ fn move_back(buffer: &mut [u8], at: usize, read: usize, len: usize)
 
 impl UnbufferedDecoder {
     /// Takes the bytes of one step from the buffer to which it also writes. They begin at `read` and end before `end`.
-    /// Returns how many it took. It does what `take_part` does, but takes one row of codes of 1 per step, and never lacks
-    /// room.
+    /// Returns how many it took. It does what `take_part` does, but takes one row of codes of 1 per step, and there is
+    /// always room.
     #[inline(always)]
     fn take_part_in_place(&mut self, buffer: &mut [u8], read: usize, end: usize) -> usize
         requires going { self.old.too_long ≡ 0 }
@@ -155,9 +156,9 @@ fn decode_span_in_place(buffer: &mut [u8], len: usize) -> bool
 /// # Errors
 ///
 /// - `EmptyFrame` if the buffer is empty.
-/// - `InvalidFrame` if the frame breaks off inside a block: the buffer begins with the output of the whole blocks before
-///   it, which ends with the zero that joins them to the broken block, unless the last of them is full. `decoded_bytes`
-///   is the length of this output, and every other byte is as it was.
+/// - `InvalidFrame` if the frame breaks off inside a block. The buffer then begins with the output of the whole blocks
+///   before that block. This output ends with the zero that joins them to the broken block, unless the last whole block
+///   is full. `decoded_bytes` is the length of this output, and every other byte is as it was.
 ///
 /// The bytes after the decoded ones are kept, after an error too. (A choice of this library.)
 ///

@@ -57,8 +57,10 @@ pub(crate) fn write_zeros_at_copied(
     )
 }
 
-/// Decodes 2 to 65 bytes for a sentinel, if none of them is the sentinel and `dest` has room for one byte fewer. Returns
-/// how many bytes of the last block are missing. The bytes of `dest` after the output stay.
+/// Decodes a source of 2 to 65 bytes for a sentinel, and returns how many bytes of its last block are missing. The
+/// bytes of `dest` after the output are unchanged. Returns `None` and changes nothing if the source has another length,
+/// if one of its bytes is the sentinel, or if `dest` is shorter than the output, which has one byte fewer than the
+/// source.
 #[inline(always)]
 pub(crate) fn decode_span(source: &[u8], dest: &mut [u8], sentinel: u8) -> Option<u8>
     ensures taken { (2 ≤ length source.now) × (length source.now ≤ 65) → length source.now ≤ length dest.old + 1

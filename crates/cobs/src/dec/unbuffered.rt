@@ -106,8 +106,8 @@ impl UnbufferedDecoder {
         START
     }
 
-    /// Makes a decoder in this state, for any numbers. A phase within a piece whose block is full and complete, with
-    /// nothing written, is the same state as `Idle`.
+    /// Makes a decoder in this state. Any numbers in it are accepted. If its block is full and complete and nothing is
+    /// written, the state is the same as `Idle`.
     ///
     /// ```
     /// let mut buffer = [0; 8];
@@ -210,8 +210,8 @@ impl UnbufferedDecoder {
         self.step(dest, byte)
     }
 
-    /// Takes bytes of the stream, with this buffer, through the first one for which `feed` doesn't return `Ok(None)`, as
-    /// [`CobsDecoder::push`](crate::CobsDecoder::push) does, with its errors.
+    /// Takes the next bytes of the stream, with this buffer, as [`CobsDecoder::push`](crate::CobsDecoder::push) does:
+    /// it stops after the first byte for which `feed` doesn't return `Ok(None)`. The errors are those of that call.
     ///
     /// ```
     /// let mut buffer = [0; 2];

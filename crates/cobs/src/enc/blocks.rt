@@ -160,10 +160,10 @@ fn write_codes_of_zeros(source: &[u8], dest: &mut [u8], at: usize) -> usize
 /// Takes windows of 32 bytes while more bytes than one window are left, up to a full block. Returns how many bytes it took,
 /// and how far the frame has come.
 ///
-/// Each window is copied to the place of the next byte. If no zero comes before the open block is full, that block is
-/// closed, and the caller continues with slices after it, since a run that fills one block often fills more.
-/// Otherwise each zero of the window is replaced by the code of the block that it begins, and the last block stays open
-/// for the next window. A row of zeros needs no copy. Nothing is written after the frame.
+/// Each window is copied to the place of the next byte. If the open block fills up before a zero comes, it is closed,
+/// and the caller copies the next bytes as slices, because a run that fills one block often fills more. Otherwise each
+/// zero of the window is replaced by the code of the block that it begins, and the last block stays open for the next
+/// window. A row of zeros needs no copy. Nothing is written after the frame.
 #[inline(always)]
 #[tactic(auto, using(crate::proofs::encoding::TakingLemmas::next_steps))]
 fn append_windows(
@@ -288,8 +288,8 @@ pub(crate) fn append_rest(
 /// Continues the frame in `dest` with `source`, from `progress` on, and returns the progress after it.
 /// [`close`] writes the code of the open block: the byte in its place before that doesn't matter.
 ///
-/// [`append_windows`] takes most bytes. Those after them are usually few; [`append_rest`] takes them if they are more than a
-/// window, or may fill the open block.
+/// [`append_windows`] takes most bytes. Usually few are left; [`append_rest`] takes these if they are more than a
+/// window, or if they may fill the open block.
 #[inline(always)]
 pub(crate) fn append(source: &[u8], dest: &mut [u8], progress: EncoderProgress) -> EncoderProgress
     requires some { 0 < length source.now }

@@ -45,8 +45,8 @@ pub fn law_15()
 /// writes its code too. At the end of the message it writes the code of the open block, unless the last block is full.
 ///
 /// If more bytes follow, the length of the whole frame is the index of the open block plus the length of the encoded
-/// frame of the open block's bytes and those that follow. The clause `goes_on` says this, and there `a` is any nonzero
-/// bytes that are as many as the open block has.
+/// frame of the open block's bytes and those that follow. The clause `goes_on` says this. In it `a` stands for any
+/// nonzero bytes, as many as the open block has.
 ///
 /// So your own encoder with these steps writes the frames of [`encode`](crate::encode).
 ///
@@ -195,8 +195,8 @@ pub fn law_20()
 /// A loop over the pieces of a stream.
 ///
 /// If an idle decoder reads a piece by `feed_piece`, the outcomes of the stream are the outcome of that piece, and then
-/// those of the bytes after it. The unended bytes of the stream are those of the bytes after it. If no piece ends,
-/// there is no outcome, and the decoder has taken the unended bytes.
+/// those of the bytes after it. The unended bytes of the stream are the unended bytes of its part after that piece. If
+/// no piece ends, there is no outcome, and the decoder has taken the unended bytes.
 ///
 /// So a loop over `feed_piece` is proved by one equation: the outcomes found so far, followed by those of the remaining
 /// bytes, are the outcomes of the stream.

@@ -61,7 +61,8 @@ pub(crate) fn decode_in_place_each(buf: &mut [u8]) -> Result<DecodeReport, Decod
     })
 }
 
-/// Returns where the piece ends whose next byte is at `at`: after its zero, or at the end of the source.
+/// Returns the end of the piece whose next byte is at `at`: after its zero if it has one, otherwise the end of the
+/// source.
 // A function of its own, so that the loops of its caller have all registers of a small processor.
 #[inline(never)]
 fn through_piece(source: &[u8], at: usize) -> usize {

@@ -15,9 +15,9 @@ use crate::proved::find::zero_or_len;
 /// The most bytes of one span: so short that no code in it can be followed by a whole full block.
 pub(crate) const SPAN_MAX: usize = FULL_BLOCK_BYTES - 1;
 
-/// Takes rows of 32 bytes from the front of `bytes`, as long as each byte of a row is `byte`, and writes a row of zeros for
-/// each, from `at` on. It stops if there is no room for a row, and after seven rows: more would be longer than a span, and its
-/// caller takes the rows as one. Returns how many zeros it wrote.
+/// Takes rows of 32 bytes from the front of `bytes`, as long as each byte of a row is `byte`, and writes a row of zeros
+/// for each, from `at` on. It stops if there is no room for another row, and after seven rows, because the caller
+/// treats the rows as one span, and eight rows would be longer than a span. Returns how many zeros it wrote.
 // A function of its own, so that the walk keeps its registers.
 #[inline(never)]
 fn write_rows(dest: &mut [u8], at: usize, bytes: &[u8], byte: u8) -> usize {
@@ -163,7 +163,8 @@ impl UnbufferedDecoder {
         *self = begun;
     }
 
-    /// Takes the first bytes of a piece at once, none of them a zero, if they are 2 or more and have room. Returns whether it did.
+    /// Takes the first bytes of a piece at once, if there are at least 2 and `dest` has room for their output. None of
+    /// them may be a zero. Returns whether it did.
     #[inline(always)]
     pub(crate) fn take_front(&mut self, dest: &mut [u8], bytes: &[u8]) -> bool {
         let len = bytes.len();

@@ -108,8 +108,8 @@ impl UnbufferedDecoder {
         START
     }
 
-    /// Makes a decoder in this state, for any numbers. A phase within a piece whose block is full and complete, with
-    /// nothing written, is the same state as `Idle`.
+    /// Makes a decoder in this state. Any numbers in it are accepted. If its block is full and complete and nothing is
+    /// written, the state is the same as `Idle`.
     ///
     /// ```
     /// use jcobs::UnbufferedDecoder;
@@ -213,8 +213,8 @@ impl UnbufferedDecoder {
         self.step(dest, byte)
     }
 
-    /// Takes bytes of the stream, with this buffer, through the first one for which `feed` doesn't return `Ok(None)`.
-    /// The error says how many bytes were taken.
+    /// Takes the next bytes of the stream, with this buffer.
+    /// It stops after the first byte for which `feed` doesn't return `Ok(None)`. The error says how many bytes were taken.
     ///
     /// ```
     /// use jcobs::UnbufferedDecoder;

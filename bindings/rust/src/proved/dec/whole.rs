@@ -20,8 +20,8 @@ use crate::proved::find::{leading_zeros, len_without_end};
 /// - `EmptyFrame` if the source is empty, and `InvalidFrame` with `decoded_bytes` 0 if it has only zeros; `dest` is as it
 ///   was.
 /// - `TargetBufTooSmall` if `dest` is shorter than the output; it then holds the output's first bytes.
-/// - `InvalidFrame` if the frame breaks off inside a block: `dest` begins with the decoded bytes, those of the broken
-///   block included, `decoded_bytes` says how many these are, and the others are as they were.
+/// - `InvalidFrame` if the frame breaks off inside a block. `dest` begins with the decoded bytes, those of the broken
+///   block included, and `decoded_bytes` is their number. The other bytes of `dest` are as they were.
 ///
 /// The format is that of Cheshire and Baker's paper; the results for a broken frame are a choice of this library.
 pub fn decode(source: &[u8], dest: &mut [u8]) -> Result<DecodeReport, DecodeError> {
@@ -62,7 +62,7 @@ fn decode_long(source: &[u8], dest: &mut [u8]) -> Result<DecodeReport, DecodeErr
 /// Decodes a short frame as [`decode`] does, or returns `None` and leaves `dest` as it was.
 ///
 /// It decodes a source that has 2 to 65 bytes before its first zero, and nothing after that zero, if `dest` has room
-/// for one byte fewer than the frame has. [`decode`] calls it first. It calls nothing itself, so that it can be
+/// for all bytes of the frame except one. [`decode`] calls it first. It calls nothing itself, so that it can be
 /// compiled into a function that decodes small frames.
 #[inline(always)]
 pub fn decode_short(source: &[u8], dest: &mut [u8]) -> Option<Result<DecodeReport, DecodeError>> {
