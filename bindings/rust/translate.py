@@ -71,8 +71,9 @@ REWORDED = {
     " `Ok(None)`. The error says how many bytes were taken.",
     "CobsDecoder::new(&mut buffer); let rejected = PushError": "UnbufferedDecoder::new();\nlet rejected = PushError",
     "decoder.push(&[3, 7, 0, 2, 9, 0]), Err(rejected)": "decoder.push(&mut buffer, &[3, 7, 0, 2, 9, 0]), Err(rejected)",
-    "Contracts describe a source by a relation, `step`: it holds if a read with this result may lead from the first state of the"
-    " source to the second. The result is a failure, or the bytes that the read returned.": "[`FrameReader::next_frame`] panics"
+    "Contracts describe a source by a relation, `step`, between two states of the source and the result of a read. It holds if a"
+    " read with this result may change the source from the first state to the second. The result is a failure, or the bytes that"
+    " the read returned.": "[`FrameReader::next_frame`] panics"
     " if a read returns a number above 64.",
     " Contracts describe a reader by its decoder, and by the bytes that it has read and not yet fed to the decoder.": "",
     "Contracts describe it by the bytes of its buffer and by its phase. ": "",

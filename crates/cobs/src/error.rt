@@ -65,7 +65,7 @@ pub struct PushError {
     pub parsed_size: usize,
 }
 
-/// The reason why a call returned no vector. (A choice of this library: memory can run out, and nothing aborts.)
+/// The reason why a call returned no vector. (A choice of this library: if memory runs out, nothing aborts.)
 ///
 /// ```
 /// let rejected = Err(DecodeVecError::Decode(DecodeError::EmptyFrame));

@@ -41,8 +41,9 @@ pub(crate) fn position_or_len(source: &[u8], byte: u8) -> usize
 /// assert_eq!(rt; len_to_zero(&[3, 7, 8, 0, 2]), 3);
 /// assert_eq!(rt; len_to_zero(&[3, 7]), 2);
 /// ```
-// A function of its own, so that its loops have all registers of a small processor. They keep the address of the remaining
-// bytes, so that no address is computed from an index. Four bytes per iteration need half as many steps as one.
+// A function of its own, so that its loops have all registers of a small processor. The loops advance the address of
+// the remaining bytes, so that no address is computed from an index. With four bytes per iteration, a byte costs half
+// as many instructions as with one.
 #[inline(never)]
 pub fn len_to_zero(bytes: &[u8]) -> usize
     ensures within { result ≤ length bytes.now }
@@ -93,7 +94,7 @@ pub(crate) fn zero_or_len(source: &[u8]) -> usize
     }
 }
 
-/// Returns the length of the source without a sentinel at its end.
+/// Returns the length of the source, without its last byte if that is the sentinel.
 #[inline(always)]
 pub(crate) fn len_without_end(source: &[u8], sentinel: u8) -> usize
     requires some { 0 < length source.now }
@@ -110,7 +111,7 @@ pub(crate) fn len_without_end(source: &[u8], sentinel: u8) -> usize
     }
 }
 
-/// Returns the index of the first zero, if it is among the first 66 bytes, or else the source's length.
+/// Returns the index of the first zero if it is among the first 66 bytes, and otherwise the source's length.
 #[inline(always)]
 pub(crate) fn front_len(source: &[u8]) -> usize
     ensures within { result ≤ length source.now }

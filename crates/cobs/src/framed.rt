@@ -1,8 +1,8 @@
 //! A reader of frames over any source of bytes.
 //!
 //! `FrameReader` reads chunks of 64 bytes from a `FrameSource`: a file, a socket, a serial port or any other source.
-//! Each call returns one outcome. The reader reads only if the bytes that it has kept don't end a piece. No byte is
-//! lost, also after a fault: the next call first uses the bytes that were read and not used yet. No call here
+//! Each call returns one outcome. The reader reads only if no piece ends in the bytes that it has kept. No byte is
+//! lost, not even after a fault: the next call first uses the bytes that were read but not used yet. No call here
 //! allocates. (Ending each piece with a zero is from Cheshire and Baker's paper; the rest of this module is a choice of
 //! this library.)
 ghost use Rattle.std.specs.Prelude.{◌≡◌, ℕ, ◌≤◌, List, [], ◌∷◌, ◌++◌, length, take, drop, Option, option_map, IfOk, IfNone, IfSome, OnSome, MatchOption};
@@ -66,8 +66,9 @@ pub enum ReadFault {
 
 /// A source of the bytes of a stream.
 ///
-/// Contracts describe a source by a relation, `step`: it holds if a read with this result may lead from the first state of
-/// the source to the second. The result is a failure, or the bytes that the read returned.
+/// Contracts describe a source by a relation, `step`, between two states of the source and the result of a read. It
+/// holds if a read with this result may change the source from the first state to the second. The result is a failure,
+/// or the bytes that the read returned.
 ///
 /// ```
 /// let mut source = Recorded::new([2, 7].as_slice());
@@ -77,7 +78,7 @@ pub enum ReadFault {
 /// assert_eq!(rt; source.read_some(&mut chunk), Some(0));
 /// ```
 pub trait FrameSource {
-    /// Whether this read may lead from the first state of the source to the second.
+    /// Whether a read with this result may change the source from the first state to the second.
     ghost step: { Self → Option (List ℕ) → Self → Type 0 };
 
     /// Reads once, into `chunk`.

@@ -1,7 +1,7 @@
 //! The laws of messages, frames, pieces and streams. These functions do nothing when they run: their contracts are the
-//! laws, and a caller that calls one may use it in its own proof. Each law has such a caller as its example. Some of
-//! these call `reads_as`, the caller of CALLING.md. An example is proved as it is or, if more lines follow it, with
-//! these lines: they are the caller's `Answers.antt`, without the line `use Rattle.CRATE.proofs.CALLER.Goals as goal`.
+//! laws, and a caller that calls one may use it in its own proof. Each law has such a caller as its example. Some
+//! examples call `reads_as`, the caller that CALLING.md shows. Lines after an example are its proof: the caller's
+//! `Answers.antt`, without the line `use Rattle.CRATE.proofs.CALLER.Goals as goal`. Other examples need none.
 //!
 //! ```
 //! fn encode_by_longest(source: &[u8], dest: &mut [u8]) -> usize
@@ -31,8 +31,8 @@ pub use coders::{law_15, law_16, law_17, law_18, law_19, law_20, law_21};
 /// A frame reads as its output.
 ///
 /// Bytes read as a message exactly if there is at least one byte, none is a zero, the last block has all bytes that its
-/// code counts, and the message is the output of the bytes. An output is never longer than its piece, and it never gets
-/// shorter if a byte is added to the piece.
+/// code counts, and the message is their output. An output is never longer than its piece, and it never gets shorter if
+/// a byte is added to the piece.
 ///
 /// Each decoder cuts bytes at their codes. So it finds out whether they are a frame, and of which message. This law
 /// says that it accepts exactly the frames.
@@ -57,9 +57,9 @@ pub fn law_1()
 
 /// Each message has one encoded frame.
 ///
-/// There is exactly one, and if the message consists of bytes, so does its frame. So encoded frames can be compared byte
-/// by byte, for example to find a message in a store or to check a signature, and two encoders that follow the
-/// definition agree. The length of this frame decides whether `try_encode` and `CobsEncoder` accept the message.
+/// Each message has exactly one, and if the message consists of bytes, so does its frame. So two encoded frames can be
+/// compared byte by byte, for example to find a message in a store or to check a signature. All encoders that follow
+/// the definition write this frame. Its length decides whether `try_encode` and `CobsEncoder` accept the message.
 ///
 /// ```
 /// fn encode_again(message: &[u8], frame: &[u8], dest: &mut [u8]) -> usize
@@ -86,9 +86,10 @@ pub fn law_2()
 
 /// All frames of a message.
 ///
-/// They are the encoded frame and, only if the message ends in a full run, that frame followed by 01, which is one byte
-/// longer. A receiver that may accept only one frame for each message, for example because its protocol compares
-/// frames, rejects the longer one: [`frame_kind`](crate::frame_kind) distinguishes them.
+/// One frame of a message is its encoded frame. Only if the message ends in a full run (of nonzero bytes, as many as a
+/// positive multiple of 254), there is a second frame, one byte longer: the encoded frame followed by 01. A receiver
+/// that may accept only one frame for each message, for example because its protocol compares frames, rejects the
+/// longer one: [`frame_kind`](crate::frame_kind) distinguishes them.
 ///
 /// ```
 /// fn is_frame_for(piece: &[u8], message: &[u8], buffer: &mut [u8]) -> bool
@@ -182,8 +183,8 @@ pub fn law_6()
 
 /// The fronts of a frame.
 ///
-/// A front of a frame, unless it is empty, is a frame exactly if it ends at the end of a block, and its message is then
-/// a front of the frame's message.
+/// A front of a frame is its first bytes, any number of them. If it isn't empty, it is a frame exactly if it ends at
+/// the end of a block. Its message is then a front of the frame's message.
 ///
 /// So a frame that was cut short, for example because a connection was lost, is noticed unless it was cut between two
 /// blocks. In that case the message that is read is the beginning of the message that was sent.
@@ -244,10 +245,11 @@ pub fn law_8()
 
 /// A stream may be cut anywhere.
 ///
-/// The outcomes of a stream that is cut in two are those of the first part, and then those of the second part with the
-/// unended bytes of the first before it. The unended bytes of the stream are those of that second stream. A stream that
-/// ends in a zero has no unended bytes; in one without a zero all bytes are unended, and there is no outcome. The
-/// pieces themselves are joined as the outcomes are, and nonzero bytes with a zero after them are one piece.
+/// Suppose that a stream is cut in two, and that the unended bytes of the first part are put before the second part.
+/// Then the outcomes of the whole stream are those of the first part, followed by those of this extended second part;
+/// the pieces are joined in the same way. The unended bytes of the whole stream are those of the extended part. A
+/// stream that ends in a zero has no unended bytes. In a stream without a zero all bytes are unended, and there is no
+/// outcome. Nonzero bytes with a zero after them are one piece.
 ///
 /// So a receiver may get a stream in parts of any length, as reads return them. Its results are those of one call over
 /// the whole stream: `decode_stream`, `push` and `FrameReader` rely on this.
@@ -285,9 +287,9 @@ pub fn law_9()
 
 /// Damage stays between its sentinels.
 ///
-/// Suppose that bytes between two sentinels are changed, lost or added, even sentinels among them. Then the outcomes
-/// before the first of the two sentinels and those after the second are unchanged. If no sentinel is between the two,
-/// they enclose one piece, with one outcome, or nothing if they are adjacent.
+/// Suppose that bytes between two sentinels are changed, lost or added, even other sentinels. Then the outcomes before
+/// the first of the two and the outcomes after the second are unchanged. If no other sentinel is between the two, they
+/// enclose one piece, with one outcome, or nothing if they are adjacent.
 ///
 /// So a receiver on a noisy line, or a reader of a damaged file of records, loses only the messages that the damage
 /// touches.
@@ -347,10 +349,10 @@ pub fn law_11()
 ///
 /// If a stream begins with a nonzero byte, its first piece is the bytes before the first zero. In a buffer of the
 /// stream's length, this piece is decoded as a message exactly if it reads as that message. Zeros before the first
-/// piece are skipped: the first piece after them ends at the next zero, and if nothing follows them, there is none. If
-/// the first n bytes contain no zero, and the byte after them is a zero or there is none, they are the bytes before the
-/// first zero; the same holds for any sentinel. As long as no piece has ended, the unended bytes are the last piece; a
-/// zero then ends it.
+/// piece are skipped: the first piece after them ends at the next zero. A stream that has only zeros, or is empty, has
+/// no piece. Suppose that the first n bytes contain no zero, and that a zero or the end of the stream follows. Then
+/// these n bytes are the bytes before the first zero; the same holds for any sentinel. As long as no piece has ended,
+/// the unended bytes are the last piece, and a zero then ends it.
 ///
 /// So `decode`, into a buffer as long as its source, and `decode_in_place` return the same message, or both return an
 /// error.
@@ -394,7 +396,7 @@ pub fn law_12()
 ///
 /// So if a caller carries out each [`PushResult`](crate::PushResult), the byte reserved for the next code (the
 /// placeholder) is always within the output. The caller's frame is the encoded one, unless the message ends in a full
-/// run: then a 01 follows the encoded one.
+/// run: then it is the encoded one followed by 01.
 ///
 /// ```
 /// fn as_encoded<'a>(frame: &'a [u8], message: &[u8], index: usize, code: u8) -> &'a [u8]

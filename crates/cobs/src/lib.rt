@@ -1,12 +1,13 @@
 //! Consistent Overhead Byte Stuffing (COBS), after the crate `cobs` 0.5.1.
 //!
-//! COBS turns a message, any bytes, into a frame that never contains one byte value, the sentinel, usually 0. So the
-//! sentinel can mark where frames end on a serial line, in a stream or in a file, and after damage a receiver finds the
-//! next frame at the next sentinel. A frame is a list of blocks: a code, which counts the block's bytes including
-//! itself, and nonzero bytes. Between two blocks is a zero of the message, unless the first is a full block, with the
-//! code 255. So the frame of a message of up to 254 bytes is one byte longer than the message. A longer message costs
-//! at most one more byte for each further 254 bytes, or part of 254. The format is that of the paper "Consistent
-//! Overhead Byte Stuffing" by Stuart Cheshire and Mary Baker.
+//! COBS turns a message, which may be any bytes, into a frame that never contains one byte value, usually 0. That byte
+//! is the delimiter; this library calls it the sentinel. It marks the end of each frame on a serial line, in a stream
+//! or in a file, so after damage a receiver finds the next frame after the next sentinel. A frame is a list of blocks.
+//! A block is a code, which counts the block's bytes including itself, and then nonzero bytes. Between two blocks the
+//! message has a zero, unless the first is a full block, with the code 255. So the frame of a message of up to 254
+//! bytes is one byte longer than the message. A longer message costs at most one more byte for each further 254 bytes,
+//! or part of 254. The format is that of the paper "Consistent Overhead Byte Stuffing" by Stuart Cheshire and Mary
+//! Baker.
 //!
 //! A message, there and back:
 //!
@@ -89,7 +90,8 @@ pub use find::{leading_zeros, len_to_zero};
 pub use framed::{FrameReader, FrameSource, Next, ReadFault, Recorded};
 pub use stream::{FrameOutcome, decode_stream, encode_frames, encode_frames_room};
 
-/// Returns how many bytes longer than its message an encoded frame is at most, for a message of `source_len` bytes.
+/// Returns the greatest overhead of an encoded frame, for a message of `source_len` bytes: by how many bytes the frame
+/// may be longer than the message.
 ///
 /// This is `source_len / 254` rounded up, and 1 for the empty message: each block of 254 bytes has a code of its own,
 /// and a frame has at least one block. A message without zeros reaches it. Sentinels around the frame aren't counted.

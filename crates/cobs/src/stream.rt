@@ -75,7 +75,8 @@ pub fn decode_stream<D: FrameDecoder>(
     decoder: &mut D,
     bytes: &[u8],
 ) -> Result<Vec<FrameOutcome>, AllocError>
-    // If the decoder has taken the front p of a piece, the outcomes are those of the stream of p and the bytes.
+    // If the decoder has taken the front p of a piece, the outcomes are those of the stream that is p and then the
+    // bytes.
     ensures outcomes { (p : List ℕ) → DecoderAfter (D.bytes decoder.old) (D.phase decoder.old) p
         → IfOk result (λ found. outcomes_in found.items
         ≡ stream_outcomes (p ++ bytes.now) (length (D.bytes decoder.old))) }
@@ -86,7 +87,8 @@ pub fn decode_stream<D: FrameDecoder>(
         → PhaseAfter (length (D.bytes decoder.old)) (D.phase decoder.old) p
         → stream_outcomes (p ++ bytes.now) (length (D.bytes decoder.old)) ≡ [] → IsOk result }
 
-    // The same if the buffer was written to inside p, except for the bytes of the first message.
+    // If the caller wrote to the buffer while the piece of p was open, the outcomes are the same, except for the bytes
+    // of the first message.
     ensures alike { (p : List ℕ)
         → PhaseAfter (length (D.bytes decoder.old)) (D.phase decoder.old) p
         → IfOk result (λ found. AreAlikeAtFirst (outcomes_in found.items)
@@ -100,7 +102,7 @@ pub fn decode_stream<D: FrameDecoder>(
         → Contains bytes.now 0 → OnOk result
         (DecoderAfter (D.bytes decoder.new) (D.phase decoder.new) (unended (p ++ bytes.now))) }
 
-    // In every phase.
+    // These hold for a decoder in any phase.
     ensures out_of_memory { OnErr result (DecoderAfter (D.bytes decoder.new) (D.phase decoder.new) []) }
     ensures len { length (D.bytes decoder.new) ≡ length (D.bytes decoder.old) }
     ensures same_loan { D.loan decoder.new ≡ D.loan decoder.old }
@@ -119,8 +121,8 @@ pub fn decode_stream<D: FrameDecoder>(
 /// An idle decoder whose buffer has room for each message decodes these bytes to exactly these messages. For no
 /// messages the stream is empty.
 ///
-/// Precondition: the sum of [`max_encoding_length`](crate::max_encoding_length) plus 1 over the messages fits a
-/// `usize`, as [`encode_frames_room`] says. Memory is allocated once, for that many bytes.
+/// Precondition: [`encode_frames_room`] of the messages isn't `None`. Memory is allocated once, for as many bytes as it
+/// says.
 ///
 /// # Errors
 /// `AllocError` if that memory runs out.
@@ -139,7 +141,7 @@ pub fn encode_frames(alloc: Global, messages: &[Vec<u8>]) -> Result<Vec<u8>, All
         IfOk result (λ bytes. stream_outcomes bytes.items n
         ≡ map Message (messages_in messages.now)) }
 {
-    // The precondition says that there is a room.
+    // By the precondition this is never `None`.
     let room = encode_frames_room(messages).unwrap_or(0);
     let mut frames = vec![in alloc; 0; room]?;
     let len = write_frames(messages, &mut frames);
@@ -147,8 +149,8 @@ pub fn encode_frames(alloc: Global, messages: &[Vec<u8>]) -> Result<Vec<u8>, All
     Ok(frames)
 }
 
-/// Returns the number of bytes that are enough for the frames of the messages, each with a zero after it: the sum of
-/// [`max_encoding_length`](crate::max_encoding_length) plus 1 over the messages. Returns `None` if the sum doesn't fit
+/// Returns a number of bytes that is enough for the frames of the messages, each with a zero after it. It is the sum of
+/// [`max_encoding_length`](crate::max_encoding_length) plus 1, for each message. Returns `None` if the sum doesn't fit
 /// a `usize`.
 ///
 /// [`encode_frames`] requires that there is such a number, and allocates that many bytes. This function allocates

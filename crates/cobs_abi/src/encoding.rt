@@ -87,8 +87,7 @@ pub fn finish_terminated(encoder: &mut UnbufferedEncoder, buffer: &mut [u8]) -> 
     }
 }
 
-/// Encodes the message of `message_len` bytes that is in the buffer, in place, if the longest frame of a message of
-/// that length fits.
+/// Encodes a message of `message_len` bytes in its own buffer, if the longest frame of a message of that length fits.
 #[inline]
 pub fn encode_within(buffer: &mut [u8], message_len: usize) -> Answer
     ensures encodes { EncodesInPlace message_len buffer.old result buffer.new }

@@ -3,7 +3,7 @@
 /// The bytes are no frame.
 pub const NOT_A_FRAME: u32 = 0;
 
-/// The bytes are the frame that encoders write for its message.
+/// The bytes are the frame that encoders write for the message.
 pub const CANONICAL: u32 = 1;
 
 /// The bytes are that frame with a 1 after it.

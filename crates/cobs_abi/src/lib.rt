@@ -1,7 +1,7 @@
 //! Shared by the libraries for C: the structs and numbers that cross to C, and the postcondition of each exported call.
 //!
-//! `cobs_c` and `cobs_small` export the same calls, with other bodies. Each export cites one definition of `specs/`, named
-//! after what the call does, so that both state the same contract.
+//! `cobs_c` and `cobs_small` export the same calls, with other bodies. The contract of each exported function is one
+//! definition of `specs/`, whose name says what the call does. So both crates state the same contract.
 #![tactic(auto)]
 
 mod answer;

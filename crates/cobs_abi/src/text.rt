@@ -4,7 +4,8 @@ ghost use Rattle.cobs_abi.specs.Text.{words};
 
 use crate::answer::{BROKEN, EMPTY, MORE, OK, TOO_SMALL};
 
-/// The version: 10,000 times the major number, 100 times the minor one, and the patch's.
+/// The version as one number: 10,000 times the major number, plus 100 times the minor number, plus the number of the
+/// patch.
 pub const VERSION: u32 = 10000;
 
 /// Returns the meaning of a status.

@@ -1,5 +1,6 @@
-//! Functions over bytes of any number: they copy, copy if no byte is a sentinel, and move within one buffer, where the old
-//! place and the new one may overlap. All bytes of a vector are loaded before any of them is stored.
+//! Functions over any number of bytes. They copy bytes, copy them only if none is the sentinel, or move them within one
+//! buffer, in which the old place and the new one may overlap. All bytes of a vector are loaded before any of them is
+//! stored.
 ghost use Rattle.std.specs.Prelude.{◌≡◌, ◌<◌, ◌≤◌, ◌+◌, ◌++◌, length, take, drop, IsTrue, false};
 ghost use Rattle.cobs_bytes.specs.Bytes.{HasNoZero, xor_each};
 
@@ -20,7 +21,8 @@ fn move_two<const N: usize>(buffer: &mut [u8], from: usize, len: usize)
     back.copy_to_slice(&mut buffer[len - N..]);
 }
 
-/// Moves the `len` bytes from `from` on to the front of the buffer. Bytes that no moved byte replaces stay.
+/// Moves the `len` bytes from index `from` on to the front of the buffer. Bytes that no moved byte overwrites stay as
+/// they are.
 // A call of `copy_within` costs more than the moves themselves if these are a few windows.
 #[inline(always)]
 pub fn move_to_front(buffer: &mut [u8], from: usize, len: usize)

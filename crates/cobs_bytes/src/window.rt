@@ -19,8 +19,9 @@ pub fn has_vectors() -> bool {
     true
 }
 
-/// Calls a function over vectors of `N` bytes with the greatest `N`, up to 32, that is at most `len`. Two such vectors, which
-/// may overlap, cover `len` bytes, if `len` is 1 to 64. The tests are nested, so that each width needs two or three.
+/// Calls a function over vectors of `N` bytes. `N` is the greatest of 1, 2, 4, 8, 16 and 32 that is at most `len`. If
+/// `len` is 1 to 64, two such vectors, which may overlap, cover `len` bytes. The tests are nested, so that each `N`
+/// needs two or three.
 macro_rules! by_width {
     ($len:expr, $call:ident($($value:expr),*)) => {{
         let len = $len;
@@ -71,7 +72,7 @@ pub fn copy_at<const N: usize>(source: &[u8], read: usize, dest: &mut [u8], at: 
     bytes.simd_eq(Simd::splat(0)).to_bitmask()
 }
 
-/// Returns which of `N` to `2 * N` bytes are zeros, as two parts that may overlap.
+/// Returns which of `N` to `2 * N` bytes are zeros. It reads them as two parts that may overlap.
 #[inline(always)]
 fn zeros_of_two<const N: usize>(source: &[u8]) -> u64
     requires lanes { N ≤ 32 }
@@ -93,7 +94,7 @@ fn zeros_of(bytes: &[u8]) -> u64
     by_width!(bytes.len(), zeros_of_two(bytes))
 }
 
-/// Returns the index of the first zero of at most 64 bytes, or how many bytes there are if none is one.
+/// Returns the index of the first zero of at most 64 bytes, or the number of bytes if none is a zero.
 #[inline(always)]
 pub fn first_zero(bytes: &[u8]) -> usize
     requires few { length bytes.now ≤ 64 }
@@ -154,7 +155,7 @@ pub fn is_all(bytes: &[u8], at: usize, byte: u8) -> bool
         == 0
 }
 
-/// Writes this byte 32 times.
+/// Writes this byte 32 times, from `at` on.
 #[inline(always)]
 pub fn write_row(dest: &mut [u8], at: usize, byte: u8)
     requires { at + 32 ≤ length dest.old }

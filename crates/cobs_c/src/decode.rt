@@ -31,8 +31,8 @@ fn head_end(bytes: &[u8], sentinel: u8) -> usize
     if end < bytes.len() { end + 1 } else { end }
 }
 
-/// Returns the number of bytes up to the end of the source's first piece, with the zero after it if there is one, or
-/// `None` if the source has no piece.
+/// Returns the number of bytes up to the end of the source's first piece, with the zero after it if there is one.
+/// Returns `None` if the source has no piece.
 fn first_piece_end(source: &[u8]) -> Option<usize>
     ensures none { result ≡ None → first_piece source.now ≡ None }
     ensures some { IfSome result
@@ -50,8 +50,8 @@ fn first_piece_end(source: &[u8]) -> Option<usize>
     Some(if end < source.len() { end + 1 } else { end })
 }
 
-/// Returns the status and the length for a source whose first frame has this error, or that has no frame, and a buffer
-/// of `room` bytes. It returns two numbers, which stay in registers, instead of an `Answer`.
+/// Returns the status and the length for a source whose first frame was rejected with this error, or that has no frame.
+/// The buffer has `room` bytes. It returns two numbers, which stay in registers, instead of an `Answer`.
 #[inline(never)]
 fn rejected(source: &[u8], room: usize, error: DecodeError, consumed: &mut usize) -> (u32, usize)
     requires { Err error ≡ result_of_decode source.now room }
@@ -70,7 +70,7 @@ fn rejected(source: &[u8], room: usize, error: DecodeError, consumed: &mut usize
 }
 
 /// Does what [`jcobs_decode`] does for a source that [`decode_short`] doesn't decode. It returns the numbers that
-/// [`rejected`] returns. It is a separate function, so that a short frame saves no registers for it.
+/// [`rejected`] returns. It is a separate function, so that decoding a short frame doesn't save registers for it.
 #[inline(never)]
 fn decode_long(source: &[u8], message: &mut [u8], consumed: &mut usize) -> (u32, usize)
     ensures decodes { Decodes source.now message.old
@@ -121,7 +121,8 @@ pub extern "C" fn jcobs_decode_with_sentinel(
     )
 }
 
-/// Returns how many of `len` bytes there are up to this end, with the zero after it if there is one.
+/// Returns the number of bytes before index `end` and the zero there. If `end` is the end of the `len` bytes, there is
+/// no zero.
 fn with_zero(end: usize, len: usize) -> usize
     ensures { result ≡ min len (end + 1) }
 {
@@ -129,7 +130,7 @@ fn with_zero(end: usize, len: usize) -> usize
 }
 
 /// Does what [`jcobs_decode_in_place`] does for a buffer that [`decode_short_in_place`] doesn't decode. It is a
-/// separate function, and returns two numbers, for the reasons of [`decode_long`].
+/// separate function, and returns two numbers, for the same reasons as [`decode_long`].
 #[inline(never)]
 fn decode_long_in_place(buffer: &mut [u8], consumed: &mut usize) -> (u32, usize)
     ensures decodes { DecodesInPlace buffer.old
@@ -144,7 +145,7 @@ fn decode_long_in_place(buffer: &mut [u8], consumed: &mut usize) -> (u32, usize)
             result_by(consumed, room, Ok(report.frame_size()))
         }
         Err(DecodeError::InvalidFrame { decoded_bytes }) => {
-            // The end of the frame is after the decoded bytes, where nothing has changed.
+            // The frame ends after the decoded bytes. Nothing has changed there, so its end can still be found.
             let end = decoded_bytes + first_sentinel(&buffer[decoded_bytes..], 0);
             let error = DecodeError::InvalidFrame { decoded_bytes };
             result_by(with_zero(end, room), room, Err(error))
@@ -196,7 +197,7 @@ pub extern "C" fn jcobs_decode_in_place_with_sentinel(buffer: &mut [u8], sentine
     )
 }
 
-/// Returns whether the bytes are a frame, and which one of their message.
+/// Returns whether the bytes are a frame, and if so, whether it is the one that encoders write for its message.
 #[unsafe(no_mangle)]
 pub extern "C" fn jcobs_frame_kind(bytes: &[u8]) -> u32
     ensures kind { IsKindOf bytes.now result }

@@ -7,10 +7,11 @@ use cobs::laws::law_4;
 use cobs::{encode, max_encoding_overhead, try_encode, try_encode_with_sentinel};
 use cobs_abi::{Answer, OK, TOO_SMALL, done, encode_within, too_small};
 
-/// The code of a full block. A shorter message can't fill one.
+/// The code of a full block. If a message has fewer bytes than this number, its frame is one byte longer than the
+/// message.
 const FULL_CODE: usize = 255;
 
-/// Fewer bytes are encoded one by one.
+/// A message of fewer bytes is encoded byte by byte.
 const FEW: usize = 8;
 
 /// Returns the length of the longest frame of a message of `message_len` bytes, or 0 if that number doesn't fit.
@@ -25,7 +26,8 @@ pub extern "C" fn jcobs_max_length(message_len: usize) -> usize
 }
 
 /// Does what [`jcobs_encode`] does with any message. Returns how many bytes were taken, and the length of the frame,
-/// which is 0 if it doesn't fit. It is a separate function, so that a short message saves no registers for it.
+/// which is 0 if it doesn't fit. It is a separate function, so that encoding a short message doesn't save registers for
+/// it.
 #[inline(never)]
 fn encode_long(message: &[u8], frame: &mut [u8]) -> (usize, usize)
     ensures encodes { Encodes message.now frame.old
@@ -46,9 +48,9 @@ pub extern "C" fn jcobs_encode(message: &[u8], frame: &mut [u8]) -> Answer
 {
     law_4();
     let len = message.len();
-    // A message that can't fill a block fits if `frame` is longer, and is encoded here, without a call. A few bytes are tested
-    // for first, so that compilers give them code without the other cases. The message is one byte shorter than its frame, so
-    // its length needs no register. This makes short messages faster.
+    // A message of up to 254 bytes fits if `frame` is longer than the message. It is encoded here, without a call. The
+    // shortest messages are tested for first, so that compilers give them code without the other cases. The message's
+    // length is computed from the frame's, so it needs no register. All this makes short messages faster.
     if len < frame.len() {
         if len < FEW {
             let length = encode(message, frame);
@@ -124,8 +126,9 @@ pub extern "C" fn jcobs_encode_terminated_with_sentinel(
     done(returned.consumed, returned.length + 1)
 }
 
-/// Encodes the message of `message_len` bytes that is in the buffer, after the room for the other bytes of the longest
-/// frame, to the front of the buffer, if the longest frame fits. Otherwise nothing is written.
+/// Encodes a message in its own buffer. The message has `message_len` bytes; the bytes before it in the buffer are as
+/// many as the longest frame has more than the message. If the longest frame fits, the frame is written to the front of
+/// the buffer. Otherwise nothing is written.
 #[unsafe(no_mangle)]
 pub extern "C" fn jcobs_encode_in_place(buffer: &mut [u8], message_len: usize) -> Answer
     ensures encodes { EncodesInPlace message_len buffer.old result buffer.new }

@@ -1,4 +1,4 @@
-//! Writes out long words. Their parts are joined by `+`, and each part is digits, or digits, `*` and a count.
+//! Writes out long words. Their parts are joined by `+`, and each part is digits, perhaps followed by `*` and a count.
 ghost use Rattle.std.specs.Prelude.{◌≡◌, ◌==◌, ◌<◌, ◌≤◌, IfOk, length, map, string_bytes};
 ghost use Rattle.std.specs.List.{slice_split};
 ghost use Rattle.cobs_conformance.specs.Short.{repeated, word_text};

@@ -65,7 +65,7 @@ impl Streaming for CobsDecoder<'_> {
     }
 }
 
-/// A decoder whose `feed_piece` is that of the trait: it feeds one byte after another.
+/// A decoder whose `feed_piece` is the one that the trait provides: it feeds one byte after another.
 #[derive(Drop)]
 struct ByBytes {
     decoder: CobsDecoderOwned,
@@ -99,9 +99,9 @@ impl Streaming for ByBytes {
     }
 }
 
-/// Runs the streaming decoders over a buffer: each of the three by pushes and byte by byte, and then by `feed_piece`,
-/// whose results are compared with those for the zeros. If a result differs from the first one, it is added to the
-/// text, so that the case differs.
+/// Runs each of the three streaming decoders over a buffer: by pushes, byte by byte, and by `feed_piece`. The results
+/// of `feed_piece` are compared with the results for the zeros. If a result differs from the first one, it is added to
+/// the text, so that the case differs.
 ///
 /// # Errors
 /// `Malformed` also if [`heapless`] has no buffer of this length.
@@ -183,7 +183,7 @@ fn in_itself<const N: usize>(
     given(alloc, &mut decoder, pieces, feeding)
 }
 
-/// Runs a decoder whose `feed_piece` is that of the trait.
+/// Runs a decoder whose `feed_piece` is the one that the trait provides.
 fn by_bytes(alloc: Global, buffer: &[u8], pieces: &[&str]) -> Result<CallResult, CaseFault> {
     let mut decoder = CobsDecoderOwned::new(alloc, buffer.len())?;
     write_over(decoder.dest_mut(), buffer);

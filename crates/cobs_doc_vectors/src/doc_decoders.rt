@@ -1,7 +1,8 @@
 //! The examples in the documentation of the streaming decoders of `cobs`, as tests.
 //!
-//! Below the imports all is written by `tests/docs.py --write` from the doc comments of `crates/cobs/src/dec/buffered.rt`,
-//! `frame_decoder.rt`, `heapless.rt` and `unbuffered.rt`. An example is changed there.
+//! Everything below the imports is written by `tests/docs.py --write` from the doc comments of
+//! `crates/cobs/src/dec/buffered.rt`, `frame_decoder.rt`, `heapless.rt` and `unbuffered.rt`. To change an example,
+//! change it there.
 
 use arrayvec::ArrayVec;
 use cobs::{

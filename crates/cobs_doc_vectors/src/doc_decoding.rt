@@ -1,8 +1,8 @@
 //! The examples in the documentation of the calls of `cobs` that decode a whole frame, of its state machine and of its
 //! errors, as tests.
 //!
-//! Below the imports all is written by `tests/docs.py --write` from the doc comments of `crates/cobs/src/error.rt` and
-//! `dec/`. An example is changed there.
+//! Everything below the imports is written by `tests/docs.py --write` from the doc comments of
+//! `crates/cobs/src/error.rt` and `dec/`. To change an example, change it there.
 
 use cobs::{
     CobsDecoder, DecodeError, DecodeResult, DecodeVecError, DecoderState, DecodingResult,

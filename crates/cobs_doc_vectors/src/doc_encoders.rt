@@ -1,7 +1,7 @@
 //! The examples in the documentation of `cobs` and of its encoders, as tests.
 //!
-//! Below the imports all is written by `tests/docs.py --write` from the doc comments of `crates/cobs/src/lib.rt`, `enc.rt`
-//! and `enc/`. An example is changed there.
+//! Everything below the imports is written by `tests/docs.py --write` from the doc comments of
+//! `crates/cobs/src/lib.rt`, `enc.rt` and `enc/`. To change an example, change it there.
 
 use cobs::{
     CobsDecoder, CobsEncoder, DestBufTooSmallError, EncoderState, PushResult, UnbufferedEncoder,

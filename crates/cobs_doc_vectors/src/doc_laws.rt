@@ -1,7 +1,7 @@
-//! The examples in the documentation of the laws of `cobs`: callers that prove something by the law that they call.
+//! The examples in the documentation of the laws of `cobs`: callers that prove something with the law that they call.
 //!
-//! Below the imports all is written by `tests/docs.py --write` from the doc comments of `crates/cobs/src/laws.rt` and
-//! `laws/`. An example is changed there.
+//! Everything below the imports is written by `tests/docs.py --write` from the doc comments of
+//! `crates/cobs/src/laws.rt` and `laws/`. To change an example, change it there.
 ghost use Rattle.std.specs.Prelude.{◌≡◌, ◌≤◌, ◌<◌, ◌^◌, ◌++◌, ◌∷◌, ◌≢◌, ◌+◌, [], ℕ, Bool, false, List, IfOk, IsTrue, None, Ok, Some, length, take};
 ghost use Rattle.cobs.specs.Feed.{DecoderAfter, Idle};
 ghost use Rattle.cobs.specs.FeedPiece.{TakesPiece};

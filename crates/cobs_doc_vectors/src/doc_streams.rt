@@ -1,7 +1,7 @@
 //! The examples in the documentation of the streams and readers of `cobs`, as tests.
 //!
-//! Below the imports all is written by `tests/docs.py --write` from the doc comments of `crates/cobs/src/stream.rt` and
-//! `framed.rt`. An example is changed there.
+//! Everything below the imports is written by `tests/docs.py --write` from the doc comments of
+//! `crates/cobs/src/stream.rt` and `framed.rt`. To change an example, change it there.
 
 use cobs::{
     CobsDecoder, CobsDecoderHeapless, FrameDecoder, FrameOutcome, FrameReader, FrameSource, Next,

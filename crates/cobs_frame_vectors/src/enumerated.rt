@@ -8,7 +8,7 @@ use std::alloc::{AllocError, Global};
 use std::process::Abort;
 use std::test::Fail;
 
-/// Returns this many bytes of 170, with the output over the first of them, as far as it fits.
+/// Returns `room` bytes of 170, the first of them overwritten with the output, as far as it fits.
 fn written(alloc: Global, output: &[u8], room: usize) -> Result<Vec<u8>, AllocError> {
     let mut filled = output.to_vec(alloc)?;
     filled.resize(filled.len().max(room), 170)?;

@@ -14,7 +14,8 @@ use cobs_vectors::bytes::repeated;
 use std::alloc::{AllocError, Global};
 use std::process::Abort;
 
-/// Whether a growth of each test fails: false here, and true in the copy that `tests/fail-alloc.sh` runs.
+/// Whether a growth (an allocation) of each test fails: false here, and true in the copy that `tests/fail-alloc.sh`
+/// runs.
 const ONE_GROWTH_FAILS: bool = false;
 
 /// A message with a zero.
@@ -39,8 +40,9 @@ fn is_next_failing(alloc: Global) -> bool {
     false
 }
 
-/// Checks that the call returned an error for memory exactly if one of its own allocations failed: then no later one
-/// fails, because only one does in each test. If so, the test ends with the words `out of memory`.
+/// Checks that the call returned an error for memory exactly if one of its own allocations failed. Only one allocation
+/// fails in each test, so one of the call's has failed exactly if no later one fails. The test then ends with the words
+/// `out of memory`.
 fn check_growths(rt: &impl Abort, alloc: Global, returned: Result<(), AllocError>) {
     let has_failed = ONE_GROWTH_FAILS && !is_next_failing(alloc);
     assert_eq!(rt;

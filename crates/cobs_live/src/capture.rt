@@ -15,7 +15,7 @@ pub fn write_capture_head<W: Write>(output: &mut W) -> io::Result<()>
     ])
 }
 
-/// Writes the head of a record: the time, from milliseconds since 1970, and the number of bytes.
+/// Writes the head of a record: the time and the number of bytes. `time` is in milliseconds since 1970.
 pub fn write_record_head<W: Write>(output: &mut W, time: u64, len: usize) -> io::Result<()>
     ensures written { OnOk result
         (Appends (W.contents output.old) (W.contents output.new) (record_head time len)) }

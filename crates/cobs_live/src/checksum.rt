@@ -12,8 +12,8 @@ pub struct Checksum {
     /// Whether the lowest byte comes first. Otherwise the highest comes first.
     pub little: bool,
 
-    /// For each byte, the register eight bits later, as `table_of` computes it. The table saves a loop over the bits of each
-    /// byte of a message.
+    /// For each byte, the register after the eight bits of the byte, as `table_of` computes it. The table saves a loop
+    /// over the bits of each byte of a message.
     words: [u32; 256],
 
     ghost sized: { (0 < params.size) × (params.size ≤ 4) },
@@ -36,7 +36,7 @@ impl Checksum {
         }
     }
 
-    /// Returns the check of these bytes.
+    /// Returns the checksum of these bytes as a number.
     fn crc(&self, bytes: &[u8]) -> u32
         ensures crc { result ≡ crc self.now.params bytes.now }
     {

@@ -48,7 +48,8 @@ impl Moment {
     ghost use Rattle.std.specs.Io.KnownBytes.{Appends};
     ghost use Rattle.cobs_live.specs.Timed.{date_time};
 
-    /// Returns the time this many milliseconds after the start, or after 1970, in this zone; at most `LAST`.
+    /// Returns the time this many milliseconds after the start, or after 1970, in this zone. A time after `LAST`
+    /// becomes `LAST`.
     fn new(millis: u64, zone: TimeZone<'_>) -> Self
         ensures millis { result.millis ≡ min millis 253_402_207_200_999 }
         ensures zone { result.offset.seconds ≡ offset_at zone.entry (pos (result.millis * 1_000_000)) }
@@ -80,7 +81,7 @@ impl Moment {
     }
 }
 
-/// A clock that runs from a start.
+/// A clock that counts from a start.
 #[derive(Drop)]
 pub struct Timer<'a, C> {
     clock: C,
@@ -159,7 +160,7 @@ impl Times {
         self.next = timer.read(self.last);
     }
 
-    /// Notes that the next piece was shown: its time becomes that of the last one.
+    /// Notes that the next piece was shown: its time becomes the time of the last piece.
     pub fn advance(&mut self)
         ensures last { self.new.last ≡ self.old.next }
         ensures next { self.new.next ≡ self.old.next }

@@ -56,7 +56,7 @@ impl Composed {
         }
     }
 
-    /// Writes the composed text, if there is any, and then holds none.
+    /// Writes the composed text, if there is any, and clears it.
     ///
     /// # Errors
     /// The error of the write that failed. Part of the text may have been written.
@@ -276,7 +276,7 @@ impl Composed {
         self.put(c.encode_utf8(&mut [0; 4]).as_bytes())
     }
 
-    /// Adds the escape of a character: its code, or those of two surrogates.
+    /// Adds the escape of a character: its code, or the codes of two surrogates.
     fn put_escape(&mut self, code: u32) -> Result<(), Full>
         ensures put { OnOk result (Appends (contents_of self.old) (contents_of self.new) (char_escape code)) }
     {

@@ -1,4 +1,4 @@
-//! Cyclic redundancy checks, by the catalogue of parametrised CRC algorithms.
+//! Cyclic redundancy checks, as the catalogue of parametrised CRC algorithms defines them.
 ghost use Rattle.std.specs.Prelude.{◌≡◌, ◌<◌, ◌≤◌};
 ghost use Rattle.cobs_live.specs.Crc.{IsTable, params_of, shifted, word_of};
 
@@ -30,8 +30,8 @@ pub enum Crc {
     Crc32,
 }
 
-/// The parameters of a check, as in the catalogue of parametrised CRC algorithms. If a check has fewer than 32 bits, its
-/// polynomial and its start are in the high bits.
+/// The parameters of a check, as in the catalogue of parametrised CRC algorithms. A check is computed in a *register*
+/// of 32 bits. If it has fewer bits, its polynomial and its start are in the high bits.
 #[derive(Debug, PartialEq, Eq, Clone, Copy)]
 pub struct Params {
     /// The checksum's length in bytes, from 1 to 4.
@@ -79,8 +79,8 @@ impl Crc {
 /// The lowest value that has the highest bit of a register.
 const HIGH: u32 = 0x8000_0000;
 
-/// Returns a table with an entry for each byte: the register eight bits later, if it begins with this byte in its high bits
-/// and zeros below.
+/// Returns a table with an entry for each byte: the register after eight steps, if it begins with this byte in its high
+/// bits and zeros below.
 pub(crate) fn table_of(poly: u32) -> [u32; 256]
     ensures table { IsTable poly result }
 {
@@ -91,7 +91,7 @@ pub(crate) fn table_of(poly: u32) -> [u32; 256]
     words
 }
 
-/// Returns the register eight bits later, if it begins with this byte in its high bits and zeros below.
+/// Returns the register after eight steps, if it begins with this byte in its high bits and zeros below.
 fn word_of(poly: u32, byte: u32) -> u32
     requires byte { byte < 256 }
     ensures word { result ≡ word_of poly byte }
@@ -103,7 +103,7 @@ fn word_of(poly: u32, byte: u32) -> u32
     register
 }
 
-/// Returns the register one bit later.
+/// Returns the register after one step, which shifts it by one bit.
 fn shifted(poly: u32, register: u32) -> u32
     ensures shifted { result ≡ shifted poly register }
 {

@@ -1,4 +1,4 @@
-//! Text as it is written in a string of JSON, without characters that a terminal acts on.
+//! Text in a JSON string. Characters that a terminal acts on are escaped too.
 ghost use Rattle.std.specs.Prelude.{◌≡◌, ◌<◌, ◌++◌, All, IfOk, IsTrue, OnOk, drop, false, length, take};
 ghost use Rattle.std.specs.Char.{encode_utf8};
 ghost use Rattle.std.specs.Io.KnownBytes.{Appends};
@@ -116,7 +116,7 @@ fn write_char<W: Write>(output: &mut W, c: char) -> io::Result<()>
     output.write_all(c.encode_utf8(&mut [0; 4]).as_bytes())
 }
 
-/// Writes the escape of a character: its code, or those of two surrogates.
+/// Writes the escape of a character: its code, or the codes of two surrogates.
 fn write_escape<W: Write>(output: &mut W, code: u32) -> io::Result<()>
     ensures written { OnOk result
         (Appends (W.contents output.old) (W.contents output.new) (char_escape code)) }

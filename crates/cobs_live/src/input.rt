@@ -21,14 +21,14 @@ pub enum Came {
 
 /// An input whose reads have the output as an argument.
 ///
-/// Contracts describe an input by a relation, `step`. It says which reads lead from which state of the input to which
-/// other state, and what the output held when the read began. So a theorem about any such input can say what had been
+/// Contracts describe an input by a relation, `step`. It says which reads may change the input from one state to
+/// another, and what the output held when the read began. So a theorem about any such input can say what had been
 /// written at each read.
 pub trait LiveInput<W: Write + Drop> {
     /// The bytes that reads will return from here on, if they are known.
     ghost remaining: { Self → Option (List ℕ) };
 
-    /// Whether this read may lead from the first state of the input to the second.
+    /// Whether this read may change the input from the first state to the second.
     ghost step: { Self → ReadEvent (Option ℕ) → Self → Type 0 };
 
     /// Reads once, as `Read::read` does, or returns that the line hung up.
@@ -47,7 +47,7 @@ pub trait LiveLines<W: Write + Drop> {
     /// The bytes that reads will return from here on, if they are known.
     ghost remaining: { Self → Option (List ℕ) };
 
-    /// Whether this read may lead from the first state of the input to the second.
+    /// Whether this read may change the input from the first state to the second.
     ghost step: { Self → ReadEvent ℕ → Self → Type 0 };
 
     /// Reads through the next newline, or to the end of the input, and appends the bytes to `line`, as

@@ -1,5 +1,5 @@
-//! Tests of `cobs_live`: readers and writers that pass on few bytes, are interrupted, or fail, about which no contract
-//! says anything; and callers that use its promise to show a piece before the next read.
+//! Tests of `cobs_live` with readers and writers that pass on few bytes, are interrupted, or fail; no contract says
+//! anything about them. Also callers that use its promise to show a piece before the next read.
 #![tactic(auto)]
 
 pub mod recorder;

@@ -24,7 +24,8 @@ use std::time::Duration;
 /// Four pieces, for a buffer of four bytes, and the start of a fifth.
 const STREAM: &[u8] = b"\x00\x03\x07\x08\x00\x05\x01\x00\x06\x01\x02\x03\x04\x05\x00\x03hi\x00\x02";
 
-/// The text that is shown for them, by style; in a capture with the time of their one read, 250 ms after the start.
+/// The text that is shown for these pieces, by style. In a capture each piece has the time of the one read, 250 ms
+/// after the start.
 const SHOWN: [(Style, &[u8]); 7] = [
     (
         Style::Hex,
@@ -161,7 +162,7 @@ const SILENT: Counting = Counting {
     every: None,
 };
 
-/// Returns one byte per read. The read numbered `failing`, from 0 on, fails.
+/// Returns one byte per read. The read with the number `failing`, counted from 0, fails.
 #[derive(Drop)]
 struct ByteReader<'a> {
     bytes: &'a [u8],
@@ -407,7 +408,8 @@ fn a_right_checksum_is_stripped_and_a_wrong_one_named(rt: HostRuntime) -> Result
     let alloc = rt.alloc();
     let mut how = settings(alloc, Style::Hex, Stamp::Untimed);
     how.view.checksum = Some(Checksum::new(Crc::Crc8.params(), false));
-    // The digits 1 to 3 and their checksum, with a wrong one, and a message too short to have one.
+    // Three frames: the digits 1 to 3 with their checksum, the same digits with a wrong one, and a message that is too
+    // short to have one.
     let mut input = AnyInput::new(b"\x05123\xC0\x00\x05123\xC1\x00\x01\x00".as_slice());
     let mut output = BufWriter::new(alloc, Vec::new(alloc))?;
     let tally = run_show(

@@ -47,8 +47,9 @@ pub extern "C" fn jcobs_encode_terminated(message: &[u8], frame: &mut [u8]) -> A
     done(message.len(), length + 1)
 }
 
-/// Encodes the message of `message_len` bytes that is in the buffer, after the room for the other bytes of the longest
-/// frame, to the front of the buffer, if the longest frame fits. Otherwise nothing is written.
+/// Encodes a message in its own buffer. The message has `message_len` bytes; the bytes before it in the buffer are as
+/// many as the longest frame has more than the message. If the longest frame fits, the frame is written to the front of
+/// the buffer. Otherwise nothing is written.
 #[unsafe(no_mangle)]
 pub extern "C" fn jcobs_encode_in_place(buffer: &mut [u8], message_len: usize) -> Answer
     ensures encodes { EncodesInPlace message_len buffer.old result buffer.new }

@@ -34,7 +34,7 @@ struct Written<'a> {
     is_pushed: bool,
 }
 
-/// Passes bytes to the decoder whose results don't matter.
+/// Passes bytes to the decoder. Their results don't matter.
 fn give<D: StreamingDecoder>(decoder: &mut D, bytes: &[u8], is_pushed: bool) {
     if is_pushed {
         let _ = decoder.push_some(bytes);

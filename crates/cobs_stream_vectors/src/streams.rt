@@ -229,8 +229,8 @@ impl Check for Damage<'_> {
     }
 }
 
-/// The places of the nonzero bytes of the damaged stream, which piece each belongs to, and whether it is neither the
-/// first nor the last byte of it.
+/// For each nonzero byte of the damaged stream: its place, the number of its piece, and whether it is neither the first
+/// nor the last byte of that piece.
 const PLACES: [(usize, usize, bool); 13] = [
     (1, 0, false),
     (2, 0, true),

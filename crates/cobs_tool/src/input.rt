@@ -9,13 +9,14 @@ use std::io::Read;
 /// The most bytes of input that the program reads, 1 MiB.
 pub const MAX_INPUT: usize = 1_048_576;
 
-/// The most bytes of one read, 8 KiB, and so the most that are read after [`MAX_INPUT`].
+/// The most bytes of one read, 8 KiB. So at most this many bytes are read after the first [`MAX_INPUT`].
 pub const READ_LEN: usize = 8_192;
 
 /// Reads to the end of the input, that is, to the first read that returns 0 bytes.
 ///
 /// - `ReadFailed`: a read failed. An interrupted read is a failed read, and isn't tried again.
-/// - `InputTooLong`: a read returned more than the first [`MAX_INPUT`] bytes. No memory was allocated for that read.
+/// - `InputTooLong`: the input has more than [`MAX_INPUT`] bytes. No memory was allocated for the read that exceeded
+///   them.
 /// - `OutOfMemory`: memory for a read's bytes ran out.
 ///
 /// Nothing is read after a read that failed, returned 0 bytes or returned too many.

@@ -1,8 +1,9 @@
 //! Tests each mode with too little memory.
 //!
-//! Each test here except the last passes whichever growth fails: a mode writes its whole output, or returns
-//! `OutOfMemory` and writes nothing. The last test passes only if no growth fails. `tests/fail-alloc.sh` fails the
-//! growths one after another, until the last test passes.
+//! A *growth* is an allocation of memory. Each test here except the last passes whichever growth fails: a mode writes
+//! its whole output, or returns `OutOfMemory` and writes nothing. The last test passes only if no growth fails.
+//! `tests/fail-alloc.sh` makes one growth fail in each run, the first one in the first run and so on, until the last
+//! test passes.
 use crate::fault::ToolFault;
 use crate::mode::Mode;
 use crate::modes::run_mode;

@@ -64,7 +64,7 @@ pub fn run_show<R: Read, W: Write>(
 
 /// Writes the encoded frame of the input, and a zero after it.
 ///
-/// The whole input is one message. It is read as by [`run_show`], with the same faults.
+/// The whole input is one message. It is read as [`run_show`] reads it, with the same faults.
 pub fn run_encode<R: Read, W: Write>(
     alloc: Global,
     input: &mut R,
@@ -85,7 +85,7 @@ pub fn run_encode<R: Read, W: Write>(
 /// Prints the outcome of each piece of the input, as [`report_of`] says. The input is a stream of frames, each ended by
 /// a zero.
 ///
-/// It is read as by [`run_show`], with the same faults.
+/// It is read as [`run_show`] reads it, with the same faults.
 pub fn run_decode<R: Read, W: Write>(
     alloc: Global,
     input: &mut R,

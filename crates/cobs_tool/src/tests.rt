@@ -1,5 +1,5 @@
-//! Tests of facts that no contract says: that calls succeed, the result if a reader or a writer fails, and that the
-//! printed text is that of known values.
+//! Tests of facts that no contract says: that calls succeed; the result if a reader or a writer fails; and the text
+//! that is printed for known values.
 
 use crate::fault::ToolFault;
 use crate::mode::{Mode, mode_of};
@@ -40,7 +40,7 @@ const ROWS: [Row; 11] = [
     (Mode::Decode, b"\xff", b"unfinished\n"),
 ];
 
-/// Returns one byte per read. The read numbered `failing`, from 0 on, fails.
+/// Returns one byte per read. The read with the number `failing`, counted from 0, fails.
 #[derive(Drop)]
 struct ByteReader<'a> {
     bytes: &'a [u8],
@@ -63,7 +63,8 @@ impl Read for ByteReader<'_> {
     }
 }
 
-/// Accepts one byte per write. The write numbered `failing`, from 0 on, fails, and each flush if `fails_to_flush`.
+/// Accepts one byte per write. The write with the number `failing`, counted from 0, fails. If `fails_to_flush` is set,
+/// each flush fails too.
 #[derive(Drop)]
 struct ByteWriter {
     bytes: Vec<u8>,

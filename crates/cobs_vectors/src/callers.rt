@@ -96,7 +96,7 @@ pub fn decode_known_short_in_place(frame: &mut [u8]) -> bool
     decode_short_in_place(frame).is_some()
 }
 
-/// Decodes what comes before the first zero of the buffer in its own place, without vectors.
+/// Decodes the bytes before the first zero of the buffer in their own place, without vectors.
 pub fn decode_before_zero(buffer: &mut [u8]) -> Result<usize, DecodeError>
     ensures returned { result ≡ head_result (head buffer.old) }
     ensures buffer { buffer.new ≡ in_place buffer.old }

@@ -27,8 +27,8 @@ use cobs::{
 use std::alloc::{AllocError, Global};
 use std::mem;
 
-/// Handles a byte in an interrupt. Returns the length of the message that it ended; the message is sliced out of the
-/// buffer.
+/// Handles a byte in an interrupt. Returns the length of the message that the byte ended. The message is sliced out of
+/// the buffer.
 pub fn on_byte<const N: usize>(decoder: &mut CobsDecoderHeapless<N>, byte: u8) -> usize
     ensures { result ≤ N }
 {
@@ -41,8 +41,8 @@ pub fn on_byte<const N: usize>(decoder: &mut CobsDecoderHeapless<N>, byte: u8) -
     }
 }
 
-/// Counts the messages that end in some bytes, and continues after each error. If the decoder has taken the front p of a
-/// piece, these are the messages among the outcomes of p and the bytes.
+/// Counts the messages that end in some bytes, and continues after each error. If the decoder has taken the front p of
+/// a piece, these are the messages among the outcomes of p followed by the bytes.
 pub fn count_messages(decoder: &mut CobsDecoderOwned, bytes: &[u8]) -> usize
     ensures counted { (p : List ℕ) → DecoderAfter (owned_buffer decoder.old) (owned_phase decoder.old) p
         → let n = length (owned_buffer decoder.old) in
@@ -183,8 +183,8 @@ pub struct Port {
 }
 
 impl Port {
-    /// Handles a byte. Returns the length of the message that it ended, and otherwise 0. The message is taken from the buffer,
-    /// because that is proved to stay within it.
+    /// Handles a byte. Returns the length of the message that the byte ended, and otherwise 0. The message is sliced
+    /// out of the buffer, because this needs a proof that it is within the buffer.
     pub fn on_byte(&mut self, byte: u8) -> usize
         ensures { result ≤ 64 }
     {

@@ -46,7 +46,7 @@ pub fn encode_for_link(message: &[u8], dest: &mut [u8], sentinel: u8) -> usize
     encode_with_sentinel(message, dest, sentinel)
 }
 
-/// Changes a frame to one for a sentinel, in its own buffer, which then never contains the sentinel.
+/// Changes a frame for 0 to one for a sentinel, in its own buffer. It then doesn't contain the sentinel.
 pub fn change_sentinel(frame: &mut [u8], sentinel: u8)
     ensures changed { frame.new ≡ xor_each sentinel frame.old }
     ensures free { IsFrame frame.old → IsFreeOf sentinel frame.new }

@@ -44,7 +44,7 @@ pub struct Reading {
     /// The bytes of its blocks, with the zeros that join them.
     pub output: Vec<u8>,
 
-    /// How many of them are before the bytes of the last block, if that breaks off, and otherwise all of them.
+    /// How many bytes of the output are kept: all of them, or, if the last block breaks off, those before its bytes.
     pub kept: usize,
 
     /// Whether its last block has as many bytes as its code says.

@@ -6,9 +6,9 @@
 //! arrive. Options change the output; `cobs_watch --help` lists them. `cobs_watch send` reads lines, and sends each one
 //! as a frame and its sentinel.
 //!
-//! At the end of the input, `unfinished` says that a piece has begun that no sentinel ended. The status is then 0. It
-//! is 1, with a line on standard error, if a read or a write failed or memory ran out, and 2, with the usage, for wrong
-//! arguments. If nobody reads the output any more, the program ends with status 0.
+//! At the end of the input, `unfinished` is printed if a piece has begun and no sentinel has ended it. The status is
+//! then 0. It is 1, with a line on standard error, if a read or a write failed or memory ran out, and 2, with the
+//! usage, for wrong arguments. If nobody reads the output any more, the program ends with status 0.
 #![tactic(auto)]
 
 ghost use Rattle.std.specs.Prelude.{◌≡◌, [], OnOk};
@@ -107,8 +107,8 @@ fn no_task(rt: &HostRuntime, error: &clap::Error) -> ExitCode {
     faulted(rt, error.into(), reason)
 }
 
-/// Returns whether lines have colours if the arguments don't say: if standard output is a terminal with colours, and
-/// the variable `NO_COLOR` is unset or empty.
+/// Returns whether lines have colours if the arguments don't say it. They have colours if standard output is a terminal
+/// with colours, and the variable `NO_COLOR` is unset or empty.
 fn auto_color(rt: &HostRuntime) -> bool {
     let no_color = match env::var(rt, "NO_COLOR") {
         Ok(value) => !value.is_empty(),
@@ -121,8 +121,8 @@ fn auto_color(rt: &HostRuntime) -> bool {
     !no_color && !dumb && rt.stdout().is_terminal()
 }
 
-/// Shows a stream with dates in the system's time zone, or in UTC if that zone can't be read. Dates show which one it
-/// is.
+/// Shows a stream with dates in the system's time zone, or in UTC if that zone can't be read. Each date has its offset
+/// from UTC.
 fn show_local(rt: &HostRuntime, task: &ShowTask<'_>) -> anyhow::Result<ExitCode> {
     let Ok(system) = SystemTimeZone::read(rt) else {
         report_utc(rt);
@@ -142,7 +142,8 @@ fn show_local(rt: &HostRuntime, task: &ShowTask<'_>) -> anyhow::Result<ExitCode>
     }
 }
 
-/// Reports on standard error that dates are in UTC, if `TZ` asks for another zone. A system without a zone has UTC.
+/// Reports on standard error that dates are in UTC, if `TZ` asks for another zone. If the system has no zone, UTC is
+/// right, and nothing is reported.
 fn report_utc(rt: &HostRuntime) {
     if let Err(VarError::NotPresent) = env::var(rt, "TZ") {
         return;
@@ -190,9 +191,9 @@ fn show(rt: &HostRuntime, task: &ShowTask<'_>, zone: TimeZone<'_>) -> anyhow::Re
     }
 }
 
-/// Opens a log. Its descriptor is a second one, which is never 0, 1 or 2. If standard output or standard error is
-/// closed, the first descriptor could have its number, and the log would contain everything that the program writes
-/// there.
+/// Opens a log, and duplicates its descriptor: the duplicate is never 0, 1 or 2. The first descriptor can have the
+/// number of standard output or standard error, if that is closed. The log would then contain everything that the
+/// program writes there.
 fn open_log(rt: &HostRuntime, path: &str) -> io::Result<File> {
     let first = File::options().append(true).create(true).open(rt, path)?;
     first.try_clone()

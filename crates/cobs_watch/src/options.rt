@@ -74,7 +74,8 @@ pub(crate) fn task_of<'a>(
     let command = with_show_options(alloc, Command::new(alloc, "cobs_watch"))?
         .about("Watch COBS frames on a live line")
         .version(VERSION)
-        // Without a subcommand the program shows. So that no option is ignored, those of `show` can't precede a subcommand.
+        // Without a subcommand the program does what `show` does. The options of `show` can't precede a subcommand, so
+        // that none of them is ignored.
         .args_conflicts_with_subcommands(true)
         .subcommand(show)?
         .subcommand(send)?;
@@ -201,7 +202,7 @@ fn with_line<'a>(alloc: Global, command: Command<'a>) -> Result<Command<'a>, Err
     Ok(command.arg(path)?.arg(reconnect)?.arg(log)?)
 }
 
-/// Returns the time that was asked for. A capture has dates.
+/// Returns which time was asked for. A capture always has dates.
 fn stamp_of(matches: &ArgMatches<'_>) -> Stamp {
     match matches.get_str("time") {
         Some("start") => Stamp::Start,

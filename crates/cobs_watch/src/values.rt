@@ -158,7 +158,7 @@ fn params_of(alloc: Global, text: &str) -> Result<Params, Error>
     }
 }
 
-/// Returns the parameters for a table, if they fit their width.
+/// Converts written parameters to those of the table, if they fit the width of the check.
 fn sized(written: &Written) -> Option<Params>
     ensures sized { IfSome result (λ params. (0 < params.size) × (params.size ≤ 4)) }
 {

@@ -29,12 +29,12 @@ pub use unbuffered::UnbufferedEncoder;
 /// Writes the encoded frame of `source` to the front of `dest`, and returns its length in bytes.
 ///
 /// The frame consists of blocks, as in Cheshire and Baker's paper. If the message's last run of nonzero bytes has a
-/// positive length divisible by 254, the message has two frames, and the longer one has a `1` more at its end. This
-/// function writes the shorter one, which is a choice of this library. No byte of the frame is the sentinel 0, and no
-/// sentinel is written. The bytes of `dest` after the frame stay as they were.
+/// positive length divisible by 254, the message has two frames, and the longer one has one more byte at its end, a
+/// `1`. This function writes the shorter one, which is a choice of this library. No byte of the frame is the sentinel
+/// 0, and no sentinel is written. The bytes of `dest` after the frame stay as they were.
 ///
-/// Precondition: the frame fits `dest`. It always fits [`max_encoding_length`](crate::max_encoding_length) of the
-/// message's length. [`try_encode`] tests the room itself.
+/// Precondition: the frame fits `dest`. [`max_encoding_length`](crate::max_encoding_length) says how many bytes are
+/// always enough. [`try_encode`] tests itself whether the frame fits.
 // Inlined, so that a short message is encoded in the caller's code, without a call.
 #[inline(always)]
 pub fn encode(source: &[u8], dest: &mut [u8]) -> usize {
@@ -48,8 +48,8 @@ pub fn encode(source: &[u8], dest: &mut [u8]) -> usize {
     encode_long(source, dest)
 }
 
-/// Does what [`encode`] does, for any length. It is a separate function, so that a short message saves no registers for
-/// the loop.
+/// Does what [`encode`] does, for any length. It is a separate function, so that encoding a short message doesn't save
+/// registers for the loop.
 #[inline(never)]
 fn encode_long(source: &[u8], dest: &mut [u8]) -> usize {
     if source.is_empty() {
@@ -88,10 +88,10 @@ fn try_encode_any(source: &[u8], dest: &mut [u8]) -> Result<usize, DestBufTooSma
     Ok(close(dest, progress))
 }
 
-/// Encodes a message that can't fill a block, and whose frame fits, for this sentinel.
+/// Encodes a message of up to 254 bytes for this sentinel. Its frame fits `dest`.
 #[inline(always)]
 fn encode_block(source: &[u8], dest: &mut [u8], sentinel: u8) -> usize {
-    // The length is computed from the message's, which a compiler may know.
+    // The frame's length is computed from the message's length, which a compiler may know.
     let _len = encode(source, dest);
     let len = source.len() + 1;
     xor_bytes(&mut dest[..len], sentinel);

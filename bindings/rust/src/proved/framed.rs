@@ -2,8 +2,8 @@
 //! A reader of frames over any source of bytes.
 //!
 //! `FrameReader` reads chunks of 64 bytes from a `FrameSource`: a file, a socket, a serial port or any other source.
-//! Each call returns one outcome. The reader reads only if the bytes that it has kept don't end a piece. No byte is
-//! lost, also after a fault: the next call first uses the bytes that were read and not used yet. No call here
+//! Each call returns one outcome. The reader reads only if no piece ends in the bytes that it has kept. No byte is
+//! lost, not even after a fault: the next call first uses the bytes that were read but not used yet. No call here
 //! allocates. (Ending each piece with a zero is from Cheshire and Baker's paper; the rest of this module is a choice of
 //! this library.)
 

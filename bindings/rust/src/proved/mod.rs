@@ -28,7 +28,8 @@ pub use framed::{FrameReader, FrameSource, Next, ReadFault};
 #[cfg(feature = "alloc")]
 pub use stream::{FrameOutcome, decode_stream};
 
-/// Returns how many bytes longer than its message an encoded frame is at most, for a message of `source_len` bytes.
+/// Returns the greatest overhead of an encoded frame, for a message of `source_len` bytes: by how many bytes the frame
+/// may be longer than the message.
 ///
 /// This is `source_len / 254` rounded up, and 1 for the empty message: each block of 254 bytes has a code of its own,
 /// and a frame has at least one block. A message without zeros reaches it. Sentinels around the frame aren't counted.

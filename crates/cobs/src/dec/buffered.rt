@@ -67,7 +67,7 @@ impl<'a> CobsDecoder<'a> {
     /// - `InvalidFrame`: the byte was a zero inside a block. `decoded_bytes` is the length of the piece's output, which
     ///   is at the front of the slice.
     /// - `TargetBufTooSmall`: the output of the piece is longer than the slice, which holds its first bytes. This is
-    ///   the result for each byte from the first one without room through the zero.
+    ///   the result for the first byte that has no room, and for each byte after it, through the zero.
     ///
     /// After every zero the decoder is idle. (The result after an overflow is a choice of this library.)
     ///
@@ -140,9 +140,9 @@ impl<'a> CobsDecoder<'a> {
     /// Returns the whole slice, for writing.
     ///
     /// Writing while a piece is open changes no result of this piece; only the bytes of its message are then
-    /// unspecified. A proof about a caller of this function knows the bytes of the slice as long as it is borrowed, but
-    /// not the decoder's state after the write. A caller of [`write_dest`](crate::WriteBuffer::write_dest) knows that
-    /// too.
+    /// unspecified. A proof about a caller of this function knows the bytes of the slice while it is borrowed, but it
+    /// doesn't know the decoder's state after the write. With [`write_dest`](crate::WriteBuffer::write_dest) it knows
+    /// the state too.
     ///
     /// ```
     /// let mut buffer = [7; 2];
@@ -236,7 +236,8 @@ impl CobsDecoderOwned {
         })
     }
 
-    /// Takes the next byte of the stream, as [`CobsDecoder::feed`](crate::CobsDecoder::feed) does, with its errors.
+    /// Takes the next byte of the stream, as [`CobsDecoder::feed`](crate::CobsDecoder::feed) does. The errors are those
+    /// of that call.
     ///
     /// ```
     /// let mut decoder = CobsDecoderOwned::new(alloc, 0)?;

@@ -47,11 +47,11 @@ fn decode_blocks(source: &[u8], dest: &mut [u8], sentinel: u8) -> Result<usize, 
 /// # Errors
 ///
 /// - `EmptyFrame` if the source is empty; `dest` is as it was.
-/// - `TargetBufTooSmall` if the message is longer than `dest`, which then holds its first bytes.
-/// - `InvalidFrame` if the frame breaks off inside a block and the output of its whole blocks fits: `dest` begins with
-///   that output, `decoded_bytes` is its length, and every byte after it is as it was. If it doesn't fit, the error is
-///   `TargetBufTooSmall`, and `dest` holds its first bytes. This output ends with the zero that joins the whole blocks to
-///   the broken one, unless the last of them is full.
+/// - `TargetBufTooSmall` if the message is longer than `dest`, or if the frame breaks off and the output of its whole
+///   blocks is longer than `dest`. The buffer then holds the first bytes of that message or output.
+/// - `InvalidFrame` if the frame breaks off inside a block and the output of its whole blocks fits. Then `dest` begins
+///   with that output, `decoded_bytes` is its length, and every byte after it is as it was. The output ends with the
+///   zero that joins the whole blocks to the broken one, unless the last whole block is full.
 ///
 /// Frames for another sentinel than 0 are from Cheshire and Baker's paper; the results for broken ones are a choice of
 /// this library.

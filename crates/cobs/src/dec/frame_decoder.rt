@@ -30,7 +30,7 @@ pub enum PieceEnd {
 }
 
 impl PieceEnd {
-    /// Returns how a piece has ended, given the result of `feed` for its zero, or `None` if no piece had begun.
+    /// Returns how a piece has ended, given the result of `feed` for its zero. Returns `None` if no piece had begun.
     ///
     /// ```
     /// let mut decoder = UnbufferedDecoder::new();
@@ -67,13 +67,14 @@ pub trait FrameDecoder {
     /// The bytes of its buffer.
     ghost bytes: { Self → List ℕ };
 
-    /// The phase that it is in.
+    /// Its phase.
     ghost phase: { Self → Phase };
 
-    /// Which slice its buffer is, if it borrows one.
+    /// A number for the slice that it borrows as its buffer, if it borrows one.
     ghost loan: { Self → ℕ };
 
-    /// Takes the next byte of the stream, as [`CobsDecoder::feed`](crate::CobsDecoder::feed) does, with its errors.
+    /// Takes the next byte of the stream, as [`CobsDecoder::feed`](crate::CobsDecoder::feed) does. The errors are those
+    /// of that call.
     ///
     /// ```
     /// let mut decoder = CobsDecoderHeapless::<1>::new();
@@ -85,7 +86,7 @@ pub trait FrameDecoder {
         ensures by_table { FeedsByTable (length (bytes self.old)) (phase self.old) byte result (phase self.new) }
         ensures same_loan { loan self.new ≡ loan self.old };
 
-    /// Takes bytes of the stream, through the first zero that ends a piece.
+    /// Takes the next bytes of the stream, and stops after the first zero that ends a piece.
     ///
     /// Returns `None` if no piece ended in these bytes, and then all of them were taken. Returns `Some((end, count))`
     /// if a piece ended with the byte at index `count - 1`; `end` says how. The bytes after that one had no effect, and
@@ -133,9 +134,9 @@ pub trait FrameDecoder {
 /// of its message are then unspecified.
 ///
 /// Each streaming decoder also has a method `dest_mut` of its own. The slice of a `CobsDecoder` is itself borrowed, so
-/// a caller of that method knows only the bytes of the slice as long as it is borrowed. Such a caller writes with
-/// [`write_dest`](WriteBuffer::write_dest), or in code that is generic over this trait. (The trait is this library's
-/// own.)
+/// a caller of its `dest_mut` knows only the bytes of the slice, and only while it is borrowed. A caller that has to
+/// know the decoder's state too writes with [`write_dest`](WriteBuffer::write_dest), or in code that is generic over
+/// this trait. (The trait is this library's own.)
 ///
 /// ```
 /// let mut buffer = [0; 3];
@@ -163,7 +164,7 @@ pub trait WriteBuffer: FrameDecoder {
 
     /// Writes the bytes of `source` over those of the buffer, from index `at` on.
     ///
-    /// Precondition: they fit, so `at` plus their number is at most the length of the buffer.
+    /// Precondition: they fit, that is, `at` plus their number is at most the length of the buffer.
     ///
     /// ```
     /// let mut decoder = CobsDecoderHeapless::<3>::new();
@@ -189,7 +190,7 @@ pub trait WriteBuffer: FrameDecoder {
     ghost phase_stays: { (decoder : Self) (written : List ℕ)
         → Self.phase (with_bytes decoder written) ≡ Self.phase decoder };
 
-    /// The buffer is the slice that it was.
+    /// The buffer is still the same slice.
     ghost loan_stays: { (decoder : Self) (written : List ℕ)
         → Self.loan (with_bytes decoder written) ≡ Self.loan decoder };
 }

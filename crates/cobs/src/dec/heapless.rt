@@ -73,7 +73,8 @@ impl<const N: usize> CobsDecoderHeapless<N> {
         }
     }
 
-    /// Takes the next byte of the stream, as [`CobsDecoder::feed`](crate::CobsDecoder::feed) does, with its errors.
+    /// Takes the next byte of the stream, as [`CobsDecoder::feed`](crate::CobsDecoder::feed) does. The errors are those
+    /// of that call.
     ///
     /// ```
     /// let mut decoder = CobsDecoderHeapless::<4>::new();

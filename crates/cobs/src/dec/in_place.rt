@@ -21,8 +21,8 @@ use crate::find::{len_without_end, zero_or_len};
 use cobs_bytes::lanes::{copy_xored_short, move_to_front, xor_bytes};
 use cobs_bytes::window::{WIDE_WINDOW, WINDOW, has_vectors, is_all, write_row};
 
-/// Moves the `len` bytes from `read` on back to `at`, which is at most `read`. Bytes that no moved byte overwrites stay
-/// as they are.
+/// Moves the `len` bytes from index `read` on to index `at`, which is at most `read`. Bytes that no moved byte
+/// overwrites stay as they are.
 #[inline(always)]
 fn move_back(buffer: &mut [u8], at: usize, read: usize, len: usize)
     requires behind { at ≤ read }
@@ -33,9 +33,9 @@ fn move_back(buffer: &mut [u8], at: usize, read: usize, len: usize)
 }
 
 impl UnbufferedDecoder {
-    /// Takes the bytes of one step from the buffer to which it also writes. They begin at `read` and end before `end`.
-    /// Returns how many it took. It does what `take_part` does, but takes one row of codes of 1 per step, and there is
-    /// always room.
+    /// Takes the bytes of one step from the buffer to which it also writes. They begin at index `read` and end before
+    /// index `end`. Returns how many it took. It does what `take_part` of `run.rt` does, but takes one row of codes of
+    /// 1 per step, and there is always room.
     #[inline(always)]
     fn take_part_in_place(&mut self, buffer: &mut [u8], read: usize, end: usize) -> usize
         requires going { self.old.too_long ≡ 0 }
@@ -135,7 +135,8 @@ fn decode_span_in_place(buffer: &mut [u8], len: usize) -> bool
         return false;
     }
     coded[0] = buffer[0];
-    // If the bytes were read from the copy, each load would wait until the copy's vectors are stored.
+    // The frame is decoded within the buffer: a load from the copy `coded` would wait until the copy's vectors are
+    // stored.
     move_to_front(buffer, 1, len - 1);
     let (_, left) = write_zeros_at_codes(&mut buffer[..len - 1], coded[0] as usize);
     if left != 0 {

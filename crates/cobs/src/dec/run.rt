@@ -16,7 +16,8 @@ use crate::find::zero_or_len;
 use cobs_bytes::lanes::{copy_xored, copy_xored_short};
 use cobs_bytes::window::{WIDE_WINDOW, WINDOW, copy_window, has_vectors, is_all, write_row};
 
-/// The most bytes of one span: so short that no code in it can be followed by a whole full block.
+/// The most bytes of one span. They are fewer than a full block has, so no code in a span follows a full block that
+/// begins in the same span.
 pub(crate) const SPAN_MAX: usize = FULL_BLOCK_BYTES - 1;
 
 /// Takes rows of 32 bytes from the front of `bytes`, as long as each byte of a row is `byte`, and writes a row of zeros
@@ -42,7 +43,8 @@ fn write_rows(dest: &mut [u8], at: usize, bytes: &[u8], byte: u8) -> usize
 }
 
 impl UnbufferedDecoder {
-    /// Takes the code of the block after a whole one, and writes the zero that joins the two, unless the first is full.
+    /// Takes the code of a block that follows a whole block, and writes the zero that joins the two, unless the first
+    /// is full.
     #[inline(always)]
     pub(crate) fn take_joint(&mut self, dest: &mut [u8], code: u8)
         requires going { self.old.too_long ≡ 0 }
@@ -63,7 +65,8 @@ impl UnbufferedDecoder {
         self.missing = code - 1;
     }
 
-    /// Returns how many of `len` bytes one span can have: it ends with the open block, if that is full.
+    /// Returns how many of `len` bytes one span can have. If the open block is full, the span ends with it at the
+    /// latest.
     #[inline(always)]
     pub(crate) fn span_len(&self, len: usize) -> usize
         ensures within { result ≤ len }
@@ -77,8 +80,9 @@ impl UnbufferedDecoder {
         }
     }
 
-    /// Takes the code of the block after a whole one, and the bytes of the block that are at hand and have room. Returns how
-    /// many bytes that is: 0 only if the zero that joins the two blocks has no room.
+    /// Takes the code of a block that follows a whole block, and as many bytes of the new block as `bytes` has and
+    /// `dest` has room for. Returns how many bytes it took, the code included. This is 0 only if the zero that joins
+    /// the two blocks has no room.
     #[inline(always)]
     fn take_block(&mut self, dest: &mut [u8], bytes: &[u8], sentinel: u8) -> usize
         requires going { self.old.too_long ≡ 0 }
@@ -100,7 +104,7 @@ impl UnbufferedDecoder {
         let len = (self.missing as usize)
             .min(bytes.len() - 1)
             .min(dest.len().saturating_sub(at));
-        // The buffer may even be shorter than what was written, if it isn't that of the earlier calls.
+        // The buffer may even be shorter than `written`, if the earlier calls had another buffer.
         if len == 0 {
             return 1;
         }
@@ -110,7 +114,7 @@ impl UnbufferedDecoder {
         1 + len
     }
 
-    /// Notes the last block of a span as the open one: its code, and how many of its bytes are missing.
+    /// Makes the last block of a span the open block. `last` has its code, and how many of its bytes are missing.
     #[inline(always)]
     fn settle(&mut self, last: (u8, u8))
         ensures full { last.0 ≡ 255 → self.new.joint ≡ 0 }
@@ -177,7 +181,7 @@ impl UnbufferedDecoder {
         self.settle(write_zeros_at_copied(&mut dest[at..at + len], copied, missing + 1, sentinel));
     }
 
-    /// Takes up to 253 bytes, in which no full block ends. Returns how many: 0 if the first has no room.
+    /// Takes up to 253 bytes, in which no full block ends. Returns how many it took: 0 if the first byte has no room.
     #[inline(always)]
     fn take_span(&mut self, dest: &mut [u8], bytes: &[u8], sentinel: u8) -> usize
         requires going { self.old.too_long ≡ 0 }
@@ -240,7 +244,7 @@ impl UnbufferedDecoder {
             → FeedsQuietly before (phase_of self.old) (code ∷ xs) dest.new (phase_of self.new) }
         ensures begun { (self.new.too_long ≡ 0) × (0 < self.new.written) }
     {
-        // No number of the idle decoder is read, so that none has to be loaded.
+        // It begins with `START` instead of `self`, which is equal, so that no field has to be loaded.
         let mut begun = START;
         begun.joint = joint_after(code);
         begun.missing = code - 1;
@@ -269,9 +273,9 @@ impl UnbufferedDecoder {
         true
     }
 
-    /// Takes the bytes of one step before a sentinel, and returns their number, which is 0 only if the first byte has no
-    /// room. A step is a block that has 64 bytes or more or follows a full one, or rows of 32 codes of blocks without bytes,
-    /// or a span.
+    /// Takes the bytes of one step, and returns their number, which is 0 only if the first byte has no room. A step is
+    /// one of three: a block that has at least 64 bytes or follows a full block; rows of 32 codes of blocks without
+    /// bytes; or a span.
     #[inline(always)]
     fn take_part(&mut self, dest: &mut [u8], bytes: &[u8], sentinel: u8) -> usize
         requires going { self.old.too_long ≡ 0 }
@@ -335,7 +339,7 @@ impl UnbufferedDecoder {
         ensures stop { result < length bytes.now → slice_index bytes.now result ≢ 0
             → next_phase (length dest.new) (phase_of self.new) (slice_index bytes.now result) ≡ Overlong }
     {
-        // A piece that is too long has a result for each byte.
+        // If a piece is too long, each of its bytes returns an error, so none is taken here.
         if self.too_long != 0 {
             return 0;
         }

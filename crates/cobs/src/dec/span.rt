@@ -1,4 +1,4 @@
-//! Walks from code to code.
+//! Walks from code to code: over bytes that were copied, and over the last bytes of a piece.
 ghost use Rattle.std.specs.Prelude.{◌≡◌, ◌+◌, ◌-◌, ◌<◌, ◌≤◌, ◌∷◌, ◌++◌, ◌↔◌, length, take, drop, false, IsTrue, IfSome, IsSome, List, None, Ok, Err, ℕ};
 ghost use Rattle.cobs.specs.Grammar.{HasNoZero};
 ghost use Rattle.cobs.specs.Internal.Walk.{walked};
@@ -13,8 +13,9 @@ use cobs_bytes::window::{WIDE_WINDOW, WINDOW, is_all};
 /// Writes a zero over each code in `dest`, which has the bytes that follow the code `first`. The caller ensures that no code
 /// among them follows a full block, since no zero belongs there. Returns the code of the last part, and how many of its
 /// bytes are missing.
-// A recursion, which compilers turn into a loop that keeps the address of the remaining bytes. An index has to be added to an
-// address first, so each code would be loaded a cycle later, and the load of each waits for the code before it.
+// Compilers turn this recursion into a loop that advances the address of the remaining bytes. A loop over an index
+// would add the index to an address before each load. Since the load of each code waits for the code before it, that
+// would cost a cycle per code.
 #[inline(always)]
 pub(crate) fn write_zeros_at_codes(dest: &mut [u8], first: usize) -> (u8, u8)
     requires byte { first < 256 }
@@ -87,9 +88,10 @@ pub(crate) fn decode_span(source: &[u8], dest: &mut [u8], sentinel: u8) -> Optio
     Some(left)
 }
 
-/// Returns how many of these bytes, the last ones of a piece, to decode, and whether the piece is whole. A whole piece is
-/// decoded to its end. A broken one is decoded up to the code of its last block, and with this code: the bytes of that block
-/// aren't kept. The first `left` bytes belong to a block that began before `bytes`. Each byte is XORed with the sentinel.
+/// Returns how many of `bytes`, the last bytes of a piece, have to be decoded, and whether the piece is whole. A whole
+/// piece is decoded to its end. A broken piece is decoded through the code of its last block, because the bytes of that
+/// block aren't kept. The first `left` bytes belong to a block that began before `bytes`. Each byte is XORed with the
+/// sentinel.
 pub(crate) fn kept_len(bytes: &[u8], left: usize, sentinel: u8) -> (usize, bool)
     requires left { left ≤ length bytes.now }
     requires nonzero { HasNoZero (xor_each sentinel bytes.now) }
@@ -107,7 +109,8 @@ pub(crate) fn kept_len(bytes: &[u8], left: usize, sentinel: u8) -> (usize, bool)
         if rest < code {
             return (at + 1, false);
         }
-        // A row of codes without bytes is passed at once: from code to code each would wait for the one before it.
+        // A row of codes of blocks without bytes is skipped at once. From code to code, each load would wait for the
+        // load before it.
         if code == 1 && WINDOW <= rest && is_all(bytes, at, 1 ^ sentinel) {
             at += WINDOW;
             continue;

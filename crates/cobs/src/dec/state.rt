@@ -149,7 +149,8 @@ impl DecoderState {
         ensures answer { result ≡ table_result self.old byte }
         ensures state { self.new ≡ table_state self.old byte }
 
-        // If the state has taken the front p of a piece, and `so_far` is the bytes that the results had.
+        // For a state that has taken the front p of a piece. `so_far` is the part of the message that the results had
+        // so far.
         ensures after { (p so_far : List ℕ) → StateAfter self.old p so_far → byte ≢ 0
             → StateAfter self.new (p ++ byte ∷ []) (so_far ++ data_of result) }
         ensures message { (p so_far m : List ℕ) → StateAfter self.old p so_far → byte ≡ 0

@@ -21,7 +21,7 @@ pub(crate) fn joint_after(code: u8) -> u8
 }
 
 impl UnbufferedDecoder {
-    /// Takes a zero, which ends a piece if one has begun. The buffer has this length.
+    /// Takes a zero, which ends a piece if one has begun. `len` is the buffer's length.
     #[inline(always)]
     fn end(&mut self, len: usize) -> Result<Option<usize>, DecodeError>
         ensures returned { result ≡ end_result len (phase_of self.old) }
@@ -37,7 +37,8 @@ impl UnbufferedDecoder {
                 decoded_bytes: ended.written,
             });
         }
-        // This happens only if the caller now passes a shorter buffer, since no more bytes are counted than were written.
+        // This happens only if the caller now passes a shorter buffer, or has set the state's numbers itself: `written`
+        // counts only bytes that fitted.
         if len < ended.written {
             return Err(DecodeError::TargetBufTooSmall);
         }
@@ -58,8 +59,8 @@ impl UnbufferedDecoder {
         if self.too_long != 0 {
             return;
         }
-        // Read once here, because compilers would read it again after they write a byte of the buffer. Three branches, which
-        // a processor predicts, are faster than one write of a chosen byte.
+        // `written` is read once here, because compilers would read it again after each write to the buffer. Three
+        // branches, which a processor predicts, are faster than one write of a byte that is chosen without a branch.
         let at = self.written;
         if self.missing != 0 {
             if dest.len() <= at {
@@ -123,7 +124,8 @@ impl UnbufferedDecoder {
         ensures takes { TakesPiece dest.old (phase_of self.old) (xor_each sentinel bytes.now) result
             dest.new (phase_of self.new) }
     {
-        // A copy, so that it stays in registers: compilers read the fields again after each byte that is written.
+        // A copy, so that it stays in registers: otherwise compilers read the fields again after each byte that is
+        // written.
         let mut here = *self;
         let mut taken = 0;
         if here.too_long == 0 {

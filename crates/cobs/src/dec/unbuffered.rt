@@ -1,4 +1,4 @@
-//! The streaming decoder whose buffer is passed to each call. The three others are built on it.
+//! The streaming decoder whose buffer is passed to each call. The three other streaming decoders are built on it.
 ghost use Rattle.std.specs.Prelude.{◌≡◌, ◌<◌, ◌↔◌, IsTrue, List, [], ℕ, length, slice_index};
 ghost use Rattle.cobs.specs.Feed.{DecoderAfter, Feeds, Idle};
 ghost use Rattle.cobs.specs.Fields.Decoders.{phase_at, phase_of};
@@ -62,8 +62,7 @@ pub enum DecoderPhase {
 /// Its state is plain numbers with the layout of a C struct, and all of them are 0 before a piece begins. Every call is
 /// safe for any numbers.
 // No number says whether a piece has begun: a code at the front of a piece is read like one after a full block, with no
-// zero before it. So for a nonzero byte only the number of missing bytes is tested, and for a code whether a zero comes
-// before it.
+// zero before it. So only `missing` is tested for a nonzero byte, and `joint` too if the byte is a code.
 #[repr(C)]
 #[derive(Debug, Clone, Copy, PartialEq, Eq)]
 pub struct UnbufferedDecoder {
@@ -191,8 +190,8 @@ impl UnbufferedDecoder {
         *self = UnbufferedDecoder::new();
     }
 
-    /// Takes the next byte of the stream, with this buffer, as [`CobsDecoder::feed`](crate::CobsDecoder::feed) does, with its
-    /// errors.
+    /// Takes the next byte of the stream, with this buffer, as [`CobsDecoder::feed`](crate::CobsDecoder::feed) does.
+    /// The errors are those of that call.
     ///
     /// ```
     /// let mut buffer = [0; 2];
@@ -257,7 +256,7 @@ impl UnbufferedDecoder {
         Ok(None)
     }
 
-    /// Takes bytes of the stream, with this buffer, through the first zero that ends a piece, as
+    /// Takes the next bytes of the stream, with this buffer, and stops after the first zero that ends a piece, as
     /// [`FrameDecoder::feed_piece`](crate::FrameDecoder::feed_piece) does. (A choice of this library.)
     ///
     /// ```
@@ -275,8 +274,8 @@ impl UnbufferedDecoder {
         }
         if VERY_FEW < bytes.len() {
             if self.is_idle() {
-                // A short piece is taken with its end, and of a longer one the first bytes, if they are fewer than 32.
-                // If there are more, a search by memchr is faster.
+                // If a zero is near, the bytes before it are taken at once, and then the zero. If none is near, all
+                // bytes are taken at once if there are fewer than 32. For more bytes, a search by memchr is faster.
                 let front = front_len(bytes);
                 let is_all = front == bytes.len();
                 if (!is_all || front < WINDOW) && self.take_front(dest, &bytes[..front]) {
@@ -297,7 +296,7 @@ impl UnbufferedDecoder {
     }
 
     /// Does what `feed_piece` does, without its tests for short pieces.
-    // If it were inlined, registers would be saved for each short piece too.
+    // Not inlined, so that `feed_piece` saves no registers for a short piece.
     #[inline(never)]
     fn feed_piece_long(&mut self, dest: &mut [u8], bytes: &[u8]) -> Option<(PieceEnd, usize)>
         ensures takes { TakesPiece dest.old (phase_of self.old) bytes.now result dest.new (phase_of self.new) }
@@ -315,7 +314,7 @@ impl UnbufferedDecoder {
                 return Some((PieceEnd::TooLong, taken + len + 1));
             }
             if bytes[taken] == 0 && self.is_idle() {
-                // A zero outside a piece, as on a line on which nothing is sent.
+                // This zero ends no piece. Some lines carry many such zeros while nothing is sent.
                 taken += 1;
                 continue;
             }

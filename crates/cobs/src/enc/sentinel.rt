@@ -14,8 +14,8 @@ use cobs_bytes::window::has_vectors;
 /// It is the frame that [`encode`] writes, each byte XORed with `sentinel`, so no byte of it is the
 /// sentinel. No sentinel is written, and the bytes of `dest` after the frame stay as they were.
 ///
-/// Precondition: the frame fits `dest`. It always fits [`max_encoding_length`](crate::max_encoding_length) of the
-/// message's length. Frames for another sentinel than 0 are from Cheshire and Baker's paper.
+/// Precondition: the frame fits `dest`. [`max_encoding_length`](crate::max_encoding_length) says how many bytes are
+/// always enough. Frames for another sentinel than 0 are from Cheshire and Baker's paper.
 ///
 /// ```
 /// let mut dest = [170; 6];
@@ -72,13 +72,14 @@ pub fn try_encode_with_sentinel(
     Ok(written)
 }
 
-/// Writes 0, the encoded frame of `source` and 0 to the front of `dest`, and returns the length of the three in bytes.
+/// Writes a 0, the encoded frame of `source` and another 0 to the front of `dest`, and returns the length of all three
+/// in bytes.
 ///
 /// The bytes of `dest` after them stay as they were. As in the crate `cobs`, there is a sentinel on each side of the frame.
 ///
-/// Precondition: the frame and 2 bytes fit `dest`. They always fit
-/// [`max_encoding_length`](crate::max_encoding_length) of the message's length, plus 2.
-/// [`try_encode_including_sentinels`] tests the room itself.
+/// Precondition: the frame and both sentinels fit `dest`. Two bytes more than
+/// [`max_encoding_length`](crate::max_encoding_length) says are always enough. [`try_encode_including_sentinels`] tests
+/// itself whether they fit.
 ///
 /// ```
 /// let mut dest = [170; 8];

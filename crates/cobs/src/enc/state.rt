@@ -176,8 +176,8 @@ impl EncoderState {
 }
 
 /// Returns the code of a full block.
-// Compilers take the branch to a call of a cold function as rare. Without that, they compute the results for all three cases
-// and choose one without a branch, which is slower.
+// Compilers assume that a branch to a cold function is rarely taken. Otherwise they would compute the results for all
+// three cases and choose one without a branch, which is slower.
 #[cold]
 #[inline(never)]
 fn full_code() -> u8

@@ -1,4 +1,4 @@
-//! An encoder for a message that comes in pieces, whose buffer is passed to each call.
+//! An encoder for a message that comes in pieces. Its buffer is passed to each call.
 ghost use Rattle.std.specs.Prelude.{◌≡◌, ◌<◌, ◌≤◌, ◌++◌, ◌↔◌, [], ℕ, List, length, take, drop, IsOk, IsTrue, IfOk, OnOk, OnErr, false};
 ghost use Rattle.cobs.specs.Grammar.{HasNoZero, IsEncodedFrame};
 ghost use Rattle.cobs.specs.Length.{encoded_len};
@@ -147,7 +147,7 @@ impl UnbufferedEncoder {
     /// assert_eq!(rt; encoder.finalize(&mut buffer), Ok(3));
     /// assert_eq!(rt; buffer, [3, 7, 8]);
     /// ```
-    // A loop of short pushes then keeps the encoder in registers.
+    // Inlined, so that a loop of short pushes keeps the encoder in registers.
     #[inline(always)]
     #[tactic(auto, using(crate::proofs::encoding::TakingLemmas::encoder_steps))]
     pub fn push(&mut self, dest: &mut [u8], bytes: &[u8]) -> Result<(), DestBufTooSmallError>

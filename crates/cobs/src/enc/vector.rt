@@ -33,7 +33,7 @@ pub fn encode_vec(alloc: Global, source: &[u8]) -> Result<Vec<u8>, AllocError>
     Ok(frame)
 }
 
-/// Returns 0, the encoded frame of `source` and 0 as a vector.
+/// Returns a 0, the encoded frame of `source` and another 0 as a vector.
 ///
 /// Precondition: [`max_encoding_length`](crate::max_encoding_length) of the message's length, plus 2, fits a `usize`.
 /// Memory is allocated once, for that many bytes. The vector has exactly both sentinels and the frame, which is a

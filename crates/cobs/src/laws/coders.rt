@@ -75,8 +75,9 @@ pub fn law_16()
 
 /// A decoder of your own, byte by byte.
 ///
-/// The table's step for a byte is that of the streaming decoders, in any phase. Bytes that are fed one by one have the
-/// result of one `feed_piece`: both end with the zero that ends the first piece, or with the last byte.
+/// In any phase and for any byte, the table of [`DecoderState`](crate::DecoderState) makes the same step as the
+/// streaming decoders. Feeding bytes one by one has the same result as one `feed_piece`: both stop after the zero that
+/// ends the first piece, or after the last byte.
 ///
 /// So your own decoder with this step decodes as the streaming decoders do, and a loop over `feed_byte` is a
 /// `feed_piece`.
@@ -132,9 +133,10 @@ pub fn law_18()
 
 /// The kind of a frame, block by block.
 ///
-/// One block is a canonical frame. A block and the bytes after it are a frame exactly if these bytes are a frame, and
-/// they are canonical exactly if these bytes are, unless the block is full and these bytes are the lone block, 01. Bytes
-/// that are fewer than their first code says are no frame.
+/// A single block is a canonical frame. Suppose that other bytes follow a block. Together they are a frame exactly if
+/// the other bytes are a frame. They are canonical exactly if the other bytes are canonical, with one exception: a full
+/// block followed by the lone block, 01, is not canonical. If there are fewer bytes than the first code says, they are
+/// no frame.
 ///
 /// So your own reader that goes from code to code learns whether it has a frame, and which one.
 ///

@@ -1,4 +1,4 @@
-//! Tests with readers that return few bytes, writers that accept few bytes, and both if they are interrupted or fail.
+//! Tests with readers and writers that pass on few bytes, are interrupted, or fail.
 ghost use Rattle.std.specs.Prelude.{◌≡◌, []};
 ghost use Rattle.std.specs.Io.Buffered.{writer_buffer};
 
@@ -15,7 +15,7 @@ use std::cell::Cell;
 use std::io::{self, BufWriter, ErrorKind, Write};
 use std::test::Fail;
 
-/// Accepts one byte per write. The write numbered `failing`, from 0 on, fails.
+/// Accepts one byte per write. The write with the number `failing`, counted from 0, fails.
 #[derive(Drop)]
 struct ByteWriter {
     bytes: Vec<u8>,

@@ -1,4 +1,4 @@
-//! Tests of the bytes that had been written when the next ones were read, for each cut of a stream in two.
+//! Tests which bytes had been written when the next bytes were read. The stream is cut in two at each place.
 
 use super::{SENT, STREAM, settings, timer, written_after};
 use crate::recorder::{Recorder, send_recorded, show_recorded};

@@ -1,6 +1,7 @@
 // Made by bindings/rust/translate.py from `crates/cobs_bytes/src/lanes.rt`: change that file, and run it again.
-//! Functions over bytes of any number: they copy, copy if no byte is a sentinel, and move within one buffer, where the old
-//! place and the new one may overlap. All bytes of a vector are loaded before any of them is stored.
+//! Functions over any number of bytes. They copy bytes, copy them only if none is the sentinel, or move them within one
+//! buffer, in which the old place and the new one may overlap. All bytes of a vector are loaded before any of them is
+//! stored.
 
 use crate::proved::cobs_bytes::window::{WIDE_WINDOW, WINDOW, by_width};
 use crate::simd::*;
@@ -14,7 +15,8 @@ fn move_two<const N: usize>(buffer: &mut [u8], from: usize, len: usize) {
     back.copy_to_slice(&mut buffer[len - N..]);
 }
 
-/// Moves the `len` bytes from `from` on to the front of the buffer. Bytes that no moved byte replaces stay.
+/// Moves the `len` bytes from index `from` on to the front of the buffer. Bytes that no moved byte overwrites stay as
+/// they are.
 // A call of `copy_within` costs more than the moves themselves if these are a few windows.
 #[inline(always)]
 pub fn move_to_front(buffer: &mut [u8], from: usize, len: usize) {

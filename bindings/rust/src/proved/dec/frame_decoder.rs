@@ -28,7 +28,7 @@ pub enum PieceEnd {
 }
 
 impl PieceEnd {
-    /// Returns how a piece has ended, given the result of `feed` for its zero, or `None` if no piece had begun.
+    /// Returns how a piece has ended, given the result of `feed` for its zero. Returns `None` if no piece had begun.
     ///
     /// ```
     /// use jcobs::{PieceEnd, UnbufferedDecoder};
@@ -63,7 +63,8 @@ impl PieceEnd {
 /// assert_eq!(decoder.feed_piece(&stream), Some((PieceEnd::Broken(1), 3)));
 /// ```
 pub trait FrameDecoder {
-    /// Takes the next byte of the stream, as [`CobsDecoder::feed`](crate::CobsDecoder::feed) does, with its errors.
+    /// Takes the next byte of the stream, as [`CobsDecoder::feed`](crate::CobsDecoder::feed) does. The errors are those
+    /// of that call.
     ///
     /// ```
     /// use jcobs::{CobsDecoderHeapless, FrameDecoder};
@@ -74,7 +75,7 @@ pub trait FrameDecoder {
     /// ```
     fn feed_byte(&mut self, byte: u8) -> Result<Option<usize>, DecodeError>;
 
-    /// Takes bytes of the stream, through the first zero that ends a piece.
+    /// Takes the next bytes of the stream, and stops after the first zero that ends a piece.
     ///
     /// Returns `None` if no piece ended in these bytes, and then all of them were taken. Returns `Some((end, count))`
     /// if a piece ended with the byte at index `count - 1`; `end` says how. The bytes after that one had no effect, and

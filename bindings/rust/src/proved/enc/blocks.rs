@@ -1,12 +1,14 @@
 // Made by bindings/rust/translate.py from `crates/cobs/src/enc/blocks.rt`: change that file, and run it again.
-//! How a message is cut into blocks: the core that every encoder into a slice is built on.
+//! How a message is cut into blocks: the core that every encoder into a slice is built on. A *window* is 32 bytes that
+//! are copied at once. Its *mask* is a number with a bit for each byte; a bit is 1 if the byte is a zero.
 
 use crate::proved::block::FULL_CODE;
 use crate::proved::cobs_bytes::window::{WINDOW, copy_at, copy_window, write_row, zeros_at};
 use crate::proved::enc::progress::EncoderProgress;
 use crate::proved::find::position_or_len;
 
-/// Fewer bytes are appended one by one: in the Rust crate that is faster than a window. `push_few` takes up to this number.
+/// Fewer bytes than this are appended one by one: in the Rust crate that is faster than a window. `push_few` takes up
+/// to this number of bytes.
 pub(crate) const APPEND_EACH_BELOW: usize = 8;
 
 /// The mask of a window that has only zeros.
@@ -29,8 +31,8 @@ pub(crate) fn fits_window_and_block(progress: EncoderProgress, len: usize) -> bo
 }
 
 /// Writes the code of the open block, which the mask's first zero closes. Returns the index of the next code, and the
-/// mask without that zero. No branch tests whether the mask has a zero. If it has none, the byte that is written
-/// doesn't matter, because the block stays open.
+/// mask without that zero. No branch tests whether the mask has a zero. If it has none, the block stays open, and its
+/// code is written again later, so the byte that is written here doesn't matter.
 #[inline(always)]
 fn mark_first(dest: &mut [u8], index: usize, next: usize, zeros: u64) -> (usize, u64) {
     let place = next + zeros.trailing_zeros() as usize;
@@ -39,8 +41,8 @@ fn mark_first(dest: &mut [u8], index: usize, next: usize, zeros: u64) -> (usize,
     (index, zeros & zeros.wrapping_sub(1))
 }
 
-/// Writes the code at each zero of the mask, two per iteration, because every other byte may be a zero. Returns the
-/// index of the next code.
+/// Writes the code of each block that a zero of the mask closes, two per iteration, because there may be many zeros.
+/// Returns the index of the next code.
 #[inline(always)]
 fn mark_zeros(dest: &mut [u8], index: usize, next: usize, zeros: u64) -> usize {
     let mut index = index;
@@ -76,9 +78,9 @@ pub(crate) fn append_few(
     progress_at(index, next, false)
 }
 
-/// Takes a `source` of up to 32 bytes that can't fill the open block. It has few branches that a processor could predict
-/// wrong: two zeros are marked before a branch depends on their number. `test_for_none` says that a branch should first ask
-/// whether there is any zero.
+/// Takes a `source` of up to 32 bytes that can't fill the open block. It has few branches that a processor could
+/// predict wrong: two zeros are marked before a branch depends on their number. With `test_for_none`, a branch first
+/// tests whether there is any zero.
 #[inline(always)]
 pub(crate) fn append_short(
     source: &[u8],
@@ -102,8 +104,8 @@ pub(crate) fn append_short(
     progress_at(index, next + len, false)
 }
 
-/// Writes the codes of the zeros that a source begins with, 32 at a time while more than 32 bytes are left, and returns how
-/// many codes these are.
+/// Writes a code for each zero at the front of a source, 32 at a time while more than 32 bytes are left, and returns
+/// how many codes it wrote.
 #[inline(always)]
 fn write_codes_of_zeros(source: &[u8], dest: &mut [u8], at: usize) -> usize {
     let mut len = 0;
@@ -114,8 +116,8 @@ fn write_codes_of_zeros(source: &[u8], dest: &mut [u8], at: usize) -> usize {
     len
 }
 
-/// Takes windows of 32 bytes while more bytes than one window are left, up to a full block. Returns how many bytes it took,
-/// and how far the frame has come.
+/// Takes windows of 32 bytes while more bytes than one window are left. It stops earlier when a block is full. Returns
+/// how many bytes it took, and the progress after them.
 ///
 /// Each window is copied to the place of the next byte. If the open block fills up before a zero comes, it is closed,
 /// and the caller copies the next bytes as slices, because a run that fills one block often fills more. Otherwise each
@@ -166,7 +168,7 @@ fn append_windows(
 }
 
 /// Takes the first run of `source`, which has `run` bytes, and the zero after it. The run is cut into blocks of at most
-/// 254 bytes, each copied as one slice. Returns how many bytes it took, and how far the frame has come.
+/// 254 bytes, each copied as one slice. Returns how many bytes it took, and the progress after them.
 #[inline(always)]
 fn append_long_run(
     source: &[u8],
@@ -219,8 +221,8 @@ pub(crate) fn append_rest(
     progress
 }
 
-/// Continues the frame in `dest` with `source`, from `progress` on, and returns the progress after it.
-/// [`close`] writes the code of the open block: the byte in its place before that doesn't matter.
+/// Continues the frame in `dest` with `source`, from `progress` on, and returns the progress after it. [`close`] writes
+/// the code of the open block later, so the byte in its place until then doesn't matter.
 ///
 /// [`append_windows`] takes most bytes. Usually few are left; [`append_rest`] takes these if they are more than a
 /// window, or if they may fill the open block.
@@ -231,15 +233,15 @@ pub(crate) fn append(source: &[u8], dest: &mut [u8], progress: EncoderProgress) 
     if fits_window_and_block(progress, rest.len()) {
         append_short(rest, dest, progress, false)
     } else {
-        // Field by field, so that what `append_short` returns stays in registers.
+        // Copied field by field, so that the result of `append_short` stays in registers.
         let start = EncoderProgress { ..progress };
         let reached = append_rest(rest, position_or_len(rest, 0), dest, start);
         EncoderProgress { ..reached }
     }
 }
 
-/// Writes the open block's code, if that is part of the frame, and returns where the frame ends. The byte in its place may
-/// have any value before.
+/// Writes the code of the open block, unless the frame ends with a full block, and returns the frame's length. The byte
+/// in the code's place may have any value before.
 // The room is tested first. Otherwise compilers test whether the block is full in the caller's loop over single bytes, which
 // can make that loop half as fast in the Rust crate with link-time optimization.
 #[inline(always)]

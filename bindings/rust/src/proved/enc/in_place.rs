@@ -7,12 +7,13 @@ use crate::proved::max_encoding_overhead;
 
 /// Encodes a message in its own buffer, and returns the length of its frame in bytes.
 ///
-/// The message's `len` bytes lie in `buffer` after the first [`max_encoding_overhead`](crate::max_encoding_overhead) of
-/// `len` bytes, whose contents don't matter. The frame is the one that [`encode`](crate::encode) writes, and `buffer`
-/// begins with it. Every byte of `buffer` after the frame stays as it was, even if it belongs to the message.
+/// The message has `len` bytes. It begins in `buffer` at the index that
+/// [`max_encoding_overhead`](crate::max_encoding_overhead) returns for `len`; the bytes before it don't matter. The
+/// frame is the one that [`encode`](crate::encode) writes, and `buffer` begins with it. Every byte of `buffer` after
+/// the frame stays as it was, even if it belongs to the message.
 ///
-/// Precondition: `buffer` has at least [`max_encoding_length`](crate::max_encoding_length) of `len` bytes, so the message
-/// lies within it.
+/// Precondition: `buffer` is at least as long as [`max_encoding_length`](crate::max_encoding_length) returns for `len`,
+/// so the message lies within it.
 pub fn encode_in_place(buffer: &mut [u8], len: usize) -> usize {
     let before = max_encoding_overhead(len);
     let mut encoder = UnbufferedEncoder::new();

@@ -1,5 +1,5 @@
 // Made by bindings/rust/translate.py from `crates/cobs/src/enc/room.rt`: change that file, and run it again.
-//! Decides whether a frame fits, before a byte of it is written, and then encodes.
+//! Decides whether a frame fits, before any byte of it is written, and then encodes.
 
 use crate::proved::block::{FULL, FULL_BLOCK_BYTES};
 use crate::proved::enc::blocks::{append, append_rest};
@@ -7,8 +7,8 @@ use crate::proved::enc::progress::EncoderProgress;
 use crate::proved::find::position_or_len;
 use memchr::memrchr;
 
-/// Returns whether fewer than `spare` blocks become full and are followed by another byte, if the open block with this
-/// code takes these bytes. Each such block needs one byte of the frame for the code after it.
+/// Counts the blocks that become full and are followed by another byte, if the open block with this code takes these
+/// bytes. Each of them makes the frame one byte longer, by the next code. Returns whether they are fewer than `spare`.
 fn fits_each(code: u8, bytes: &[u8], spare: usize) -> bool {
     let mut left = spare;
     let mut code = code;
@@ -50,10 +50,11 @@ pub(crate) fn has_room(code: u8, bytes: &[u8], room: usize) -> bool {
 /// Returns whether `room` bytes, counted from the index of an open block with this code, are enough for the frame if
 /// the block takes `source`.
 ///
-/// It counts all full blocks except a last one. A block can't become full if one of its next 254 bytes is a zero, so the
-/// count continues after the last such zero. If there is none, the run fills the block, and has a full block for each 254
-/// of its bytes: its end is searched for, as the encoder does. Returns `None` if the frame doesn't fit; otherwise the
-/// length of the first run, if that was searched, so that the encoder needn't search it again, and otherwise 0.
+/// It counts all full blocks except a last one. A block can't become full if one of its next 254 bytes is a zero, so
+/// the count continues after the last such zero. If there is none, the run fills the block, and has a full block for
+/// each 254 of its bytes: its end is searched for, as the encoder does. Returns `None` if the frame doesn't fit.
+/// Otherwise returns the length of the first run if its end was searched for, so that the encoder needn't search again,
+/// and 0 if it wasn't.
 #[inline(never)]
 fn fits(code: usize, source: &[u8], room: usize) -> Option<usize> {
     if room < source.len() {
@@ -91,9 +92,9 @@ fn fits(code: usize, source: &[u8], room: usize) -> Option<usize> {
     None
 }
 
-/// Takes `source` as [`append`] does, if the frame then fits `dest`, and returns whether it does. Usually the two lengths
-/// decide, since a frame is longest without zeros; calling [`fits`] each time would be slower. A long run that [`fits`] has
-/// searched isn't searched again. It isn't inlined, so that short pushes save no registers for it.
+/// Takes `source` as [`append`] does, if the frame then fits `dest`, and returns whether it does. Usually the two
+/// lengths decide, since a frame is longest without zeros; calling [`fits`] each time would be slower. A long run that
+/// [`fits`] has searched isn't searched again. It isn't inlined, so that a short push doesn't save registers for it.
 #[inline(never)]
 pub(crate) fn try_append(source: &[u8], dest: &mut [u8], progress: &mut EncoderProgress) -> bool {
     // Field by field, here and below: fields that were stored one by one can't be loaded at once without waiting.

@@ -1,5 +1,5 @@
 // Made by bindings/rust/translate.py from `crates/cobs/src/enc/unbuffered.rt`: change that file, and run it again.
-//! An encoder for a message that comes in pieces, whose buffer is passed to each call.
+//! An encoder for a message that comes in pieces. Its buffer is passed to each call.
 
 use crate::proved::cobs_bytes::window::has_vectors;
 use crate::proved::enc::blocks::{append_short, close, fits_window_and_block};
@@ -150,7 +150,7 @@ impl UnbufferedEncoder {
     /// assert_eq!(encoder.finalize(&mut buffer), Ok(3));
     /// assert_eq!(buffer, [3, 7, 8]);
     /// ```
-    // A loop of short pushes then keeps the encoder in registers.
+    // Inlined, so that a loop of short pushes keeps the encoder in registers.
     #[inline(always)]
     pub fn push(&mut self, dest: &mut [u8], bytes: &[u8]) -> Result<(), DestBufTooSmallError> {
         if !has_vectors() {
