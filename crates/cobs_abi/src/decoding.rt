@@ -81,7 +81,7 @@ pub fn decode_byte(decoder: &mut UnbufferedDecoder, buffer: &mut [u8], byte: u8)
     ensures decodes { DecodesNext decoder.old buffer.old (byte ∷ []) result
         decoder.new buffer.new }
 {
-    law_17();
+    law_17(); // A decoder of your own, byte by byte
     let room = buffer.len();
     let mut end = PieceEnd::reported(decoder.feed(buffer, byte));
     // Only a zero ends a piece.

@@ -31,7 +31,7 @@ pub fn encode_each(encoder: &mut UnbufferedEncoder, buffer: &mut [u8], bytes: &[
     ensures encodes { EncodesNext encoder.old buffer.old bytes.now result
         encoder.new buffer.new }
 {
-    law_13();
+    law_13(); // The open frame of a streaming encoder
     if encoder.push_each(buffer, bytes).is_err() {
         return too_small();
     }
@@ -44,7 +44,7 @@ pub fn encode_byte(encoder: &mut UnbufferedEncoder, buffer: &mut [u8], byte: u8)
     ensures encodes { EncodesNext encoder.old buffer.old (byte ∷ []) result
         encoder.new buffer.new }
 {
-    law_13();
+    law_13(); // The open frame of a streaming encoder
     match encoder.feed_len(buffer, byte) {
         Ok(length) => done(1, length),
         Err(_) => too_small(),
@@ -72,8 +72,8 @@ pub fn finish_terminated(encoder: &mut UnbufferedEncoder, buffer: &mut [u8]) -> 
     ensures finishes { Finishes 1 (IsTerminatedFrame 0) encoder.old buffer.old result
         encoder.new buffer.new }
 {
-    law_2();
-    law_13();
+    law_2(); // Each message has one encoded frame
+    law_13(); // The open frame of a streaming encoder
     if buffer.len() < 2 {
         return too_small();
     }

@@ -26,7 +26,7 @@ fn first_sentinel(bytes: &[u8], sentinel: u8) -> usize
 fn head_end(bytes: &[u8], sentinel: u8) -> usize
     ensures end { result ≡ head_end (xor_each sentinel bytes.now) }
 {
-    law_12();
+    law_12(); // A stream's first piece, and its last
     let end = first_sentinel(bytes, sentinel);
     if end < bytes.len() { end + 1 } else { end }
 }
@@ -39,7 +39,7 @@ fn first_piece_end(source: &[u8]) -> Option<usize>
         (λ end. (p : List ℕ) × (first_piece source.now ≡ Some p)
         × (end ≡ len_through_piece source.now p) × (length p ≤ length source.now)) }
 {
-    law_12();
+    law_12(); // A stream's first piece, and its last
     let start = leading_zeros(source);
     let rest = &source[start..];
     let len = first_sentinel(rest, 0);
@@ -59,7 +59,7 @@ fn rejected(source: &[u8], room: usize, error: DecodeError, consumed: &mut usize
         → message' ≡ overwritten message (first_output source.now) → Decodes source.now message
         record { status = result.0; consumed = consumed.new; length = result.1 } message' }
 {
-    law_1();
+    law_1(); // A frame reads as its output
     let Some(end) = first_piece_end(source) else {
         *consumed = source.len();
         return (EMPTY, 0);
@@ -136,8 +136,8 @@ fn decode_long_in_place(buffer: &mut [u8], consumed: &mut usize) -> (u32, usize)
     ensures decodes { DecodesInPlace buffer.old
         record { status = result.0; consumed = consumed.new; length = result.1 } buffer.new }
 {
-    law_1();
-    law_12();
+    law_1(); // A frame reads as its output
+    law_12(); // A stream's first piece, and its last
     let room = buffer.len();
     let returned = match cobs::decode_in_place_report(buffer) {
         Ok(report) => {
@@ -181,8 +181,8 @@ pub extern "C" fn jcobs_decode_in_place(buffer: &mut [u8]) -> Answer
 pub extern "C" fn jcobs_decode_in_place_with_sentinel(buffer: &mut [u8], sentinel: u8) -> Answer
     ensures decodes { DecodesInPlaceFor sentinel buffer.old result buffer.new }
 {
-    law_6();
-    law_12();
+    law_6(); // No frame contains its sentinel; a second XOR restores the frame
+    law_12(); // A stream's first piece, and its last
     let room = buffer.len();
     let end = first_sentinel(buffer, sentinel);
     if end == 0 && room != 0 {

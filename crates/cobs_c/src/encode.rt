@@ -33,7 +33,7 @@ fn encode_long(message: &[u8], frame: &mut [u8]) -> (usize, usize)
     ensures encodes { Encodes message.now frame.old
         record { status = if result.1 == 0 then TOO_SMALL else OK; consumed = result.0; length = result.1 } frame.new }
 {
-    law_4();
+    law_4(); // The length of a frame, and its bound
     match try_encode(message, frame) {
         Ok(length) => (message.len(), length),
         Err(_) => (0, 0),
@@ -46,7 +46,7 @@ fn encode_long(message: &[u8], frame: &mut [u8]) -> (usize, usize)
 pub extern "C" fn jcobs_encode(message: &[u8], frame: &mut [u8]) -> Answer
     ensures encodes { Encodes message.now frame.old result frame.new }
 {
-    law_4();
+    law_4(); // The length of a frame, and its bound
     let len = message.len();
     // A message of up to 254 bytes fits if `frame` is longer than the message. It is encoded here, without a call. The
     // shortest messages are tested for first, so that compilers give them code without the other cases. The message's

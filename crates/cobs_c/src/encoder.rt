@@ -27,7 +27,7 @@ pub extern "C" fn jcobs_encoder_push(
     ensures encodes { EncodesNext encoder.old buffer.old bytes.now result
         encoder.new buffer.new }
 {
-    law_13();
+    law_13(); // The open frame of a streaming encoder
     if encoder.push_few(buffer, bytes) {
         return done(bytes.len(), end_of(encoder));
     }
@@ -59,7 +59,7 @@ pub extern "C" fn jcobs_encoder_feed(
     ensures encodes { EncodesNext encoder.old buffer.old (byte ∷ []) result
         encoder.new buffer.new }
 {
-    law_13();
+    law_13(); // The open frame of a streaming encoder
     if encoder.push_few(buffer, &[byte]) {
         return done(1, end_of(encoder));
     }
@@ -76,7 +76,7 @@ pub extern "C" fn jcobs_encoder_finish_with_sentinel(
     ensures finishes { Finishes 0 (IsFrameOnWireFor sentinel) encoder.old buffer.old result
         encoder.new buffer.new }
 {
-    law_6();
+    law_6(); // No frame contains its sentinel; a second XOR restores the frame
     let returned = jcobs_encoder_finish(encoder, buffer);
     xor_bytes(&mut buffer[..returned.length], sentinel);
     returned
@@ -92,8 +92,8 @@ pub extern "C" fn jcobs_encoder_finish_terminated_with_sentinel(
     ensures finishes { Finishes 1 (IsTerminatedFrame sentinel) encoder.old buffer.old result
         encoder.new buffer.new }
 {
-    law_2();
-    law_13();
+    law_2(); // Each message has one encoded frame
+    law_13(); // The open frame of a streaming encoder
     if buffer.is_empty() {
         return too_small();
     }

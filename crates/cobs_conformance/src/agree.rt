@@ -24,6 +24,7 @@ fn agrees(wanted: &str, came: &str) -> bool
     wanted == "?" || wanted == came || wanted == "refused" && is_error_word(came)
 }
 
+/// Returns whether a word names an error.
 fn is_error_word(word: &str) -> bool
     ensures failure { IsTrue result ↔ IsErrorWord word.now }
 {

@@ -157,6 +157,7 @@ impl CallResult {
         }
     }
 
+    /// Adds the number of decoded bytes that an error has, or `-` if it has none.
     fn say_count(&mut self, error: &DecodeError) -> Result<(), AllocError> {
         match error {
             DecodeError::InvalidFrame { decoded_bytes } => self.say_number(*decoded_bytes),
@@ -183,6 +184,7 @@ impl CallResult {
     }
 }
 
+/// Returns the word for an error.
 fn name_of(error: &DecodeError) -> &'static str {
     match error {
         DecodeError::EmptyFrame => "empty",

@@ -59,6 +59,7 @@ fn write_code(frame: &mut Vec<u8>, index: usize, code: u8) {
     }
 }
 
+/// Adds the result of a push: its name, the index, the code and the byte, with `-` for each that it doesn't have.
 fn say_pushed(returned: &mut CallResult, pushed: &PushResult) -> Result<(), CaseFault> {
     match pushed {
         PushResult::AddSingle(byte) => {
@@ -105,12 +106,14 @@ pub fn decoder_state(alloc: Global, arguments: &[&str]) -> Result<CallResult, Ca
     Ok(returned)
 }
 
+/// Adds a name, and `-` in place of a byte.
 fn say_without_byte(returned: &mut CallResult, name: &str) -> Result<(), CaseFault> {
     returned.say(name)?;
     returned.say(NONE)?;
     Ok(())
 }
 
+/// Returns the state with this name, and with this number of missing bytes.
 fn state_of(name: &str, left: &str) -> Result<DecoderState, CaseFault> {
     if name == "idle" {
         return Ok(DecoderState::Idle);
@@ -123,6 +126,7 @@ fn state_of(name: &str, left: &str) -> Result<DecoderState, CaseFault> {
     }
 }
 
+/// Adds a state: its name, and how many bytes are missing.
 fn say_state(returned: &mut CallResult, state: &DecoderState) -> Result<(), CaseFault> {
     match state {
         DecoderState::Idle => say_without_byte(returned, "idle")?,

@@ -124,6 +124,7 @@ pub fn decoder(alloc: Global, arguments: &[&str]) -> Result<CallResult, CaseFaul
     Ok(returned)
 }
 
+/// Runs a decoder that owns its buffer.
 fn owned(
     alloc: Global,
     buffer: &[u8],
@@ -135,6 +136,7 @@ fn owned(
     given(alloc, &mut decoder, pieces, feeding)
 }
 
+/// Runs a decoder that borrows its buffer.
 fn borrowed(
     alloc: Global,
     buffer: &[u8],
@@ -170,6 +172,7 @@ fn heapless(
     )
 }
 
+/// Runs a decoder whose buffer is part of it, of this length.
 fn in_itself<const N: usize>(
     alloc: Global,
     buffer: &[u8],
@@ -385,6 +388,7 @@ fn say_next(
     Ok(())
 }
 
+/// Adds the kind of a result that has no number, and `-` in place of the number.
 fn say_alone(returned: &mut CallResult, kind: &str) -> Result<(), CaseFault> {
     returned.say(kind)?;
     returned.say(NONE)?;

@@ -16,8 +16,8 @@ const MANY: usize = 8;
 /// The hexadecimal digits.
 const DIGITS: [u8; 16] = *b"0123456789abcdef";
 
-/// Writes the line of a message of N bytes, `message N HEX` with the bytes as lower-case hexadecimal digits, or
-/// `message 0` for the empty message, and a newline. Nothing is allocated, however long the message is.
+/// Writes the line of a message of N bytes, and a newline. The line is `message N HEX`, with the bytes as lower-case
+/// hexadecimal digits, or `message 0` for the empty message. Nothing is allocated, however long the message is.
 ///
 /// # Errors
 /// The error of the write that failed. Part of the line may have been written.

@@ -295,7 +295,7 @@ impl Composed {
         self.put_digits(&[(unit / 256) as u8, (unit % 256) as u8])
     }
 
-    /// Adds a number.
+    /// Adds a number, or returns `Full` if there is no room.
     #[tactic(auto, unfolding(crate::specs::Composed::contents_of))]
     #[inline(always)]
     fn put_decimal(&mut self, number: u64) -> Result<(), Full>
@@ -349,7 +349,7 @@ impl Composed {
         self.len = end;
     }
 
-    /// Adds bytes.
+    /// Adds bytes, or returns `Full` if there is no room.
     #[tactic(auto, unfolding(crate::specs::Composed::contents_of))]
     #[inline(always)]
     fn put(&mut self, bytes: &[u8]) -> Result<(), Full>

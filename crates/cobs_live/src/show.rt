@@ -74,7 +74,7 @@ pub fn run_show<C: Clock + Drop, S: LiveInput<W>, W: Write + Drop, E: Write>(
         (HoldsText settings.now (W.contents (writer_inner output.old))) }
     ensures flushed { IsFlushed result (writer_buffer output.new) }
 {
-    law_9();
+    law_9(); // A stream may be cut anywhere
     let mut watch = Watch::new(alloc, settings)?;
     let mut chunk = vec![in alloc; 0; CHUNK_LEN]?;
     let mut counted = timer.base;
@@ -126,7 +126,7 @@ impl<'a> Watch<'a> {
         ensures start { IfOk result (λ watch. (from before : Option (List ℕ)) →
             HasShownSoFar settings.now from from before before watch) }
     {
-        law_9();
+        law_9(); // A stream may be cut anywhere
         let message = vec![in alloc; 0; settings.length]?;
         Ok(Watch {
             settings,
@@ -175,7 +175,7 @@ impl<'a> Watch<'a> {
         ensures fault { IfErr result (λ fault. fault ≢ WatchFault.OutOfMemory) }
         ensures len { length chunk.new ≡ length chunk.old }
     {
-        law_9();
+        law_9(); // A stream may be cut anywhere
         let came = match read_chunk(input, output, chunk) {
             Ok(came) => came,
             Err(fault) => {
@@ -293,7 +293,7 @@ fn has_begun(phase: DecoderPhase) -> bool
 fn change_sentinel(bytes: &mut [u8], sentinel: u8)
     ensures { bytes.new ≡ xor_each sentinel bytes.old }
 {
-    law_6();
+    law_6(); // No frame contains its sentinel; a second XOR restores the frame
     if sentinel != 0 {
         xor_bytes(bytes, sentinel);
     }
@@ -335,8 +335,8 @@ fn show_bytes<W: Write>(
     ensures fault { IfErr result
         (λ fault. (fault ≢ WatchFault.ReadFailed) × (fault ≢ WatchFault.OutOfMemory)) }
 {
-    law_9();
-    law_12();
+    law_9(); // A stream may be cut anywhere
+    law_12(); // A stream's first piece, and its last
     let mut composed = Composed::new();
     let mut at = 0;
     'by_part: while at < bytes.len() {

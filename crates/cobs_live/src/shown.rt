@@ -1,4 +1,4 @@
-//! The text that is shown of a stream: which pieces, and in which style.
+//! Which pieces of a stream are shown, and in which style.
 ghost use Rattle.std.specs.Prelude.{◌≡◌, OnOk, length, List, [], ℕ, Some, if◌then◌else◌};
 ghost use Rattle.std.specs.Io.KnownBytes.{Appends};
 ghost use Rattle.cobs.specs.FeedPiece.{IsWithin, outcome_at};

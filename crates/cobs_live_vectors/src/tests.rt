@@ -203,10 +203,12 @@ impl Clock for StepClock {
     }
 }
 
+/// Makes a timer in UTC, over the clock of these tests.
 fn timer(stamp: Stamp) -> io::Result<Timer<'static, StepClock>> {
     timer_in(stamp, TimeZone::UTC)
 }
 
+/// Makes a timer in this zone, over the clock of these tests.
 fn timer_in(stamp: Stamp, zone: TimeZone<'_>) -> io::Result<Timer<'_, StepClock>> {
     Timer::new(clock(), stamp, zone)
 }
@@ -218,6 +220,7 @@ fn clock() -> StepClock {
     }
 }
 
+/// Makes a reader of these bytes, whose read with the number `failing` fails with this fault.
 fn reader(bytes: &[u8], failing: usize, fault: ErrorKind) -> ByteReader<'_> {
     ByteReader {
         bytes,

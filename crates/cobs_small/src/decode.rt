@@ -11,8 +11,8 @@ use cobs_abi::{Answer, BROKEN, EMPTY, TOO_SMALL, done};
 pub extern "C" fn jcobs_decode(source: &[u8], message: &mut [u8]) -> Answer
     ensures decodes { Decodes source.now message.old result message.new }
 {
-    law_1();
-    law_12();
+    law_1(); // A frame reads as its output
+    law_12(); // A stream's first piece, and its last
     let Some((end, consumed)) = decode_piece(source, message) else {
         return Answer {
             status: EMPTY,

@@ -10,7 +10,7 @@ use cobs_abi::{CANONICAL, LONGER, NOT_A_FRAME};
 pub extern "C" fn jcobs_frame_kind(bytes: &[u8]) -> u32
     ensures kind { IsKindOf bytes.now result }
 {
-    law_1();
+    law_1(); // A frame reads as its output
     if len_to_zero(bytes) < bytes.len() {
         return NOT_A_FRAME;
     }

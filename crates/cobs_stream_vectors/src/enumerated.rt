@@ -15,7 +15,7 @@ struct Fed<'a> {
 }
 
 impl Check for Fed<'_> {
-    /// Checks that the result of each zero is that of the piece before it.
+    /// Checks that the result for each zero is the result of the piece before it.
     fn check<D: StreamingDecoder + Drop>(
         &self,
         rt: &impl Abort,

@@ -23,7 +23,8 @@ enum Given {
     Failing(&'static [u8], bool),
 }
 
-/// A reader that counts its reads.
+/// A reader that counts its reads. It returns first the zeros, one per read, and then the bytes, at most `at_a_time`
+/// per read.
 #[derive(Drop)]
 struct Counted {
     zeros: u64,

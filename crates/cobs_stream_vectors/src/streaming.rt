@@ -10,10 +10,13 @@ use std::test::Fail;
 
 /// A streaming decoder, with methods that the library's traits don't have.
 pub trait StreamingDecoder: FrameDecoder + WriteBuffer {
+    /// Feeds a byte, by `feed`.
     fn feed_one(&mut self, byte: u8) -> Result<Option<usize>, DecodeError>;
 
+    /// Pushes bytes, by `push`.
     fn push_some(&mut self, bytes: &[u8]) -> Result<Option<DecodeReport>, PushError>;
 
+    /// Returns the whole buffer, by `dest`.
     fn whole_buffer(&self) -> &[u8];
 
     /// Returns whether the buffer begins with these bytes, by `dest` and by `dest_mut`.

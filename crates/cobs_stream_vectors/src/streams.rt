@@ -41,6 +41,7 @@ const OUTCOMES: [Wanted; 4] = [
     Wanted::Message(&[9]),
 ];
 
+/// Streams, damaged ones among them.
 const CASES: [Case; 6] = [
     (
         2,
@@ -53,7 +54,7 @@ const CASES: [Case; 6] = [
         ],
     ),
     (4, &DAMAGED, &OUTCOMES),
-    // the same with its second byte, and with its fourth byte changed
+    // the same stream with its second byte changed, and with its fourth byte changed
     (
         4,
         &[0, 2, 7, 8, 0, 5, 1, 0, 6, 1, 2, 3, 4, 5, 0, 2, 9, 0],
@@ -129,8 +130,8 @@ fn push_all<D: StreamingDecoder>(
     panic!(rt; "a push consumed nothing");
 }
 
-/// A case in one, two and three calls of `decode_stream`, cut at every place and pair of places, and in two pushes, cut
-/// at every place. The stream ends with a zero, so the decoder is idle after each round.
+/// A case whose stream is decoded in parts. It is cut at each pair of places, for up to three calls of `decode_stream`,
+/// and at each place, for two rounds of pushes. The stream ends with a zero, so the decoder is idle after each round.
 #[derive(Drop)]
 struct Cuts {
     case: Case,
@@ -275,7 +276,7 @@ fn check_damage(
     )
 }
 
-/// Writes a byte of the list, at an index that is there.
+/// Replaces the byte at an index of the list.
 fn write_at(rt: &impl Abort, list: &mut Vec<u8>, at: usize, byte: u8) {
     assert!(rt; at < list.len());
     list[at] = byte;

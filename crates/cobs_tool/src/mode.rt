@@ -31,6 +31,7 @@ pub fn mode_of(words: &[String]) -> Option<Mode>
     }
 }
 
+/// Returns the mode with this name.
 fn mode_named(word: &str) -> Option<Mode>
     ensures show { (result ≡ Some Mode.Show) ↔ (word.now ≡ codes "show") }
     ensures encode { (result ≡ Some Mode.Encode) ↔ (word.now ≡ codes "encode") }

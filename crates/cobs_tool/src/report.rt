@@ -23,7 +23,7 @@ pub fn report_of(alloc: Global, stream: &[u8]) -> Result<String, AllocError>
     requires { length stream.now ≤ MAX_INPUT }
     ensures report { IfOk result (λ text. string_bytes text ≡ report stream.now) }
 {
-    law_9();
+    law_9(); // A stream may be cut anywhere
     let decoder = CobsDecoderOwned::new(alloc, DECODE_BUFFER_LEN)?;
     let mut frames = FrameReader::new(decoder);
     let mut source = InMemory::new(stream);

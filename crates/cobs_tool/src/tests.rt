@@ -94,6 +94,7 @@ impl Write for ByteWriter {
     }
 }
 
+/// Returns the texts as words of a command line.
 fn words(alloc: Global, texts: &[&str]) -> Result<Vec<String>, AllocError> {
     let mut words = Vec::new(alloc);
     for text in texts {

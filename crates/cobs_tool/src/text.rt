@@ -33,6 +33,7 @@ pub fn hex_line(alloc: Global, bytes: &[u8]) -> Result<String, AllocError>
     Ok(line)
 }
 
+/// Appends the two lower-case hexadecimal digits of a byte.
 fn push_hex(line: &mut String, byte: u8) -> Result<(), AllocError>
     ensures digits { OnOk result (string_bytes line.new ≡ string_bytes line.old ++ hex_of byte) }
 {

@@ -81,7 +81,7 @@ pub fn decode_known_short(frame: &[u8], dest: &mut [u8]) -> bool
     requires room { length frame.now ≤ length dest.old + 1 }
     ensures { IsTrue result }
 {
-    law_12();
+    law_12(); // A stream's first piece, and its last
     decode_short(frame, dest).is_some()
 }
 
@@ -92,7 +92,7 @@ pub fn decode_known_short_in_place(frame: &mut [u8]) -> bool
     requires whole { missing (last_part frame.old) ≡ 0 }
     ensures { IsTrue result }
 {
-    law_12();
+    law_12(); // A stream's first piece, and its last
     decode_short_in_place(frame).is_some()
 }
 
@@ -101,7 +101,7 @@ pub fn decode_before_zero(buffer: &mut [u8]) -> Result<usize, DecodeError>
     ensures returned { result ≡ head_result (head buffer.old) }
     ensures buffer { buffer.new ≡ in_place buffer.old }
 {
-    law_12();
+    law_12(); // A stream's first piece, and its last
     let end = len_to_zero(buffer);
     decode_blocks_each(buffer, end)
 }
@@ -123,7 +123,7 @@ pub fn decode_first<'a>(source: &'a [u8], dest: &mut [u8]) -> &'a [u8]
 pub fn skip_zeros<'a>(source: &'a [u8]) -> &'a [u8]
     ensures { first_piece result.now ≡ first_piece source.now }
 {
-    law_12();
+    law_12(); // A stream's first piece, and its last
     &source[leading_zeros(source)..]
 }
 
@@ -157,7 +157,7 @@ pub fn end_in_place(buffer: &mut [u8], message_len: usize) -> usize
     ensures len { result ≡ encoded_len (message_in message_len buffer.old) }
     ensures rest { drop (result + 1) buffer.new ≡ drop (result + 1) buffer.old }
 {
-    law_4();
+    law_4(); // The length of a frame, and its bound
     let len = encode_in_place(buffer, message_len);
     buffer[len] = 0;
     len
@@ -378,8 +378,8 @@ pub fn longest_frame(len: usize)
     ensures { (m : List ℕ) × (f : List ℕ) × (length m ≡ len) × All (λ byte. byte < 256) m × IsEncodedFrame f m
         × All (λ byte. byte < 256) f × (length f ≡ max_encoded_len len) }
 {
-    law_2();
-    law_4();
+    law_2(); // Each message has one encoded frame
+    law_4(); // The length of a frame, and its bound
 }
 
 /// Copies a report, which never fails. The copy has the same sizes.

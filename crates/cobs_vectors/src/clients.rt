@@ -50,7 +50,7 @@ pub fn count_messages(decoder: &mut CobsDecoderOwned, bytes: &[u8]) -> usize
     ensures after { (p : List ℕ) → DecoderAfter (owned_buffer decoder.old) (owned_phase decoder.old) p
         → DecoderAfter (owned_buffer decoder.new) (owned_phase decoder.new) (unended (p ++ bytes.now)) }
 {
-    law_9();
+    law_9(); // A stream may be cut anywhere
     let mut at = 0;
     let mut count = 0;
     'by_push: while at < bytes.len() {
@@ -115,7 +115,7 @@ pub fn on_zero<D: FrameDecoder>(decoder: &mut D) -> usize
         → Reads f m → length m ≤ length (D.bytes decoder.old)
         → BeginsWith (D.bytes decoder.new) result m }
 {
-    law_18();
+    law_18(); // A frame is decoded as its message however it is streamed, and nothing else is
     match decoder.feed_byte(0) {
         Ok(Some(len)) => len,
         Ok(None) => 0,
@@ -231,9 +231,9 @@ pub fn no_other(message: &[u8], frame: &mut [u8], buffer: &mut [u8]) -> Option<u
     requires { encoded_len message.now ≤ length frame.old }
     ensures { (m : List ℕ) → IsSomeAnd result (λ n. BeginsWith buffer.new n m) → m ≡ message.now }
 {
-    law_2();
-    law_4();
-    law_5();
+    law_2(); // Each message has one encoded frame
+    law_4(); // The length of a frame, and its bound
+    law_5(); // Equal frames, equal messages
     let len = encode(message, frame);
     match decode(&frame[..len], buffer) {
         Ok(report) => Some(report.frame_size()),
@@ -251,7 +251,7 @@ pub fn encode_two(
     ensures frame { IfOk result (λ n. IsEncodedFrame (take n dest.new) (first.now ++ second.now)) }
     ensures rest { IfOk result (λ n. drop n dest.new ≡ drop n dest.old) }
 {
-    law_4();
+    law_4(); // The length of a frame, and its bound
     let mut encoder = CobsEncoder::new(dest);
     encoder.push(first)?;
     encoder.push(second)?;
@@ -303,11 +303,11 @@ pub fn append_to_log(alloc: Global, log: &[u8], message: &[u8]) -> Result<Vec<u8
         → stream_outcomes longer.items n ≡ stream_outcomes log.now n ++ Message message.now ∷ []) }
     ensures at_sentinel { IfOk result (λ longer. IsAtSentinel longer.items) }
 {
-    law_2();
-    law_4();
-    law_9();
-    law_10();
-    law_11();
+    law_2(); // Each message has one encoded frame
+    law_4(); // The length of a frame, and its bound
+    law_9(); // A stream may be cut anywhere
+    law_10(); // Damage stays between its sentinels
+    law_11(); // A frame in a stream is decoded as its message
     let mut longer = log.to_vec(alloc)?;
     let frame = encode_vec(alloc, message)?;
     longer.extend_from_slice(&frame)?;
@@ -324,7 +324,7 @@ fn relayed(alloc: Global, log: Vec<u8>, end: PieceEnd, buffer: &[u8]) -> Result<
         ≡ stream_outcomes log.items (length buffer.now) ++ messages_of (outcome_at end buffer.now ∷ [])) }
     ensures at_sentinel { IfOk result (λ longer. IsAtSentinel longer.items) }
 {
-    law_4();
+    law_4(); // The length of a frame, and its bound
     match end {
         PieceEnd::Message(n) => append_to_log(alloc, &log, &buffer[..n]),
         PieceEnd::Broken(_) => Ok(log),
@@ -344,8 +344,8 @@ pub fn relay<D: FrameDecoder>(
         stream_outcomes out.items n ≡ messages_of (stream_outcomes stream.now n)) }
     ensures at_sentinel { IfOk result (λ out. IsAtSentinel out.items) }
 {
-    law_9();
-    law_21();
+    law_9(); // A stream may be cut anywhere
+    law_21(); // A loop over the pieces of a stream
     let mut out = Vec::new(alloc);
     let mut at = 0;
     'by_piece: while let Some((end, count)) = decoder.feed_piece(&stream[at..]) {
@@ -376,7 +376,7 @@ pub fn pieces_in(
         (λ found. messages_in found.items ≡ ended_pieces (begun.old.items ++ chunk.now)) }
     ensures begun { OnOk result (begun.new.items ≡ unended (begun.old.items ++ chunk.now)) }
 {
-    law_9();
+    law_9(); // A stream may be cut anywhere
     let mut found = Vec::new(alloc);
     'by_byte: for byte in chunk {
         if *byte != 0 {
@@ -397,7 +397,7 @@ pub fn pieces_in_two(
     ensures { IfOk result (λ found. messages_in found.0.items ++ messages_in found.1.items
         ≡ ended_pieces (first.now ++ second.now)) }
 {
-    law_9();
+    law_9(); // A stream may be cut anywhere
     let mut begun = Vec::new(alloc);
     let found = pieces_in(alloc, &mut begun, first)?;
     Ok((found, pieces_in(alloc, &mut begun, second)?))

@@ -39,7 +39,7 @@ pub fn encode_for_link(message: &[u8], dest: &mut [u8], sentinel: u8) -> usize
     requires { encoded_len message.now ≤ length dest.old }
     ensures { IsEncodedFrameFor sentinel (take result dest.new) message.now }
 {
-    law_6();
+    law_6(); // No frame contains its sentinel; a second XOR restores the frame
     if sentinel == 0 {
         return encode(message, dest);
     }
@@ -51,7 +51,7 @@ pub fn change_sentinel(frame: &mut [u8], sentinel: u8)
     ensures changed { frame.new ≡ xor_each sentinel frame.old }
     ensures free { IsFrame frame.old → IsFreeOf sentinel frame.new }
 {
-    law_6();
+    law_6(); // No frame contains its sentinel; a second XOR restores the frame
     for byte in frame.iter_mut() {
         *byte ^= sentinel;
     }
@@ -62,8 +62,8 @@ pub fn frame_len(message: &[u8]) -> usize
     requires { max_encoded_len (length message.now) < 2 ^ 64 }
     ensures { result ≡ encoded_len message.now }
 {
-    law_4();
-    law_15();
+    law_4(); // The length of a frame, and its bound
+    law_15(); // The length of a frame, counted block by block
     let mut closed = 0;
     let mut run = 0;
     'by_byte: for byte in message {
@@ -86,8 +86,8 @@ pub fn encode_by_byte(message: &[u8], dest: &mut [u8]) -> usize
     requires { encoded_len message.now ≤ length dest.old }
     ensures { IsEncodedFrame (take result dest.new) message.now }
 {
-    law_4();
-    law_16();
+    law_4(); // The length of a frame, and its bound
+    law_16(); // An encoder of your own, byte by byte
     let mut index = 0;
     let mut code = 1u8;
     let mut full = false;
@@ -126,7 +126,7 @@ pub fn feed_each(
     ensures { TakesPiece buffer.old (phase_of decoder.old) bytes.now result
         buffer.new (phase_of decoder.new) }
 {
-    law_17();
+    law_17(); // A decoder of your own, byte by byte
     'by_byte: for (i, byte) in bytes.iter().enumerate() {
         let returned = decoder.feed(buffer, *byte);
         if *byte == 0 {
@@ -148,7 +148,7 @@ pub fn feed_between(
     ensures { Feeds buffer.old (phase_of decoder.old) byte result
         buffer.new (phase_of decoder.new) }
 {
-    law_17();
+    law_17(); // A decoder of your own, byte by byte
     if byte == 0 && decoder.is_idle() {
         return Ok(None);
     }
@@ -161,7 +161,7 @@ pub fn kind_by_code(piece: &[u8]) -> FrameKind
     ensures frame { (result ≡ FrameKind.NotAFrame) ↔ ¬ IsFrame piece.now }
     ensures canonical { (result ≡ FrameKind.Canonical) ↔ IsCanonical piece.now }
 {
-    law_19();
+    law_19(); // The kind of a frame, block by block
     let mut read = 0;
     let mut after_full = false;
     'by_block: loop {
@@ -190,8 +190,8 @@ pub fn decode_by_code(alloc: Global, piece: &[u8]) -> Result<(bool, Vec<u8>), Al
     ensures reads { (m : List ℕ) → IfOk result (λ found.
         (IsTrue found.0 × (found.1.items ≡ m)) ↔ Reads piece.now m) }
 {
-    law_1();
-    law_20();
+    law_1(); // A frame reads as its output
+    law_20(); // The output of a piece, block by block
     let mut bytes = Vec::new(alloc);
     let mut read = 0;
     'by_block: loop {

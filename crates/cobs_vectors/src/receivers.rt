@@ -23,7 +23,7 @@ pub fn end_piece<D: FrameDecoder>(decoder: &mut D) -> Option<usize>
     ensures { (f : List ℕ) → DecoderAfter (D.bytes decoder.old) (D.phase decoder.old) f
         → All (λ byte. byte < 256) f → IfSome result (λ n. Reads f (take n (D.bytes decoder.new))) }
 {
-    law_18();
+    law_18(); // A frame is decoded as its message however it is streamed, and nothing else is
     match decoder.feed_byte(0) {
         Ok(Some(len)) => Some(len),
         Ok(None) => None,
@@ -40,7 +40,7 @@ pub fn read_piece<D: FrameDecoder>(decoder: &mut D, ended: &[u8], piece: &[u8]) 
     ensures { (m : List ℕ) → (IsSomeAnd result (λ n. BeginsWith (D.bytes decoder.new) n m)
         ↔ (Reads piece.now m × (length m ≤ length (D.bytes decoder.old)))) }
 {
-    law_18();
+    law_18(); // A frame is decoded as its message however it is streamed, and nothing else is
     match decoder.feed_piece(ended) {
         Some((PieceEnd::Message(len), _)) => Some(len),
         Some((PieceEnd::Broken(_), _)) => None,
@@ -58,15 +58,15 @@ pub fn end_of<D: FrameDecoder>(decoder: &mut D, ended: &[u8], piece: &[u8]) -> P
     ensures { outcome_at result (D.bytes decoder.new)
         ≡ outcome_of piece.now (length (D.bytes decoder.old)) }
 {
-    law_18();
+    law_18(); // A frame is decoded as its message however it is streamed, and nothing else is
     match decoder.feed_piece(ended) {
         Some((end, _)) => end,
         None => unreachable!(),
     }
 }
 
-/// Reads the received bytes of a piece, with its zero or cut off. The buffer then begins with the bytes to which the
-/// piece decodes, whether it is a frame, breaks off or is too long.
+/// Reads a piece and its zero, or only the first bytes of a piece. The buffer then begins with the bytes to which these
+/// bytes decode, whether the piece is a frame, breaks off or is too long.
 pub fn salvage<D: FrameDecoder>(decoder: &mut D, received: &[u8]) -> Option<(PieceEnd, usize)>
     requires { D.phase decoder.old ≡ Idle }
     ensures cut_off { HasNoZero received.now
@@ -74,10 +74,10 @@ pub fn salvage<D: FrameDecoder>(decoder: &mut D, received: &[u8]) -> Option<(Pie
     ensures ended { (piece : List ℕ) → IsPiece piece → received.now ≡ piece ++ 0 ∷ []
         → D.bytes decoder.new ≡ overwritten (D.bytes decoder.old) (output piece) }
 {
-    law_9();
-    law_12();
-    law_14();
-    law_18();
+    law_9(); // A stream may be cut anywhere
+    law_12(); // A stream's first piece, and its last
+    law_14(); // A decoder has been fed nothing of a piece exactly if it is idle
+    law_18(); // A frame is decoded as its message however it is streamed, and nothing else is
     decoder.feed_piece(received)
 }
 
@@ -88,7 +88,7 @@ pub fn push_reads_unbuffered(ended: &[u8], piece: &[u8], dest: &mut [u8]) -> Opt
     ensures { (m : List ℕ) → (IsSomeAnd result (λ n. BeginsWith dest.new n m)
         ↔ (Reads piece.now m × (length m ≤ length dest.old))) }
 {
-    law_18();
+    law_18(); // A frame is decoded as its message however it is streamed, and nothing else is
     match UnbufferedDecoder::new().push(dest, ended) {
         Ok(Some(report)) => Some(report.frame_size()),
         Ok(None) => None,
@@ -120,7 +120,7 @@ pub fn message_for(
     ensures { (m : List ℕ) → IfOk result (λ found.
         IsSomeAnd found (λ message. message.items ≡ m) ↔ Reads (xor_each sentinel between.now) m) }
 {
-    law_6();
+    law_6(); // No frame contains its sentinel; a second XOR restores the frame
     match decode_vec_with_sentinel(alloc, between, sentinel) {
         Ok(message) => Ok(Some(message)),
         Err(DecodeVecError::Decode(_)) => Ok(None),
@@ -157,7 +157,7 @@ pub fn message_in_place_for(between: &mut [u8], sentinel: u8) -> Option<usize>
     ensures { (m : List ℕ) → (IsSomeAnd result (λ n. BeginsWith between.new n m)
         ↔ Reads (xor_each sentinel between.old) m) }
 {
-    law_6();
+    law_6(); // No frame contains its sentinel; a second XOR restores the frame
     match decode_in_place_with_sentinel(between, sentinel) {
         Ok(len) => Some(len),
         Err(_) => None,
@@ -171,7 +171,7 @@ pub fn between_reads_as(sentinel: u8, between: &[u8], message: &[u8], buffer: &m
     ensures { IsTrue result ↔ (Reads (xor_each sentinel between.now) message.now
         × (length message.now ≤ length buffer.old)) }
 {
-    law_6();
+    law_6(); // No frame contains its sentinel; a second XOR restores the frame
     reads_for(sentinel, between, message, buffer)
 }
 
@@ -179,7 +179,7 @@ pub fn between_reads_as(sentinel: u8, between: &[u8], message: &[u8], buffer: &m
 pub fn before_sentinel(received: &[u8], sentinel: u8) -> &[u8]
     ensures { xor_each sentinel result.now ≡ head (xor_each sentinel received.now) }
 {
-    law_12();
+    law_12(); // A stream's first piece, and its last
     'by_byte: for (at, byte) in received.iter().enumerate() {
         if *byte == sentinel {
             return &received[..at];

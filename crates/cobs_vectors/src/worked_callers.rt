@@ -19,7 +19,7 @@ pub fn encode_by_state(alloc: Global, source: &[u8]) -> Result<Vec<u8>, AllocErr
     ensures { IfOk result
         (λ bytes. (index code : ℕ) × IsOpenFrame bytes.items source.now index code) }
 {
-    law_13();
+    law_13(); // The open frame of a streaming encoder
     let mut output = vec![in alloc; 0]?;
     let mut state = EncoderState::default();
     'by_byte: for byte in source {
@@ -51,7 +51,7 @@ pub fn encode_both(
     ensures fits { IsOk result ↔ (encoded_len (first.now ++ second.now) ≤ length dest.old) }
     ensures frame { IfOk result (λ n. IsEncodedFrame (take n dest.new) (first.now ++ second.now)) }
 {
-    law_4();
+    law_4(); // The length of a frame, and its bound
     let mut encoder = CobsEncoder::new(dest);
     encoder.push(first)?;
     encoder.push(second)?;

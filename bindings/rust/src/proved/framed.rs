@@ -201,9 +201,13 @@ const MOST_READS: usize = 65536;
 #[derive(Debug, Clone)]
 pub struct FrameReader<D: FrameDecoder> {
     decoder: D,
+
+    /// The bytes of the last read. Those from `start` to `end` haven't been fed to the decoder yet.
     chunk: [u8; 64],
     start: usize,
     end: usize,
+
+    /// Whether a piece has begun, in the bytes fed so far, that no zero has ended yet.
     unfinished: bool,
 }
 

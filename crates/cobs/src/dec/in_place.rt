@@ -75,7 +75,7 @@ impl UnbufferedDecoder {
         len
     }
 
-    /// Takes the bytes from `read` to `end`, without the one at `end`, from the buffer to which it also writes.
+    /// Takes the bytes from index `read` on and before index `end`, from the buffer to which it also writes.
     #[inline]
     fn take_in_place(&mut self, buffer: &mut [u8], read: usize, end: usize)
         requires going { self.old.too_long ≡ 0 }

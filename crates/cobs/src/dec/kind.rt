@@ -30,7 +30,7 @@ pub enum FrameKind {
 /// blocks are a full one and a block without bytes; decoders read the two frames alike. Nothing is allocated.
 ///
 /// A frame is defined by its blocks, as in Cheshire and Baker's paper. Their encoder writes the shorter of two frames,
-/// so that is the canonical one.
+/// so the shorter one is canonical.
 ///
 /// ```
 /// assert_eq!(rt; frame_kind(b"\x06hello"), FrameKind::Canonical);

@@ -129,7 +129,8 @@ pub(crate) fn try_append(source: &[u8], dest: &mut [u8], progress: &mut EncoderP
         (length source.now) dest.new (reached_at progress.new) }
     ensures rejected { result ≡ false → (dest.new ≡ dest.old) × (reached_at progress.new ≡ reached_at progress.old) }
 {
-    // Field by field, here and below: fields that were stored one by one can't be loaded at once without waiting.
+    // Copied field by field, here and below: a load of all fields at once would have to wait, because they were stored
+    // one by one.
     let start = EncoderProgress { ..*progress };
     let room = dest.len() - start.index;
     // The bytes of the message from the open block on.

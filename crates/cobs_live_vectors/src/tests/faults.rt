@@ -42,6 +42,7 @@ impl Write for ByteWriter {
     }
 }
 
+/// Makes a writer whose write with the number `failing` fails with this fault.
 fn writer(alloc: Global, failing: usize, fault: ErrorKind) -> ByteWriter {
     ByteWriter {
         bytes: Vec::new(alloc),

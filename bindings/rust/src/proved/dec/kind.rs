@@ -33,7 +33,7 @@ pub enum FrameKind {
 /// blocks are a full one and a block without bytes; decoders read the two frames alike. Nothing is allocated.
 ///
 /// A frame is defined by its blocks, as in Cheshire and Baker's paper. Their encoder writes the shorter of two frames,
-/// so that is the canonical one.
+/// so the shorter one is canonical.
 pub fn frame_kind(bytes: &[u8]) -> FrameKind {
     if zero_or_len(bytes) < bytes.len() {
         return FrameKind::NotAFrame;

@@ -97,7 +97,8 @@ fn fits(code: usize, source: &[u8], room: usize) -> Option<usize> {
 /// [`fits`] has searched isn't searched again. It isn't inlined, so that a short push doesn't save registers for it.
 #[inline(never)]
 pub(crate) fn try_append(source: &[u8], dest: &mut [u8], progress: &mut EncoderProgress) -> bool {
-    // Field by field, here and below: fields that were stored one by one can't be loaded at once without waiting.
+    // Copied field by field, here and below: a load of all fields at once would have to wait, because they were stored
+    // one by one.
     let start = EncoderProgress { ..*progress };
     let room = dest.len() - start.index;
     // The bytes of the message from the open block on.
