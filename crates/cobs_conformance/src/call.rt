@@ -8,7 +8,7 @@ use std::alloc::Global;
 ///
 /// # Errors
 /// `Malformed` if no call has the name, or the arguments aren't those of the call; `NotCallable` if they break its
-/// precondition; `OutOfMemory`.
+/// precondition; `OutOfMemory` if memory ran out.
 pub fn result_of_call(
     alloc: Global,
     call: &str,

@@ -87,9 +87,9 @@ impl Composed {
         ROOM - LINE - 2 * SHORT_LEN < self.len
     }
 
-    /// Adds the text of a short message and returns true, if there is room, and if the view shows digits without
-    /// colours, numbers and times, or raw messages without numbers. Otherwise returns false. If the view's filter holds
-    /// the message back, its text is empty. So one write can contain the text of many messages.
+    /// Adds the text of a short message and returns true, if there is room and the view is one of these two: digits
+    /// without colours, numbers and times; or raw messages without numbers. Otherwise returns false. If the view's
+    /// filter holds the message back, its text is empty. So one write can contain the text of many messages.
     #[inline(always)]
     pub fn keep(&mut self, view: &View, piece: &Sight<'_>) -> bool
         ensures kept { IsTrue result → (number : ℕ) (times : Times) → take self.new.len self.new.bytes

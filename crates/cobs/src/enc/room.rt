@@ -11,8 +11,8 @@ use crate::enc::progress::EncoderProgress;
 use crate::find::position_or_len;
 use memchr::memrchr;
 
-/// Counts the blocks that become full and are followed by another byte, if the open block with this code takes these
-/// bytes. Each of them makes the frame one byte longer, by the next code. Returns whether they are fewer than `spare`.
+/// Returns whether fewer than `spare` blocks become full with another byte after them, if the open block has this code
+/// and takes these bytes. Each such block makes the frame one byte longer, by the next code.
 fn fits_each(code: u8, bytes: &[u8], spare: usize) -> bool
     requires some { 0 < code }
     requires open_block { code < 255 }
@@ -69,8 +69,8 @@ pub(crate) fn has_room(code: u8, bytes: &[u8], room: usize) -> bool
 /// the block takes `source`.
 ///
 /// It counts all full blocks except a last one. A block can't become full if one of its next 254 bytes is a zero, so
-/// the count continues after the last such zero. If there is none, the run fills the block, and has a full block for
-/// each 254 of its bytes: its end is searched for, as the encoder does. Returns `None` if the frame doesn't fit.
+/// the count continues after the last such zero. If there is none, the run fills the block. Then the run's end is
+/// searched for, because the run has a full block for each 254 of its bytes. Returns `None` if the frame doesn't fit.
 /// Otherwise returns the length of the first run if its end was searched for, so that the encoder needn't search again,
 /// and 0 if it wasn't.
 #[inline(never)]

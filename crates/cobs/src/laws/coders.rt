@@ -79,8 +79,8 @@ pub fn law_16()
 /// streaming decoders. Feeding bytes one by one has the same result as one `feed_piece`: both stop after the zero that
 /// ends the first piece, or after the last byte.
 ///
-/// So your own decoder with this step decodes as the streaming decoders do, and a loop over `feed_byte` is a
-/// `feed_piece`.
+/// So your own decoder with this step decodes as the streaming decoders do, and a loop over `feed_byte` does what
+/// `feed_piece` does.
 ///
 /// ```
 /// fn feed_one(decoder: &mut UnbufferedDecoder, buffer: &mut [u8], byte: u8)
