@@ -103,7 +103,7 @@ impl Composed {
         }
     }
 
-    /// Adds the text of a piece in a view that shows digits.
+    /// Does what [`keep`](Composed::keep) does, for a view that shows digits.
     #[inline(always)]
     fn keep_hex(&mut self, view: &View, piece: &Sight<'_>) -> bool
         requires style { view.now.style ≡ Hex }
@@ -123,7 +123,7 @@ impl Composed {
         true
     }
 
-    /// Adds the text of a piece in a view that shows raw messages.
+    /// Does what [`keep`](Composed::keep) does, for a view that shows raw messages.
     #[inline(always)]
     fn keep_raw(&mut self, view: &View, piece: &Sight<'_>) -> bool
         requires style { view.now.style ≡ Raw }

@@ -157,14 +157,17 @@ impl<'a> Watch<'a> {
     ) -> Result<bool, WatchFault>
         requires some { 0 < length chunk.old }
         requires flushed { writer_buffer output.old ≡ [] }
+        // If all pieces that had ended were shown before the call, this is also true after it.
         ensures shown { (settings : Settings) (from before : Option (List ℕ)) → HasShownSoFar settings from
             (S.remaining input.old) before (W.contents (writer_inner output.old)) self.old
             → ShowsNext settings result from (S.remaining input.new) before
             (W.contents (writer_inner output.new)) self.new }
+        // If all pieces that had ended were shown at each read so far, this is also true at the read of this call.
         ensures live { (settings : Settings) (start : S) (from before : Option (List ℕ))
             → IsLiveSoFar S.step start input.old settings from (S.remaining input.old) before
             (W.contents (writer_inner output.old)) self.old
             → IsLive S.step start input.new (HoldsText settings before) }
+        // If the input continues, the next call may assume the same.
         ensures goes_on { IfOk result (λ more. IsTrue more
             → (settings : Settings) (start : S) (from before : Option (List ℕ))
             → IsLiveSoFar S.step start input.old settings from (S.remaining input.old) before

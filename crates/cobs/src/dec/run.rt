@@ -134,6 +134,7 @@ impl UnbufferedDecoder {
         requires full { self.old.joint ≡ 0 → len ≤ self.old.missing }
         requires room { self.old.written + len ≤ length dest.old }
         requires nonzero { HasNoZero (take len (drop self.old.written dest.old)) }
+        // `xs` are the moved bytes, and `before` is the buffer as it was before the move.
         ensures fed { let at = self.old.written in (before xs : List ℕ) → at + len ≤ length before → length xs ≡ len
             → dest.old ≡ take at before ++ (xs ++ drop (at + len) before)
             → FeedsQuietly before (phase_of self.old) xs dest.new (phase_of self.new) }
@@ -162,6 +163,7 @@ impl UnbufferedDecoder {
         requires room { self.old.written + length copied.now ≤ length dest.old }
         requires copied { take (length copied.now) (drop self.old.written dest.old) ≡ xor_each sentinel copied.now }
         requires nonzero { HasNoZero (xor_each sentinel copied.now) }
+        // `xs` are the bytes that were copied, and `before` is the buffer as it was before the copy.
         ensures fed { let at = self.old.written in let len = length copied.now in (before xs : List ℕ) → at + len ≤ length before
             → length xs ≡ len → dest.old ≡ take at before ++ (xs ++ drop (at + len) before)
             → FeedsQuietly before (phase_of self.old) xs dest.new (phase_of self.new) }
@@ -239,6 +241,7 @@ impl UnbufferedDecoder {
         requires room { length copied.now ≤ length dest.old }
         requires copied { take (length copied.now) dest.old ≡ copied.now }
         requires nonzero { HasNoZero copied.now }
+        // `xs` are the bytes that were copied, and `before` is the buffer as it was before the copy.
         ensures fed { let len = length copied.now in (before xs : List ℕ) → len ≤ length before → length xs ≡ len
             → dest.old ≡ xs ++ drop len before
             → FeedsQuietly before (phase_of self.old) (code ∷ xs) dest.new (phase_of self.new) }

@@ -186,6 +186,7 @@ fn append_windows(
     }
     let last = source.len() - WINDOW;
     'by_window: while read < last {
+        // The mask of the window: 0 if it has no zero.
         let window = copy_at::<32>(source, read, dest, next);
         if window == 0 {
             if next - index < FULL_CODE - WINDOW {
@@ -201,6 +202,7 @@ fn append_windows(
                     let zeros = write_codes_of_zeros(&source[read..], dest, next);
                     read += zeros;
                     next += zeros;
+                    // The last of these codes is that of the open block.
                     index = next - 1;
                     continue;
                 }
@@ -210,6 +212,7 @@ fn append_windows(
                 continue;
             }
         }
+        // The block is full before a zero comes.
         dest[index] = FULL_CODE as u8;
         let end = index + FULL_CODE;
         return (read + (end - next), progress_at(end, end + 1, true));
