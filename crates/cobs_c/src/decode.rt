@@ -121,8 +121,7 @@ pub extern "C" fn jcobs_decode_with_sentinel(
     )
 }
 
-/// Returns the number of bytes before index `end` and the zero there. If `end` is the end of the `len` bytes, there is
-/// no zero.
+/// Returns the number of bytes through the zero at index `end`, or `len` if the bytes end there.
 fn with_zero(end: usize, len: usize) -> usize
     ensures { result ≡ min len (end + 1) }
 {
@@ -161,8 +160,7 @@ fn decode_long_in_place(buffer: &mut [u8], consumed: &mut usize) -> (u32, usize)
 pub extern "C" fn jcobs_decode_in_place(buffer: &mut [u8]) -> Answer
     ensures decodes { DecodesInPlace buffer.old result buffer.new }
 {
-    // It decodes a whole frame of 2 to 65 bytes, with nothing after its zero, without a search for its end. It declines all
-    // others.
+    // A whole frame of 2 to 65 bytes, with nothing after its zero, is decoded without a search for its end.
     if let Some(report) = decode_short_in_place(buffer) {
         let consumed = with_zero(report.parsed_size(), buffer.len());
         return done(consumed, report.frame_size());
