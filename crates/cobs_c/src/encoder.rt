@@ -45,7 +45,7 @@ pub extern "C" fn jcobs_encoder_finish(encoder: &mut UnbufferedEncoder, buffer: 
         encoder.new buffer.new }
 {
     let returned = finish(encoder, buffer);
-    // Field by field: otherwise compilers join the results of two returns in memory.
+    // Copied field by field: otherwise compilers join the results of two returns in memory.
     Answer { ..returned }
 }
 

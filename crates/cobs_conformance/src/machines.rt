@@ -6,7 +6,7 @@ use cobs::{DecodeResult, DecoderState, EncoderState, PushResult};
 use std::alloc::Global;
 
 /// Runs an `EncoderState` that has taken a message. Returns its result for one more byte, its state after that, and the
-/// frame that a caller has who carries out each result.
+/// frame of a caller that carries out each result.
 pub fn encoder_state(alloc: Global, arguments: &[&str]) -> Result<CallResult, CaseFault> {
     let [message, byte] = arguments else {
         return Err(CaseFault::Malformed);

@@ -42,8 +42,8 @@ const NEAR: usize = 64;
 pub const CHUNK_LEN: usize = 65_536;
 
 /// Shows each piece of the input when its sentinel arrives. At the end of the input it shows whether another piece has
-/// begun. A hang-up of the line doesn't end a piece: if one has begun, this is shown, and then that the line hung up.
-/// The bytes that follow are skipped up to the first sentinel.
+/// begun. A hang-up of the line doesn't end a piece. It is shown whether a piece has begun, and then that the line hung
+/// up. The bytes that follow are skipped up to the first sentinel.
 ///
 /// It calls [`Watch::show_next`] repeatedly. Each call reads once, and flushes the output before it reads. So all
 /// pieces that have ended so far have been written before the program waits for more bytes. Memory is allocated only

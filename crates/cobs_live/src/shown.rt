@@ -164,7 +164,8 @@ fn whole(kind: Kind, bytes: &[u8]) -> Sight<'_>
     }
 }
 
-/// Returns the piece. With `partial`, a broken or too long piece also has its decoded bytes that the buffer holds.
+/// Returns the piece. With `partial`, a broken or too long piece also has those of its decoded bytes that the buffer
+/// holds.
 pub fn with_part<'a>(partial: bool, piece: &Sight<'a>, buffer: &'a [u8]) -> Sight<'a>
     ensures seen { seen_in result
         ≡ with_part partial (seen_in piece.now) (held piece.now.kind piece.now.len buffer.now) }

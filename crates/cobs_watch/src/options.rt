@@ -53,7 +53,7 @@ pub(crate) struct ShowTask<'a> {
 /// Returns the task that the words ask for. The first word is the program's own name. `auto_color` says whether lines
 /// have colours if the words don't say.
 ///
-/// An error is also the result of a request for help or the version: it has the text to print and the status.
+/// A request for help or for the version has an error as its result too, with the text to print and the status.
 pub(crate) fn task_of<'a>(
     alloc: Global,
     words: &'a [String],

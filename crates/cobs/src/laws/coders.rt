@@ -44,9 +44,9 @@ pub fn law_15()
 /// 254th byte fills the block, and the encoder then writes the block's code. A zero ends the block, and the encoder
 /// writes its code too. At the end of the message it writes the code of the open block, unless the last block is full.
 ///
-/// If more bytes follow, the length of the whole frame is the index of the open block plus the length of the encoded
-/// frame of the open block's bytes and those that follow. The clause `goes_on` says this. In it `a` stands for any
-/// nonzero bytes, as many as the open block has.
+/// Suppose that more bytes follow. Encode the bytes of the open block together with them: the length of the whole frame
+/// is the index of the open block plus the length of that frame. The clause `goes_on` says this. In it `a` stands for
+/// any nonzero bytes, as many as the open block has.
 ///
 /// So your own encoder with these steps writes the frames of [`encode`](crate::encode).
 ///
