@@ -43,8 +43,8 @@ impl UnbufferedDecoder {
         if self.too_long != 0 {
             return;
         }
-        // Read once here, because compilers would read it again after they write a byte of the buffer. Three branches, which
-        // a processor predicts, are faster than one write of a chosen byte.
+        // Read once here, because compilers would read it again after they write a byte of the buffer. Each case has a write
+        // of its own: that is faster than to choose a byte first, and to write it in one place.
         let at = self.written;
         if self.missing != 0 {
             if dest.len() <= at {
