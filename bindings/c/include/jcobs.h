@@ -60,10 +60,11 @@
  *
  * Preconditions
  *
- * A pointer that comes with a length must be valid for reads of that many bytes, and for writes unless it is
- * const. If the length is 0, the pointer isn't used and may be NULL. Lengths count bytes and are at most
- * PTRDIFF_MAX. The buffers of a call must not overlap each other or the state: to work in place, use
- * jcobs_encode_in_place and jcobs_decode_in_place.
+ * Each pointer to bytes comes with a number of them: a name in _len or len counts the bytes that are there, and one in
+ * _size the bytes for which a buffer has room. The pointer must be valid for reads of that many bytes, and for writes
+ * unless it is const. If the number is 0, the pointer isn't used and may be NULL. It is at most PTRDIFF_MAX. The buffers
+ * of a call must not overlap each other or the state: to work in place, use jcobs_encode_in_place and
+ * jcobs_decode_in_place.
  *
  * A pointer to a state must be valid. The state's contents may be anything: even if they are corrupt, no call
  * accesses memory outside the buffers, each call returns, and consumed and length are within the buffers.
@@ -163,7 +164,7 @@ enum jcobs_kind {
 typedef struct jcobs_decoder {
     size_t written;         /* bytes of the open message in the buffer */
     unsigned char missing;  /* bytes missing in the open block */
-    unsigned char joint;    /* whether a zero joins the next block to the open one */
+    unsigned char joint;    /* whether a zero will join the next block, if one comes, to the open one */
     unsigned char too_long; /* whether the open message was too long for the buffer */
 } jcobs_decoder;
 
@@ -176,7 +177,7 @@ typedef struct jcobs_decoder {
 typedef struct jcobs_encoder {
     size_t index;        /* where the code of the open block belongs */
     unsigned char taken; /* bytes that the open block has */
-    unsigned char full;  /* whether the open block is only the place after a full one */
+    unsigned char full;  /* whether the last byte made a block full, after which no block is open yet */
 } jcobs_encoder;
 
 /* The start, when nothing was taken: all zeros, as jcobs_encoder_reset makes it. */
@@ -219,32 +220,32 @@ JCOBS_API size_t jcobs_max_length(size_t message_len) JCOBS_CHECKED;
 
 /* Writes the frame of the message to the front of `frame`. Room for jcobs_max_length(message_len) bytes always
  * suffices. */
-JCOBS_API jcobs_answer jcobs_encode(const void *message, size_t message_len, void *frame, size_t frame_len)
+JCOBS_API jcobs_answer jcobs_encode(const void *message, size_t message_len, void *frame, size_t frame_size)
     JCOBS_READS(1, 2) JCOBS_WRITES(3, 4) JCOBS_CHECKED;
 /* returns: status OK, consumed message_len, length of the frame
  *          status TOO_SMALL, consumed 0, length 0, exactly if the frame doesn't fit: the buffer is as it was */
 
 /* Does the same, with a zero after the frame, which needs one byte more. */
-JCOBS_API jcobs_answer jcobs_encode_terminated(const void *message, size_t message_len, void *frame, size_t frame_len)
+JCOBS_API jcobs_answer jcobs_encode_terminated(const void *message, size_t message_len, void *frame, size_t frame_size)
     JCOBS_READS(1, 2) JCOBS_WRITES(3, 4) JCOBS_CHECKED;
 /* returns: status OK, consumed message_len, length of the frame and its zero
  *          status TOO_SMALL, consumed 0, length 0, exactly if both don't fit: the buffer is as it was */
 
 /* Do the same for another sentinel: each byte of the frame is XORed with it. The terminator is the sentinel. */
 JCOBS_API jcobs_answer jcobs_encode_with_sentinel(const void *message, size_t message_len, void *frame,
-                                                  size_t frame_len, unsigned char sentinel) JCOBS_READS(1, 2)
+                                                  size_t frame_size, unsigned char sentinel) JCOBS_READS(1, 2)
     JCOBS_WRITES(3, 4) JCOBS_CHECKED;
 /* returns: as jcobs_encode */
 JCOBS_API jcobs_answer jcobs_encode_terminated_with_sentinel(const void *message, size_t message_len, void *frame,
-                                                             size_t frame_len, unsigned char sentinel) JCOBS_READS(1, 2)
-    JCOBS_WRITES(3, 4) JCOBS_CHECKED;
+                                                             size_t frame_size, unsigned char sentinel)
+    JCOBS_READS(1, 2) JCOBS_WRITES(3, 4) JCOBS_CHECKED;
 /* returns: as jcobs_encode_terminated */
 
 /* Encodes a message in its own buffer, so that no second buffer is needed. The message_len bytes of the message lie in
  * the buffer from JCOBS_MAX_OVERHEAD(message_len) on; the bytes before them don't matter. Afterwards the buffer begins
  * with the frame that jcobs_encode writes. */
 #define JCOBS_MAX_OVERHEAD(message_len) (JCOBS_MAX_LENGTH(message_len) - sizeof(char) * (message_len))
-JCOBS_API jcobs_answer jcobs_encode_in_place(void *buffer, size_t buffer_len, size_t message_len)
+JCOBS_API jcobs_answer jcobs_encode_in_place(void *buffer, size_t buffer_size, size_t message_len)
     JCOBS_CHANGES(1, 2) JCOBS_CHECKED;
 /* returns: status OK, consumed message_len, length of the frame
  *          status TOO_SMALL, consumed 0, length 0, exactly if the buffer is shorter than jcobs_max_length(message_len):
@@ -252,22 +253,22 @@ JCOBS_API jcobs_answer jcobs_encode_in_place(void *buffer, size_t buffer_len, si
 
 /* Decodes the first frame of the source to the front of `message`. Leading zeros are skipped, and the frame ends at the
  * next zero or with the source. A buffer as long as the source always suffices. */
-JCOBS_API jcobs_answer jcobs_decode(const void *source, size_t source_len, void *message, size_t message_len)
+JCOBS_API jcobs_answer jcobs_decode(const void *source, size_t source_len, void *message, size_t message_size)
     JCOBS_READS(1, 2) JCOBS_WRITES(3, 4) JCOBS_CHECKED;
 /* returns: status OK, consumed zeros in front, the frame and the zero after it, length of the message
  *          status BROKEN, consumed the same, length of all its output, with the block that is cut off
- *          status TOO_SMALL, consumed the same, length message_len: the buffer has the output's first bytes
+ *          status TOO_SMALL, consumed the same, length message_size: the buffer has the output's first bytes
  *          status EMPTY, consumed source_len, length 0: there are no bytes, or only zeros */
 
 /* Decodes the frame at the front of the source, for this sentinel, to the front of `message`. The frame ends at the
  * first sentinel or with the source. No sentinel is skipped: one in front is an empty message. So for the sentinel 0
  * its results aren't always those of jcobs_decode, which skips zeros, and counts the block that is cut off. */
 JCOBS_API jcobs_answer jcobs_decode_with_sentinel(const void *source, size_t source_len, void *message,
-                                                  size_t message_len, unsigned char sentinel) JCOBS_READS(1, 2)
+                                                  size_t message_size, unsigned char sentinel) JCOBS_READS(1, 2)
     JCOBS_WRITES(3, 4) JCOBS_CHECKED;
 /* returns: status OK, consumed the frame and the sentinel after it, length of the message
  *          status BROKEN, consumed the same, length of the output of the whole blocks
- *          status TOO_SMALL, consumed the same, length message_len: the buffer has that output's first bytes
+ *          status TOO_SMALL, consumed the same, length message_size: the buffer has that output's first bytes
  *          status EMPTY, consumed 0, length 0: there are no bytes */
 
 /* Decodes the frame at the front of the buffer in place. It ends at the first zero or with the buffer. No zero is
@@ -295,23 +296,23 @@ JCOBS_API void jcobs_decoder_reset(jcobs_decoder *decoder) JCOBS_STATE;
  * frame is reported once, at its zero. Zeros between frames are skipped. A broken or oversized frame never affects
  * the next.
  *
- * While a frame is open, pass the same buffer with the same length, as the last call left it. Otherwise the status
+ * While a frame is open, pass the same buffer with the same size, as the last call left it. Otherwise the status
  * of that frame and the contents of the buffer are unspecified. */
-JCOBS_API jcobs_answer jcobs_decoder_push(jcobs_decoder *decoder, void *buffer, size_t buffer_len, const void *bytes,
+JCOBS_API jcobs_answer jcobs_decoder_push(jcobs_decoder *decoder, void *buffer, size_t buffer_size, const void *bytes,
                                           size_t len) JCOBS_STATE JCOBS_WRITES(2, 3) JCOBS_READS(4, 5) JCOBS_CHECKED;
 /* returns: status OK, consumed through the zero that ends a frame, length of the message
  *          status BROKEN, consumed the same, length of all its output, with the block that is cut off
- *          status TOO_SMALL, consumed the same, length buffer_len: the output is longer, and its first bytes are there
+ *          status TOO_SMALL, consumed the same, length buffer_size: the output is longer, and its first bytes are there
  *          status MORE, consumed len, length of what the buffer has of an unfinished message */
 
 /* Takes one byte, as jcobs_decoder_push of that byte does, and faster. */
-JCOBS_API jcobs_answer jcobs_decoder_feed(jcobs_decoder *decoder, void *buffer, size_t buffer_len,
+JCOBS_API jcobs_answer jcobs_decoder_feed(jcobs_decoder *decoder, void *buffer, size_t buffer_size,
                                           unsigned char byte) JCOBS_STATE JCOBS_WRITES(2, 3) JCOBS_CHECKED;
 /* returns: as jcobs_decoder_push; consumed is 1 */
 
 /* Takes bytes of a stream in which this sentinel ends each frame, as jcobs_decoder_push does for 0. It works byte by
  * byte, so it is slower. */
-JCOBS_API jcobs_answer jcobs_decoder_push_with_sentinel(jcobs_decoder *decoder, void *buffer, size_t buffer_len,
+JCOBS_API jcobs_answer jcobs_decoder_push_with_sentinel(jcobs_decoder *decoder, void *buffer, size_t buffer_size,
                                                         const void *bytes, size_t len,
                                                         unsigned char sentinel) JCOBS_STATE JCOBS_WRITES(2, 3)
     JCOBS_READS(4, 5) JCOBS_CHECKED;
@@ -328,9 +329,9 @@ JCOBS_API void jcobs_encoder_reset(jcobs_encoder *encoder) JCOBS_STATE;
 /* Takes the next bytes of a message, whose frame is made in the buffer. If they don't fit, push fewer bytes, finish the
  * shorter message, or give it up by jcobs_encoder_reset.
  *
- * From the first push to the finish, pass the same buffer with the same length, as the last call left it.
+ * From the first push to the finish, pass the same buffer with the same size, as the last call left it.
  * Otherwise the contents of the buffer are unspecified. */
-JCOBS_API jcobs_answer jcobs_encoder_push(jcobs_encoder *encoder, void *buffer, size_t buffer_len, const void *bytes,
+JCOBS_API jcobs_answer jcobs_encoder_push(jcobs_encoder *encoder, void *buffer, size_t buffer_size, const void *bytes,
                                           size_t len) JCOBS_STATE JCOBS_WRITES(2, 3) JCOBS_READS(4, 5) JCOBS_CHECKED;
 /* returns: status OK, consumed len, length of the frame so far. The buffer holds that frame only after finish, which
  *              writes the code of the open block
@@ -338,13 +339,13 @@ JCOBS_API jcobs_answer jcobs_encoder_push(jcobs_encoder *encoder, void *buffer, 
  *              fit: the state and the buffer are as they were */
 
 /* Takes one byte, as jcobs_encoder_push of that byte does, and faster. */
-JCOBS_API jcobs_answer jcobs_encoder_feed(jcobs_encoder *encoder, void *buffer, size_t buffer_len,
+JCOBS_API jcobs_answer jcobs_encoder_feed(jcobs_encoder *encoder, void *buffer, size_t buffer_size,
                                           unsigned char byte) JCOBS_STATE JCOBS_WRITES(2, 3) JCOBS_CHECKED;
 /* returns: as jcobs_encoder_push; consumed is 1 or 0 */
 
 /* Ends the message: the buffer then begins with its frame, the one that jcobs_encode writes, and the encoder is at
  * the start. */
-JCOBS_API jcobs_answer jcobs_encoder_finish(jcobs_encoder *encoder, void *buffer, size_t buffer_len) JCOBS_STATE
+JCOBS_API jcobs_answer jcobs_encoder_finish(jcobs_encoder *encoder, void *buffer, size_t buffer_size) JCOBS_STATE
     JCOBS_WRITES(2, 3) JCOBS_CHECKED;
 /* returns: status OK, consumed 0, length of the frame
  *          status TOO_SMALL, consumed 0, length 0, only if the buffer is empty, or isn't the one that was pushed to:
@@ -352,26 +353,26 @@ JCOBS_API jcobs_answer jcobs_encoder_finish(jcobs_encoder *encoder, void *buffer
 
 /* Does the same, with a zero after the frame, which needs one byte more. */
 JCOBS_API jcobs_answer jcobs_encoder_finish_terminated(jcobs_encoder *encoder, void *buffer,
-                                                       size_t buffer_len) JCOBS_STATE JCOBS_WRITES(2, 3) JCOBS_CHECKED;
+                                                       size_t buffer_size) JCOBS_STATE JCOBS_WRITES(2, 3) JCOBS_CHECKED;
 /* returns: status OK, consumed 0, length of the frame and its zero
  *          status TOO_SMALL, consumed 0, length 0, if both don't fit: the state and the buffer are as they were */
 
 /* Do the same for another sentinel: each byte of the frame is XORed with it. Push the bytes as for the sentinel 0. */
-JCOBS_API jcobs_answer jcobs_encoder_finish_with_sentinel(jcobs_encoder *encoder, void *buffer, size_t buffer_len,
+JCOBS_API jcobs_answer jcobs_encoder_finish_with_sentinel(jcobs_encoder *encoder, void *buffer, size_t buffer_size,
                                                           unsigned char sentinel) JCOBS_STATE
     JCOBS_WRITES(2, 3) JCOBS_CHECKED;
 /* returns: as jcobs_encoder_finish */
 JCOBS_API jcobs_answer jcobs_encoder_finish_terminated_with_sentinel(jcobs_encoder *encoder, void *buffer,
-                                                                     size_t buffer_len,
+                                                                     size_t buffer_size,
                                                                      unsigned char sentinel) JCOBS_STATE
     JCOBS_WRITES(2, 3) JCOBS_CHECKED;
 /* returns: as jcobs_encoder_finish_terminated */
 
 /* Writes a short English description of a status to `text`, with a '\0' after it. A text that doesn't fit is cut;
- * JCOBS_TEXT_LENGTH bytes are always enough. If text_len is 0, nothing is written. A number that is no status is
+ * JCOBS_TEXT_LENGTH bytes are always enough. If text_size is 0, nothing is written. A number that is no status is
  * "unknown status". */
 #define JCOBS_TEXT_LENGTH 48
-JCOBS_API size_t jcobs_strerror(unsigned int status, char *text, size_t text_len) JCOBS_WRITES(2, 3);
+JCOBS_API size_t jcobs_strerror(unsigned int status, char *text, size_t text_size) JCOBS_WRITES(2, 3);
 /* returns: the length of the whole description */
 
 /* Returns the version of the library, as JCOBS_VERSION. */

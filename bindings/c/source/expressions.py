@@ -9,6 +9,7 @@ from rattle import Unknown
 # What jcobs.h calls these.
 CONSTANTS = {it: f"JCOBS_{it}" for it in "OK MORE TOO_SMALL BROKEN EMPTY NOT_A_FRAME CANONICAL LONGER".split()}
 COMPARED = ("==", "!=", "<", ">", "<=", ">=")
+MIRRORED = {"<": ">", ">": "<", "<=": ">=", ">=": "<="}  # with the constant on the right
 # How strongly C's operators bind; unary ones and casts are 15, and what has no operator 20.
 LEVELS = {"||": 1, "&&": 2, "|": 3, "^": 4, "&": 5, "==": 6, "!=": 6, "<": 7, ">": 7, "<=": 7, ">=": 7, "+": 9, "-": 9}
 LEVELS |= {"*": 10, "/": 10, "%": 10}
@@ -145,7 +146,12 @@ class Expressions(Kinds):
         _, sign, left, right = tree
         logical = sign in ("&&", "||")
         wanted = None if logical or sign in COMPARED else expected
-        a, b = self.without_casts(self.value(left, wanted), self.value(right, wanted), sign)
+        if sign == "<" and left[0] == "number" and str(int(left[1]) + 1) in names.NUMBERS:  # by the number that has a name
+            sign, left, right = ">=", right, ("number", str(int(left[1]) + 1))
+        a, b = self.value(left, wanted), self.value(right, wanted)
+        if sign in MIRRORED and a.literal and not b.literal:
+            a, b, sign = b, a, MIRRORED[sign]
+        a, b = self.without_casts(a, b, sign)
         if a.literal != b.literal:
             a.kind = b.kind = b.kind if a.literal else a.kind
         level = LEVELS[sign]
@@ -241,6 +247,8 @@ class Expressions(Kinds):
             return there.value(item[4][0][1], there.kind_of(item[3]))
         if start := there.resets(item):
             return Value(f"{start}_start({receiver.text})", None)
+        if (result := self.known_result(there, item, args)) is not None:
+            return result
         name = self.out.function(found)
         words = []
         for i, (param, kind) in enumerate(item[2]):
@@ -252,6 +260,20 @@ class Expressions(Kinds):
             else:
                 words.append(given.text)
         return Value(f"{name}({', '.join(words)})", there.kind_of(item[3]))
+
+    def known_result(self, there, item, args):
+        """The result of a function that is a match of an argument, if this is an end without numbers."""
+        of = item[4][0][1] if isinstance(item[4], list) and len(item[4]) == 1 and item[4][0][0] == "value" else ("none",)
+        if of[0] != "match" or of[1] not in [("path", name) for name, _ in item[2]] or len(args) != len(item[2]):
+            return None
+        given = args[[name for name, _ in item[2]].index(of[1][1])]
+        if given[:2] != ("call", "Err") or given[2][0][0] != "path":
+            return None
+        for pattern, body in of[2]:
+            if self.innermost(pattern) == ("variant", given[2][0][1], []) and len(body) == 1:
+                there.env = {name: self.value(arg, there.kind_of(kind)) for (name, kind), arg in zip(item[2], args) if arg is not given}
+                return there.value(body[0][1], there.kind_of(item[3]))
+        return None
 
     def is_same(self, item):
         """Whether a function gives what it takes: in C both are a jcobs_end of the same kind."""

@@ -17,19 +17,22 @@ class Function(Statements):
     def __init__(self, out, crate, path, item):
         self.out, self.crate, self.path = out, crate, path
         _, self.name, self.params, self.result, self.body, self.docs, self.attributes = item
+        self.key = (path, self.name)
         self.is_exported = any("no_mangle" in it for it in self.attributes)
         self.name_here = self.name  # of the function whose body this is
         self.passed, self.constants = {}, {}  # what it calls this function's parameters, and its parameters that are constants
         self.lines, self.depth, self.env, self.declared_names = [], 1, {}, {}
 
-    def take_body(self, crate, path, item, args):
-        """Takes the body of a function that nothing else calls, and to which this one only passes its parameters on."""
-        self.crate, self.path, self.body, self.name_here = crate, path, item[4], item[1]
-        for (name, _), arg in zip(item[2], args):
-            if arg[0] == "path":
-                self.passed[arg[1]] = name
-            else:
-                self.constants[name] = arg
+    def take_body(self, crate, path, item, args, converted=None):
+        """Takes the body of a function that nothing else calls, and to which this one passes its parameters on.
+
+        The results are the same, or converted: a length, by its name in an expression, and an error.
+        """
+        self.crate, self.path, self.name_here = crate, path, item[1]
+        self.body = with_results(item[4], *converted) if converted else item[4]
+        names_here = {arg[1]: name for (name, _), arg in zip(item[2], args) if arg[0] == "path"}
+        self.passed = {name: names_here[self.passed.get(name, name)] for name, _ in self.params}
+        self.constants |= {name: arg for (name, _), arg in zip(item[2], args) if arg[0] != "path"}
 
     def other(self, crate, path, name):
         """What stands for another function, or a constant, of another file."""
@@ -42,9 +45,12 @@ class Function(Statements):
         self.block(self.body, bool(self.result))
         text = "\n".join(self.lines)
         for name, kind in self.params:
-            if not self.is_exported and is_slice(kind) and not re.search(rf"\b{self.length_name(name)}\b", text):
-                self.out.unused.add((self.path, self.name, name))
-                params.remove(f"size_t {self.length_name(name)}")
+            if self.is_exported or not is_slice(kind):
+                continue
+            length = self.length_name(self.passed.get(name, name), kind[1])
+            if not re.search(rf"\b{length}\b", text):
+                self.out.unused.add((*self.key, name))
+                params.remove(f"size_t {length}")
         lines = [it for line in self.with_pointers(text).split("\n") for it in wrapped(line)]
         first = declarations(lines)
         if 0 < first < len(lines):
@@ -58,7 +64,7 @@ class Function(Statements):
         for name, kind in self.params:
             own = self.passed.get(name, name)
             if is_slice(kind):
-                pointer, length = (given[at][1], given[at + 1][1]) if given else (self.c_name(name), self.length_name(name))
+                pointer, length = (given[at][1], given[at + 1][1]) if given else (self.c_name(own), self.length_name(own, kind[1]))
                 const = "" if kind[1] else "const "
                 words += [f"{const}unsigned char *{pointer}", f"size_t {length}"]
                 self.env[own] = Slice(f"@{pointer}@" if given else pointer, length, kind[1])
@@ -66,7 +72,7 @@ class Function(Statements):
                 continue
             at += 1
             kind = self.kind_of(kind)
-            c_name = self.name_of_self(kind) if name == "self" else name if given else self.c_name(name)
+            c_name = name if given else self.name_of_self(kind) if own == "self" else self.c_name(own)
             words.append(self.declared(kind, c_name))
             self.env[own] = Value(c_name, kind)
         self.declared_names = {re.search(r"\w+$", word)[0]: 0 for word in words}
@@ -78,9 +84,10 @@ class Function(Statements):
         """The name of a parameter or a variable in C."""
         return names.VARIABLES.get(self.name_here, {}).get(name) or names.VARIABLES[""].get(name, name)
 
-    def length_name(self, name):
+    def length_name(self, name, is_mutable):
+        """The number of bytes of a slice: of those that are there, or of the room of a buffer."""
         wanted = self.c_name(f"{name}_len")
-        return wanted if wanted != f"{name}_len" else f"{self.c_name(name)}_len"
+        return wanted if wanted != f"{name}_len" else f"{self.c_name(name)}_{'size' if is_mutable else 'len'}"
 
     def name_of_self(self, kind):
         """A method's object: the last word of its type."""
@@ -95,7 +102,7 @@ class Function(Statements):
             pointer = self.env[own].pointer if isinstance(self.env.get(own), Slice) else f"@{name}@"
             cast = f"{'' if kind[1] else 'const '}unsigned char *"
             if f"{pointer}[" in text or text.count(pointer) > 1:
-                local = "to" if kind[1] else "from"
+                local = "data" if pointer == "@bytes@" else f"{pointer[1:-1]}_bytes"
                 text = f"{INDENT}{cast}const {local} = ({cast}){pointer[1:-1]};\n" + text.replace(pointer, local)
             else:
                 text = text.replace(pointer, f"({cast}){pointer[1:-1]}")
@@ -136,9 +143,30 @@ class Function(Statements):
         else:
             is_inline = self.name.rsplit("::", 1)[-1] in INLINE or any("inline(always)" in it for it in self.attributes)
             is_apart = any("inline(never)" in it for it in self.attributes)
-            name = self.out.names[(self.path, self.name)]
-            text = f"static {'JCOBS_INLINE ' * is_inline}{'JCOBS_NOINLINE ' * is_apart}{self.declared(self.kind_of(self.result), name)}({', '.join(params) or 'void'})"
+            name = self.out.names[self.key]
+            text = f"static {'JCOBS_INLINE ' * is_inline}{'JCOBS_APART ' * is_apart}{self.declared(self.kind_of(self.result), name)}({', '.join(params) or 'void'})"
         return wrapped(text)
+
+
+def with_results(body, name, length, other):
+    """The statements of a function, with these results in place of a length and of an error."""
+
+    def put(tree, found):
+        if tree == ("path", name):
+            return found
+        return type(tree)(put(it, found) for it in tree) if isinstance(tree, (tuple, list)) else tree
+
+    def changed(tree):
+        if not isinstance(tree, (tuple, list)) or not tree:
+            return tree
+        if tree[0] == "return" or tree[0] == "value" and tree is body[-1]:
+            kind, result, inner = tree[1]
+            if kind != "call" or result not in ("Ok", "Err"):
+                raise Unknown(f"the result {tree[1]}")
+            return (tree[0], put(length, inner[0]) if result == "Ok" else other)
+        return type(tree)(changed(it) for it in tree)
+
+    return changed(body)
 
 
 def wrapped(head):

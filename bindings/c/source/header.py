@@ -8,7 +8,7 @@ from rattle import Unknown
 SIZES = {"size_t": 8, "unsigned char": 1, "JCOBS_STATUS": 4}
 # What a clause says, by its first words: a sentence for those who read jcobs.c alone.
 SAYS = {
-    "Decodes ": """the result and every byte of the buffer depend only on the source and message_len, as COBS is defined;
+    "Decodes ": """the result and every byte of the buffer depend only on the source and message_size, as COBS is defined;
         a buffer as long as the source is never too small.""",
     "DecodesInPlace ": "the result and every byte of the buffer depend only on the buffer, as COBS is defined.",
     "DecodesNext ": """the result, the state and the buffer are those that the definition of the stream has after these

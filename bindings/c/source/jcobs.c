@@ -5,17 +5,17 @@
  * of a C library; a compiler may call memset or memcpy for some of its lines.
  *
  * What is proved: the functions of crates/cobs_small, for lengths of 64 bits, on any contents of the buffers and the
- * states. Each meets its contract, accesses only the buffers that it is given, and returns. The comment over a function
- * says what its contract says, in short, and names the file of crates/cobs_small/src in which it is. The words of the
- * contracts are defined in crates/cobs_abi/specs and crates/cobs/specs.
+ * states. Each meets its contract, accesses only the buffers that it is given, and returns. The comment above a call says
+ * what its contract says, in short, and names the file of crates/cobs_small/src in which it is. The words of the contracts
+ * are defined in crates/cobs_abi/specs and crates/cobs/specs.
  *
  * What is not proved, but tested: that this text does the same. translate.py wrote each function from the one in Rattle,
  * and your compiler compiles it. Lengths have the width of your size_t. bindings/c/tests/translated.py, which shares
  * nothing with translate.py, compares the two texts: conditions, loops, operators, numbers, calls and the use of names.
- * bindings/c/tests/run.sh compares two million calls with those of the proved module itself. It and tests/device.sh run
- * this file on processors with 16, 32 and 64 bits and both byte orders: the vectors of conformance/ (but on the one with
- * 16 bits), and random calls compared with plain C, with states of random bytes. The calls from jcobs_xor on are written
- * by hand, and tested in the same way.
+ * bindings/c/tests/run.sh compares two million calls with those of the proved module itself. This script and
+ * tests/device.sh run this file on processors with 16, 32 and 64 bits and both byte orders: the vectors of conformance/
+ * (except on the processor with 16 bits), and random calls compared with plain C, with states of random bytes. The calls
+ * from jcobs_xor on are written by hand, and tested in the same way.
  */
 #include "jcobs.h"
 
@@ -26,19 +26,34 @@
 typedef char jcobs_bytes_have_8_bits[CHAR_BIT == 8 ? 1 : -1];
 typedef char jcobs_size_t_is_no_shorter_than_int[sizeof(size_t) >= sizeof(unsigned int) ? 1 : -1];
 
-/* Functions that a loop over bytes calls become part of it. Some that have such a loop stay functions of their own, so that
- * the loop has all registers of a small processor; x86-64 has more of them, and a call costs as much there as some bytes. */
+/* Functions that a loop over bytes calls become part of it (JCOBS_INLINE). Some that have such a loop stay functions of
+ * their own (JCOBS_APART), so that the loop has all registers of a small processor; x86-64 has more of them, and a call
+ * costs as much there as some bytes. */
 #ifdef __GNUC__
 #define JCOBS_INLINE __inline__ __attribute__((always_inline))
 #ifdef __x86_64__
-#define JCOBS_NOINLINE
+#define JCOBS_APART __inline__
 #else
-#define JCOBS_NOINLINE __attribute__((noinline))
+#define JCOBS_APART __attribute__((noinline))
 #endif
 #else
 #define JCOBS_INLINE inline
-#define JCOBS_NOINLINE
+#define JCOBS_APART
 #endif
+
+/* A frame is a sequence of blocks. A block is a code, from 1 to 255, and after it code - 1 bytes, none of which is 0. A block
+ * with the code 255 is full. The message is the bytes of the blocks without their codes, and a zero between two blocks if the
+ * first one isn't full. The last block is open while more bytes may come.
+ *
+ * What the members of the states mean, which jcobs.h declares:
+ *
+ * - of a decoder: written bytes of the open message are in the buffer, and the open block lacks missing bytes. joint is 1
+ *   after the code of a block that isn't full: a zero joins the next block to it, if there is one. It is 0 at the start, and
+ *   after the code of a full block. too_long is 1 if a byte of the message had no room: the rest of the piece is skipped;
+ * - of an encoder: the code of the open block belongs at index, and the taken bytes of that block are in the buffer after
+ *   this place. full is 1 if the last byte made a block full: the frame ends with that block, unless another byte comes.
+ *
+ * They may have any other values. Each value but 0 of joint, too_long and full counts as 1. */
 
 /* How a piece of a stream ended. A piece is what is between two zeros: a frame, or one that is broken. */
 enum jcobs_end_kind {
@@ -120,10 +135,11 @@ enum {
     JCOBS_FULL_CODE = 255         /* the code of a full block */
 };
 
+/* How much of a frame is in the buffer. */
 typedef struct jcobs_progress {
-    size_t index;
-    unsigned char code;
-    int is_full;
+    size_t index;       /* where the code of the open block belongs */
+    unsigned char code; /* the code that the open block has so far: one more than the number of its bytes */
+    int is_full;        /* whether the last block is full: then no block is open, and the frame ends at index */
 } jcobs_progress;
 
 static JCOBS_INLINE jcobs_progress jcobs_make_progress(size_t index, unsigned char code, int is_full)
@@ -165,7 +181,7 @@ static size_t jcobs_leading_zeros(const unsigned char *source, size_t source_len
 }
 
 /* Returns where the piece ends that source[at] belongs to: after its zero, or at the end of the source. */
-static JCOBS_NOINLINE size_t jcobs_find_end(const unsigned char *source, size_t source_len, size_t at)
+static JCOBS_APART size_t jcobs_find_end(const unsigned char *source, size_t source_len, size_t at)
 {
     size_t end = at;
 
@@ -178,21 +194,21 @@ static JCOBS_NOINLINE size_t jcobs_find_end(const unsigned char *source, size_t 
     return end;
 }
 
-/* Returns the piece that ended in front of source[at], after this many bytes of output, with this many bytes of
- * its last block missing. */
-static JCOBS_INLINE jcobs_piece jcobs_ended_piece(size_t written, size_t missing, size_t at)
+/* Returns the piece that ended, with this many bytes of output, with this many bytes of its last block missing,
+ * and with this many bytes consumed. */
+static JCOBS_INLINE jcobs_piece jcobs_ended_piece(size_t written, size_t missing, size_t consumed)
 {
     if (missing == 0) {
-        return jcobs_make_piece(JCOBS_END_MESSAGE, written, at);
+        return jcobs_make_piece(JCOBS_END_MESSAGE, written, consumed);
     }
-    return jcobs_make_piece(JCOBS_END_BROKEN, written, at);
+    return jcobs_make_piece(JCOBS_END_BROKEN, written, consumed);
 }
 
 /* Decodes the first piece of the source into message, one byte after another, and returns how it ended, and how
  * many bytes were consumed: leading zeros, the piece, and the zero after it if there is one. It returns
  * JCOBS_END_NONE if there is no piece. */
 static JCOBS_INLINE jcobs_piece jcobs_decode_piece(const unsigned char *source, size_t source_len,
-                                                   unsigned char *message, size_t message_len)
+                                                   unsigned char *message, size_t message_size)
 {
     size_t start = jcobs_leading_zeros(source, source_len);
 
@@ -202,33 +218,33 @@ static JCOBS_INLINE jcobs_piece jcobs_decode_piece(const unsigned char *source, 
     size_t at = start + 1;
     size_t written = 0;
     unsigned char code = source[start];
-    size_t left = (size_t)code - 1;
+    size_t missing = (size_t)code - 1;
     while (at < source_len) {
         unsigned char byte = source[at];
         at++;
         if (byte == 0) {
             break;
         }
-        if (left != 0) {
-            if (written == message_len) {
+        if (missing != 0) {
+            if (written == message_size) {
                 return jcobs_make_piece(JCOBS_END_TOO_LONG, 0, jcobs_find_end(source, source_len, at));
             }
             message[written] = byte;
             written++;
-            left--;
+            missing--;
         } else {
             if (code != JCOBS_FULL_CODE) {
-                if (written == message_len) {
+                if (written == message_size) {
                     return jcobs_make_piece(JCOBS_END_TOO_LONG, 0, jcobs_find_end(source, source_len, at));
                 }
                 message[written] = 0;
                 written++;
             }
             code = byte;
-            left = (size_t)code - 1;
+            missing = (size_t)code - 1;
         }
     }
-    return jcobs_ended_piece(written, left, at);
+    return jcobs_ended_piece(written, missing, at);
 }
 
 /* Returns the result of a call that succeeded: this many bytes were taken, and this many are at the front of the
@@ -240,11 +256,11 @@ static jcobs_answer jcobs_ok_answer(size_t consumed, size_t length)
 
 /* Decodes the first frame of the source to the front of message.
  * Proved, by the contract in decode.rt: the result and every byte of the buffer depend only on the source and
- * message_len, as COBS is defined; a buffer as long as the source is never too small. */
-jcobs_answer jcobs_decode(const void *source, size_t source_len, void *message, size_t message_len)
+ * message_size, as COBS is defined; a buffer as long as the source is never too small. */
+jcobs_answer jcobs_decode(const void *source, size_t source_len, void *message, size_t message_size)
 {
     jcobs_piece piece = jcobs_decode_piece((const unsigned char *)source, source_len, (unsigned char *)message,
-                                           message_len);
+                                           message_size);
 
     switch (piece.kind) {
     case JCOBS_END_MESSAGE:
@@ -252,7 +268,7 @@ jcobs_answer jcobs_decode(const void *source, size_t source_len, void *message, 
     case JCOBS_END_BROKEN:
         return jcobs_make_answer(JCOBS_BROKEN, piece.consumed, piece.count);
     case JCOBS_END_TOO_LONG:
-        return jcobs_make_answer(JCOBS_TOO_SMALL, piece.consumed, message_len);
+        return jcobs_make_answer(JCOBS_TOO_SMALL, piece.consumed, message_size);
     case JCOBS_END_NONE:
         break;
     }
@@ -280,17 +296,17 @@ static JCOBS_INLINE unsigned char jcobs_joint_after(unsigned char code)
 }
 
 /* Takes a byte of a piece, and writes its output to the buffer. */
-static JCOBS_INLINE void jcobs_decoder_take_byte(jcobs_decoder *decoder, unsigned char *buffer, size_t buffer_len,
+static JCOBS_INLINE void jcobs_decoder_take_byte(jcobs_decoder *decoder, unsigned char *buffer, size_t buffer_size,
                                                  unsigned char byte)
 {
     if (decoder->too_long != 0) {
         return;
     }
-    /* Read once here, because compilers would read it again after they write a byte of the buffer. Three
-     * branches, which a processor predicts, are faster than one write of a chosen byte. */
+    /* Read once here, because compilers would read it again after they write a byte of the buffer. Each case has
+     * a write of its own: that is faster than to choose a byte first, and to write it in one place. */
     size_t at = decoder->written;
     if (decoder->missing != 0) {
-        if (buffer_len <= at) {
+        if (buffer_size <= at) {
             decoder->too_long = 1;
             return;
         }
@@ -300,7 +316,7 @@ static JCOBS_INLINE void jcobs_decoder_take_byte(jcobs_decoder *decoder, unsigne
         return;
     }
     if (decoder->joint != 0) {
-        if (buffer_len <= at) {
+        if (buffer_size <= at) {
             decoder->too_long = 1;
             return;
         }
@@ -311,8 +327,9 @@ static JCOBS_INLINE void jcobs_decoder_take_byte(jcobs_decoder *decoder, unsigne
     decoder->joint = jcobs_joint_after(byte);
 }
 
-/* Takes a zero, which ends a piece if one has begun. The buffer has this length. */
-static JCOBS_INLINE jcobs_end jcobs_decoder_end(jcobs_decoder *decoder, size_t buffer_len)
+/* Takes a zero, which ends a piece if one has begun. It returns how the piece ended. The buffer has buffer_size
+ * bytes. */
+static JCOBS_INLINE jcobs_end jcobs_decoder_end_piece(jcobs_decoder *decoder, size_t buffer_size)
 {
     jcobs_decoder before = *decoder;
 
@@ -325,7 +342,7 @@ static JCOBS_INLINE jcobs_end jcobs_decoder_end(jcobs_decoder *decoder, size_t b
     }
     /* This happens only if the caller now passes a shorter buffer, since no more bytes are counted than were
      * written. */
-    if (buffer_len < before.written) {
+    if (buffer_size < before.written) {
         return jcobs_make_end(JCOBS_END_TOO_LONG, 0);
     }
     if (before.written == 0 && before.joint == 0) {
@@ -336,9 +353,8 @@ static JCOBS_INLINE jcobs_end jcobs_decoder_end(jcobs_decoder *decoder, size_t b
 
 /* Takes bytes of a stream of frames for this sentinel, one step for each byte. It stops after the sentinel that
  * ends the first piece, or takes all bytes if no piece ends. */
-static JCOBS_INLINE jcobs_piece jcobs_decoder_feed_each(jcobs_decoder *decoder, unsigned char *buffer,
-                                                        size_t buffer_len, const unsigned char *bytes, size_t len,
-                                                        unsigned char sentinel)
+static JCOBS_INLINE jcobs_piece jcobs_decoder_take(jcobs_decoder *decoder, unsigned char *buffer, size_t buffer_size,
+                                                   const unsigned char *bytes, size_t len, unsigned char sentinel)
 {
     /* A copy, so that it stays in registers: compilers read the fields again after each byte that is written. */
     jcobs_decoder state = *decoder;
@@ -348,12 +364,12 @@ static JCOBS_INLINE jcobs_piece jcobs_decoder_feed_each(jcobs_decoder *decoder, 
             unsigned char byte = (unsigned char)(bytes[taken] ^ sentinel);
             taken++;
             if (byte != 0) {
-                jcobs_decoder_take_byte(&state, buffer, buffer_len, byte);
+                jcobs_decoder_take_byte(&state, buffer, buffer_size, byte);
                 if (state.too_long != 0) {
                     break;
                 }
             } else {
-                jcobs_end end = jcobs_decoder_end(&state, buffer_len);
+                jcobs_end end = jcobs_decoder_end_piece(&state, buffer_size);
                 if (end.kind != JCOBS_END_NONE) {
                     jcobs_decoder_start(decoder);
                     return jcobs_make_piece(end.kind, end.count, taken);
@@ -374,55 +390,56 @@ static JCOBS_INLINE jcobs_piece jcobs_decoder_feed_each(jcobs_decoder *decoder, 
     return jcobs_make_piece(JCOBS_END_NONE, 0, 0);
 }
 
-/* Returns how many bytes of an open message a buffer of buffer_len bytes holds. */
-static JCOBS_INLINE size_t jcobs_decoder_length(const jcobs_decoder *decoder, size_t buffer_len)
+/* Returns how many bytes of an open message a buffer of buffer_size bytes holds. */
+static JCOBS_INLINE size_t jcobs_decoder_length(const jcobs_decoder *decoder, size_t buffer_size)
 {
     if (decoder->too_long != 0) {
-        return buffer_len;
+        return buffer_size;
     }
-    return jcobs_min(decoder->written, buffer_len);
+    return jcobs_min(decoder->written, buffer_size);
 }
 
 /* Returns the result of a call that took len bytes or those through this piece's end, if it has ended. The buffer
- * has buffer_len bytes. */
+ * has buffer_size bytes. */
 static JCOBS_INLINE jcobs_answer jcobs_decoder_answer(const jcobs_decoder *decoder, jcobs_piece piece, size_t len,
-                                                      size_t buffer_len)
+                                                      size_t buffer_size)
 {
     switch (piece.kind) {
     case JCOBS_END_MESSAGE:
         return jcobs_ok_answer(piece.consumed, piece.count);
     case JCOBS_END_BROKEN:
-        /* The count is at most buffer_len, unless the state is corrupt. */
-        return jcobs_make_answer(JCOBS_BROKEN, piece.consumed, jcobs_min(piece.count, buffer_len));
+        /* The count is at most buffer_size, unless the state is corrupt. */
+        return jcobs_make_answer(JCOBS_BROKEN, piece.consumed, jcobs_min(piece.count, buffer_size));
     case JCOBS_END_TOO_LONG:
-        return jcobs_make_answer(JCOBS_TOO_SMALL, piece.consumed, buffer_len);
+        return jcobs_make_answer(JCOBS_TOO_SMALL, piece.consumed, buffer_size);
     case JCOBS_END_NONE:
         break;
     }
-    return jcobs_make_answer(JCOBS_MORE, len, jcobs_decoder_length(decoder, buffer_len));
+    return jcobs_make_answer(JCOBS_MORE, len, jcobs_decoder_length(decoder, buffer_size));
 }
 
 /* Takes bytes of the stream, through the zero that ends the first piece, or all of them if no piece ends. Even if
- * the state is corrupt, the buffer keeps its length, and the counts are within the bytes and the buffer.
+ * the state is corrupt, nothing outside the buffers is accessed.
  * Proved, by the contract in decoder.rt: the result, the state and the buffer are those that the definition of the
  * stream has after these bytes, however it is cut into calls. In every state consumed and length are within bytes
  * and buffer. */
-jcobs_answer jcobs_decoder_push(jcobs_decoder *decoder, void *buffer, size_t buffer_len, const void *bytes, size_t len)
+jcobs_answer jcobs_decoder_push(jcobs_decoder *decoder, void *buffer, size_t buffer_size, const void *bytes, size_t len)
 {
-    jcobs_piece piece = jcobs_decoder_feed_each(decoder, (unsigned char *)buffer, buffer_len,
-                                                (const unsigned char *)bytes, len, 0);
+    jcobs_piece piece = jcobs_decoder_take(decoder, (unsigned char *)buffer, buffer_size, (const unsigned char *)bytes,
+                                           len, 0);
 
-    return jcobs_decoder_answer(decoder, piece, len, buffer_len);
+    return jcobs_decoder_answer(decoder, piece, len, buffer_size);
 }
 
-/* Takes the next byte of the stream, and writes its output to the buffer. */
-static JCOBS_INLINE jcobs_end jcobs_decoder_step(jcobs_decoder *decoder, unsigned char *buffer, size_t buffer_len,
+/* Takes the next byte of the stream, and writes its output to the buffer. It returns JCOBS_END_TOO_LONG at each
+ * byte of a piece that is too long. */
+static JCOBS_INLINE jcobs_end jcobs_decoder_step(jcobs_decoder *decoder, unsigned char *buffer, size_t buffer_size,
                                                  unsigned char byte)
 {
     if (byte == 0) {
-        return jcobs_decoder_end(decoder, buffer_len);
+        return jcobs_decoder_end_piece(decoder, buffer_size);
     }
-    jcobs_decoder_take_byte(decoder, buffer, buffer_len, byte);
+    jcobs_decoder_take_byte(decoder, buffer, buffer_size, byte);
     if (decoder->too_long != 0) {
         return jcobs_make_end(JCOBS_END_TOO_LONG, 0);
     }
@@ -433,20 +450,20 @@ static JCOBS_INLINE jcobs_end jcobs_decoder_step(jcobs_decoder *decoder, unsigne
  * Proved, by the contract in decoder.rt: the result, the state and the buffer are those that the definition of the
  * stream has after these bytes, however it is cut into calls. In every state consumed and length are within bytes
  * and buffer. */
-jcobs_answer jcobs_decoder_feed(jcobs_decoder *decoder, void *buffer, size_t buffer_len, unsigned char byte)
+jcobs_answer jcobs_decoder_feed(jcobs_decoder *decoder, void *buffer, size_t buffer_size, unsigned char byte)
 {
-    jcobs_end end = jcobs_decoder_step(decoder, (unsigned char *)buffer, buffer_len, byte);
+    jcobs_end end = jcobs_decoder_step(decoder, (unsigned char *)buffer, buffer_size, byte);
 
-    /* Only a zero ends a piece. */
+    /* A piece that is too long is reported once, at the zero that ends it, and not at each of its bytes. */
     if (byte != 0) {
         end = jcobs_make_end(JCOBS_END_NONE, 0);
     }
     jcobs_piece piece = jcobs_make_piece(end.kind, end.count, 1);
-    return jcobs_decoder_answer(decoder, piece, 1, buffer_len);
+    return jcobs_decoder_answer(decoder, piece, 1, buffer_size);
 }
 
 /* Returns how many bytes longer than its message an encoded frame is at most, for a message of message_len bytes. */
-static size_t jcobs_max_encoding_overhead(size_t message_len)
+static size_t jcobs_max_overhead(size_t message_len)
 {
     if (message_len == 0) {
         return 1;
@@ -458,7 +475,7 @@ static size_t jcobs_max_encoding_overhead(size_t message_len)
  * Proved, by the contract in encode.rt: the result is that number if it is below 2 to the 64th, and 0 if not. */
 size_t jcobs_max_length(size_t message_len)
 {
-    return jcobs_sum_or(message_len, jcobs_max_encoding_overhead(message_len), 0);
+    return jcobs_sum_or(message_len, jcobs_max_overhead(message_len), 0);
 }
 
 /* Returns whether spare bytes cover the overhead of every message of len bytes: whether len is at most 254 times
@@ -472,7 +489,7 @@ static JCOBS_INLINE int jcobs_covers_overhead(size_t len, size_t spare)
 
 /* Returns whether fewer than spare blocks become full and are followed by another byte, if the open block with
  * this code takes these bytes. Each such block needs one byte of the frame for the code after it. */
-static int jcobs_fits_each(unsigned char code, const unsigned char *bytes, size_t len, size_t spare)
+static int jcobs_extra_codes_fit(unsigned char code, const unsigned char *bytes, size_t len, size_t spare)
 {
     size_t left = spare;
 
@@ -490,21 +507,24 @@ static int jcobs_fits_each(unsigned char code, const unsigned char *bytes, size_
 }
 
 /* Returns whether room bytes, counted from the code of an open block, are enough for the frame if the block takes
- * these bytes. It reads the bytes only if their number doesn't decide that. */
+ * these bytes. It reads the bytes only if their number doesn't decide that. data_len is how many bytes of the
+ * message the open block and those after it then have. */
 static JCOBS_INLINE int jcobs_has_room(unsigned char code, const unsigned char *bytes, size_t len, size_t room)
 {
-    size_t held = (size_t)code - 1;
+    size_t taken = (size_t)code - 1;
 
-    if (room <= held || room - held <= len) {
+    if (room <= taken || room - taken <= len) {
         return 0;
     }
-    size_t total = held + len;
-    size_t spare = room - total;
-    return jcobs_covers_overhead(total, spare) || jcobs_fits_each(code, bytes, len, spare);
+    size_t data_len = taken + len;
+    size_t spare = room - data_len;
+    return jcobs_covers_overhead(data_len, spare) || jcobs_extra_codes_fit(code, bytes, len, spare);
 }
 
-/* Writes the frame of the message, one byte after another. */
-static size_t jcobs_write_each(const unsigned char *message, size_t message_len, unsigned char *frame)
+/* Writes the frame of the message, and returns its length. index is where the code of the open block belongs, and
+ * next where the next byte does. No part has more bytes than the open block has room for, so no byte needs a test
+ * whether the block is full. */
+static size_t jcobs_write_blocks(const unsigned char *message, size_t message_len, unsigned char *frame)
 {
     size_t index = 0;
     size_t next = 1;
@@ -518,8 +538,8 @@ static size_t jcobs_write_each(const unsigned char *message, size_t message_len,
         }
         const unsigned char *rest = message + read;
         size_t rest_len = message_len - read;
-        size_t len = jcobs_min(rest_len, JCOBS_FULL_CODE - (next - index));
-        for (size_t i = 0; i < len; i++) {
+        size_t part_len = jcobs_min(rest_len, JCOBS_FULL_CODE - (next - index));
+        for (size_t i = 0; i < part_len; i++) {
             unsigned char byte = rest[i];
             if (byte == 0) {
                 frame[index] = (unsigned char)(next - index);
@@ -529,34 +549,21 @@ static size_t jcobs_write_each(const unsigned char *message, size_t message_len,
             }
             next++;
         }
-        read += len;
+        read += part_len;
     }
     frame[index] = (unsigned char)(next - index);
     return next;
 }
 
-/* Writes the frame of the message, if it fits. It reads the message twice only if frame is shorter than the
- * longest frame of a message of that length. */
-static jcobs_frame jcobs_try_encode_each(const unsigned char *message, size_t message_len, unsigned char *frame,
-                                         size_t frame_len)
-{
-    if (!jcobs_has_room(1, message, message_len, frame_len)) {
-        return jcobs_make_frame(0, 0);
-    }
-    return jcobs_make_frame(1, jcobs_write_each(message, message_len, frame));
-}
-
 /* Writes the frame of the message to the front of the buffer, if it fits, and returns its length in bytes.
  * Otherwise it returns 0, and nothing is written. */
-static JCOBS_NOINLINE size_t jcobs_write_frame(const unsigned char *message, size_t message_len, unsigned char *frame,
-                                               size_t frame_len)
+static JCOBS_APART size_t jcobs_write_frame(const unsigned char *message, size_t message_len, unsigned char *frame,
+                                            size_t frame_size)
 {
-    jcobs_frame result = jcobs_try_encode_each(message, message_len, frame, frame_len);
-
-    if (result.fits) {
-        return result.length;
+    if (!jcobs_has_room(1, message, message_len, frame_size)) {
+        return 0;
     }
-    return 0;
+    return jcobs_write_blocks(message, message_len, frame);
 }
 
 /* Returns the result of a call that consumed and wrote nothing, because the buffer is too short. */
@@ -568,9 +575,9 @@ static jcobs_answer jcobs_too_small_answer(void)
 /* Writes the frame of the message to the front of the buffer frame, if it fits. Otherwise nothing is written.
  * Proved, by the contract in encode.rt: if the frame fits, it is the message's, and bytes after it are as they
  * were; if it doesn't, the status is TOO_SMALL, and the buffer is as it was. */
-jcobs_answer jcobs_encode(const void *message, size_t message_len, void *frame, size_t frame_len)
+jcobs_answer jcobs_encode(const void *message, size_t message_len, void *frame, size_t frame_size)
 {
-    size_t length = jcobs_write_frame((const unsigned char *)message, message_len, (unsigned char *)frame, frame_len);
+    size_t length = jcobs_write_frame((const unsigned char *)message, message_len, (unsigned char *)frame, frame_size);
 
     if (length == 0) {
         return jcobs_too_small_answer();
@@ -582,23 +589,24 @@ jcobs_answer jcobs_encode(const void *message, size_t message_len, void *frame, 
  * nothing is written.
  * Proved, by the contract in encode.rt: if the frame and the zero fit, they are the message's, and bytes after
  * them are as they were; if they don't, the status is TOO_SMALL, and the buffer is as it was. */
-jcobs_answer jcobs_encode_terminated(const void *message, size_t message_len, void *frame, size_t frame_len)
+jcobs_answer jcobs_encode_terminated(const void *message, size_t message_len, void *frame, size_t frame_size)
 {
-    unsigned char *const to = (unsigned char *)frame;
+    unsigned char *const frame_bytes = (unsigned char *)frame;
 
-    if (frame_len == 0) {
+    if (frame_size == 0) {
         return jcobs_too_small_answer();
     }
-    size_t last = frame_len - 1;
-    size_t length = jcobs_write_frame((const unsigned char *)message, message_len, to, last);
+    /* The zero needs one byte. */
+    size_t room = frame_size - 1;
+    size_t length = jcobs_write_frame((const unsigned char *)message, message_len, frame_bytes, room);
     if (length == 0) {
         return jcobs_too_small_answer();
     }
-    to[length] = 0;
+    frame_bytes[length] = 0;
     return jcobs_ok_answer(message_len, length + 1);
 }
 
-/* Takes the next byte of the message, for which there is room. */
+/* Takes the next byte of the message, for which there is room: the step of loops over bytes. */
 static JCOBS_INLINE void jcobs_encoder_append_byte(jcobs_encoder *encoder, unsigned char *buffer, unsigned char byte)
 {
     unsigned char code = (unsigned char)(encoder->taken + 1);
@@ -625,12 +633,12 @@ static JCOBS_INLINE void jcobs_encoder_append_byte(jcobs_encoder *encoder, unsig
 
 /* Writes the open block's code, if that is part of the frame, and returns where the frame ends. The byte in its
  * place may have any value before. */
-static JCOBS_INLINE size_t jcobs_close_block(unsigned char *buffer, size_t buffer_len, jcobs_progress progress)
+static JCOBS_INLINE size_t jcobs_close_block(unsigned char *buffer, size_t buffer_size, jcobs_progress progress)
 {
     size_t index = progress.index;
     unsigned char code = progress.code;
 
-    if (index < buffer_len) {
+    if (index < buffer_size) {
         buffer[index] = progress.is_full ? buffer[index] : code;
     }
     if (progress.is_full) {
@@ -645,29 +653,31 @@ static jcobs_progress jcobs_encoder_progress(const jcobs_encoder *encoder)
     return jcobs_make_progress(encoder->index, (unsigned char)(encoder->taken + 1), encoder->full != 0);
 }
 
-/* Encodes a message in its own buffer, and returns the length of its frame in bytes. */
-static size_t jcobs_write_in_place(unsigned char *buffer, size_t buffer_len, size_t message_len)
+/* Encodes a message in its own buffer, in which it lies after the room for the other bytes of the longest frame.
+ * Returns the length of the frame in bytes. */
+static size_t jcobs_write_in_place(unsigned char *buffer, size_t buffer_size, size_t message_len)
 {
-    size_t before = jcobs_max_encoding_overhead(message_len);
+    size_t start = jcobs_max_overhead(message_len);
     jcobs_encoder encoder = JCOBS_ENCODER_INIT;
 
     for (size_t taken = 0; taken < message_len; taken++) {
-        unsigned char byte = buffer[before + taken];
+        unsigned char byte = buffer[start + taken];
         jcobs_encoder_append_byte(&encoder, buffer, byte);
     }
-    return jcobs_close_block(buffer, buffer_len, jcobs_encoder_progress(&encoder));
+    return jcobs_close_block(buffer, buffer_size, jcobs_encoder_progress(&encoder));
 }
 
-/* Encodes the message of message_len bytes that is in the buffer, after the room for the other bytes of the
- * longest frame, to the front of the buffer, if the longest frame fits. Otherwise nothing is written.
+/* Encodes a message in its own buffer, if the longest frame of a message of message_len bytes fits. Otherwise
+ * nothing is written. The message lies in the buffer after the room for the other bytes of that frame, from the
+ * index JCOBS_MAX_OVERHEAD(message_len) on, and its frame is written to the front.
  * Proved, by the contract in encode.rt: if the longest frame fits, the buffer begins with the message's, and bytes
  * after that are as they were; if it doesn't, the status is TOO_SMALL, and the buffer is as it was. */
-jcobs_answer jcobs_encode_in_place(void *buffer, size_t buffer_len, size_t message_len)
+jcobs_answer jcobs_encode_in_place(void *buffer, size_t buffer_size, size_t message_len)
 {
-    if (buffer_len < message_len || buffer_len - message_len < jcobs_max_encoding_overhead(message_len)) {
+    if (buffer_size < message_len || buffer_size - message_len < jcobs_max_overhead(message_len)) {
         return jcobs_too_small_answer();
     }
-    size_t length = jcobs_write_in_place((unsigned char *)buffer, buffer_len, message_len);
+    size_t length = jcobs_write_in_place((unsigned char *)buffer, buffer_size, message_len);
     return jcobs_ok_answer(message_len, length);
 }
 
@@ -678,18 +688,18 @@ void jcobs_encoder_reset(jcobs_encoder *encoder)
     jcobs_encoder_start(encoder);
 }
 
-/* Returns whether this progress is possible in a buffer of this length. */
-static JCOBS_INLINE int jcobs_encoder_is_within(const jcobs_encoder *encoder, size_t buffer_len)
+/* Returns whether the state is possible in a buffer of this size. */
+static JCOBS_INLINE int jcobs_encoder_is_within(const jcobs_encoder *encoder, size_t buffer_size)
 {
-    if (253 < encoder->taken || buffer_len < encoder->index) {
+    if (encoder->taken >= JCOBS_FULL_BLOCK_BYTES || buffer_size < encoder->index) {
         return 0;
     }
-    return encoder->full != 0 || encoder->taken < buffer_len - encoder->index;
+    return encoder->full != 0 || encoder->taken < buffer_size - encoder->index;
 }
 
 /* Takes the next bytes of the message, for which there is room, one at a time. */
-static JCOBS_INLINE void jcobs_encoder_append_each(jcobs_encoder *encoder, unsigned char *buffer,
-                                                   const unsigned char *bytes, size_t len)
+static JCOBS_INLINE void jcobs_encoder_append(jcobs_encoder *encoder, unsigned char *buffer, const unsigned char *bytes,
+                                              size_t len)
 {
     /* A copy, so that the numbers stay in registers. */
     jcobs_encoder state = *encoder;
@@ -699,24 +709,25 @@ static JCOBS_INLINE void jcobs_encoder_append_each(jcobs_encoder *encoder, unsig
     *encoder = state;
 }
 
-/* Takes the next bytes of the message, one at a time. */
-static int jcobs_encoder_push_each(jcobs_encoder *encoder, unsigned char *buffer, size_t buffer_len,
-                                   const unsigned char *bytes, size_t len)
+/* Takes the next bytes of the message, if the frame of all bytes so far fits the buffer, and returns whether it
+ * does. */
+static int jcobs_encoder_try_append(jcobs_encoder *encoder, unsigned char *buffer, size_t buffer_size,
+                                    const unsigned char *bytes, size_t len)
 {
-    if (!jcobs_encoder_is_within(encoder, buffer_len)) {
+    if (!jcobs_encoder_is_within(encoder, buffer_size)) {
         return 0;
     }
     if (len == 0) {
         return 1;
     }
-    if (!jcobs_has_room((unsigned char)(encoder->taken + 1), bytes, len, buffer_len - encoder->index)) {
+    if (!jcobs_has_room((unsigned char)(encoder->taken + 1), bytes, len, buffer_size - encoder->index)) {
         return 0;
     }
-    jcobs_encoder_append_each(encoder, buffer, bytes, len);
+    jcobs_encoder_append(encoder, buffer, bytes, len);
     return 1;
 }
 
-/* Returns the length of the frame that an encoder has written so far. */
+/* Returns the length of the frame, if the message ends with the bytes that were taken. */
 static JCOBS_INLINE size_t jcobs_encoder_length(const jcobs_encoder *encoder)
 {
     jcobs_progress progress = jcobs_encoder_progress(encoder);
@@ -725,20 +736,22 @@ static JCOBS_INLINE size_t jcobs_encoder_length(const jcobs_encoder *encoder)
 }
 
 /* Takes the next bytes of a message, if the frame of all bytes so far fits the buffer. Even if the state is
- * corrupt, the buffer keeps its length, and the counts are within the bytes and the buffer.
+ * corrupt, nothing outside the buffers is accessed.
  * Proved, by the contract in encoder.rt: the status is OK exactly if the frame of all that was taken and these
  * bytes fits. If it isn't OK, the state and the buffer are as they were. In every state consumed and length are
  * within bytes and buffer. */
-jcobs_answer jcobs_encoder_push(jcobs_encoder *encoder, void *buffer, size_t buffer_len, const void *bytes, size_t len)
+jcobs_answer jcobs_encoder_push(jcobs_encoder *encoder, void *buffer, size_t buffer_size, const void *bytes, size_t len)
 {
-    if (!jcobs_encoder_push_each(encoder, (unsigned char *)buffer, buffer_len, (const unsigned char *)bytes, len)) {
+    if (!jcobs_encoder_try_append(encoder, (unsigned char *)buffer, buffer_size, (const unsigned char *)bytes, len)) {
         return jcobs_too_small_answer();
     }
     return jcobs_ok_answer(len, jcobs_encoder_length(encoder));
 }
 
-/* Takes the next byte of the message, for which there is room, and returns the length of the frame so far. */
-static JCOBS_INLINE size_t jcobs_encoder_append_one(jcobs_encoder *encoder, unsigned char *buffer, unsigned char byte)
+/* Does what jcobs_encoder_append_byte does, and returns the length of the frame so far: in each case it ends after
+ * the byte at next. Compilers make fewer instructions of this form for one byte, and more for a loop. */
+static JCOBS_INLINE size_t jcobs_encoder_append_and_measure(jcobs_encoder *encoder, unsigned char *buffer,
+                                                            unsigned char byte)
 {
     size_t index = encoder->index;
     size_t code = (size_t)encoder->taken + 1;
@@ -762,63 +775,52 @@ static JCOBS_INLINE size_t jcobs_encoder_append_one(jcobs_encoder *encoder, unsi
     return next + 1;
 }
 
-/* Takes the next byte of the message, if it fits, and returns the length that the frame has if the message ends
- * with this byte. */
-static JCOBS_INLINE jcobs_frame jcobs_encoder_feed_len(jcobs_encoder *encoder, unsigned char *buffer, size_t buffer_len,
-                                                       unsigned char byte)
+/* Takes the next byte of a message, if the frame of all bytes so far fits the buffer. It isn't written in
+ * jcobs_encoder_feed, because avr-gcc's code would then take a tenth more time. */
+static jcobs_answer jcobs_encoder_feed_byte(jcobs_encoder *encoder, unsigned char *buffer, size_t buffer_size,
+                                            unsigned char byte)
 {
     size_t code = (size_t)encoder->taken + 1;
 
-    if (JCOBS_FULL_BLOCK_BYTES < code || buffer_len < encoder->index || buffer_len - encoder->index <= code) {
-        return jcobs_make_frame(0, 0);
+    if (code > JCOBS_FULL_BLOCK_BYTES || buffer_size < encoder->index || buffer_size - encoder->index <= code) {
+        return jcobs_too_small_answer();
     }
-    return jcobs_make_frame(1, jcobs_encoder_append_one(encoder, buffer, byte));
-}
-
-/* Takes the next byte of a message, if the frame of all bytes so far fits the buffer. */
-static jcobs_answer jcobs_encode_byte(jcobs_encoder *encoder, unsigned char *buffer, size_t buffer_len,
-                                      unsigned char byte)
-{
-    jcobs_frame result = jcobs_encoder_feed_len(encoder, buffer, buffer_len, byte);
-
-    if (result.fits) {
-        return jcobs_ok_answer(1, result.length);
-    }
-    return jcobs_too_small_answer();
+    return jcobs_ok_answer(1, jcobs_encoder_append_and_measure(encoder, buffer, byte));
 }
 
 /* Takes the next byte of a message, as a push of that byte does.
  * Proved, by the contract in encoder.rt: the status is OK exactly if the frame of all that was taken and these
  * bytes fits. If it isn't OK, the state and the buffer are as they were. In every state consumed and length are
  * within bytes and buffer. */
-jcobs_answer jcobs_encoder_feed(jcobs_encoder *encoder, void *buffer, size_t buffer_len, unsigned char byte)
+jcobs_answer jcobs_encoder_feed(jcobs_encoder *encoder, void *buffer, size_t buffer_size, unsigned char byte)
 {
-    return jcobs_encode_byte(encoder, (unsigned char *)buffer, buffer_len, byte);
+    return jcobs_encoder_feed_byte(encoder, (unsigned char *)buffer, buffer_size, byte);
 }
 
-/* Ends the message, and returns the length of its encoded frame in bytes. The buffer begins with that frame, and
- * the encoder is ready for the next message. Every byte after the frame is as it was. */
-static jcobs_frame jcobs_encoder_close(jcobs_encoder *encoder, unsigned char *buffer, size_t buffer_len)
+/* Ends the message, if the state is possible in a buffer of this size, and returns the length of its encoded frame
+ * in bytes. The buffer begins with that frame, and the encoder is ready for the next message. Every byte after the
+ * frame is as it was. */
+static jcobs_frame jcobs_encoder_close(jcobs_encoder *encoder, unsigned char *buffer, size_t buffer_size)
 {
-    if (!jcobs_encoder_is_within(encoder, buffer_len)) {
+    if (!jcobs_encoder_is_within(encoder, buffer_size)) {
         return jcobs_make_frame(0, 0);
     }
-    size_t len = jcobs_close_block(buffer, buffer_len, jcobs_encoder_progress(encoder));
+    size_t length = jcobs_close_block(buffer, buffer_size, jcobs_encoder_progress(encoder));
     jcobs_encoder_start(encoder);
-    return jcobs_make_frame(1, len);
+    return jcobs_make_frame(1, length);
 }
 
-/* Ends the message, if its frame fits the buffer. Even if the state is corrupt, the buffer keeps its length, and
- * the returned length is within it.
+/* Ends the message, if its frame fits the buffer. Even if the state is corrupt, nothing outside the buffers is
+ * accessed, and the returned length is at most the buffer's.
  * Proved, by the contract in encoder.rt: if the frame of all that was taken fits, the buffer begins with it, and
  * the encoder has taken nothing; if it doesn't, the status is TOO_SMALL, and the state and the buffer are as they
  * were. */
-jcobs_answer jcobs_encoder_finish(jcobs_encoder *encoder, void *buffer, size_t buffer_len)
+jcobs_answer jcobs_encoder_finish(jcobs_encoder *encoder, void *buffer, size_t buffer_size)
 {
-    if (buffer_len == 0) {
+    if (buffer_size == 0) {
         return jcobs_too_small_answer();
     }
-    jcobs_frame result = jcobs_encoder_close(encoder, (unsigned char *)buffer, buffer_len);
+    jcobs_frame result = jcobs_encoder_close(encoder, (unsigned char *)buffer, buffer_size);
     if (result.fits) {
         return jcobs_ok_answer(0, result.length);
     }
@@ -829,41 +831,26 @@ jcobs_answer jcobs_encoder_finish(jcobs_encoder *encoder, void *buffer, size_t b
  * Proved, by the contract in encoder.rt: if the frame of all that was taken and the zero fit, the buffer begins
  * with them, and the encoder has taken nothing; if they don't, the status is TOO_SMALL, and the state and the
  * buffer are as they were. */
-jcobs_answer jcobs_encoder_finish_terminated(jcobs_encoder *encoder, void *buffer, size_t buffer_len)
+jcobs_answer jcobs_encoder_finish_terminated(jcobs_encoder *encoder, void *buffer, size_t buffer_size)
 {
-    unsigned char *const to = (unsigned char *)buffer;
+    unsigned char *const buffer_bytes = (unsigned char *)buffer;
 
-    if (buffer_len < 2) {
+    if (buffer_size < 2) {
         return jcobs_too_small_answer();
     }
-    size_t last = buffer_len - 1;
-    jcobs_frame result = jcobs_encoder_close(encoder, to, last);
+    /* The zero needs one byte. */
+    size_t room = buffer_size - 1;
+    jcobs_frame result = jcobs_encoder_close(encoder, buffer_bytes, room);
     if (result.fits) {
-        to[result.length] = 0;
+        buffer_bytes[result.length] = 0;
         return jcobs_ok_answer(0, result.length + 1);
     }
     return jcobs_too_small_answer();
 }
 
-/* Returns the result of a decoding call that took this many bytes, into a buffer of buffer_len bytes, given how
- * the frame ended. */
-static jcobs_answer jcobs_in_place_answer(size_t consumed, size_t buffer_len, jcobs_end decoded)
-{
-    switch (decoded.kind) {
-    case JCOBS_END_MESSAGE:
-        return jcobs_ok_answer(consumed, decoded.count);
-    case JCOBS_END_BROKEN:
-        return jcobs_make_answer(JCOBS_BROKEN, consumed, decoded.count);
-    case JCOBS_END_TOO_LONG:
-        return jcobs_make_answer(JCOBS_TOO_SMALL, consumed, buffer_len);
-    case JCOBS_END_NONE:
-        break;
-    }
-    return jcobs_make_answer(JCOBS_EMPTY, consumed, 0);
-}
-
-/* Returns how many bytes come before the first zero: all of them if there is none. */
-static JCOBS_NOINLINE size_t jcobs_len_to_zero(const unsigned char *bytes, size_t len)
+/* Returns how many bytes come before the first zero: all of them if there is none. Four bytes in a round take half
+ * the instructions of one. */
+static JCOBS_APART size_t jcobs_length_to_zero(const unsigned char *bytes, size_t len)
 {
     const unsigned char *rest = bytes;
     size_t rest_len = len;
@@ -882,16 +869,17 @@ static JCOBS_NOINLINE size_t jcobs_len_to_zero(const unsigned char *bytes, size_
     return len - rest_len;
 }
 
-/* Decodes the blocks in the first end bytes of the buffer in their own place, one byte after another, and returns
- * the message's length. Every byte after the message is as it was. */
-static JCOBS_NOINLINE jcobs_end jcobs_decode_blocks_each(unsigned char *buffer, size_t end)
+/* Decodes in place the frame of frame_len bytes that the buffer begins with, one byte after another, and returns
+ * the message's length. Every byte after the message is as it was. No byte of the frame is a zero. If the last
+ * block is cut off, it returns JCOBS_END_BROKEN, with the length of the message of the blocks before. */
+static JCOBS_APART jcobs_end jcobs_decode_blocks(unsigned char *buffer, size_t frame_len)
 {
     size_t read = 0;
     size_t written = 0;
 
-    while (read < end) {
+    while (read < frame_len) {
         size_t code = buffer[read];
-        if (end - read < code) {
+        if (frame_len - read < code) {
             return jcobs_make_end(JCOBS_END_BROKEN, written);
         }
         size_t next = read + code;
@@ -904,7 +892,7 @@ static JCOBS_NOINLINE jcobs_end jcobs_decode_blocks_each(unsigned char *buffer, 
                 read++;
             } while (read != next);
         }
-        if (code != JCOBS_FULL_CODE && read < end) {
+        if (code != JCOBS_FULL_CODE && read < frame_len) {
             buffer[written] = 0;
             written++;
         }
@@ -912,19 +900,37 @@ static JCOBS_NOINLINE jcobs_end jcobs_decode_blocks_each(unsigned char *buffer, 
     return jcobs_make_end(JCOBS_END_MESSAGE, written);
 }
 
+/* Returns the result of a call that decodes in place, and took this many bytes of the buffer_len bytes of a
+ * buffer, given how the frame ended. JCOBS_END_TOO_LONG and JCOBS_END_NONE don't occur: a message is shorter than
+ * its frame, and an empty buffer isn't decoded. */
+static jcobs_answer jcobs_in_place_answer(size_t consumed, size_t buffer_len, jcobs_end decoded)
+{
+    switch (decoded.kind) {
+    case JCOBS_END_MESSAGE:
+        return jcobs_ok_answer(consumed, decoded.count);
+    case JCOBS_END_BROKEN:
+        return jcobs_make_answer(JCOBS_BROKEN, consumed, decoded.count);
+    case JCOBS_END_TOO_LONG:
+        return jcobs_make_answer(JCOBS_TOO_SMALL, consumed, buffer_len);
+    case JCOBS_END_NONE:
+        break;
+    }
+    return jcobs_make_answer(JCOBS_EMPTY, consumed, 0);
+}
+
 /* Decodes the frame at the front of the buffer in place.
  * Proved, by the contract in in_place.rt: the result and every byte of the buffer depend only on the buffer, as
  * COBS is defined. */
 jcobs_answer jcobs_decode_in_place(void *buffer, size_t buffer_len)
 {
-    unsigned char *const to = (unsigned char *)buffer;
+    unsigned char *const buffer_bytes = (unsigned char *)buffer;
 
     if (buffer_len == 0) {
-        return jcobs_in_place_answer(0, buffer_len, jcobs_make_end(JCOBS_END_NONE, 0));
+        return jcobs_make_answer(JCOBS_EMPTY, 0, 0);
     }
-    size_t end = jcobs_len_to_zero(to, buffer_len);
-    jcobs_end decoded = jcobs_decode_blocks_each(to, end);
-    return jcobs_in_place_answer(jcobs_min(buffer_len, end + 1), buffer_len, decoded);
+    size_t frame_len = jcobs_length_to_zero(buffer_bytes, buffer_len);
+    jcobs_end decoded = jcobs_decode_blocks(buffer_bytes, frame_len);
+    return jcobs_in_place_answer(jcobs_min(buffer_len, frame_len + 1), buffer_len, decoded);
 }
 
 /* Returns the kind of a frame, given bytes without a zero. It goes from one code to the next. */
@@ -953,153 +959,153 @@ static enum jcobs_kind jcobs_kind_by_blocks(const unsigned char *bytes, size_t l
  * exactly if they are the one that encoders write. */
 unsigned int jcobs_frame_kind(const void *bytes, size_t len)
 {
-    const unsigned char *const from = (const unsigned char *)bytes;
+    const unsigned char *const data = (const unsigned char *)bytes;
 
-    if (jcobs_len_to_zero(from, len) < len) {
+    if (jcobs_length_to_zero(data, len) < len) {
         return JCOBS_NOT_A_FRAME;
     }
-    return jcobs_kind_by_blocks(from, len);
+    return jcobs_kind_by_blocks(data, len);
 }
 
 /* The calls from here on are written by hand, around those above. */
 
+/* XORs each byte with the sentinel: that makes a frame for the sentinel 0 one for this sentinel, and the reverse. */
 static void jcobs_xor(void *bytes, size_t len, unsigned char sentinel)
 {
-    unsigned char *at = (unsigned char *)bytes;
+    unsigned char *const data = (unsigned char *)bytes;
 
     for (size_t i = 0; i < len; i++) {
-        at[i] = (unsigned char)(at[i] ^ sentinel);
+        data[i] = (unsigned char)(data[i] ^ sentinel);
     }
 }
 
-jcobs_answer jcobs_encode_with_sentinel(const void *message, size_t message_len, void *frame, size_t frame_len,
+jcobs_answer jcobs_encode_with_sentinel(const void *message, size_t message_len, void *frame, size_t frame_size,
                                         unsigned char sentinel)
 {
-    jcobs_answer answer = jcobs_encode(message, message_len, frame, frame_len);
+    jcobs_answer answer = jcobs_encode(message, message_len, frame, frame_size);
 
     jcobs_xor(frame, answer.length, sentinel);
     return answer;
 }
 
 jcobs_answer jcobs_encode_terminated_with_sentinel(const void *message, size_t message_len, void *frame,
-                                                   size_t frame_len, unsigned char sentinel)
+                                                   size_t frame_size, unsigned char sentinel)
 {
-    jcobs_answer answer = jcobs_encode_terminated(message, message_len, frame, frame_len);
+    jcobs_answer answer = jcobs_encode_terminated(message, message_len, frame, frame_size);
 
     jcobs_xor(frame, answer.length, sentinel);
     return answer;
 }
 
-/* Decodes the whole blocks before the first sentinel. A block that is cut short is a 1 for the decoder, which has the
- * zero in front of that block written. */
-jcobs_answer jcobs_decode_with_sentinel(const void *source, size_t source_len, void *message, size_t message_len,
+/* Decodes the whole blocks of the frame that ends at the first sentinel, by the steps of a decoder. If they are followed
+ * by a block that is cut short, the decoder takes a 1 for it, the code of a block without bytes: so it writes the zero
+ * between the whole blocks and that one, and nothing of that one. */
+jcobs_answer jcobs_decode_with_sentinel(const void *source, size_t source_len, void *message, size_t message_size,
                                         unsigned char sentinel)
 {
-    const unsigned char *const from = (const unsigned char *)source;
-    unsigned char *const to = (unsigned char *)message;
+    const unsigned char *const source_bytes = (const unsigned char *)source;
+    unsigned char *const message_bytes = (unsigned char *)message;
     jcobs_decoder decoder = JCOBS_DECODER_INIT;
     jcobs_answer answer = {JCOBS_EMPTY, 0, 0};
-    size_t end = 0;
-    size_t whole = 0;
+    size_t frame_len = 0;
+    size_t whole_len = 0; /* of the whole blocks */
 
     if (source_len == 0) {
         return answer;
     }
-    while (end < source_len && from[end] != sentinel) {
-        end++;
+    while (frame_len < source_len && source_bytes[frame_len] != sentinel) {
+        frame_len++;
     }
-    while (whole < end && (size_t)(from[whole] ^ sentinel) <= end - whole) {
-        whole += (size_t)(from[whole] ^ sentinel);
+    while (whole_len < frame_len && (size_t)(source_bytes[whole_len] ^ sentinel) <= frame_len - whole_len) {
+        whole_len += (size_t)(source_bytes[whole_len] ^ sentinel);
     }
-    for (size_t i = 0; i < whole; i++) {
-        jcobs_decoder_take_byte(&decoder, to, message_len, (unsigned char)(from[i] ^ sentinel));
+    for (size_t i = 0; i < whole_len; i++) {
+        jcobs_decoder_take_byte(&decoder, message_bytes, message_size, (unsigned char)(source_bytes[i] ^ sentinel));
     }
-    if (whole < end) {
-        jcobs_decoder_take_byte(&decoder, to, message_len, 1);
+    if (whole_len < frame_len) {
+        jcobs_decoder_take_byte(&decoder, message_bytes, message_size, 1);
     }
-    answer = jcobs_decoder_feed(&decoder, message, message_len, 0);
-    if (answer.status == JCOBS_MORE) {
+    answer = jcobs_decoder_feed(&decoder, message, message_size, 0);
+    if (answer.status == JCOBS_MORE) { /* the frame has no bytes, as an empty message */
         answer.status = JCOBS_OK;
     }
-    if (answer.status == JCOBS_OK && whole < end) {
+    if (answer.status == JCOBS_OK && whole_len < frame_len) {
         answer.status = JCOBS_BROKEN;
     }
-    answer.consumed = end < source_len ? end + 1 : end;
+    answer.consumed = frame_len < source_len ? frame_len + 1 : frame_len;
     return answer;
 }
 
+/* XORs the frame, and decodes it as one for the sentinel 0. */
 jcobs_answer jcobs_decode_in_place_with_sentinel(void *buffer, size_t buffer_len, unsigned char sentinel)
 {
-    const unsigned char *const from = (const unsigned char *)buffer;
+    const unsigned char *const buffer_bytes = (const unsigned char *)buffer;
     jcobs_answer answer = {JCOBS_OK, 1, 0};
-    size_t end = 0;
+    size_t frame_len = 0;
 
-    while (end < buffer_len && from[end] != sentinel) {
-        end++;
+    while (frame_len < buffer_len && buffer_bytes[frame_len] != sentinel) {
+        frame_len++;
     }
-    if (end == 0 && buffer_len > 0) {
+    if (frame_len == 0 && buffer_len > 0) { /* the frame has no bytes, as an empty message */
         return answer;
     }
-    jcobs_xor(buffer, end, sentinel);
-    answer = jcobs_decode_in_place(buffer, end);
-    answer.consumed = end < buffer_len ? end + 1 : end;
+    jcobs_xor(buffer, frame_len, sentinel);
+    answer = jcobs_decode_in_place(buffer, frame_len);
+    answer.consumed = frame_len < buffer_len ? frame_len + 1 : frame_len;
     return answer;
 }
 
-jcobs_answer jcobs_decoder_push_with_sentinel(jcobs_decoder *decoder, void *buffer, size_t buffer_len,
+jcobs_answer jcobs_decoder_push_with_sentinel(jcobs_decoder *decoder, void *buffer, size_t buffer_size,
                                               const void *bytes, size_t len, unsigned char sentinel)
 {
-    const unsigned char *const from = (const unsigned char *)bytes;
-    jcobs_answer answer = jcobs_decoder_push(decoder, buffer, buffer_len, bytes, 0);
-    size_t taken = 0;
+    jcobs_piece piece = jcobs_decoder_take(decoder, (unsigned char *)buffer, buffer_size, (const unsigned char *)bytes,
+                                           len, sentinel);
 
-    while (taken < len && answer.status == JCOBS_MORE) {
-        answer = jcobs_decoder_feed(decoder, buffer, buffer_len, (unsigned char)(from[taken] ^ sentinel));
-        taken++;
-    }
-    answer.consumed = taken;
-    return answer;
+    return jcobs_decoder_answer(decoder, piece, len, buffer_size);
 }
 
-jcobs_answer jcobs_encoder_finish_with_sentinel(jcobs_encoder *encoder, void *buffer, size_t buffer_len,
+jcobs_answer jcobs_encoder_finish_with_sentinel(jcobs_encoder *encoder, void *buffer, size_t buffer_size,
                                                 unsigned char sentinel)
 {
-    jcobs_answer answer = jcobs_encoder_finish(encoder, buffer, buffer_len);
+    jcobs_answer answer = jcobs_encoder_finish(encoder, buffer, buffer_size);
 
     jcobs_xor(buffer, answer.length, sentinel);
     return answer;
 }
 
-jcobs_answer jcobs_encoder_finish_terminated_with_sentinel(jcobs_encoder *encoder, void *buffer, size_t buffer_len,
+jcobs_answer jcobs_encoder_finish_terminated_with_sentinel(jcobs_encoder *encoder, void *buffer, size_t buffer_size,
                                                            unsigned char sentinel)
 {
-    jcobs_answer answer = jcobs_encoder_finish_terminated(encoder, buffer, buffer_len);
+    jcobs_answer answer = jcobs_encoder_finish_terminated(encoder, buffer, buffer_size);
 
     jcobs_xor(buffer, answer.length, sentinel);
     return answer;
 }
 
-size_t jcobs_strerror(unsigned int status, char *text, size_t text_len)
+size_t jcobs_strerror(unsigned int status, char *text, size_t text_size)
 {
-    static const char words[6][36] = {"done",
-                                      "more bytes are needed",
-                                      "the buffer is too small",
-                                      "the frame breaks off inside a block",
-                                      "there is no frame",
-                                      "unknown status"};
-    const char *from = words[status < 5 ? status : 5];
-    size_t len = 0;
+    /* By the status; the last one is for other numbers. The array has room for the longest, and needs no pointers. */
+    static const char descriptions[][sizeof "the frame breaks off inside a block"] = {
+        "done",
+        "more bytes are needed",
+        "the buffer is too small",
+        "the frame breaks off inside a block",
+        "there is no frame",
+        "unknown status",
+    };
+    const char *description = descriptions[status <= JCOBS_EMPTY ? status : JCOBS_EMPTY + 1];
+    size_t length = 0;
 
-    while (from[len] != '\0') {
-        if (len + 1 < text_len) {
-            text[len] = from[len];
+    while (description[length] != '\0') {
+        if (length + 1 < text_size) {
+            text[length] = description[length];
         }
-        len++;
+        length++;
     }
-    if (text_len > 0) {
-        text[jcobs_min(len, text_len - 1)] = '\0';
+    if (text_size > 0) {
+        text[jcobs_min(length, text_size - 1)] = '\0';
     }
-    return len;
+    return length;
 }
 
 unsigned int jcobs_version(void)

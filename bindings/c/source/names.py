@@ -2,47 +2,61 @@
 
 # Functions. The others are called after their names in Rattle, behind jcobs_ or the name of their type.
 FUNCTIONS = {
+    "UnbufferedDecoder::end": "jcobs_decoder_end_piece",
+    "UnbufferedDecoder::feed_each": "jcobs_decoder_take",
+    "UnbufferedEncoder::append_each": "jcobs_encoder_append",
+    "UnbufferedEncoder::append_one": "jcobs_encoder_append_and_measure",
     "UnbufferedEncoder::finalize": "jcobs_encoder_close",
+    "UnbufferedEncoder::push_each": "jcobs_encoder_try_append",
     "close": "jcobs_close_block",
+    "decode_blocks_each": "jcobs_decode_blocks",
     "done": "jcobs_ok_answer",
+    "encode_byte": "jcobs_encoder_feed_byte",
     "encode_in_place": "jcobs_write_in_place",
-    "through_piece": "jcobs_find_end",
     "end_of": "jcobs_encoder_length",
     "ended": "jcobs_ended_piece",
+    "fits_each": "jcobs_extra_codes_fit",
     "held": "jcobs_decoder_length",
+    "len_to_zero": "jcobs_length_to_zero",
+    "max_encoding_overhead": "jcobs_max_overhead",
     "result_by": "jcobs_in_place_answer",
     "result_of": "jcobs_decoder_answer",
+    "through_piece": "jcobs_find_end",
     "too_small": "jcobs_too_small_answer",
+    "write_each": "jcobs_write_blocks",
 }
-# Parameters and variables, by the function; those of "" in each. `NAME_len` is the length of the slice `NAME`. A call of
-# jcobs.h and the functions behind it have the same names.
+# Parameters and variables, by the function; those of "" in each. The length of the slice `NAME` is `NAME_len` if its bytes are there,
+# and `NAME_size` if it is a buffer's room. A call of jcobs.h and the functions behind it have the same names.
 VARIABLES = {
     "": {"bytes_len": "len"},
-    "UnbufferedDecoder::end": {"len": "buffer_len", "ended": "before"},
+    "UnbufferedDecoder::end": {"len": "buffer_size", "ended": "before"},
     "UnbufferedDecoder::feed_each": {"dest": "buffer", "here": "state"},
     "UnbufferedDecoder::step": {"dest": "buffer"},
     "UnbufferedDecoder::take_byte": {"dest": "buffer"},
     "UnbufferedEncoder::append_byte": {"dest": "buffer"},
-    "UnbufferedEncoder::append_each": {"dest": "buffer", "encoder": "state"},
+    "UnbufferedEncoder::append_each": {"dest": "buffer"},
     "UnbufferedEncoder::append_one": {"dest": "buffer"},
     "UnbufferedEncoder::feed_len": {"dest": "buffer"},
-    "UnbufferedEncoder::finalize": {"dest": "buffer"},
-    "UnbufferedEncoder::is_within": {"len": "buffer_len"},
+    "UnbufferedEncoder::finalize": {"dest": "buffer", "len": "length"},
+    "UnbufferedEncoder::is_within": {"len": "buffer_size"},
     "UnbufferedEncoder::push_each": {"dest": "buffer"},
     "close": {"dest": "buffer"},
+    "decode_blocks_each": {"end": "frame_len"},
     "decode_byte": {"found": "piece"},
-    "decode_piece": {"dest": "message"},
-    "encode_in_place": {"len": "message_len"},
-    "has_room": {"len": "total"},
-    "held": {"room": "buffer_len"},
-    "jcobs_decode_in_place": {"size": "decoded"},
+    "decode_each": {"found": "piece"},
+    "decode_piece": {"dest": "message", "left": "missing"},
+    "encode_in_place": {"len": "message_len", "before": "start"},
+    "ended": {"at": "consumed"},
+    "finish_terminated": {"last": "room"},
+    "has_room": {"held": "taken", "len": "data_len"},
+    "held": {"room": "buffer_size"},
+    "jcobs_decode_in_place": {"end": "frame_len", "size": "decoded"},
+    "jcobs_encode_terminated": {"last": "room"},
     "max_encoding_overhead": {"source_len": "message_len"},
     "result_by": {"room": "buffer_len", "size": "decoded"},
-    "decode_each": {"found": "piece"},
-    "result_of": {"room": "buffer_len", "found": "piece"},
+    "result_of": {"room": "buffer_size", "found": "piece"},
     "try_encode_each": {"source": "message", "dest": "frame"},
-    "write_each": {"source": "message", "dest": "frame"},
-    "write_frame": {"buffer": "frame"},
+    "write_each": {"source": "message", "dest": "frame", "len": "part_len"},
 }
 # Functions that are called once, by a call of jcobs.h, and aren't written there: for an AVR the step would be a tenth slower.
 APART = {"encode_byte"}
@@ -50,6 +64,17 @@ APART = {"encode_byte"}
 WRITTEN_OUT = {"UnbufferedDecoder::is_idle"}
 # A number that has a name.
 NUMBERS = {"254": "FULL_BLOCK_BYTES"}
+# Structs that jcobs.h doesn't have: what they are, and what their members are.
+STRUCTS = {
+    "EncoderProgress": (
+        "How much of a frame is in the buffer.",
+        {
+            "index": "where the code of the open block belongs",
+            "code": "the code that the open block has so far: one more than the number of its bytes",
+            "is_full": "whether the last block is full: then no block is open, and the frame ends at index",
+        },
+    ),
+}
 # How a piece or a frame ended, by the variants of Rattle that say it.
 ENDS = {
     "JCOBS_END_NONE": ("None", "EmptyFrame"),
@@ -60,35 +85,78 @@ ENDS = {
 # Comments: what a function's says, and what it says in C; those of "" in each. The words in quotes that are left are names of C.
 COMMENTS = {
     "": [(" (A choice of this library.)", "")],
+    "UnbufferedDecoder::end": [("`len` is the buffer's length.", "It returns how the piece ended. The buffer has buffer_size bytes.")],
     "UnbufferedDecoder::feed_each": [(
         " For the sentinel 0 it does what [`feed_piece`](Self::feed_piece) does. It has no search and no copy of slices, so it is"
         " small, and fast for a few bytes.",
         "",
     ), ("One by one: with an assignment of the whole, rustc needs 24 bytes more for a push on a Cortex-M4.", "")],
-    "UnbufferedEncoder::feed_len": [(", as [`feed`](UnbufferedEncoder::feed) does, and", ", if it fits, and")],
-    "through_piece": [("whose next byte is at `at`: after", "that source[at] belongs to: after")],
+    "UnbufferedDecoder::step": [(
+        ", and writes its output to the buffer.",
+        ", and writes its output to the buffer. It returns JCOBS_END_TOO_LONG at each byte of a piece that is too long.",
+    )],
+    "UnbufferedEncoder::append_byte": [(", for which there is room.", ", for which there is room: the step of loops over bytes.")],
+    "UnbufferedEncoder::append_one": [(
+        "Takes the next byte of the message, for which there is room, and returns the length of the frame so far.",
+        "Does what jcobs_encoder_append_byte does, and returns the length of the frame so far: in each case it ends after the byte at next."
+        " Compilers make fewer instructions of this form for one byte, and more for a loop.",
+    )],
+    "UnbufferedEncoder::feed_len": [(
+        "if the frame of all bytes so far fits the buffer.",
+        "if the frame of all bytes so far fits the buffer. It isn't written in jcobs_encoder_feed, because avr-gcc's code would then"
+        " take a tenth more time.",
+    )],
+    "UnbufferedEncoder::finalize": [(
+        "Ends the message, and returns",
+        "Ends the message, if the state is possible in a buffer of this size, and returns",
+    )],
+    "UnbufferedEncoder::is_within": [("this progress is possible in a buffer of this length", "the state is possible in a buffer of this size")],
+    "UnbufferedEncoder::push_each": [(", one at a time.", ", if the frame of all bytes so far fits the buffer, and returns whether it does.")],
+    "decode_blocks_each": [(
+        " It is small, and uses no vectors.",
+        " No byte of the frame is a zero. If the last block is cut off, it returns JCOBS_END_BROKEN, with the length of the message of the"
+        " blocks before.",
+    )],
+    "decode_each": [(", and the counts are within the bytes and the buffer.", ".")],
+    "decode_piece": [("Returns `None` if there is no piece.", "It returns JCOBS_END_NONE if there is no piece.")],
+    "encode_each": [(", and the counts are within the bytes and the buffer.", ".")],
+    "encode_in_place": [(
+        "in its own buffer, and returns the length of its frame in bytes.",
+        "in its own buffer, in which it lies after the room for the other bytes of the longest frame. Returns the length of the"
+        " frame in bytes.",
+    )],
+    "end_of": [("the frame that an encoder has written so far", "the frame, if the message ends with the bytes that were taken")],
     "ended": [(
         "the result for a piece that ended after this many bytes of output, with this many bytes of its last block missing, and after"
         " `at` bytes of the source",
-        "the piece that ended in front of source[at], after this many bytes of output, with this many bytes of its last block missing",
+        "the piece that ended, with this many bytes of output, with this many bytes of its last block missing, and with this many bytes"
+        " consumed",
     )],
-    "result_by": [("given the message's length or the error", "given how the frame ended")],
-    "result_of": [(
-        "a call that took these of `len` bytes, into a buffer of `room` bytes",
-        "a call that took `len` bytes or those through this piece's end, if it has ended. The buffer has `room` bytes",
+    "has_room": [(
+        "It reads the bytes only if their number doesn't decide that.",
+        "It reads the bytes only if their number doesn't decide that. data_len is how many bytes of the message the open block and those"
+        " after it then have.",
     )],
-    "decode_piece": [("Returns `None` if there is no piece.", "It returns JCOBS_END_NONE if there is no piece.")],
     "kind_by_blocks": [(
         ", as [`frame_kind`] does. It goes from one code to the next, and doesn't search the bytes for a zero.",
         ", given bytes without a zero. It goes from one code to the next.",
     )],
     "leading_zeros": [(", which [`decode`](crate::decode) skips before a frame.", ".")],
-    "len_to_zero": [(" It uses no vectors, so that it is small.", "")],
-    "decode_blocks_each": [(" It is small, and uses no vectors.", "")],
-    "try_encode_each": [(
-        "Does what [`try_encode`](crate::try_encode) does, one byte at a time: in less code and more time, for small devices."
-        " It reads",
-        "Writes the frame of the message, if it fits. It reads",
+    "len_to_zero": [(" It uses no vectors, so that it is small.", " Four bytes in a round take half the instructions of one.")],
+    "result_by": [(
+        "a decoding call that took this many bytes, into a buffer of `room` bytes, given the message's length or the error.",
+        "a call that decodes in place, and took this many bytes of the `room` bytes of a buffer, given how the frame ended."
+        " JCOBS_END_TOO_LONG and JCOBS_END_NONE don't occur: a message is shorter than its frame, and an empty buffer isn't"
+        " decoded.",
     )],
-    "write_each": [("Does what [`encode`](crate::encode) does, one byte at a time.", "Writes the frame of the message, one byte after another.")],
+    "result_of": [(
+        "a call that took these of `len` bytes, into a buffer of `room` bytes",
+        "a call that took `len` bytes or those through this piece's end, if it has ended. The buffer has `room` bytes",
+    )],
+    "through_piece": [("whose next byte is at `at`: after", "that source[at] belongs to: after")],
+    "write_each": [(
+        "Does what [`encode`](crate::encode) does, one byte at a time.",
+        "Writes the frame of the message, and returns its length. index is where the code of the open block belongs, and next where the"
+        " next byte does. No part has more bytes than the open block has room for, so no byte needs a test whether the block is full.",
+    )],
 }

@@ -1,142 +1,142 @@
 /* The calls from here on are written by hand, around those above. */
 
+/* XORs each byte with the sentinel: that makes a frame for the sentinel 0 one for this sentinel, and the reverse. */
 static void jcobs_xor(void *bytes, size_t len, unsigned char sentinel)
 {
-    unsigned char *at = (unsigned char *)bytes;
+    unsigned char *const data = (unsigned char *)bytes;
 
     for (size_t i = 0; i < len; i++) {
-        at[i] = (unsigned char)(at[i] ^ sentinel);
+        data[i] = (unsigned char)(data[i] ^ sentinel);
     }
 }
 
-jcobs_answer jcobs_encode_with_sentinel(const void *message, size_t message_len, void *frame, size_t frame_len,
+jcobs_answer jcobs_encode_with_sentinel(const void *message, size_t message_len, void *frame, size_t frame_size,
                                         unsigned char sentinel)
 {
-    jcobs_answer answer = jcobs_encode(message, message_len, frame, frame_len);
+    jcobs_answer answer = jcobs_encode(message, message_len, frame, frame_size);
 
     jcobs_xor(frame, answer.length, sentinel);
     return answer;
 }
 
 jcobs_answer jcobs_encode_terminated_with_sentinel(const void *message, size_t message_len, void *frame,
-                                                   size_t frame_len, unsigned char sentinel)
+                                                   size_t frame_size, unsigned char sentinel)
 {
-    jcobs_answer answer = jcobs_encode_terminated(message, message_len, frame, frame_len);
+    jcobs_answer answer = jcobs_encode_terminated(message, message_len, frame, frame_size);
 
     jcobs_xor(frame, answer.length, sentinel);
     return answer;
 }
 
-/* Decodes the whole blocks before the first sentinel. A block that is cut short is a 1 for the decoder, which has the
- * zero in front of that block written. */
-jcobs_answer jcobs_decode_with_sentinel(const void *source, size_t source_len, void *message, size_t message_len,
+/* Decodes the whole blocks of the frame that ends at the first sentinel, by the steps of a decoder. If they are followed
+ * by a block that is cut short, the decoder takes a 1 for it, the code of a block without bytes: so it writes the zero
+ * between the whole blocks and that one, and nothing of that one. */
+jcobs_answer jcobs_decode_with_sentinel(const void *source, size_t source_len, void *message, size_t message_size,
                                         unsigned char sentinel)
 {
-    const unsigned char *const from = (const unsigned char *)source;
-    unsigned char *const to = (unsigned char *)message;
+    const unsigned char *const source_bytes = (const unsigned char *)source;
+    unsigned char *const message_bytes = (unsigned char *)message;
     jcobs_decoder decoder = JCOBS_DECODER_INIT;
     jcobs_answer answer = {JCOBS_EMPTY, 0, 0};
-    size_t end = 0;
-    size_t whole = 0;
+    size_t frame_len = 0;
+    size_t whole_len = 0; /* of the whole blocks */
 
     if (source_len == 0) {
         return answer;
     }
-    while (end < source_len && from[end] != sentinel) {
-        end++;
+    while (frame_len < source_len && source_bytes[frame_len] != sentinel) {
+        frame_len++;
     }
-    while (whole < end && (size_t)(from[whole] ^ sentinel) <= end - whole) {
-        whole += (size_t)(from[whole] ^ sentinel);
+    while (whole_len < frame_len && (size_t)(source_bytes[whole_len] ^ sentinel) <= frame_len - whole_len) {
+        whole_len += (size_t)(source_bytes[whole_len] ^ sentinel);
     }
-    for (size_t i = 0; i < whole; i++) {
-        jcobs_decoder_take_byte(&decoder, to, message_len, (unsigned char)(from[i] ^ sentinel));
+    for (size_t i = 0; i < whole_len; i++) {
+        jcobs_decoder_take_byte(&decoder, message_bytes, message_size, (unsigned char)(source_bytes[i] ^ sentinel));
     }
-    if (whole < end) {
-        jcobs_decoder_take_byte(&decoder, to, message_len, 1);
+    if (whole_len < frame_len) {
+        jcobs_decoder_take_byte(&decoder, message_bytes, message_size, 1);
     }
-    answer = jcobs_decoder_feed(&decoder, message, message_len, 0);
-    if (answer.status == JCOBS_MORE) {
+    answer = jcobs_decoder_feed(&decoder, message, message_size, 0);
+    if (answer.status == JCOBS_MORE) { /* the frame has no bytes, as an empty message */
         answer.status = JCOBS_OK;
     }
-    if (answer.status == JCOBS_OK && whole < end) {
+    if (answer.status == JCOBS_OK && whole_len < frame_len) {
         answer.status = JCOBS_BROKEN;
     }
-    answer.consumed = end < source_len ? end + 1 : end;
+    answer.consumed = frame_len < source_len ? frame_len + 1 : frame_len;
     return answer;
 }
 
+/* XORs the frame, and decodes it as one for the sentinel 0. */
 jcobs_answer jcobs_decode_in_place_with_sentinel(void *buffer, size_t buffer_len, unsigned char sentinel)
 {
-    const unsigned char *const from = (const unsigned char *)buffer;
+    const unsigned char *const buffer_bytes = (const unsigned char *)buffer;
     jcobs_answer answer = {JCOBS_OK, 1, 0};
-    size_t end = 0;
+    size_t frame_len = 0;
 
-    while (end < buffer_len && from[end] != sentinel) {
-        end++;
+    while (frame_len < buffer_len && buffer_bytes[frame_len] != sentinel) {
+        frame_len++;
     }
-    if (end == 0 && buffer_len > 0) {
+    if (frame_len == 0 && buffer_len > 0) { /* the frame has no bytes, as an empty message */
         return answer;
     }
-    jcobs_xor(buffer, end, sentinel);
-    answer = jcobs_decode_in_place(buffer, end);
-    answer.consumed = end < buffer_len ? end + 1 : end;
+    jcobs_xor(buffer, frame_len, sentinel);
+    answer = jcobs_decode_in_place(buffer, frame_len);
+    answer.consumed = frame_len < buffer_len ? frame_len + 1 : frame_len;
     return answer;
 }
 
-jcobs_answer jcobs_decoder_push_with_sentinel(jcobs_decoder *decoder, void *buffer, size_t buffer_len,
+jcobs_answer jcobs_decoder_push_with_sentinel(jcobs_decoder *decoder, void *buffer, size_t buffer_size,
                                               const void *bytes, size_t len, unsigned char sentinel)
 {
-    const unsigned char *const from = (const unsigned char *)bytes;
-    jcobs_answer answer = jcobs_decoder_push(decoder, buffer, buffer_len, bytes, 0);
-    size_t taken = 0;
+    jcobs_piece piece = jcobs_decoder_take(decoder, (unsigned char *)buffer, buffer_size, (const unsigned char *)bytes,
+                                           len, sentinel);
 
-    while (taken < len && answer.status == JCOBS_MORE) {
-        answer = jcobs_decoder_feed(decoder, buffer, buffer_len, (unsigned char)(from[taken] ^ sentinel));
-        taken++;
-    }
-    answer.consumed = taken;
-    return answer;
+    return jcobs_decoder_answer(decoder, piece, len, buffer_size);
 }
 
-jcobs_answer jcobs_encoder_finish_with_sentinel(jcobs_encoder *encoder, void *buffer, size_t buffer_len,
+jcobs_answer jcobs_encoder_finish_with_sentinel(jcobs_encoder *encoder, void *buffer, size_t buffer_size,
                                                 unsigned char sentinel)
 {
-    jcobs_answer answer = jcobs_encoder_finish(encoder, buffer, buffer_len);
+    jcobs_answer answer = jcobs_encoder_finish(encoder, buffer, buffer_size);
 
     jcobs_xor(buffer, answer.length, sentinel);
     return answer;
 }
 
-jcobs_answer jcobs_encoder_finish_terminated_with_sentinel(jcobs_encoder *encoder, void *buffer, size_t buffer_len,
+jcobs_answer jcobs_encoder_finish_terminated_with_sentinel(jcobs_encoder *encoder, void *buffer, size_t buffer_size,
                                                            unsigned char sentinel)
 {
-    jcobs_answer answer = jcobs_encoder_finish_terminated(encoder, buffer, buffer_len);
+    jcobs_answer answer = jcobs_encoder_finish_terminated(encoder, buffer, buffer_size);
 
     jcobs_xor(buffer, answer.length, sentinel);
     return answer;
 }
 
-size_t jcobs_strerror(unsigned int status, char *text, size_t text_len)
+size_t jcobs_strerror(unsigned int status, char *text, size_t text_size)
 {
-    static const char words[6][36] = {"done",
-                                      "more bytes are needed",
-                                      "the buffer is too small",
-                                      "the frame breaks off inside a block",
-                                      "there is no frame",
-                                      "unknown status"};
-    const char *from = words[status < 5 ? status : 5];
-    size_t len = 0;
+    /* By the status; the last one is for other numbers. The array has room for the longest, and needs no pointers. */
+    static const char descriptions[][sizeof "the frame breaks off inside a block"] = {
+        "done",
+        "more bytes are needed",
+        "the buffer is too small",
+        "the frame breaks off inside a block",
+        "there is no frame",
+        "unknown status",
+    };
+    const char *description = descriptions[status <= JCOBS_EMPTY ? status : JCOBS_EMPTY + 1];
+    size_t length = 0;
 
-    while (from[len] != '\0') {
-        if (len + 1 < text_len) {
-            text[len] = from[len];
+    while (description[length] != '\0') {
+        if (length + 1 < text_size) {
+            text[length] = description[length];
         }
-        len++;
+        length++;
     }
-    if (text_len > 0) {
-        text[jcobs_min(len, text_len - 1)] = '\0';
+    if (text_size > 0) {
+        text[jcobs_min(length, text_size - 1)] = '\0';
     }
-    return len;
+    return length;
 }
 
 unsigned int jcobs_version(void)

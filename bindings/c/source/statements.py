@@ -205,8 +205,9 @@ class Statements(Expressions):
         """A part of a slice that loses its first bytes later, or is in a block, where the numbers of its ends may change."""
         const = "" if part.mutable else "const "
         self.put(f"{const}unsigned char *{name} = {part.pointer};")
-        self.put(f"size_t {name}_len = {part.length};")
-        self.env[name] = Slice(name, f"{name}_len", part.mutable)
+        length = f"{name}_{'size' if part.mutable else 'len'}"
+        self.put(f"size_t {length} = {part.length};")
+        self.env[name] = Slice(name, length, part.mutable)
 
     def kind_of_branches(self, tree):
         """The type of a match or an if, by the first of its values that isn't a constant."""

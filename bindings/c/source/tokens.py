@@ -21,7 +21,9 @@ class Tokens:
         for found in TOKEN.finditer(text):
             kind, word = found.lastgroup, found[0]
             if kind == "comment":
-                before.append(word[2:].strip())
+                # After a token, it says which law is called: C has no laws.
+                if not text[text.rfind("\n", 0, found.start()) + 1 : found.start()].strip():
+                    before.append(word[2:].strip())
             elif kind == "doc" and word.startswith("//!"):
                 continue  # of the file
             elif kind == "doc":

@@ -3,9 +3,10 @@
 
 Each exported function of crates/cobs_small, and each function that it reaches, becomes one of C with the same statements, names and
 comments; names.py says which names and comments are others in C. The exported ones have the names that jcobs.h gives their arguments,
-and say what their contract says. A function that only passes its parameters on isn't written. kinds.py says what becomes of types. A
-form that isn't known is an error, with its function. What comes before and after the functions is in top.c and rest.c.
-The file is written here and to ../device/src; with --check both are compared and not written.
+and say what their contract says. A function that only passes its parameters on isn't written, and one that only converts the result
+of another one gets its statements. kinds.py says what becomes of types. A form that isn't known is an error, with its function. What
+comes before and after the functions is in top.c and rest.c. The file is written here and to ../device/src; with --check both are
+compared and not written.
 """
 
 import re
@@ -15,7 +16,7 @@ from pathlib import Path
 import header
 import names
 from function import Function, wrapped
-from kinds import snake
+from kinds import FRAME, snake
 from program import Program
 from rattle import Unknown
 
@@ -30,7 +31,7 @@ class Output:
         self.contracts = header.contracts(sorted((crates / "cobs_small/src").glob("*.rt")))
         self.names, self.texts, self.constants = {}, [], {}
         self.structs, self.starts, self.made, self.unused = {}, {}, set(), set()
-        self.reached, self.replaced = set(), set()  # functions, and what was replaced in their comments
+        self.reached, self.merged, self.replaced = set(), set(), set()  # functions, and what was replaced in their comments
         self.enums = header.enums(include)
         # The structs of jcobs.h, by the names of their members.
         self.given = {tuple(name for _, name in it.values()): of for of, it in header.structs(include).items()}
@@ -41,8 +42,14 @@ class Output:
         key = (path, item[1])
         if key not in self.names:
             made = Function(self, crate, path, item)
+            if key in self.merged:
+                raise Unknown(f"{item[1]}: it is part of another function, and is called again")
             if made.is_exported and (inner := self.only_passes_on(found)) and self.is_part(inner[0][2]):
                 made.take_body(*inner[0], inner[1])
+                self.reached.add(made.name_here)
+            if inner := self.converts(made):
+                self.merged.add((inner[0][1], inner[0][2][1]))
+                made.take_body(*inner[0], *inner[1:])
             self.reached |= {item[1], made.name_here}
             owner, _, method = item[1].rpartition("::")
             of = self.owner(self.program.find(owner, path, crate)[2], made) if owner else "jcobs"
@@ -60,15 +67,21 @@ class Output:
         """The function to which this one only passes its parameters on, in their order, and constants; and these arguments."""
         crate, path, item = found
         body = item[4]
-        if not isinstance(body, list) or len(body) != 1 or body[0][0] != "value" or body[0][1][0] not in ("call", "method"):
+        if not isinstance(body, list) or len(body) != 1 or body[0][0] != "value":
             return None
-        kind, name, *rest = body[0][1]
+        return self.passed_on(body[0][1], item[2], path, crate)
+
+    def passed_on(self, tree, params, path, crate):
+        """The function that is called with these parameters, in their order, and constants; and these arguments."""
+        if tree[0] not in ("call", "method"):
+            return None
+        kind, name, *rest = tree
         args = rest[0] if kind == "call" else [rest[0], *rest[1]]
-        own = [("path", it) for it, _ in item[2]]
+        own = [("path", it) for it, _ in params]
         if args[: len(own)] != own or any(it[0] != "number" for it in args[len(own) :]):
             return None
         if kind == "method":
-            of = item[2][0][1]
+            of = params[0][1]
             if of[0] != "ref" or of[2][0] != "path":
                 return None
             name = f"{of[2][1]}::{name}"
@@ -76,6 +89,21 @@ class Output:
             return self.program.find(name, path, crate), args
         except Unknown:
             return None
+
+    def converts(self, made):
+        """The function of which this one, after laws, only converts the length or the error; its arguments; and both results."""
+        body = made.body if isinstance(made.body, list) else [None]
+        of = body[-1][1] if body[-1] and body[-1][0] == "value" else ("none",)
+        if of[0] != "match" or not all(it[0] == "do" and it[1][0] == "call" and it[1][1].startswith("law_") for it in body[:-1]):
+            return None
+        params = [(made.passed.get(name, name), kind) for name, kind in made.params]
+        inner = self.passed_on(of[1], params, made.path, made.crate)
+        if not inner or made.other(*inner[0][:2], inner[0][2][1]).kind_of(inner[0][2][3]) != FRAME:
+            return None
+        (ok, length), (error, other) = of[2]
+        if ok[1] != "Ok" or error[1] != "Err" or len(length) != 1 or len(other) != 1 or str(length).count(f"('path', '{ok[2][0][1]}')") != 1:
+            raise Unknown(f"{made.name}: match of a length")
+        return inner[0], inner[1], (ok[2][0][1], length[0][1], other[0][1])
 
     def behind(self, found):
         """The function itself, or the one to which it only passes its parameters on."""
@@ -150,8 +178,12 @@ class Output:
 
     def written_struct(self, name, item, function):
         fields = [function.declared(kind, field) for field, kind in item[2]]
-        members = "".join(f"    {text};\n" for text in fields)
-        yield f"typedef struct {name} {{\n{members}}} {name};"
+        if item[1] not in names.STRUCTS or names.STRUCTS[item[1]][1].keys() != {field for field, _ in item[2]}:
+            raise Unknown(f"{item[1]}: names.py doesn't say what its members are")
+        says, of = names.STRUCTS[item[1]]
+        width = max(map(len, fields)) + 1
+        members = "".join(f"    {f'{text};':{width}} /* {of[field]} */\n" for text, (field, _) in zip(fields, item[2]))
+        yield f"/* {says} */\ntypedef struct {name} {{\n{members}}} {name};"
         short = name.rsplit("_", 1)[-1]
         if f"jcobs_make_{short}" in self.made:
             body = "".join(f"    {short}.{field} = {field};\n" for field, _ in item[2])

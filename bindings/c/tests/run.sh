@@ -388,6 +388,9 @@ else
     skip 'jcobs.c beside the proved module' "needs Rattle's toolchain, whose clang reads cobs_small.ll, on x86-64"
 fi
 part 'jcobs.c by gcc and clang, C99 to C23, C++98 to C++20' source_compiles
+if has python3 python3 'jcobs.c measured beside C by hand'; then
+    part 'jcobs.c measured beside C by hand, in one placement' python3 -B tests/speed.py --placements 1
+fi
 if has cppcheck cppcheck 'jcobs.c by cppcheck'; then
     part 'jcobs.c by cppcheck, with the mandatory rules of MISRA C' source_checked
 fi

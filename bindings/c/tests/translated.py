@@ -28,21 +28,21 @@ PAIRS = {
     "cobs_small/kind": "frame_kind=jcobs_frame_kind",
     "cobs_abi/answer": "ok_answer=done too_small_answer=too_small in_place_answer=result_by",
     "cobs_abi/decoding": "decoder_length=held decoder_answer=result_of decoder_push=decode_each decoder_feed=decode_byte",
-    "cobs_abi/encoding": """encoder_length=end_of encoder_push=encode_each encode_byte encoder_finish=finish
+    "cobs_abi/encoding": """encoder_length=end_of encoder_push=encode_each encoder_feed_byte=encode_byte encoder_finish=finish
         encoder_finish_terminated=finish_terminated encode_in_place=encode_within""",
     "cobs_abi/message": "write_frame",
-    "cobs/lib": "max_encoding_overhead",
-    "cobs/find": "leading_zeros len_to_zero",
-    "cobs/dec/each": "decode_blocks_each find_end=through_piece ended_piece=ended decode_piece",
+    "cobs/lib": "max_overhead=max_encoding_overhead",
+    "cobs/find": "leading_zeros length_to_zero=len_to_zero",
+    "cobs/dec/each": "decode_blocks=decode_blocks_each find_end=through_piece ended_piece=ended decode_piece",
     "cobs/dec/kind": "kind_by_blocks",
-    "cobs/dec/step": "joint_after decoder_take_byte=take_byte decoder_end=end decoder_step=step decoder_feed_each=feed_each",
+    "cobs/dec/step": "joint_after decoder_take_byte=take_byte decoder_end_piece=end decoder_step=step decoder_take=feed_each",
     "cobs/dec/unbuffered": "decoder_is_idle=is_idle",
     "cobs/enc/blocks": "close_block=close",
-    "cobs/enc/each": "write_each try_encode_each",
+    "cobs/enc/each": "write_blocks=write_each",
     "cobs/enc/in_place": "write_in_place=encode_in_place",
-    "cobs/enc/room": "fits_each covers_overhead has_room",
-    "cobs/enc/step": """encoder_append_byte=append_byte encoder_append_one=append_one encoder_feed_len=feed_len
-        encoder_append_each=append_each encoder_push_each=push_each""",
+    "cobs/enc/room": "extra_codes_fit=fits_each covers_overhead has_room",
+    "cobs/enc/step": """encoder_append_byte=append_byte encoder_append_and_measure=append_one encoder_append=append_each
+        encoder_try_append=push_each""",
     "cobs/enc/unbuffered": "encoder_progress=progress encoder_is_within=is_within encoder_close=finalize",
 }
 # Functions that only pass their parameters on, or write one in another form. In C the function that they call stands in their
@@ -63,6 +63,8 @@ PASSED_ON = {
         { Some ( PieceEnd :: Broken ( decoded_bytes ) ) } Err ( DecodeError :: TargetBufTooSmall ) =>
         Some ( PieceEnd :: TooLong ) , }""",
 }
+# Functions that only convert the result of another one: in C they have its statements, with the converted results.
+MERGED = {"write_frame": ("cobs/enc/each", "try_encode_each"), "encode_byte": ("cobs/enc/step", "feed_len")}
 # Parameters that are a slice of which C passes only the pointer, since the length isn't read.
 NO_LENGTH = {("append_byte", 1), ("append_one", 1), ("append_each", 1), ("write_each", 1), ("decode_blocks_each", 0)}
 # Parameters that are the same in each call, and constants in C.
@@ -117,6 +119,8 @@ class Rattle:
             text = re.sub(rf"\b{parameter}\b", value, text)
         text = re.sub(r"\blet (mut )?(\w+) : \w+ =", r"let \2 =", text)
         text = self.ends(self.with_slices(self.small(text)))
+        # The answer for no bytes, as the function that makes it gives it for this end. The two are compared too.
+        text = re.sub(r"\bresult_by \( 0 , [\w#]+ , make_end \( NONE , 0 \) \)", "make_answer ( EMPTY , 0 , 0 )", text)
         text = self.block(text.split(), self.result != "")
         return returned_apart(again(r"(?<=[|&=(,<>+-]) \( (\w+(?: \. \w+)?) \)", r" \1", text))
 
@@ -135,6 +139,9 @@ class Rattle:
         text = re.sub(r"= Unbuffered\w+ :: new \( \) ;", "= INIT ;", text)
         text = re.sub(r"PieceEnd :: reported \( (\w+(?: \. \w+)? \( (?:[^()]|\( [^()]*\))*\)) \)", r"\1", text)
         text = re.sub(r"\bFULL\b", "FULL_CODE", re.sub(r"\b254\b", "FULL_BLOCK_BYTES", text))
+        # A constant on the left of a comparison is on the right in C, and 253 is called by the next number.
+        text = re.sub(r"(?<=if )253 < (\w+ \. \w+)(?= \|\|)", r"\1 >= FULL_BLOCK_BYTES", text)
+        text = re.sub(r"(?<=if )FULL_BLOCK_BYTES < (\w+)(?= \|\|)", r"\1 > FULL_BLOCK_BYTES", text)
         text = re.sub(r"(\w+) \. div_ceil \( (\w+) \)", r"\1 / \2 + ( \1 % \2 != 0 ? 1 : 0 )", text)
         text = re.sub(r"(\w+) \. checked_add \( (.*?) \) \. unwrap_or \( 0 \)", r"sum_or ( \1 , \2 , 0 )", text)
         text = re.sub(r"((?:self|encoder) \. \w+) \. wrapping_add \( 1 \)", r"\1 + 1", text)
@@ -370,7 +377,7 @@ def of_c(text):
 
 def in_one_form(text):
     text = re.sub(r"\( (const )?(size_t|unsigned char)( \*)? \) (\( ([^()]*) \)(?! \[))?", lambda it: it[5] or "", text)
-    if found := re.match(rf"{TYPES} (to|from) = (\w+) ; ", text):
+    if found := re.match(rf"{TYPES} (data|\w+_bytes) = (\w+) ; ", text):
         text = re.sub(rf"\b{found[1]}\b", found[2], text[found.end() :])
     text = re.sub(rf"\bfor \( size_t (\w+) = (\w+) ; \1 < (\w+) ; \1 \+\+ \)", r"for \1 in \2 .. \3", text)
     text = re.sub(rf"(?<=[;{{}}] ){TYPES} (\w+) =|^{TYPES} (\w+) =", lambda it: f"{it[1] or it[2]} =", text)
@@ -412,6 +419,22 @@ def same(mine, theirs, names):
     return None
 
 
+def merged(outer, inner):
+    """The statements of a function, with the results that the other one makes of its length and its error."""
+    args = " , ".join(f"{name} , {name}#len" if name in outer.slices else name for name, _ in outer.params)
+    found = re.fullmatch(
+        rf"result = {inner.name} \( {args} \) ; if result \. fits {{ return ([^;]*) ; }} return ([^;]*) ;", outer.written()
+    )
+    if not found or found[1].split().count("result") != 1:
+        raise ValueError(f"it does more than to convert the result of {inner.name}")
+    text = inner.written()
+    text = re.sub(r"\breturn make_frame \( 0 , 0 \) ;", f"return {found[2]} ;", text)
+    text = re.sub(r"\breturn make_frame \( 1 , ([^;]*) \) ;", lambda it: f"return {found[1].replace('result . length', it[1])} ;", text)
+    if "make_frame" in text:
+        raise ValueError(f"a result of {inner.name} isn't converted")
+    return text.split()
+
+
 def compared():
     functions = of_c(SOURCE.read_text())
     values = dict(re.findall(r"^    JCOBS_(FULL\w+) = (\d+)", SOURCE.read_text(), re.M))
@@ -422,7 +445,7 @@ def compared():
         for word in text.split():
             name, _, rattle = word.partition("=")
             pairs[name] = (place, rattle or name)
-    places = {*PAIRS, *(place for place, _ in PASSED_ON)}
+    places = {*PAIRS, *(place for place, _ in (*PASSED_ON, *MERGED.values()))}
     crates = {place: of_rattle(CRATES / f"{place.replace('/', '/src/', 1)}.rt") for place in places}
     for (place, name), text in PASSED_ON.items():
         if (found := crates[place][name].text) != " ".join(text.split()):
@@ -436,6 +459,9 @@ def compared():
             continue
         try:
             mine = crates[place][rattle].written().split()
+            if rattle in MERGED:
+                inner, called = MERGED[rattle]
+                mine = merged(crates[place][rattle], crates[inner][called])
         except (IndexError, KeyError, TypeError, ValueError) as what:
             yield f"{place}, {rattle}: {what!r}"
             continue

@@ -84,7 +84,7 @@ pub fn decode_byte(decoder: &mut UnbufferedDecoder, buffer: &mut [u8], byte: u8)
     law_17(); // A decoder of your own, byte by byte
     let room = buffer.len();
     let mut end = PieceEnd::reported(decoder.feed(buffer, byte));
-    // Only a zero ends a piece.
+    // A piece that is too long is reported once, at the zero that ends it, and not at each of its bytes.
     if byte != 0 {
         end = None;
     }

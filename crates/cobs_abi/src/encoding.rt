@@ -77,6 +77,7 @@ pub fn finish_terminated(encoder: &mut UnbufferedEncoder, buffer: &mut [u8]) -> 
     if buffer.len() < 2 {
         return too_small();
     }
+    // The zero needs one byte.
     let last = buffer.len() - 1;
     match encoder.finalize(&mut buffer[..last]) {
         Ok(length) => {

@@ -22,7 +22,7 @@ pub extern "C" fn jcobs_decoder_is_idle(decoder: &UnbufferedDecoder) -> u32
 }
 
 /// Takes bytes of the stream, through the zero that ends the first piece, or all of them if no piece ends. Even if the state
-/// is corrupt, the buffer keeps its length, and the counts are within the bytes and the buffer.
+/// is corrupt, nothing outside the buffers is accessed, and the counts are within the bytes and the buffer.
 #[unsafe(no_mangle)]
 pub extern "C" fn jcobs_decoder_push(
     decoder: &mut UnbufferedDecoder,

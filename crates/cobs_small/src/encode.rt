@@ -38,6 +38,7 @@ pub extern "C" fn jcobs_encode_terminated(message: &[u8], frame: &mut [u8]) -> A
     if frame.is_empty() {
         return too_small();
     }
+    // The zero needs one byte.
     let last = frame.len() - 1;
     let length = write_frame(message, &mut frame[..last]);
     if length == 0 {
@@ -47,9 +48,9 @@ pub extern "C" fn jcobs_encode_terminated(message: &[u8], frame: &mut [u8]) -> A
     done(message.len(), length + 1)
 }
 
-/// Encodes a message in its own buffer. The message has `message_len` bytes; the bytes before it in the buffer are as
-/// many as the longest frame has more than the message. If the longest frame fits, the frame is written to the front of
-/// the buffer. Otherwise nothing is written.
+/// Encodes a message in its own buffer, if the longest frame of a message of `message_len` bytes fits. Otherwise nothing is
+/// written. The message lies in the buffer after the room for the other bytes of that frame, from the index
+/// JCOBS_MAX_OVERHEAD(message_len) on. Its frame is written to the front of the buffer.
 #[unsafe(no_mangle)]
 pub extern "C" fn jcobs_encode_in_place(buffer: &mut [u8], message_len: usize) -> Answer
     ensures encodes { EncodesInPlace message_len buffer.old result buffer.new }

@@ -15,7 +15,7 @@ pub extern "C" fn jcobs_encoder_reset(encoder: &mut UnbufferedEncoder)
 }
 
 /// Takes the next bytes of a message, if the frame of all bytes so far fits the buffer. Even if the state is corrupt,
-/// the buffer keeps its length, and the counts are within the bytes and the buffer.
+/// nothing outside the buffers is accessed, and the counts are within the bytes and the buffer.
 #[unsafe(no_mangle)]
 pub extern "C" fn jcobs_encoder_push(
     encoder: &mut UnbufferedEncoder,
@@ -41,8 +41,8 @@ pub extern "C" fn jcobs_encoder_feed(
     encode_byte(encoder, buffer, byte)
 }
 
-/// Ends the message, if its frame fits the buffer. Even if the state is corrupt, the buffer keeps its length, and the
-/// returned length is within it.
+/// Ends the message, if its frame fits the buffer. Even if the state is corrupt, nothing outside the buffers is accessed,
+/// and the returned length is at most the buffer's.
 #[unsafe(no_mangle)]
 pub extern "C" fn jcobs_encoder_finish(encoder: &mut UnbufferedEncoder, buffer: &mut [u8]) -> Answer
     ensures finishes { Finishes 0 IsFrameOnWire encoder.old buffer.old result

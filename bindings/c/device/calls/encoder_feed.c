@@ -1,7 +1,7 @@
 #include "wide.h"
 
 /* The proved one is a push of this byte too. Calling it here keeps its loop from being there twice. */
-jcobs_answer jcobs_encoder_feed(jcobs_encoder *encoder, void *buffer, size_t buffer_len, unsigned char byte)
+jcobs_answer jcobs_encoder_feed(jcobs_encoder *encoder, void *buffer, size_t buffer_size, unsigned char byte)
 {
-    return jcobs_encoder_push(encoder, buffer, buffer_len, &byte, 1);
+    return jcobs_encoder_push(encoder, buffer, buffer_size, &byte, 1);
 }

@@ -1,13 +1,13 @@
 #include "wide.h"
 
-void proved_jcobs_encoder_finish(wide_answer *answer, wide_encoder *encoder, void *buffer, wide buffer_len);
+void proved_jcobs_encoder_finish(wide_answer *answer, wide_encoder *encoder, void *buffer, wide buffer_size);
 
-jcobs_answer jcobs_encoder_finish(jcobs_encoder *encoder, void *buffer, size_t buffer_len)
+jcobs_answer jcobs_encoder_finish(jcobs_encoder *encoder, void *buffer, size_t buffer_size)
 {
     wide_encoder state = load_encoder(encoder);
     wide_answer answer;
 
-    proved_jcobs_encoder_finish(&answer, &state, buffer, buffer_len);
+    proved_jcobs_encoder_finish(&answer, &state, buffer, buffer_size);
     store_encoder(encoder, &state);
     return narrow(&answer);
 }

@@ -3,7 +3,7 @@
  * encoder writes nothing unless all fits. */
 #include "plain.h"
 
-jcobs_answer plain_decoder_push(jcobs_decoder *decoder, void *buffer, size_t buffer_len, const void *bytes, size_t len)
+jcobs_answer plain_decoder_push(jcobs_decoder *decoder, void *buffer, size_t buffer_size, const void *bytes, size_t len)
 {
     const unsigned char *from = bytes;
     unsigned char *to = buffer;
@@ -15,7 +15,7 @@ jcobs_answer plain_decoder_push(jcobs_decoder *decoder, void *buffer, size_t buf
         unsigned char byte = from[i];
 
         if (byte == 0) {
-            if (here.too_long || (here.missing == 0 && here.written > buffer_len))
+            if (here.too_long || (here.missing == 0 && here.written > buffer_size))
                 answer.status = JCOBS_TOO_SMALL;
             else if (here.missing != 0)
                 answer.status = JCOBS_BROKEN;
@@ -27,7 +27,7 @@ jcobs_answer plain_decoder_push(jcobs_decoder *decoder, void *buffer, size_t buf
             }
         } else if (!here.too_long) {
             if (here.missing != 0 || here.joint) {
-                if (here.written >= buffer_len) {
+                if (here.written >= buffer_size) {
                     here.too_long = 1;
                     continue;
                 }
@@ -41,7 +41,7 @@ jcobs_answer plain_decoder_push(jcobs_decoder *decoder, void *buffer, size_t buf
             }
         }
     }
-    answer.length = here.too_long || here.written > buffer_len ? buffer_len : here.written;
+    answer.length = here.too_long || here.written > buffer_size ? buffer_size : here.written;
     if (answer.status != JCOBS_MORE) {
         here.written = 0;
         here.missing = 0;
@@ -73,7 +73,7 @@ static size_t open_length(size_t code, const unsigned char *bytes, size_t len)
     return total + code;
 }
 
-jcobs_answer plain_encoder_push(jcobs_encoder *encoder, void *buffer, size_t buffer_len, const void *bytes, size_t len)
+jcobs_answer plain_encoder_push(jcobs_encoder *encoder, void *buffer, size_t buffer_size, const void *bytes, size_t len)
 {
     const unsigned char *from = bytes;
     unsigned char *to = buffer;
@@ -82,10 +82,10 @@ jcobs_answer plain_encoder_push(jcobs_encoder *encoder, void *buffer, size_t buf
     size_t code = encoder->taken + 1u;
     size_t i;
 
-    if (code > 254 || index > buffer_len || (!encoder->full && code > buffer_len - index))
+    if (code > 254 || index > buffer_size || (!encoder->full && code > buffer_size - index))
         return answer;
     if (len > 0) {
-        if (len > buffer_len - index || open_length(code, from, len) > buffer_len - index)
+        if (len > buffer_size - index || open_length(code, from, len) > buffer_size - index)
             return answer;
         for (i = 0; i < len; i++) {
             if (code == 255) {
@@ -117,13 +117,13 @@ jcobs_answer plain_encoder_push(jcobs_encoder *encoder, void *buffer, size_t buf
     return answer;
 }
 
-jcobs_answer plain_encoder_finish(jcobs_encoder *encoder, void *buffer, size_t buffer_len)
+jcobs_answer plain_encoder_finish(jcobs_encoder *encoder, void *buffer, size_t buffer_size)
 {
     jcobs_answer answer = {JCOBS_TOO_SMALL, 0, 0};
 
-    if (buffer_len == 0)
+    if (buffer_size == 0)
         return answer;
-    answer = plain_encoder_push(encoder, buffer, buffer_len, NULL, 0);
+    answer = plain_encoder_push(encoder, buffer, buffer_size, NULL, 0);
     if (answer.status == JCOBS_OK) {
         if (!encoder->full)
             ((unsigned char *)buffer)[encoder->index] = (unsigned char)(encoder->taken + 1);
@@ -134,41 +134,41 @@ jcobs_answer plain_encoder_finish(jcobs_encoder *encoder, void *buffer, size_t b
     return answer;
 }
 
-jcobs_answer plain_encode_terminated(const void *message, size_t message_len, void *frame, size_t frame_len)
+jcobs_answer plain_encode_terminated(const void *message, size_t message_len, void *frame, size_t frame_size)
 {
     jcobs_encoder encoder = JCOBS_ENCODER_INIT;
     jcobs_answer answer = {JCOBS_TOO_SMALL, 0, 0};
 
-    if (frame_len == 0)
+    if (frame_size == 0)
         return answer;
-    answer = plain_encoder_push(&encoder, frame, frame_len - 1, message, message_len);
+    answer = plain_encoder_push(&encoder, frame, frame_size - 1, message, message_len);
     if (answer.status == JCOBS_OK) {
-        plain_encoder_finish(&encoder, frame, frame_len - 1);
+        plain_encoder_finish(&encoder, frame, frame_size - 1);
         ((unsigned char *)frame)[answer.length++] = 0;
     }
     return answer;
 }
 
-jcobs_answer plain_encoder_finish_terminated(jcobs_encoder *encoder, void *buffer, size_t buffer_len)
+jcobs_answer plain_encoder_finish_terminated(jcobs_encoder *encoder, void *buffer, size_t buffer_size)
 {
     jcobs_answer answer = {JCOBS_TOO_SMALL, 0, 0};
 
-    if (buffer_len == 0)
+    if (buffer_size == 0)
         return answer;
-    answer = plain_encoder_finish(encoder, buffer, buffer_len - 1);
+    answer = plain_encoder_finish(encoder, buffer, buffer_size - 1);
     if (answer.status == JCOBS_OK)
         ((unsigned char *)buffer)[answer.length++] = 0;
     return answer;
 }
 
 /* The end of the source ends its last piece, as a zero does. */
-jcobs_answer plain_decode_frame(const void *source, size_t source_len, void *message, size_t message_len)
+jcobs_answer plain_decode_frame(const void *source, size_t source_len, void *message, size_t message_size)
 {
     jcobs_decoder decoder = JCOBS_DECODER_INIT;
-    jcobs_answer answer = plain_decoder_push(&decoder, message, message_len, source, source_len);
+    jcobs_answer answer = plain_decoder_push(&decoder, message, message_size, source, source_len);
 
     if (answer.status == JCOBS_MORE) {
-        answer = plain_decoder_push(&decoder, message, message_len, "", 1);
+        answer = plain_decoder_push(&decoder, message, message_size, "", 1);
         answer.consumed = source_len;
         if (answer.status == JCOBS_MORE)
             answer.status = JCOBS_EMPTY;

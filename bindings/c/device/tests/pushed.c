@@ -3,7 +3,7 @@
 
 #include <stdlib.h>
 
-jcobs_answer jcobs_decoder_push_with_sentinel(jcobs_decoder *decoder, void *buffer, size_t buffer_len,
+jcobs_answer jcobs_decoder_push_with_sentinel(jcobs_decoder *decoder, void *buffer, size_t buffer_size,
                                               const void *bytes, size_t len, unsigned char sentinel)
 {
     unsigned char byte;
@@ -11,5 +11,5 @@ jcobs_answer jcobs_decoder_push_with_sentinel(jcobs_decoder *decoder, void *buff
     if (len != 1)
         abort();
     byte = (unsigned char)(*(const unsigned char *)bytes ^ sentinel);
-    return jcobs_decoder_push(decoder, buffer, buffer_len, &byte, 1);
+    return jcobs_decoder_push(decoder, buffer, buffer_size, &byte, 1);
 }

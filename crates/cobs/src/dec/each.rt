@@ -14,8 +14,8 @@ use crate::dec::frame_decoder::PieceEnd;
 use crate::error::{DecodeError, DecodeReport};
 use crate::find::{leading_zeros, len_to, len_to_zero};
 
-/// Decodes the blocks in the first `end` bytes of the buffer in their own place, one byte after another, and returns the
-/// message's length. Every byte after the message is as it was. It is small, and uses no vectors. (A choice of this library.)
+/// Decodes in place the frame of `end` bytes that the buffer begins with, one byte after another, and returns the message's
+/// length. Every byte after the message is as it was. It is small, and uses no vectors. (A choice of this library.)
 ///
 /// Precondition: the buffer has `end` bytes, and none of them is a zero. [`len_to_zero`](crate::len_to_zero) counts such bytes.
 ///

@@ -59,8 +59,8 @@ impl UnbufferedDecoder {
         if self.too_long != 0 {
             return;
         }
-        // `written` is read once here, because compilers would read it again after each write to the buffer. Three
-        // branches, which a processor predicts, are faster than one write of a byte that is chosen without a branch.
+        // `written` is read once here, because compilers would read it again after each write to the buffer. Each case has a
+        // write of its own: that is faster than to choose a byte first, and to write it in one place.
         let at = self.written;
         if self.missing != 0 {
             if dest.len() <= at {
