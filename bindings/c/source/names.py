@@ -23,7 +23,7 @@ VARIABLES = {
     "UnbufferedDecoder::step": {"dest": "buffer"},
     "UnbufferedDecoder::take_byte": {"dest": "buffer"},
     "UnbufferedEncoder::append_byte": {"dest": "buffer"},
-    "UnbufferedEncoder::append_each": {"dest": "buffer", "encoder": "state"},
+    "UnbufferedEncoder::append_each": {"dest": "buffer"},
     "UnbufferedEncoder::append_one": {"dest": "buffer"},
     "UnbufferedEncoder::feed_len": {"dest": "buffer"},
     "UnbufferedEncoder::finalize": {"dest": "buffer"},

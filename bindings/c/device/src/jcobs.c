@@ -475,16 +475,17 @@ static JCOBS_INLINE int jcobs_covers_overhead(size_t len, size_t spare)
 static int jcobs_fits_each(unsigned char code, const unsigned char *bytes, size_t len, size_t spare)
 {
     size_t left = spare;
+    unsigned char taken = (unsigned char)(code - 1);
 
     for (size_t i = 0; i < len; i++) {
-        if (code == JCOBS_FULL_CODE) {
+        if (taken == JCOBS_FULL_BLOCK_BYTES) {
             left--;
             if (left == 0) {
                 return 0;
             }
-            code = 1;
+            taken = 0;
         }
-        code = bytes[i] != 0 ? (unsigned char)(code + 1) : 1;
+        taken = bytes[i] != 0 ? (unsigned char)(taken + 1) : 0;
     }
     return 1;
 }
@@ -630,13 +631,11 @@ static JCOBS_INLINE size_t jcobs_close_block(unsigned char *buffer, size_t buffe
     size_t index = progress.index;
     unsigned char code = progress.code;
 
-    if (index < buffer_len) {
-        buffer[index] = progress.is_full ? buffer[index] : code;
+    if (index < buffer_len && !progress.is_full) {
+        buffer[index] = code;
+        return index + code;
     }
-    if (progress.is_full) {
-        return index;
-    }
-    return index + code;
+    return index;
 }
 
 /* Returns the encoder's progress: how much of the frame is in the buffer. */
@@ -691,12 +690,25 @@ static JCOBS_INLINE int jcobs_encoder_is_within(const jcobs_encoder *encoder, si
 static JCOBS_INLINE void jcobs_encoder_append_each(jcobs_encoder *encoder, unsigned char *buffer,
                                                    const unsigned char *bytes, size_t len)
 {
-    /* A copy, so that the numbers stay in registers. */
-    jcobs_encoder state = *encoder;
+    size_t index = encoder->index;
+    size_t next = index + encoder->taken + 1;
+
     for (size_t i = 0; i < len; i++) {
-        jcobs_encoder_append_byte(&state, buffer, bytes[i]);
+        unsigned char byte = bytes[i];
+        if (byte != 0) {
+            buffer[next] = byte;
+            next++;
+        }
+        if (byte == 0 || next - index == JCOBS_FULL_CODE) {
+            buffer[index] = (unsigned char)(next - index);
+            index = next;
+            next++;
+        }
     }
-    *encoder = state;
+    size_t code = next - index;
+    encoder->index = index;
+    encoder->taken = (unsigned char)(code - 1);
+    encoder->full = code == 1 && bytes[len - 1] != 0 ? 1 : 0;
 }
 
 /* Takes the next bytes of the message, one at a time. */
