@@ -180,7 +180,8 @@ static size_t jcobs_leading_zeros(const unsigned char *source, size_t source_len
     return source_len;
 }
 
-/* Returns where the piece ends that source[at] belongs to: after its zero, or at the end of the source. */
+/* Returns the end of the piece that source[at] belongs to: after its zero if it has one, otherwise the end of the
+ * source. */
 static JCOBS_APART size_t jcobs_find_end(const unsigned char *source, size_t source_len, size_t at)
 {
     size_t end = at;
@@ -302,8 +303,8 @@ static JCOBS_INLINE void jcobs_decoder_take_byte(jcobs_decoder *decoder, unsigne
     if (decoder->too_long != 0) {
         return;
     }
-    /* Read once here, because compilers would read it again after they write a byte of the buffer. Each case has
-     * a write of its own: that is faster than to choose a byte first, and to write it in one place. */
+    /* written is read once here, because compilers would read it again after each write to the buffer. Each case
+     * has a write of its own: that is faster than to choose a byte first, and to write it in one place. */
     size_t at = decoder->written;
     if (decoder->missing != 0) {
         if (buffer_size <= at) {
@@ -340,8 +341,8 @@ static JCOBS_INLINE jcobs_end jcobs_decoder_end_piece(jcobs_decoder *decoder, si
     if (before.missing != 0) {
         return jcobs_make_end(JCOBS_END_BROKEN, before.written);
     }
-    /* This happens only if the caller now passes a shorter buffer, since no more bytes are counted than were
-     * written. */
+    /* This happens only if the caller now passes a shorter buffer, or has set the state's numbers itself:
+     * written counts only bytes that fitted. */
     if (buffer_size < before.written) {
         return jcobs_make_end(JCOBS_END_TOO_LONG, 0);
     }
@@ -356,7 +357,8 @@ static JCOBS_INLINE jcobs_end jcobs_decoder_end_piece(jcobs_decoder *decoder, si
 static JCOBS_INLINE jcobs_piece jcobs_decoder_take(jcobs_decoder *decoder, unsigned char *buffer, size_t buffer_size,
                                                    const unsigned char *bytes, size_t len, unsigned char sentinel)
 {
-    /* A copy, so that it stays in registers: compilers read the fields again after each byte that is written. */
+    /* A copy, so that it stays in registers: otherwise compilers read the fields again after each byte that is
+     * written. */
     jcobs_decoder state = *decoder;
     size_t taken = 0;
     if (state.too_long == 0) {
@@ -462,7 +464,8 @@ jcobs_answer jcobs_decoder_feed(jcobs_decoder *decoder, void *buffer, size_t buf
     return jcobs_decoder_answer(decoder, piece, 1, buffer_size);
 }
 
-/* Returns how many bytes longer than its message an encoded frame is at most, for a message of message_len bytes. */
+/* Returns the greatest overhead of an encoded frame, for a message of message_len bytes: by how many bytes the
+ * frame may be longer than the message. */
 static size_t jcobs_max_overhead(size_t message_len)
 {
     if (message_len == 0) {
@@ -487,21 +490,22 @@ static JCOBS_INLINE int jcobs_covers_overhead(size_t len, size_t spare)
     return (len - len / 2 + spare - 1) / 128 < spare;
 }
 
-/* Returns whether fewer than spare blocks become full and are followed by another byte, if the open block with
- * this code takes these bytes. Each such block needs one byte of the frame for the code after it. */
+/* Returns whether fewer than spare blocks become full with another byte after them, if the open block has this
+ * code and takes these bytes. Each such block makes the frame one byte longer, by the next code. */
 static int jcobs_extra_codes_fit(unsigned char code, const unsigned char *bytes, size_t len, size_t spare)
 {
     size_t left = spare;
+    unsigned char taken = (unsigned char)(code - 1);
 
     for (size_t i = 0; i < len; i++) {
-        if (code == JCOBS_FULL_CODE) {
+        if (taken == JCOBS_FULL_BLOCK_BYTES) {
             left--;
             if (left == 0) {
                 return 0;
             }
-            code = 1;
+            taken = 0;
         }
-        code = bytes[i] != 0 ? (unsigned char)(code + 1) : 1;
+        taken = bytes[i] != 0 ? (unsigned char)(taken + 1) : 0;
     }
     return 1;
 }
@@ -631,20 +635,18 @@ static JCOBS_INLINE void jcobs_encoder_append_byte(jcobs_encoder *encoder, unsig
     }
 }
 
-/* Writes the open block's code, if that is part of the frame, and returns where the frame ends. The byte in its
- * place may have any value before. */
+/* Writes the code of the open block, unless the frame ends with a full block, and returns the frame's length. The
+ * byte in the code's place may have any value before. */
 static JCOBS_INLINE size_t jcobs_close_block(unsigned char *buffer, size_t buffer_size, jcobs_progress progress)
 {
     size_t index = progress.index;
     unsigned char code = progress.code;
 
-    if (index < buffer_size) {
-        buffer[index] = progress.is_full ? buffer[index] : code;
+    if (index < buffer_size && !progress.is_full) {
+        buffer[index] = code;
+        return index + code;
     }
-    if (progress.is_full) {
-        return index;
-    }
-    return index + code;
+    return index;
 }
 
 /* Returns the encoder's progress: how much of the frame is in the buffer. */
@@ -669,7 +671,7 @@ static size_t jcobs_write_in_place(unsigned char *buffer, size_t buffer_size, si
 
 /* Encodes a message in its own buffer, if the longest frame of a message of message_len bytes fits. Otherwise
  * nothing is written. The message lies in the buffer after the room for the other bytes of that frame, from the
- * index JCOBS_MAX_OVERHEAD(message_len) on, and its frame is written to the front.
+ * index JCOBS_MAX_OVERHEAD(message_len) on. Its frame is written to the front of the buffer.
  * Proved, by the contract in encode.rt: if the longest frame fits, the buffer begins with the message's, and bytes
  * after that are as they were; if it doesn't, the status is TOO_SMALL, and the buffer is as it was. */
 jcobs_answer jcobs_encode_in_place(void *buffer, size_t buffer_size, size_t message_len)
@@ -701,12 +703,25 @@ static JCOBS_INLINE int jcobs_encoder_is_within(const jcobs_encoder *encoder, si
 static JCOBS_INLINE void jcobs_encoder_append(jcobs_encoder *encoder, unsigned char *buffer, const unsigned char *bytes,
                                               size_t len)
 {
-    /* A copy, so that the numbers stay in registers. */
-    jcobs_encoder state = *encoder;
+    size_t index = encoder->index;
+    size_t next = index + encoder->taken + 1;
+
     for (size_t i = 0; i < len; i++) {
-        jcobs_encoder_append_byte(&state, buffer, bytes[i]);
+        unsigned char byte = bytes[i];
+        if (byte != 0) {
+            buffer[next] = byte;
+            next++;
+        }
+        if (byte == 0 || next - index == JCOBS_FULL_CODE) {
+            buffer[index] = (unsigned char)(next - index);
+            index = next;
+            next++;
+        }
     }
-    *encoder = state;
+    size_t code = next - index;
+    encoder->index = index;
+    encoder->taken = (unsigned char)(code - 1);
+    encoder->full = code == 1 && bytes[len - 1] != 0 ? 1 : 0;
 }
 
 /* Takes the next bytes of the message, if the frame of all bytes so far fits the buffer, and returns whether it
@@ -954,7 +969,7 @@ static enum jcobs_kind jcobs_kind_by_blocks(const unsigned char *bytes, size_t l
     return JCOBS_NOT_A_FRAME;
 }
 
-/* Returns whether the bytes are a frame, and which one of their message.
+/* Returns whether the bytes are a frame, and if so, whether it is the one that encoders write for its message.
  * Proved, by the contract in kind.rt: the result is NOT_A_FRAME exactly if the bytes are no frame, and CANONICAL
  * exactly if they are the one that encoders write. */
 unsigned int jcobs_frame_kind(const void *bytes, size_t len)

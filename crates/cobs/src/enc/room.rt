@@ -5,7 +5,7 @@ ghost use Rattle.cobs.specs.OpenBlock.{IsPlaceIn, end_after};
 ghost use Rattle.cobs.specs.Fields.Progress.{reached_at};
 ghost use Rattle.cobs.specs.Internal.Taking.{IsFirstRun, TakesFront};
 
-use crate::block::{FULL, FULL_BLOCK_BYTES};
+use crate::block::FULL_BLOCK_BYTES;
 use crate::enc::blocks::{append, append_rest};
 use crate::enc::progress::EncoderProgress;
 use crate::find::position_or_len;
@@ -20,16 +20,16 @@ fn fits_each(code: u8, bytes: &[u8], spare: usize) -> bool
     ensures fits { IsTrue result ↔ (open_len code bytes.now < code + length bytes.now + spare) }
 {
     let mut left = spare;
-    let mut code = code;
+    let mut taken = code - 1;
     'by_byte: for i in 0..bytes.len() {
-        if code == FULL {
+        if taken as usize == FULL_BLOCK_BYTES {
             left -= 1;
             if left == 0 {
                 return false;
             }
-            code = 1;
+            taken = 0;
         }
-        code = if bytes[i] != 0 { code + 1 } else { 1 };
+        taken = if bytes[i] != 0 { taken + 1 } else { 0 };
     }
     true
 }

@@ -225,6 +225,8 @@ impl UnbufferedEncoder {
     }
 
     /// Takes the next bytes of the message, for which there is room, one at a time.
+    // The loop changes only two numbers, so that they stay in registers, and one line closes a block, whether a zero ends it or
+    // its 254th byte. `append_byte` in the loop would need more instructions, and more of flash, on a small processor.
     #[inline(always)]
     fn append_each(&mut self, dest: &mut [u8], bytes: &[u8])
         requires some { 0 < length bytes.now }
@@ -232,13 +234,27 @@ impl UnbufferedEncoder {
         requires fits { end_after (reached_by self.old) bytes.now ≤ length dest.old }
         ensures { TakesFront dest.old (reached_by self.old) bytes.now (length bytes.now) dest.new (reached_by self.new) }
     {
-        // A copy, so that the numbers stay in registers.
-        let mut encoder = *self;
+        let mut index = self.index;
+        let mut next = index + self.taken as usize + 1;
         'by_byte: for i in 0..bytes.len() {
-            encoder.append_byte(dest, bytes[i]);
+            let byte = bytes[i];
+            if byte != 0 {
+                dest[next] = byte;
+                next += 1;
+            }
+            if byte == 0 || next - index == FULL_CODE {
+                dest[index] = (next - index) as u8;
+                index = next;
+                next += 1;
+            }
         }
-        self.index = encoder.index;
-        self.taken = encoder.taken;
-        self.full = encoder.full;
+        let code = next - index;
+        self.index = index;
+        self.taken = (code - 1) as u8;
+        self.full = if code == 1 && bytes[bytes.len() - 1] != 0 {
+            1
+        } else {
+            0
+        };
     }
 }

@@ -245,16 +245,14 @@ pub(crate) fn append(source: &[u8], dest: &mut [u8], progress: EncoderProgress) 
 
 /// Writes the code of the open block, unless the frame ends with a full block, and returns the frame's length. The byte
 /// in the code's place may have any value before.
-// The room is tested first. Otherwise compilers test whether the block is full in the caller's loop over single bytes, which
-// can make that loop half as fast in the Rust crate with link-time optimization.
+// The room is tested first, though only a full block leaves none. Otherwise compilers test whether the block is full in the
+// caller's loop over single bytes, which can make that loop half as fast in the Rust crate with link-time optimization.
 #[inline(always)]
 pub(crate) fn close(dest: &mut [u8], progress: EncoderProgress) -> usize {
     let EncoderProgress { index, code, .. } = progress;
-    if index < dest.len() {
-        dest[index] = if progress.is_full { dest[index] } else { code };
+    if index < dest.len() && !progress.is_full {
+        dest[index] = code;
+        return index + code as usize;
     }
-    if progress.is_full {
-        return index;
-    }
-    index + code as usize
+    index
 }

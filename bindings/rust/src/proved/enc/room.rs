@@ -1,7 +1,7 @@
 // Made by bindings/rust/translate.py from `crates/cobs/src/enc/room.rt`: change that file, and run it again.
 //! Decides whether a frame fits, before any byte of it is written, and then encodes.
 
-use crate::proved::block::{FULL, FULL_BLOCK_BYTES};
+use crate::proved::block::FULL_BLOCK_BYTES;
 use crate::proved::enc::blocks::{append, append_rest};
 use crate::proved::enc::progress::EncoderProgress;
 use crate::proved::find::position_or_len;
@@ -11,16 +11,16 @@ use memchr::memrchr;
 /// and takes these bytes. Each such block makes the frame one byte longer, by the next code.
 fn fits_each(code: u8, bytes: &[u8], spare: usize) -> bool {
     let mut left = spare;
-    let mut code = code;
+    let mut taken = code - 1;
     for i in 0..bytes.len() {
-        if code == FULL {
+        if taken as usize == FULL_BLOCK_BYTES {
             left -= 1;
             if left == 0 {
                 return false;
             }
-            code = 1;
+            taken = 0;
         }
-        code = if bytes[i] != 0 { code + 1 } else { 1 };
+        taken = if bytes[i] != 0 { taken + 1 } else { 0 };
     }
     true
 }

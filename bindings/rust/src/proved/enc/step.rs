@@ -173,15 +173,31 @@ impl UnbufferedEncoder {
     }
 
     /// Takes the next bytes of the message, for which there is room, one at a time.
+    // The loop changes only two numbers, so that they stay in registers, and one line closes a block, whether a zero ends it or
+    // its 254th byte. `append_byte` in the loop would need more instructions, and more of flash, on a small processor.
     #[inline(always)]
     fn append_each(&mut self, dest: &mut [u8], bytes: &[u8]) {
-        // A copy, so that the numbers stay in registers.
-        let mut encoder = *self;
+        let mut index = self.index;
+        let mut next = index + self.taken as usize + 1;
         for i in 0..bytes.len() {
-            encoder.append_byte(dest, bytes[i]);
+            let byte = bytes[i];
+            if byte != 0 {
+                dest[next] = byte;
+                next += 1;
+            }
+            if byte == 0 || next - index == FULL_CODE {
+                dest[index] = (next - index) as u8;
+                index = next;
+                next += 1;
+            }
         }
-        self.index = encoder.index;
-        self.taken = encoder.taken;
-        self.full = encoder.full;
+        let code = next - index;
+        self.index = index;
+        self.taken = (code - 1) as u8;
+        self.full = if code == 1 && bytes[bytes.len() - 1] != 0 {
+            1
+        } else {
+            0
+        };
     }
 }

@@ -5,7 +5,7 @@ use Rattle.cobs.proofs.enc.room.fits_each.Given as goal
 -- the frame fits exactly if it does with the remaining bytes and the spare bytes that are left for them
 abbrev pub invariant-by_byte : goal.invariant-by_byte
 invariant-by_byte l = record {
-  some : 0 < l.code;
+  short : l.taken < 255;
   more : 0 < l.left;
-  total : open_len l.code (drop l.i l.bytes) + l.fn.code + l.spare + l.i ≡ open_len l.fn.code l.bytes + l.code + l.left;
+  total : open_len (l.taken + 1) (drop l.i l.bytes) + l.fn.code + l.spare + l.i ≡ open_len l.fn.code l.bytes + (l.taken + 1) + l.left;
 }

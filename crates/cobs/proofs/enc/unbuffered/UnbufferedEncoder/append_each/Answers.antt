@@ -1,23 +1,53 @@
--- Each byte is one step more of the encoder (`front-next`), and there is room for it because the frame of the whole
--- source fits and each byte left needs a place (`next-least`).
-use Rattle.std.proofs.Common.{◌≤◌, List, ℕ, length, length-drop, subst, sym, arith}
-use Rattle.std.proofs.lemmas.List.{drop_more}
-use Rattle.cobs.specs.Fields.Progress.{reached_by}
-use Rattle.cobs.specs.OpenBlock.{end_after}
-use Rattle.cobs.proofs.encoding.StepLemmas.{place-short}
-use Rattle.cobs.proofs.encoding.TakingLemmas.{front-next, front-none, next-least}
+-- Each byte is one step more of the encoder (`front-next`): a zero closes the open block, another byte joins it, or fills and
+-- closes it. There is room for it because the frame of the whole source fits.
+use Rattle.std.proofs.Common.{◌≡◌, ◌<◌, ◌≤◌, ◌+◌, ◌-◌, List, ℕ, true, false, drop, get_or, length, length-drop, refl, sym, ap, ◌∙◌, arith}
+use Rattle.std.proofs.lemmas.List.{get_or-drop}
+use Rattle.cobs.specs.Internal.Taking.{TakesFront}
+use Rattle.cobs.specs.OpenBlock.{Reached, end_after, place_at}
+use Rattle.cobs.proofs.encoding.ByteLemmas.{byte-fills, byte-joins, byte-zero}
+use Rattle.cobs.proofs.encoding.TakingLemmas.{front-next}
+use Rattle.cobs.proofs.enc.unbuffered.UnbufferedEncoder.append_each.Goals.{then-byte-ne0, else-byte-ne0, then-byte-eq0, then-byte-eq0-via-then-byte-eq0, then-byte-eq0-via-else-byte-eq0+then-next-index-eq-FULL_CODE, else-byte-eq0+else-next-index-eq-FULL_CODE}
 use Rattle.cobs.proofs.enc.unbuffered.UnbufferedEncoder.append_each.Goals as goal
 
-pub by_byte-init : goal.by_byte-init
-by_byte-init c = front-none c.args.dest.now (reached_by c.args.self.now) c.args.bytes.now c.requires.place
-
-pub append_byte-requires : goal.append_byte-requires
-append_byte-requires c = grind (arith, place-short, length-drop, next-least)
+-- the same slice, by another name
+named : {old source slice slice' : List ℕ} {r r' : Reached} {n : ℕ} → slice ≡ slice' → TakesFront old r source n slice r' → TakesFront old r source n slice' r'
+named is t = rw (sym is) t
 
 pub by_byte-preserved : goal.by_byte-preserved
 by_byte-preserved c =
-    let t = c.by_byte.invariant in
+    let i = c.by_byte.invariant in
+    let o = i.ordered in
+    let short = i.short in
+    let t = i.taken.2 in
     let end = t.end in
-    let left = drop_more c.args.bytes.now c.by_byte.i 0 c.by_byte-test.true in
-    let fits = subst (λ (xs : List ℕ). end_after (reached_by c.by_byte.encoder) xs ≤ length c.by_byte.dest) left (omega arith) in
-    front-next c.by_byte.i (sym left) t 1 (c.append_byte.ensures _ fits)
+    let source : List ℕ = c.args.bytes.now in
+    let left : List ℕ = drop c.by_byte.i source in
+    let is : get_or left 0 0 ≡ get_or source c.by_byte.i 0 = get_or-drop c.by_byte.i source 0 0 ∙ ap (λ (n : ℕ). get_or source n 0) (omega arith) in
+    let some : 0 < length left = omega (arith, length-drop c.by_byte.i source) in
+    let fits : end_after (place_at c.by_byte.index (c.by_byte.next - c.by_byte.index) i.taken.0) left ≤ length c.by_byte.dest = omega arith in
+    let at : c.by_byte.next ≡ c.by_byte.index + (c.by_byte.next - c.by_byte.index) = omega arith in
+    elim c.if-byte-ne0.branch [
+      | then-byte-ne0 a ↦ elim c.if-byte-eq0.branch [
+        | then-byte-eq0 w ↦ elim w.then-byte-eq0.branch [
+          | then-byte-eq0-via-then-byte-eq0 v ↦ absurd (a.if-byte-ne0.true v.if-byte-eq0.true)
+          | then-byte-eq0-via-else-byte-eq0+then-next-index-eq-FULL_CODE v ↦ record {
+            ordered = omega arith;
+            short = omega arith;
+            taken = (true, λ lt. grind arith, front-next c.by_byte.i refl t 1 (named (grind arith) (byte-fills {source = left} t.place fits some at (λ e. a.if-byte-ne0.true (sym is ∙ e)) (omega arith) (grind arith))));
+          }
+        ]
+        | else-byte-eq0+else-next-index-eq-FULL_CODE w ↦ record {
+          ordered = omega arith;
+          short = omega arith;
+          taken = (false, λ lt. grind arith, front-next c.by_byte.i refl t 1 (named (grind arith) (byte-joins {source = left} t.place fits some at {code = c.if-byte-eq0.next - c.if-byte-eq0.index} (λ e. a.if-byte-ne0.true (sym is ∙ e)) (omega arith) (omega arith) (grind arith))));
+        }
+      ]
+      | else-byte-ne0 a ↦ elim c.if-byte-eq0.branch [
+        | then-byte-eq0 w ↦ record {
+          ordered = omega arith;
+          short = omega arith;
+          taken = (false, λ lt. grind arith, front-next c.by_byte.i refl t 1 (named (grind arith) (byte-zero {source = left} t.place fits some at (is ∙ a.if-byte-ne0.false) refl (grind arith))));
+        }
+        | else-byte-eq0+else-next-index-eq-FULL_CODE w ↦ absurd (w.if-byte-eq0.false a.if-byte-ne0.false)
+      ]
+    ]
