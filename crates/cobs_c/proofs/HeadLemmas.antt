@@ -1,5 +1,5 @@
 -- The bytes of a buffer before its first zero, which is found after the bytes that were decoded in their own place.
-use Rattle.std.proofs.Common.{◌≡◌, ◌≤◌, ◌+◌, ◌++◌, ◌∙◌, ℕ, zero, suc, List, [], ◌∷◌, Result, Ok, Err, length, drop, sym, ap, arith, take_all}
+use Rattle.std.proofs.Common.{◌≡◌, ◌≤◌, ◌+◌, ◌++◌, ◌∙◌, ℕ, zero, suc, List, [], ◌∷◌, Err, length, drop, sym, ap, arith, take_all}
 use Rattle.std.proofs.lemmas.Bool.{cases_Bool, ne_eqb}
 use Rattle.std.proofs.lemmas.List.{length-take}
 use Rattle.std.proofs.lemmas.List.Splits.{slice_split-cons_no}
@@ -7,7 +7,6 @@ use Rattle.std.proofs.Math.Seq.{drop-append_seam}
 use Rattle.cobs.specs.Decode.{head_result, in_place, in_place_report, report_result}
 use Rattle.cobs.specs.Piece.{kept_output, output}
 use Rattle.cobs.specs.Stream.{head}
-use Rattle.cobs.specs.declared.DecodeError.{DecodeError}
 use Rattle.cobs.specs.declared.DecodeError.TheVariants.{InvalidFrame}
 
 head-cons : (b : ℕ) (t : List ℕ) → head (suc b ∷ t) ≡ suc b ∷ head t
@@ -31,11 +30,6 @@ head-within (suc b ∷ t) = omega (arith, ap length (head-cons b t), head-within
 count-of : (n : ℕ) (h : List ℕ) (d : ℕ) → Err (InvalidFrame d) ≡ report_result n (head_result h) → d ≡ length (kept_output h)
 count-of n [] d e = absurd cc
 count-of n (x ∷ h) d e = grind (arith, cases_Bool)
-
--- an error is reported as it is
-pub reported : (n : ℕ) (x : Result ℕ DecodeError) (error : DecodeError) → Err error ≡ report_result n x → Err error ≡ x
-reported n (Ok size) error e = absurd cc
-reported n (Err other) error e = cc
 
 -- a broken frame, whose whole blocks gave d bytes
 module _ (shorter : (p : List ℕ) → length (output p) ≤ length p) where

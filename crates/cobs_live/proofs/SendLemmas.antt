@@ -139,9 +139,9 @@ live-read {settings = settings} {before = before} read s r back same = live-push
     (record { sent = s.so_far.sent; each = rw s.same s.so_far.each; written = rw same s.so_far.written })
 
 -- bytes that were read and not sent
-pub unsent : (settings : Settings) (all_sent : Bool) (from to to' before after after' : Option (List ℕ)) (rest : List ℕ) → SentSoFar settings all_sent from to before after
+pub unsent : {settings : Settings} {all_sent : Bool} {from to before after : Option (List ℕ)} (to' after' : Option (List ℕ)) (rest : List ℕ) → SentSoFar settings all_sent from to before after
     → StopsAt rest 10 → Consumes to to' rest → Keeps after after' → (rest : List ℕ) × HasSentLines settings rest from to' before after'
-unsent settings all_sent from to to' before after after' rest s stops r kept = (
+unsent {from = from} {to} {before} {after} to' after' rest s stops r kept = (
   rest,
   record {
     lines = s.lines;
@@ -156,19 +156,19 @@ unsent settings all_sent from to to' before after after' rest s stops r kept = (
 )
 
 -- a line that was read could not be sent
-pub send_failed : (settings : Settings) (all_sent : Bool) (from to to' before after after' : Option (List ℕ)) (line : List ℕ) (result : Result Bool WatchFault)
+pub send_failed : {settings : Settings} {all_sent : Bool} {from to before after : Option (List ℕ)} (to' after' : Option (List ℕ)) (line : List ℕ) (result : Result Bool WatchFault)
     → IsErrAnd result (λ fault. (fault ≢ ReadFailed) × (fault ≡ OutOfMemory → Keeps after after')) → SentSoFar settings all_sent from to before after → StopsAt line 10 → Consumes to to' line
     → HasSent settings result from to' before after'
-send_failed settings all_sent from to to' before after after' line (Err ReadFailed) e s stops r = absurd (e.0 refl)
-send_failed settings all_sent from to to' before after after' line (Err OutOfMemory) e s stops r = unsent settings all_sent from to to' before after after' line s stops r (e.1 refl)
-send_failed settings all_sent from to to' before after after' line (Err WriteFailed) e s stops r = tt
-send_failed settings all_sent from to to' before after after' line (Err OutputClosed) e s stops r = tt
-send_failed settings all_sent from to to' before after after' line (Ok sent) e s stops r = absurd e
+send_failed to' after' line (Err ReadFailed) e s stops r = absurd (e.0 refl)
+send_failed to' after' line (Err OutOfMemory) e s stops r = unsent to' after' line s stops r (e.1 refl)
+send_failed to' after' line (Err WriteFailed) e s stops r = tt
+send_failed to' after' line (Err OutputClosed) e s stops r = tt
+send_failed to' after' line (Ok sent) e s stops r = absurd e
 
 -- the last read gave nothing, at the end of the input
-pub sent_all : (settings : Settings) (all_sent : Bool) (from to to' before after : Option (List ℕ)) (given : List ℕ) → SentSoFar settings all_sent from to before after
+pub sent_all : {settings : Settings} {all_sent : Bool} {from to before after : Option (List ℕ)} (to' : Option (List ℕ)) (given : List ℕ) → SentSoFar settings all_sent from to before after
     → Consumes to to' given → given ≡ [] → IsAtEnd to → HasSentAll settings all_sent from to' before after
-sent_all settings all_sent from to to' before after given s r none end =
+sent_all {from = from} {to} to' given s r none end =
     let nothing : Consumes to to' [] = rw none at r in
     record {
       so_far = record {

@@ -37,10 +37,10 @@ unfolding shown_from
 shown_from-one view times index piece = append-nil (shown view times index piece)
 
 -- the text of a piece, given the tally that counts it too, and the clock before it
-pub shown_now : (view : View) (times : ℕ → Moment) (tally : Tally) (clock : Times) (gone : List Outcome) (outcome : Outcome) (read : ℕ) (before after : Option (List ℕ)) (seen : Seen) (piece : Ended) → seen ≡ seen_piece view.checksum view.partial piece
+pub shown_now : (view : View) (times : ℕ → Moment) {tally : Tally} {clock : Times} (gone : List Outcome) (outcome : Outcome) {read : ℕ} (before after : Option (List ℕ)) {seen : Seen} (piece : Ended) → seen ≡ seen_piece view.checksum view.partial piece
     → IsTallyOf view.checksum tally (gone ++ outcome ∷ []) read → IsReadAt times (length gone) clock
     → Appends before after (in_view view tally.pieces clock seen) → Appends before after (shown view times (length gone) piece)
-shown_now view times tally clock gone outcome read before after seen piece same t r written =
+shown_now view times {tally} {clock} gone outcome {read} before after {seen} piece same t r written =
     let size : length (gone ++ outcome ∷ []) ≡ length gone + 1 = length-append gone (outcome ∷ []) in
     let is : tally.pieces ≡ counted (length gone + 1) = t.pieces ∙ ap counted size in
     let now : clock.next ≡ times (length gone + 1) = sym (r.now (length gone + 1) (omega arith)) in

@@ -1,5 +1,5 @@
 -- The block at an index of bytes that have no zero.
-use Rattle.std.proofs.Common.{◌≡◌, ◌≢◌, ◌∙◌, ℕ, ◌+◌, ◌-◌, ◌<◌, ◌≤◌, List, ◌∷◌, ◌++◌, length, take, drop, get_or, sym, ap, subst, arith, append-nil, length-drop, length-take-le, take-append-drop}
+use Rattle.std.proofs.Common.{◌≡◌, ◌≢◌, ◌∙◌, ℕ, ◌+◌, ◌-◌, ◌<◌, ◌≤◌, List, [], ◌∷◌, ◌++◌, length, take, drop, get_or, sym, ap, subst, arith, append-nil, length-drop, length-take-le, take-append-drop}
 use Rattle.std.proofs.lemmas.List.{drop-drop, drop_all, drop_more}
 use Rattle.std.proofs.lemmas.List.Elements.{All-drop, All-get_or, All-take}
 use Rattle.cobs.specs.Grammar.{HasNoZero, IsBlock}
@@ -38,6 +38,10 @@ module _ (list : List ℕ) (read : ℕ) (nonzero : HasNoZero list) (within : rea
       let some = code_some in
       let next : drop (code - 1) more ≡ drop (read + code) list = drop-drop (code - 1) (read + 1) list ∙ ap (λ (n : ℕ). drop n list) (omega arith) in
       cons ∙ ap (λ (x : List ℕ). code ∷ x) (sym (take-append-drop (code - 1) more)) ∙ ap (λ (x : List ℕ). block_at list read ++ x) next
+
+  -- bytes are after it
+  pub more_some : get_or list read 0 < length list - read → drop (read + get_or list read 0) list ≢ []
+  more_some far none = let l = length-drop (read + code) list in let e = ap length none in omega arith
 
   -- nothing is after it
   pub last : length list - read ≡ get_or list read 0 → drop read list ≡ block_at list read

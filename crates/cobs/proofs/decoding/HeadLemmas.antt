@@ -24,7 +24,7 @@ head-front (byte ∷ t) = grind (arith, cases_eq, head-zero, head-cons, head-fro
 
 pub head-stop : (t : List ℕ) → length (head t) < length t → get_or t (length (head t)) 0 ≡ 0
 unfolding head
-head-stop [] more = absurd (omega arith)
+head-stop [] more = grind arith
 head-stop (byte ∷ t) more = elim (cases_eq byte 0) [
   | inl none ↦ rw none refl
   | inr some ↦ (let l = ap length (head-cons byte t some) in ap (λ (k : ℕ). get_or (byte ∷ t) k 0) l ∙ head-stop t (omega arith))
@@ -32,8 +32,8 @@ head-stop (byte ∷ t) more = elim (cases_eq byte 0) [
 
 pub head-most : (t : List ℕ) (i : ℕ) → i < length t → get_or t i 0 ≡ 0 → length (head t) ≤ i
 unfolding head
-head-most [] i more found = absurd (omega arith)
-head-most (byte ∷ t) zero more none = omega (arith, ap (λ (b : ℕ). length (head (b ∷ t))) none, ap length (head-zero t))
+head-most [] i more found = grind arith
+head-most (byte ∷ t) zero more none = grind (arith, head-zero)
 head-most (byte ∷ t) (suc i) more found = grind (arith, cases_eq, head-zero, head-cons, head-most t i (omega arith) found)
 
 -- a source without the zero that ends it, if nothing follows its first zero
@@ -48,34 +48,31 @@ short_head t n few within last some stop other = elim (cases_lt n (length t)) [
 
 -- a list that begins with a code has a byte before its first zero
 pub head_some : (t : List ℕ) → 0 < length t → get_or t 0 0 ≢ 0 → 0 < length (head t)
-head_some [] some other = absurd (omega arith)
-head_some (byte ∷ t) some other = omega (arith, ap length (head-cons byte t other))
-
-leading_zeros-none : (b : ℕ) (t : List ℕ) → b ≢ 0 → leading_zeros (b ∷ t) ≡ 0
-leading_zeros-none b t some = grind (arith, ne_eqb)
+head_some [] some other = grind arith
+head_some (byte ∷ t) some other = grind (arith, head-cons)
 
 -- the first piece is the bytes before the first zero after the leading ones
 pub first_piece_behind : (t : List ℕ) → first_piece t ≡ first_piece (drop (leading_zeros t) t)
 unfolding first_piece
 first_piece_behind [] = refl
 first_piece_behind (zero ∷ t) = grind (arith, first_piece_behind t)
-first_piece_behind (suc b ∷ t) = grind (arith, leading_zeros-none)
+first_piece_behind (suc b ∷ t) = grind (arith, ne_eqb)
 
 -- and no zero is after them
 pub leading_zeros-stop : (t : List ℕ) → leading_zeros t < length t → get_or (drop (leading_zeros t) t) 0 0 ≢ 0
-leading_zeros-stop [] some = absurd (omega arith)
+leading_zeros-stop [] some = grind arith
 leading_zeros-stop (zero ∷ t) some = grind (arith, (leading_zeros-stop t (omega arith)))
-leading_zeros-stop (suc b ∷ t) some = grind (arith, leading_zeros-none)
+leading_zeros-stop (suc b ∷ t) some = grind (arith, ne_eqb)
 
 -- no piece is in an empty list
 pub first_piece_empty : (t : List ℕ) → length t ≡ 0 → first_piece t ≡ None
 unfolding first_piece
 first_piece_empty [] e = refl
-first_piece_empty (byte ∷ t) e = absurd (omega arith)
+first_piece_empty (byte ∷ t) e = grind arith
 
 -- a source that begins with a code
 pub first_piece_nonzero : (t : List ℕ) → 0 < length t → get_or t 0 0 ≢ 0 → first_piece t ≡ Some (head t)
-first_piece_nonzero [] some other = absurd (omega arith)
+first_piece_nonzero [] some other = grind arith
 first_piece_nonzero (byte ∷ t) some other = first_piece_head byte t other
 
 -- a source after its leading zeros

@@ -1,23 +1,23 @@
 -- The decoders of a whole list return the message m exactly if the list reads as m: by `outcome_reads`, for the list's first
 -- piece.
 use Rattle.std.proofs.Common.{◌≡◌, ◌≢◌, ℕ, ◌<◌, ◌≤◌, ◌↔◌, ◌⊎◌, inl, inr, true, false, List, [], ◌∷◌, length, take, All, Result, Ok, Err, refl, sym, ap, ◌∙◌, subst, arith, get_or, Fits, w8, ⊎_elim}
-use Rattle.std.proofs.lemmas.Bool.{cases_Bool, cases_lt, le-leb, lt-leb}
+use Rattle.std.proofs.lemmas.Bool.{cases_Bool, cases_lt}
 use Rattle.std.proofs.lemmas.List.Elements.{All-from_get_or, All-map, All-weaker}
 use Rattle.std.specs.Int.Bits.{bit_xor, xor_lt}
 use Rattle.cobs.specs.Sentinel.{xor_each}
 use Rattle.cobs.specs.Overwritten.{overwritten}
 use Rattle.cobs.specs.Grammar.{Reads}
 use Rattle.cobs.specs.Piece.{output, kept_output, is_whole, IsWhole}
-use Rattle.cobs.specs.Stream.{Broken, TooLong, outcome_of, head}
-use Rattle.cobs.specs.Decode.{outcome_result, report_result, len_through_piece, result_of_decode, first_output, head_result, head_result_within, in_place, result_in_place, in_place_report, result_of_sentinel_decode, output_of}
+use Rattle.cobs.specs.Stream.{outcome_of, head}
+use Rattle.cobs.specs.Decode.{outcome_result, report_result, len_through_piece, result_of_decode, first_output, head_result_within, in_place, result_in_place, in_place_report, result_of_sentinel_decode, output_of}
 use Rattle.cobs.specs.Headline.{IsPiece, BeginsWith, ReturnsMessage, ReportsMessage}
 use Rattle.cobs.specs.declared.error.DecodeReport.{DecodeReport}
 use Rattle.cobs.specs.declared.error.DecodeError.{DecodeError}
 use Rattle.cobs.specs.declared.error.DecodeError.TheVariants.{InvalidFrame, TargetBufTooSmall}
 use Rattle.cobs.proofs.format.FrameLemmas.{frame_whole, frame_output, reads_output}
 use Rattle.cobs.proofs.decoding.KeptLemmas.{all-kept}
-use Rattle.cobs.proofs.decoding.OutcomeLemmas.{outcome_of_whole, first_piece_alone, head_alone, length-head, output_within}
-use Rattle.cobs.proofs.decoding.OutcomeSteps.{result_by_piece, result_of_decode-is}
+use Rattle.cobs.proofs.decoding.OutcomeLemmas.{outcome_of_whole, first_piece_alone, head_alone, length-head, output_within, outcome_of_broken, outcome_of_long}
+use Rattle.cobs.proofs.decoding.OutcomeSteps.{result_by_piece}
 use Rattle.cobs.proofs.decoding.ReadsLemmas.{frame_piece}
 use Rattle.cobs.proofs.decoding.SourceSteps.{result-fits, result-too_long}
 use Rattle.cobs.proofs.decoding.VectorSteps.{kept_within, overwritten-begins}
@@ -70,17 +70,9 @@ reports parsed result buffer m P h = grind arith
 
 -- DECODING INTO A BUFFER
 
-outcome_of_broken : (p : List ℕ) (n : ℕ) → length (output p) ≤ n → is_whole p ≡ false → outcome_of p n ≡ Broken (length (output p))
-unfolding outcome_of
-outcome_of_broken p n fits broken = grind (arith, le-leb, broken)
-
-pub outcome_of_long : (p : List ℕ) (n : ℕ) → n < length (output p) → outcome_of p n ≡ TooLong
-unfolding outcome_of
-outcome_of_long p n more = grind (arith, lt-leb)
-
 result_of_decode_alone : (f : List ℕ) (n : ℕ) → IsPiece f → result_of_decode f n ≡ report_result (len_through_piece f f) (outcome_result (outcome_of f n))
-result_of_decode_alone [] n piece = absurd (piece.0 refl)
-result_of_decode_alone (byte ∷ bytes) n piece = grind (arith, result_of_decode-is, result_by_piece, first_piece_alone)
+result_of_decode_alone [] n piece = grind arith
+result_of_decode_alone (byte ∷ bytes) n piece = grind (arith, result_by_piece, first_piece_alone)
 
 outcome_result-rejected : (f : List ℕ) (n : ℕ) → (is_whole f ≡ false) ⊎ (n < length (output f)) → (error : DecodeError) × (outcome_result (outcome_of f n) ≡ Err error)
 outcome_result-rejected f n (inr more) = grind (arith, outcome_of_long)
@@ -103,25 +95,15 @@ decode_reads f buffer result buffer' returned after below piece m =
 -- DECODING FROM A SOURCE FOR ANY SENTINEL
 
 result_of_sentinel_decode_alone : (f : List ℕ) (n : ℕ) → IsPiece f → result_of_sentinel_decode f n ≡ head_result_within f n
-result_of_sentinel_decode_alone [] n piece = absurd (piece.0 refl)
+result_of_sentinel_decode_alone [] n piece = grind arith
 result_of_sentinel_decode_alone (byte ∷ bytes) n piece = grind (arith, head_alone)
-
-head_result_whole : (f : List ℕ) → f ≢ [] → IsWhole f → head_result f ≡ Ok (length (output f))
-head_result_whole f h e = grind arith
-
-head_result_broken : (f : List ℕ) → f ≢ [] → is_whole f ≡ false → head_result f ≡ Err (InvalidFrame (length (kept_output f)))
-head_result_broken f h e = grind arith
 
 within-rejected : (f : List ℕ) (n : ℕ) → f ≢ [] → (is_whole f ≡ false) ⊎ (n < length (output f)) → (error : DecodeError) × (head_result_within f n ≡ Err error)
 within-rejected f n some either = ⊎_elim
     (λ (more : n < length (kept_output f)). (TargetBufTooSmall, sym (result-too_long f n more)))
-    (λ (fits : length (kept_output f) ≤ n). (
-      InvalidFrame (length (kept_output f)),
-      sym (result-fits f n fits) ∙ head_result_broken f some (elim either [
-        | inl broken ↦ broken
-        | inr more ↦ ⊎_elim (λ (whole : is_whole f ≡ true). absurd (omega (arith, ap length (all-kept f whole)))) (λ (broken : is_whole f ≡ false). broken) (cases_Bool (is_whole f))
-      ]),
-    ))
+    (λ (fits : length (kept_output f) ≤ n).
+    let broken : is_whole f ≡ false = grind (arith, all-kept, cases_Bool) in
+    (InvalidFrame (length (kept_output f)), sym (result-fits f n fits) ∙ (grind arith)))
     (cases_lt n (length (kept_output f)))
 
 module _ (f buffer : List ℕ) (result : Result ℕ DecodeError) (buffer' : List ℕ) (returned : result ≡ result_of_sentinel_decode f (length buffer)) (after : buffer' ≡ overwritten buffer (kept_output (head f)))
@@ -129,8 +111,9 @@ module _ (f buffer : List ℕ) (result : Result ℕ DecodeError) (buffer' : List
   source_reported : IsPiece f → (m : List ℕ) → ReturnsMessage result buffer' m ↔ (Reads f m × (length m ≤ length buffer))
   source_reported piece m = decodes-reads f m (length buffer) result buffer' piece below (record {
     whole = λ whole fits.
+        let some = piece.0 in
         let kept = all-kept f whole in (
-          returned ∙ result_of_sentinel_decode_alone f _ piece ∙ sym (result-fits f _ (omega (arith, ap length kept))) ∙ head_result_whole f piece.0 whole,
+          returned ∙ result_of_sentinel_decode_alone f _ piece ∙ sym (result-fits f _ (omega (arith, ap length kept))) ∙ (grind arith),
           ap (take (length (output f))) (after ∙ ap (overwritten buffer) (ap kept_output (head_alone f piece.1) ∙ kept)) ∙ overwritten-begins buffer (output f) fits,
         );
     rejected = λ either. let r = within-rejected f _ piece.0 either in (r.0, returned ∙ result_of_sentinel_decode_alone f _ piece ∙ r.1);
@@ -158,4 +141,4 @@ module _ (f : List ℕ) (result : Result DecodeReport DecodeError) (buffer' : Li
   in_place_reads m r = grind (arith, in_place_reported, frame_piece, frame_output, output_within)
 
   pub in_place_only : IsPiece f → (m : List ℕ) → ReportsMessage result buffer' m → Reads f m
-  in_place_only piece m stated = ((in_place_reported piece m).0 stated).0
+  in_place_only piece m stated = grind (arith, in_place_reported)

@@ -1,10 +1,12 @@
 -- The kept output of a piece, also of one after a block, and whether it is whole: by cutting the piece after its first part
 -- (`PieceCuts`).
-use Rattle.std.proofs.Common.{◌≡◌, ◌≢◌, ℕ, ◌+◌, ◌-◌, ◌<◌, ◌≤◌, Bool, true, false, cond, List, [], ◌∷◌, ◌++◌, length, take, refl, ap, ◌∙◌, arith, append_assoc, length-append, take_all, take_at, drop_at}
+use Rattle.std.proofs.Common.{◌≡◌, ◌≢◌, ℕ, ◌+◌, ◌-◌, ◌<◌, ◌≤◌, Bool, true, false, cond, List, [], ◌∷◌, ◌++◌, length, take, refl, ap, ◌∙◌, arith, append_assoc, length-append, take_all, take_at, drop_at, eqb, Ok, Err}
 use Rattle.std.proofs.Math.Seq.{take-append-add}
 use Rattle.std.proofs.lemmas.Bool.{ne_eqb, eq-eqb}
 use Rattle.cobs.specs.Grammar.{bytes_of, joint, message_of, last_of, IsBlock}
-use Rattle.cobs.specs.Piece.{parts, output, last_part, is_whole, kept_output, IsWhole}
+use Rattle.cobs.specs.Piece.{parts, output, last_part, is_whole, kept_output, IsWhole, missing, parts_after}
+use Rattle.cobs.specs.Decode.{head_result}
+use Rattle.cobs.specs.declared.error.DecodeError.TheVariants.{InvalidFrame}
 use Rattle.cobs.proofs.decoding.PieceCuts.{output-last, output-more, output-empty, last_part-more, last_part-last, is_whole-of}
 
 kept-is : (p : List ℕ) → kept_output p ≡ cond (is_whole p) (output p) (take (length (output p) - length (bytes_of (last_part p))) (output p))
@@ -18,11 +20,17 @@ kept_output-empty = grind (arith, kept-is, output-empty, take_all)
 pub all-kept : (p : List ℕ) → IsWhole p → kept_output p ≡ output p
 all-kept p whole = rw (kept-is p, whole) refl
 
+-- the result for the bytes before a zero, by the missing bytes of their last part
+pub head_result-is : (h : List ℕ) → let n = length (kept_output h) in head_result h ≡ cond (eqb (missing (last_part h)) 0) (Ok n) (Err (InvalidFrame n))
+unfolding last_part parts parts_after
+head_result-is [] = grind (arith, kept_output-empty)
+head_result-is (byte ∷ bytes) = grind (arith, is_whole-of, all-kept)
+
 -- a last part is no longer than the output
 last_fits : (blocks : List (List ℕ)) → length (bytes_of (last_of blocks)) ≤ length (message_of blocks)
 last_fits [] = omega arith
 last_fits (part ∷ []) = omega arith
-last_fits (part ∷ next ∷ more) = omega (arith, last_fits (next ∷ more), length-append (bytes_of part ++ joint part) (message_of (next ∷ more)))
+last_fits (part ∷ next ∷ more) = grind (arith, length-append, (last_fits (next ∷ more)))
 
 last_part_fits : (p : List ℕ) → length (bytes_of (last_part p)) ≤ length (output p)
 unfolding last_part output
@@ -51,7 +59,7 @@ module _ (code : ℕ) (bytes : List ℕ) (x : ℕ) (p : List ℕ) (is : IsBlock 
 
 pub front-whole : (block p : List ℕ) → IsBlock block → p ≢ [] → is_whole (block ++ p) ≡ is_whole p
 front-whole [] p is some = absurd is
-front-whole (code ∷ bytes) [] is some = absurd (some refl)
+front-whole (code ∷ bytes) [] is some = grind arith
 front-whole (code ∷ bytes) (x ∷ p) is some = whole-same code bytes x p is
 
 cut-behind : (whole : Bool) (front out : List ℕ) (k : ℕ) → k ≤ length out → cond whole (front ++ out) (take (length (front ++ out) - k) (front ++ out)) ≡ front ++ cond whole out (take (length out - k) out)
@@ -60,5 +68,5 @@ cut-behind false front out k fits = ap (λ (n : ℕ). take n (front ++ out)) (om
 
 pub front-kept : (block p : List ℕ) → IsBlock block → p ≢ [] → kept_output (block ++ p) ≡ bytes_of block ++ joint block ++ kept_output p
 front-kept [] p is some = absurd is
-front-kept (code ∷ bytes) [] is some = absurd (some refl)
+front-kept (code ∷ bytes) [] is some = grind arith
 front-kept (code ∷ bytes) (x ∷ p) is some = grind (arith, kept-is, whole-same, last-same, out-behind, cut-behind, last_part_fits, append_assoc)

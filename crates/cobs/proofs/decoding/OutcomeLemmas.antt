@@ -1,13 +1,15 @@
--- A piece that fits has the outcome `Message m` exactly if it is a frame of m (`outcome_reads`), by `frame_output`; and the
--- first piece of a stream is the bytes before its first zero, by std's lemmas on `slice_split`.
-use Rattle.std.proofs.Common.{◌≡◌, ◌≢◌, ℕ, zero, suc, ◌-◌, ◌<◌, ◌≤◌, ◌↔◌, true, false, List, [], ◌∷◌, length, filter, All, Some, if◌then◌else◌, refl, sym, ap, ◌∙◌, subst, arith, length-append}
+-- The outcome of a piece follows from its output's length and from whether it is whole (`outcome_of_whole` and the lemmas
+-- after it), so it is `Message m` exactly if the piece is a frame of m (`outcome_reads`). The first piece of a stream is the
+-- bytes before its first zero, by std's lemmas on `slice_split`.
+use Rattle.std.proofs.Common.{◌≡◌, ◌≢◌, ℕ, zero, suc, ◌-◌, ◌<◌, ◌≤◌, ◌↔◌, List, [], ◌∷◌, length, filter, All, Some, refl, sym, ap, ◌∙◌, subst, arith, length-append, false}
 use Rattle.std.specs.List.{concat}
-use Rattle.std.proofs.lemmas.Bool.{cases_Bool, cases_eq, ne_eqb, le-leb}
+use Rattle.std.proofs.lemmas.Bool.{cases_Bool, cases_eq, ne_eqb, le-leb, eq-eqb, lt-leb}
 use Rattle.std.proofs.lemmas.List.Elements.{All-head, All-tail, All-cons, All-nil, All-weaker}
 use Rattle.std.proofs.lemmas.List.Splits.{slice_split-cons_no, slice_split_none}
-use Rattle.cobs.specs.Grammar.{HasNoZero, is_full, joint, message_of, Reads}
-use Rattle.cobs.specs.Piece.{parts_after, parts, IsWhole, output}
-use Rattle.cobs.specs.Stream.{first_piece, head, Message, outcome_of}
+use Rattle.cobs.specs.Grammar.{HasNoZero, message_of, Reads}
+use Rattle.cobs.specs.Piece.{parts_after, parts, IsWhole, output, is_whole, last_part, missing}
+use Rattle.cobs.specs.Stream.{first_piece, head, Message, outcome_of, Broken, TooLong}
+use Rattle.cobs.proofs.decoding.PieceCuts.{is_whole-of}
 use Rattle.cobs.proofs.format.FrameLemmas.{concat-parts, frame_some, frame_nonzero, frame_whole, frame_output, reads_output}
 
 -- A FRAME, BY ITS BYTES
@@ -23,18 +25,15 @@ reads_iff f m below = (
 
 -- THE OUTPUT IS NO LONGER THAN THE PIECE
 
-length-joint : (part : List ℕ) → length (joint part) ≤ 1
-length-joint part = elim (is_full part) as (λ t. length {A = ℕ} (if t then [] else 0 ∷ []) ≤ 1) [ true ↦ omega arith | false ↦ omega arith ]
-
 length-message_of : (blocks : List (List ℕ)) → All (λ block. block ≢ []) blocks → length (message_of blocks) ≤ length (concat blocks)
 length-message_of [] h = omega arith
-length-message_of ([] ∷ blocks) h = absurd (All-head (λ block. block ≢ []) [] blocks h refl)
-length-message_of ((c ∷ bytes) ∷ []) h = omega (arith, length-append bytes [])
-length-message_of ((c ∷ bytes) ∷ next ∷ blocks) h = grind (arith, All-tail, length-joint, length-append, length-message_of (next ∷ blocks) (All-tail (λ block. block ≢ []) (c ∷ bytes) (next ∷ blocks) h))
+length-message_of ([] ∷ blocks) h = grind (arith, All-head)
+length-message_of ((c ∷ bytes) ∷ []) h = grind (arith, length-append)
+length-message_of ((c ∷ bytes) ∷ next ∷ blocks) h = grind (arith, All-tail, length-append, length-message_of (next ∷ blocks) (All-tail (λ block. block ≢ []) (c ∷ bytes) (next ∷ blocks) h))
 
 parts_nonempty : (n : ℕ) (p : List ℕ) → All (λ part. part ≢ []) (parts_after n p)
 unfolding parts_after
-parts_nonempty n [] = All-nil (λ part. part ≢ [])
+parts_nonempty n [] = grind (arith, All-nil)
 parts_nonempty (suc n) (x ∷ p) = parts_nonempty n p
 parts_nonempty zero (c ∷ p) = grind (arith, All-cons, parts_nonempty (c - 1) p)
 
@@ -42,7 +41,7 @@ pub output_within : (p : List ℕ) → length (output p) ≤ length p
 unfolding output parts
 output_within p = grind (arith, length-message_of, parts_nonempty, concat-parts)
 
--- A PIECE COMES TO A MESSAGE WHERE IT READS AS IT
+-- THE OUTCOME OF A PIECE
 
 outcome_whole : (p m : List ℕ) (n : ℕ) → length (output p) ≤ n → outcome_of p n ≡ Message m → IsWhole p × (m ≡ output p)
 unfolding outcome_of
@@ -51,6 +50,21 @@ outcome_whole p m n fits e = grind (arith, le-leb, cases_Bool)
 pub outcome_of_whole : (p : List ℕ) (n : ℕ) → length (output p) ≤ n → IsWhole p → outcome_of p n ≡ Message (output p)
 unfolding outcome_of
 outcome_of_whole p n fits whole = grind (arith, le-leb)
+
+pub outcome_of_broken : (p : List ℕ) (n : ℕ) → length (output p) ≤ n → is_whole p ≡ false → outcome_of p n ≡ Broken (length (output p))
+unfolding outcome_of
+outcome_of_broken p n fits broken = grind (arith, le-leb, broken)
+
+pub outcome_of_long : (p : List ℕ) (n : ℕ) → n < length (output p) → outcome_of p n ≡ TooLong
+unfolding outcome_of
+outcome_of_long p n long = grind (arith, lt-leb)
+
+-- the same by the missing bytes of the last part
+pub outcome_of_none_missing : (p : List ℕ) (n : ℕ) → 0 < length p → length (output p) ≤ n → missing (last_part p) ≡ 0 → outcome_of p n ≡ Message (output p)
+outcome_of_none_missing p n some fits whole = grind (arith, outcome_of_whole, is_whole-of, eq-eqb)
+
+pub outcome_of_some_missing : (p : List ℕ) (n : ℕ) → 0 < length p → length (output p) ≤ n → missing (last_part p) ≢ 0 → outcome_of p n ≡ Broken (length (output p))
+outcome_of_some_missing p n some fits broken = grind (arith, outcome_of_broken, is_whole-of, ne_eqb)
 
 -- if there is room for its output
 pub outcome_reads : (f m : List ℕ) (n : ℕ) → f ≢ [] → HasNoZero f → All (λ b. b < 256) f → length (output f) ≤ n → (outcome_of f n ≡ Message m) ↔ Reads f m

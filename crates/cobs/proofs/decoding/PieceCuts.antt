@@ -1,17 +1,8 @@
 -- A piece is its first part and what follows it, so its output and its last part are known from those of the rest: by the
 -- definition of `parts_after`.
 use Rattle.std.proofs.Common.{◌≡◌, ℕ, ◌-◌, ◌<◌, ◌≤◌, eqb, List, [], ◌∷◌, ◌++◌, length, take, drop, if◌then◌else◌, ◌==◌, refl, arith, take_all, length-drop}
-use Rattle.cobs.specs.Grammar.{bytes_of, joint, message_of, last_of}
 use Rattle.cobs.specs.Piece.{last_part, is_whole, missing, parts, parts_after, output}
-use Rattle.cobs.proofs.format.FrameLemmas.{parts_after-drop, parts_after-past}
-
-parts_after-some : (p : List ℕ) → 0 < length p → 0 < length (parts_after 0 p)
-unfolding parts_after
-parts_after-some [] h = absurd (omega arith)
-parts_after-some (x ∷ p) h = omega arith
-
-message_of-cons : (part : List ℕ) (parts : List (List ℕ)) → 0 < length parts → message_of (part ∷ parts) ≡ (bytes_of part ++ joint part) ++ message_of parts
-message_of-cons part parts h = grind arith
+use Rattle.cobs.proofs.format.FrameLemmas.{parts_after-drop, parts_after-past, last_of-cons, parts_after-some}
 
 -- the last part
 pub output-last : (code : ℕ) (bytes : List ℕ) → length bytes ≤ code - 1 → output (code ∷ bytes) ≡ bytes
@@ -24,15 +15,12 @@ joint_of code = if code == 255 then [] else 0 ∷ []
 -- a part before others
 pub output-more : (code : ℕ) (bytes : List ℕ) → code - 1 < length bytes → output (code ∷ bytes) ≡ (take (code - 1) bytes ++ joint_of code) ++ output (drop (code - 1) bytes)
 unfolding output parts parts_after
-output-more code bytes more = grind (arith, parts_after-drop, length-drop, message_of-cons, parts_after-some)
+output-more code bytes more = grind (arith, parts_after-drop, length-drop, parts_after-some)
 
 pub output-empty : (p : List ℕ) → length p ≡ 0 → output p ≡ []
 unfolding output parts parts_after
 output-empty [] e = refl
-output-empty (x ∷ p) e = absurd (omega arith)
-
-last_of-cons : (part : List ℕ) (parts : List (List ℕ)) → 0 < length parts → last_of (part ∷ parts) ≡ last_of parts
-last_of-cons part parts h = grind arith
+output-empty (x ∷ p) e = grind arith
 
 pub last_part-more : (code : ℕ) (bytes : List ℕ) → code - 1 < length bytes → last_part (code ∷ bytes) ≡ last_part (drop (code - 1) bytes)
 unfolding last_part parts parts_after

@@ -35,8 +35,8 @@ grown-more : (code : ℕ) (bytes : List ℕ) (b : ℕ) → code - 1 < length byt
 grown-more code bytes b more rest = grind (arith, last_part-more, output-more, length_push, take-append-le, drop-append-le, append_assoc)
 
 grown-by : (n : ℕ) (p : List ℕ) (b : ℕ) → length p ≤ n → 0 < length p → Grown p b
-grown-by n [] b le some = absurd (omega arith)
-grown-by zero (code ∷ bytes) b le some = absurd (omega arith)
+grown-by n [] b le some = grind arith
+grown-by zero (code ∷ bytes) b le some = grind arith
 grown-by (suc n) (code ∷ bytes) b le some = elim (cases_lt (code - 1) (length bytes)) [
   | inl more ↦ let d = length-drop (code - 1) bytes in grown-more code bytes b more (grown-by n (drop (code - 1) bytes) b (omega arith) (omega arith))
   | inr short ↦ grown-last code bytes b short
@@ -50,11 +50,11 @@ unfolding last_part parts parts_after
 last_part-empty = refl
 
 pub output-push_more : (p : List ℕ) (b : ℕ) → 0 < missing (last_part p) → output (p ++ b ∷ []) ≡ output p ++ b ∷ []
-output-push_more [] b h = absurd (omega (arith, last_part-empty))
+output-push_more [] b h = grind (arith, last_part-empty)
 output-push_more (c ∷ p) b h = (grown c p b).more_output h
 
 pub last_part-push_more : (p : List ℕ) (b : ℕ) → 0 < missing (last_part p) → last_part (p ++ b ∷ []) ≡ last_part p ++ b ∷ []
-last_part-push_more [] b h = absurd (omega (arith, last_part-empty))
+last_part-push_more [] b h = grind (arith, last_part-empty)
 last_part-push_more (c ∷ p) b h = (grown c p b).more_last h
 
 pub output-push_next : (c : ℕ) (p : List ℕ) (b : ℕ) → missing (last_part (c ∷ p)) ≡ 0 → output (c ∷ p ++ b ∷ []) ≡ output (c ∷ p) ++ joint (last_part (c ∷ p))

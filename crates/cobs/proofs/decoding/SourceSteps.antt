@@ -1,6 +1,6 @@
 -- A source for any sentinel is a source for 0 once each byte is XORed with it: the bytes before its first sentinel, and the
 -- result for that, by `xor_twice`.
-use Rattle.std.proofs.Common.{◌≡◌, ◌≢◌, ℕ, ◌<◌, ◌≤◌, All, List, [], ◌∷◌, length, take, get_or, bit_xor, Err, sym, ap, ◌∙◌, subst, arith}
+use Rattle.std.proofs.Common.{◌≡◌, ◌≢◌, ℕ, ◌<◌, ◌≤◌, All, List, [], ◌∷◌, length, take, get_or, bit_xor, Err, sym, ap, ◌∙◌, arith}
 use Rattle.std.specs.Int.Bits.{xor_self}
 use Rattle.std.proofs.lemmas.Bool.{le-leb, lt-leb}
 use Rattle.std.proofs.lemmas.List.{get_or-map, length-map, take-map}
@@ -34,10 +34,7 @@ pub front-head : (source : List ℕ) (end s : ℕ) → end ≤ length source →
     → xor_each s (take end source) ≡ head (xor_each s source)
 front-head source end s within nonzero stop =
     let same : take end (xor_each s source) ≡ xor_each s (take end source) = take-map (λ b. bit_xor b s) end source in
-    let l = length-map source (λ (b : ℕ). bit_xor b s) in
-    sym same
-    ∙ front_is_head (xor_each s source) end (omega arith) (subst HasNoZero (sym same) nonzero)
-    (λ more. get_or-map (λ b. bit_xor b s) source end 0 0 (omega arith) ∙ ap (λ (x : ℕ). bit_xor x s) (stop (omega arith)) ∙ xor_self s)
+    grind (arith, front_is_head, get_or-map, xor_self, length-map)
 
 module _ (source : List ℕ) (end s : ℕ) (within : end ≤ length source) (before : All (λ byte. byte ≢ s) (take end source)) (stop : end < length source → get_or source end 0 ≡ s) where
   pub xor_no_zero : HasNoZero (xor_each s (take end source))
@@ -46,7 +43,7 @@ module _ (source : List ℕ) (end s : ℕ) (within : end ≤ length source) (bef
       (All-weaker (λ b. b ≢ s) (λ b. bit_xor b s ≢ 0) (λ b other e. other (sym (xor_twice b s) ∙ ap (λ (x : ℕ). bit_xor x s) e)) (take end source) before)
 
   pub xor_head : xor_each s (take end source) ≡ head (xor_each s source)
-  xor_head = front-head source end s within xor_no_zero stop
+  xor_head = grind (arith, front-head, xor_no_zero)
 
 -- the result for a source that isn't empty, by the bytes before its first sentinel
 pub result_of_sentinel_decode-head : (source : List ℕ) (s n : ℕ) → 0 < length source → head_result_within (head (xor_each s source)) n ≡ result_of_sentinel_decode (xor_each s source) n
@@ -56,4 +53,4 @@ result_of_sentinel_decode-head source s n some = grind (arith, length-map)
 pub nothing_kept : (source dest : List ℕ) (s : ℕ) → length source ≡ 0 → dest ≡ overwritten dest (kept_output (head (xor_each s source)))
 unfolding head
 nothing_kept [] dest s e = grind (arith, kept_output-empty, overwritten-none)
-nothing_kept (byte ∷ source) dest s e = absurd (omega arith)
+nothing_kept (byte ∷ source) dest s e = grind arith

@@ -21,21 +21,12 @@ into_last p [] h = grind (arith, append-nil)
 into_last p (x ∷ xs) h =
     let m = missing-push_more p x (omega arith) in
     let again = into_last (p ++ x ∷ []) xs (omega arith) in
-    let same = append_assoc p (x ∷ []) xs in
-    record {
-      out = grind (arith, append_assoc, output-push_more, again.out);
-      last = grind (arith, append_assoc, last_part-push_more, again.last);
-      left = ap (λ (l : List ℕ). missing (last_part l) + length (x ∷ xs)) (sym same) ∙ omega arith;
-    }
+    grind (arith, append_assoc, output-push_more, last_part-push_more)
 
 -- the code after whole blocks
 next_code : (p : List ℕ) (code : ℕ) → missing (last_part p) ≡ 0 → last_part (p ++ code ∷ []) ≡ code ∷ []
 next_code [] code h = last_part-one code
 next_code (c ∷ p) code h = last_part-push_next c p code h
-
--- bytes in two parts, and the front of the second
-in_two : (p q : List ℕ) (n : ℕ) → (p ++ take n q) ++ drop n q ≡ p ++ q
-in_two p q n = grind (arith, append_assoc, take-append-drop)
 
 in_front : (p q : List ℕ) (n k : ℕ) → (p ++ take n q) ++ take k (drop n q) ≡ p ++ take (n + k) q
 in_front p q n k = grind (arith, append_assoc, take-add)
@@ -59,7 +50,7 @@ module _ (p q : List ℕ) (at code : ℕ) (here : at < length q) (is : code ≡ 
   front-left = grind (arith, next_code)
 
   all-is : p ++ q ≡ front ++ drop (at + 1) q
-  all-is = grind (arith, in_two, front-is)
+  all-is = grind (arith, append_assoc, take-append-drop, front-is)
 
   pub ends-next : 0 < code → at + code ≤ length q → missing (last_part (p ++ take (at + code) q)) ≡ 0
   ends-next some fits =
@@ -102,11 +93,11 @@ abbrev KeptBy : List ℕ → List ℕ → ℕ → Type 0
 KeptBy p q k = (length q ≤ k + 253) × (output (p ++ take k q) ≡ kept_output (p ++ q))
 
 kept-after : (p q : List ℕ) (n : ℕ) → (k : ℕ) × KeptBy (p ++ take n q) (drop n q) k → (k : ℕ) × KeptBy p q k
-kept-after p q n (k, (few, is)) = grind (arith, length-drop, in_front, in_two)
+kept-after p q n (k, (few, is)) = grind (arith, length-drop, in_front, append_assoc, take-append-drop)
 
 kept-behind : (n : ℕ) (p q : List ℕ) → length q ≤ n → HasNoZero q → All (λ b. b < 256) q → missing (last_part p) ≡ 0 → (k : ℕ) × KeptBy p q k
 kept-behind n p [] le none small ends = grind (arith, append-nil, whole-kept)
-kept-behind zero p (code ∷ bytes) le none small ends = absurd (omega arith)
+kept-behind zero p (code ∷ bytes) le none small ends = grind arith
 kept-behind (suc n) p (code ∷ bytes) le none small ends =
     let q : List ℕ = code ∷ bytes in
     let start : missing (last_part (p ++ take 0 q)) ≡ 0 = ap (λ (l : List ℕ). missing (last_part l)) (append-nil p) ∙ ends in

@@ -1,5 +1,5 @@
 -- A vector form that found memory returns the message m exactly if the list reads as m, and holds m: by `HeadlineLemmas`.
-use Rattle.std.proofs.Common.{arith, ◌≡◌, ℕ, ◌<◌, ◌↔◌, Bool, true, false, cond, List, [], ◌∷◌, length, All, Result, Ok, Err, ◌++◌, take, drop, take_at, refl, sym, ap, ◌∙◌, subst, ⊎_elim}
+use Rattle.std.proofs.Common.{arith, ◌≡◌, ℕ, ◌<◌, ◌↔◌, Bool, true, false, cond, List, [], ◌∷◌, length, All, Result, Ok, Err, sym, ap, ◌∙◌, subst, ⊎_elim}
 use Rattle.std.proofs.lemmas.Bool.{cases_Bool}
 use Rattle.cobs.specs.Grammar.{Reads}
 use Rattle.cobs.specs.Piece.{output, kept_output, is_whole}
@@ -11,9 +11,9 @@ use Rattle.cobs.proofs.format.FrameLemmas.{frame_whole, frame_output, reads_outp
 use Rattle.cobs.proofs.decoding.OutcomeLemmas.{first_piece_alone, head_alone}
 
 -- a whole piece by its output, a broken one rejected
-message_reads : (f m : List ℕ) (count : ℕ) → All (λ b. b < 256) f → IsPiece f → (returned : Result (List ℕ) DecodeError)
+returned_reads : (f m : List ℕ) (count : ℕ) → All (λ b. b < 256) f → IsPiece f → (returned : Result (List ℕ) DecodeError)
     → returned ≡ cond (is_whole f) (Ok (output f)) (Err (InvalidFrame count)) → (returned ≡ Ok m) ↔ Reads f m
-message_reads f m count below piece returned is = (
+returned_reads f m count below piece returned is = (
   λ e. ⊎_elim
       (λ (whole : is_whole f ≡ true).
       let same : output f ≡ m = cc in
@@ -25,27 +25,16 @@ message_reads f m count below piece returned is = (
 )
 
 decoded_alone : (f : List ℕ) → IsPiece f → decoded f ≡ cond (is_whole f) (Ok (output f)) (Err (InvalidFrame (length (output f))))
-decoded_alone [] piece = absurd (piece.0 refl)
+decoded_alone [] piece = grind arith
 decoded_alone (byte ∷ bytes) piece = grind (arith, first_piece_alone)
 
 decoded_head_alone : (f : List ℕ) → IsPiece f → decoded_head f ≡ cond (is_whole f) (Ok (output f)) (Err (InvalidFrame (length (kept_output f))))
-decoded_head_alone [] piece = absurd (piece.0 refl)
+decoded_head_alone [] piece = grind arith
 decoded_head_alone (byte ∷ bytes) piece = grind (arith, head_alone)
 
 module _ (f : List ℕ) (below : All (λ b. b < 256) f) (m : List ℕ) where
   pub decoded_reads : IsPiece f → (decoded f ≡ Ok m) ↔ Reads f m
-  decoded_reads piece = message_reads f m (length (output f)) below piece (decoded f) (decoded_alone f piece)
+  decoded_reads piece = returned_reads f m (length (output f)) below piece (decoded f) (decoded_alone f piece)
 
   pub decoded_head_reads : IsPiece f → (decoded_head f ≡ Ok m) ↔ Reads f m
-  decoded_head_reads piece = message_reads f m (length (kept_output f)) below piece (decoded_head f) (decoded_head_alone f piece)
-
--- a vector that is overwritten, and then cut off
-pub truncated : (new items : List ℕ) (k len : ℕ) → length new ≡ len → take k (take len (new ++ drop (length new) items)) ≡ take k new
-truncated new items k len same = grind (arith, take_at)
-
--- a result is one message, or an error
-pub one_message : {returned : Result (List ℕ) DecodeError} {items m : List ℕ} → returned ≡ Ok items → returned ≡ Ok m → items ≡ m
-one_message is e = cc
-
-pub no_message : {returned : Result (List ℕ) DecodeError} {error : DecodeError} {m : List ℕ} → returned ≡ Err error → returned ≡ Ok m → ⊥
-no_message is e = absurd (cc)
+  decoded_head_reads piece = returned_reads f m (length (kept_output f)) below piece (decoded_head f) (decoded_head_alone f piece)

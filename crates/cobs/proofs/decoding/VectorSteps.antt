@@ -10,7 +10,7 @@ use Rattle.cobs.specs.declared.error.DecodeReport.{DecodeReport}
 use Rattle.cobs.specs.declared.error.DecodeError.{DecodeError}
 use Rattle.cobs.specs.declared.error.DecodeError.TheVariants.{InvalidFrame, TargetBufTooSmall}
 use Rattle.cobs.proofs.decoding.OutcomeLemmas.{output_within, first_piece_head, length-head}
-use Rattle.cobs.proofs.decoding.OutcomeSteps.{result_by_piece, result_of_decode-is}
+use Rattle.cobs.proofs.decoding.OutcomeSteps.{result_by_piece}
 use Rattle.cobs.proofs.decoding.SourceSteps.{result-fits}
 
 -- a buffer that has room begins with the bytes that are written
@@ -21,7 +21,7 @@ overwritten-begins buffer bytes fits = grind (arith, take_at, take_all)
 first_piece_within : (t p : List ℕ) → first_piece t ≡ Some p → length p ≤ length t
 unfolding first_piece
 first_piece_within [] p is = absurd (cc)
-first_piece_within (zero ∷ t) p is = let l = first_piece_within t p is in omega arith
+first_piece_within (zero ∷ t) p is = grind (arith, (first_piece_within t p is))
 first_piece_within (suc b ∷ t) p is = grind (arith, first_piece_head, length-head)
 
 -- the outcome of a piece whose output has room
@@ -35,22 +35,19 @@ module _ (source : List ℕ) (n : ℕ) (room : n ≡ length source) where
   abbrev Rejected : Result (List ℕ) DecodeError → DecodeError → Type 0
   Rejected returned error = (returned ≡ Err error) × (error ≢ TargetBufTooSmall)
 
-  piece-rejected : (error : DecodeError) (p : Option (List ℕ)) → first_piece source ≡ p → Err error ≡ result_by_piece source p n → Rejected (message_of_piece p) error
-  piece-rejected error p h e = grind (arith, first_piece_within, output_within, outcome_result-fits)
-
   piece-message : (report : DecodeReport) (old : List ℕ) (p : Option (List ℕ)) → first_piece source ≡ p → length old ≡ n → Ok report ≡ result_by_piece source p n
       → message_of_piece p ≡ Ok (take (frame_size_of report) (overwritten old (output_of p)))
   piece-message report old None is long e = absurd (cc)
   piece-message report old (Some p) is long e = grind (arith, first_piece_within, output_within, outcome_result-fits, overwritten-begins)
 
   result-equals : 0 < length source → result_of_decode source n ≡ result_by_piece source (first_piece source) n
-  result-equals some = grind (arith, result_of_decode-is)
+  result-equals some = grind arith
 
   decoded-is : 0 < length source → decoded source ≡ message_of_piece (first_piece source)
   decoded-is some = grind arith
 
   pub decoded-rejected : (error : DecodeError) → 0 < length source → Err error ≡ result_of_decode source n → Rejected (decoded source) error
-  decoded-rejected error some e = grind (arith, decoded-is, piece-rejected, result-equals)
+  decoded-rejected error some e = grind (arith, decoded-is, first_piece_within, output_within, outcome_result-fits, result-equals)
 
   pub decoded-message : (report : DecodeReport) (old new : List ℕ) → 0 < length source → length old ≡ n → Ok report ≡ result_of_decode source n → new ≡ overwritten old (first_output source)
       → decoded source ≡ Ok (take (frame_size_of report) new)
@@ -64,9 +61,6 @@ unfolding kept_output
 kept_within p = grind (arith, output_within, length-take)
 
 module _ (source : List ℕ) (n : ℕ) (room : n ≡ length source) where
-  head-result : 0 < length source → result_of_sentinel_decode source n ≡ head_result (head source)
-  head-result some = grind (arith, kept_within, length-head, result-fits)
-
   head-is : 0 < length source → decoded_head source ≡ message_of_head (head source)
   head-is some = grind arith
 
@@ -74,7 +68,7 @@ module _ (source : List ℕ) (n : ℕ) (room : n ≡ length source) where
   rejected error h e = grind arith
 
   pub decoded_head-rejected : (error : DecodeError) → 0 < length source → Err error ≡ result_of_sentinel_decode source n → (decoded_head source ≡ Err error) × (error ≢ TargetBufTooSmall)
-  decoded_head-rejected error some e = grind (arith, head-result, head-is, rejected)
+  decoded_head-rejected error some e = grind (arith, kept_within, length-head, result-fits, head-is, rejected)
 
   message : (size : ℕ) (old : List ℕ) (h : List ℕ) → length h ≤ length old → Ok size ≡ head_result h → message_of_head h ≡ Ok (take size (overwritten old (kept_output h)))
   unfolding kept_output
@@ -82,4 +76,4 @@ module _ (source : List ℕ) (n : ℕ) (room : n ≡ length source) where
 
   pub decoded_head-message : (size : ℕ) (old new : List ℕ) → 0 < length source → length old ≡ n → Ok size ≡ result_of_sentinel_decode source n → new ≡ overwritten old (kept_output (head source))
       → decoded_head source ≡ Ok (take size new)
-  decoded_head-message size old new some long e is = grind (arith, length-head, head-is, message, head-result)
+  decoded_head-message size old new some long e is = grind (arith, length-head, head-is, message, kept_within, result-fits)

@@ -1,8 +1,9 @@
 -- The kept output of a piece, written to the front of a buffer byte by byte, and what of it comes from each block.
-use Rattle.std.proofs.Common.{◌≡◌, ◌≢◌, ◌∙◌, ◌+◌, ◌-◌, ◌<◌, ◌≤◌, ◌⊎◌, ◌==◌, ℕ, suc, Bool, true, false, cond, if◌then◌else◌, List, [], ◌∷◌, ◌++◌, length, take, drop, get_or, set, Result, Ok, Err, refl, sym, ap, arith, inl, inr, append_assoc, append-nil, drop_at, length-append, length-drop, length-take-le, take-append-drop, take_all, take_at}
-use Rattle.std.proofs.lemmas.Bool.{eq-eqb, ne_eqb, true≢false}
+use Rattle.std.proofs.Common.{◌≡◌, ◌≢◌, ◌∙◌, ◌+◌, ◌-◌, ◌<◌, ◌≤◌, ◌⊎◌, ◌==◌, ℕ, Bool, true, false, cond, if◌then◌else◌, List, [], ◌∷◌, ◌++◌, length, take, drop, get_or, set, Result, Ok, Err, refl, sym, ap, arith, inl, inr, append_assoc, append-nil, drop_at, length-append, length-drop, length-take-le, take-append-drop, take_all, take_at}
+use Rattle.std.proofs.lemmas.Bool.{eq-eqb, ne_eqb}
 use Rattle.std.proofs.lemmas.List.{drop-drop, drop_all, drop_more, get_or-drop, set_at}
 use Rattle.std.proofs.lemmas.List.Elements.{All-drop, All-get_or, All-take}
+use Rattle.std.proofs.lemmas.Grind.{common_steps}
 use Rattle.cobs.specs.Decode.{head_result, head_result_within}
 use Rattle.cobs.specs.Grammar.{HasNoZero, IsBlock, joint}
 use Rattle.cobs.specs.Overwritten.{overwritten}
@@ -27,40 +28,38 @@ zero_before code (byte ∷ bytes) = if code == 255 then [] else 0 ∷ []
 
 pub zero_before-none : (code : ℕ) (next : List ℕ) → (length next ≡ 0) ⊎ (code ≡ 255) → zero_before code next ≡ []
 zero_before-none code [] none = refl
-zero_before-none code (byte ∷ next) (inl last) = absurd (omega arith)
-zero_before-none code (byte ∷ next) (inr full) = rw (eq-eqb code 255 full) refl
+zero_before-none code (byte ∷ next) (inl last) = grind arith
+zero_before-none code (byte ∷ next) (inr full) = grind (arith, eq-eqb)
 
 pub zero_before-some : (code : ℕ) (next : List ℕ) → 0 < length next → code ≢ 255 → zero_before code next ≡ 0 ∷ []
-zero_before-some code [] some other = absurd (omega arith)
-zero_before-some code (byte ∷ next) some other = rw (ne_eqb code 255 other) refl
+zero_before-some code [] some other = grind arith
+zero_before-some code (byte ∷ next) some other = grind (arith, ne_eqb)
 
 kept-joined : (code : ℕ) (bytes next : List ℕ) → IsBlock (code ∷ bytes) → kept_output ((code ∷ bytes) ++ next) ≡ bytes ++ (zero_before code next ++ kept_output next)
-kept-joined code bytes [] is =
-    ap kept_output (append-nil (code ∷ bytes)) ∙ all-kept (code ∷ bytes) (block-whole (code ∷ bytes) is) ∙ output-last code bytes (omega (arith, is.0))
-    ∙ sym (ap (λ (x : List ℕ). bytes ++ x) kept_output-empty ∙ append-nil bytes)
+kept-joined code bytes [] is = grind (arith, append-nil, all-kept, block-whole, output-last, kept_output-empty)
 kept-joined code bytes (byte ∷ next) is = front-kept (code ∷ bytes) (byte ∷ next) is (λ e. cc) ∙ append_assoc bytes (joint (code ∷ bytes)) (kept_output (byte ∷ next))
 
 whole-joined : (block next : List ℕ) → IsBlock block → whole_left (block ++ next) ≡ whole_left next
 whole-joined [] next is = absurd is
-whole-joined (code ∷ bytes) [] is = ap whole_left (append-nil (code ∷ bytes)) ∙ block-whole (code ∷ bytes) is
+whole-joined (code ∷ bytes) [] is = grind (arith, append-nil, block-whole)
 whole-joined (code ∷ bytes) (byte ∷ next) is = front-whole (code ∷ bytes) (byte ∷ next) is (λ e. cc)
 
 -- some bytes that begin with this code
 module _ (p : List ℕ) (code : ℕ) (some : 0 < length p) (is : code ≡ get_or p 0 0) where
   front : p ≡ code ∷ drop 1 p
-  front = drop_more p 0 0 some ∙ ap (λ (k : ℕ). k ∷ drop 1 p) (sym is)
+  front = grind (arith, drop_more)
 
   -- and break off inside its block
   module _ (less : length p < code) where
     pub kept-none : kept_output p ≡ []
-    kept-none = ap kept_output front ∙ kept-broken code (drop 1 p) (omega (arith, length-drop 1 p))
+    kept-none = grind (arith, front, kept-broken, length-drop)
 
     pub whole-none : whole_left p ≡ false
-    whole-none = ap whole_left front ∙ broken-part code (drop 1 p) (omega (arith, length-drop 1 p))
+    whole-none = grind (arith, front, broken-part, length-drop)
 
   module _ (nonzero : HasNoZero p) where
     pub code-some : 0 < code
-    code-some = omega (arith, is, All-get_or (λ byte. byte ≢ 0) p 0 0 some nonzero)
+    code-some = grind (arith, All-get_or)
 
     -- or have the whole block
     module _ (below : code < 256) (fits : code ≤ length p) where
@@ -71,12 +70,10 @@ module _ (p : List ℕ) (code : ℕ) (some : 0 < length p) (is : code ≡ get_or
       block = (omega (arith, length-take-le (code - 1) (drop 1 p), length-drop 1 p, code-some), below, All-take (λ byte. byte ≢ 0) (code - 1) (drop 1 p) (All-drop (λ byte. byte ≢ 0) 1 p nonzero))
 
       cut : p ≡ (code ∷ bytes) ++ drop code p
-      cut =
-          let next : 1 + (code - 1) ≡ code = omega (arith, code-some) in
-          front ∙ ap (λ (x : List ℕ). code ∷ x) (sym (take-append-drop (code - 1) (drop 1 p)) ∙ ap (λ (x : List ℕ). bytes ++ x) (drop-drop (code - 1) 1 p ∙ ap (λ (k : ℕ). drop k p) next))
+      cut = grind (arith, code-some, front, take-append-drop, drop-drop)
 
       pub kept-block : kept_output p ≡ bytes ++ (zero_before code (drop code p) ++ kept_output (drop code p))
-      kept-block = ap kept_output cut ∙ kept-joined code bytes (drop code p) block
+      kept-block = grind (arith, cut, kept-joined, block)
 
       pub whole-block : whole_left p ≡ whole_left (drop code p)
       whole-block = ap whole_left cut ∙ whole-joined (code ∷ bytes) (drop code p) block
@@ -92,47 +89,35 @@ pub record Written (h old buffer : List ℕ) (written : ℕ) (left : List ℕ) :
   pub kept : kept_output h ≡ done ++ left
 
 pub written-none : (h old : List ℕ) → Written h old old 0 (kept_output h)
-written-none h old = record { done = []; count = refl; room = omega arith; holds = refl; kept = refl }
+written-none h old = grind arith
 
 -- the result and the buffer of a decoder of h
 abbrev pub Decoded : List ℕ → List ℕ → List ℕ → Result ℕ DecodeError → Type 0
 Decoded h old buffer result = (result ≡ head_result_within h (length old)) × (buffer ≡ overwritten old (kept_output h))
 
 result-of : (h : List ℕ) (whole : Bool) (n : ℕ) → whole_left h ≡ whole → length (kept_output h) ≡ n → cond whole (Ok n) (Err (InvalidFrame n)) ≡ head_result h
-result-of [] true n w is = ap Ok (sym is ∙ ap length kept_output-empty)
-result-of [] false n w is = absurd (true≢false w)
+result-of [] whole n w is = grind (arith, kept_output-empty)
 result-of (byte ∷ h) true n w is = grind (arith, all-kept)
 result-of (byte ∷ h) false n w is = grind arith
 
 module _ {h old buffer : List ℕ} {written : ℕ} {left : List ℕ} (s : Written h old buffer written left) where
   pub written-long : length buffer ≡ length old
-  written-long = ap length s.holds ∙ omega (arith, length-append s.done (drop written old), length-drop written old, s.count, s.room)
+  written-long = grind (arith, length-append, length-drop)
 
   -- the other bytes
   pub written-behind : (k : ℕ) → written ≤ k → get_or buffer k 0 ≡ get_or old k 0
-  written-behind k order =
-      let sum : written + (k - written) ≡ k = omega arith in
-      let same : drop written buffer ≡ drop written old = ap (drop written) s.holds ∙ drop_at s.done (drop written old) written s.count in
-      ap (λ (i : ℕ). get_or buffer i 0) (sym sum) ∙ sym (get_or-drop written buffer (k - written) 0) ∙ ap (λ (xs : List ℕ). get_or xs (k - written) 0) same ∙ get_or-drop written old (k - written) 0
-      ∙ ap (λ (i : ℕ). get_or old i 0) sum
+  written-behind k order = grind (arith, common_steps, drop_at, get_or-drop)
 
   -- nothing is left, and h is whole or not
   module _ (none : left ≡ []) where
-    kept-done : kept_output h ≡ s.done
-    kept-done = s.kept ∙ ap (λ (x : List ℕ). s.done ++ x) none ∙ append-nil s.done
-
     kept-long : length (kept_output h) ≡ written
-    kept-long = ap length kept-done ∙ s.count
+    kept-long = grind (arith, append-nil)
 
     pub in-place : (whole : Bool) → whole_left h ≡ whole → (cond whole (Ok written) (Err (InvalidFrame written)) ≡ head_result h) × (buffer ≡ overwritten old (kept_output h))
-    in-place whole w =
-        let all : take (length old) s.done ≡ s.done = take_all (length old) s.done (omega (arith, s.count, s.room)) in (
-          result-of h whole written w kept-long,
-          s.holds ∙ sym (ap (overwritten old) kept-done ∙ ap (λ (x : List ℕ). x ++ drop (length s.done) old) all ∙ ap (λ (n : ℕ). s.done ++ drop n old) s.count),
-        )
+    in-place whole w = grind (arith, take_all, result-of, kept-long, append-nil)
 
     pub all-written : (whole : Bool) → whole_left h ≡ whole → Decoded h old buffer (cond whole (Ok written) (Err (InvalidFrame written)))
-    all-written whole w = let d = in-place whole w in (d.0 ∙ result-fits h (length old) (omega (arith, kept-long, s.room)), d.1)
+    all-written whole w = grind (arith, common_steps, in-place, result-fits, kept-long)
 
   -- the next byte
   module _ (byte : ℕ) (more : List ℕ) (next : left ≡ byte ∷ more) where
@@ -150,9 +135,4 @@ module _ {h old buffer : List ℕ} {written : ℕ} {left : List ℕ} (s : Writte
 
     -- for which there is no room
     pub buffer-full : length buffer ≤ written → Decoded h old buffer (Err TargetBufTooSmall)
-    buffer-full no-room =
-        let full : length old ≡ length s.done = omega (arith, written-long, s.count, s.room) in
-        let long : length (kept_output h) ≡ length s.done + suc (length more) = ap length (s.kept ∙ ap (λ (x : List ℕ). s.done ++ x) next) ∙ length-append s.done (byte ∷ more) in (
-          result-too_long h (length old) (omega arith),
-          s.holds ∙ sym (grind (arith, take_at, drop_all)),
-        )
+    buffer-full no-room = grind (arith, written-long, length-append, result-too_long, take_at, drop_all)

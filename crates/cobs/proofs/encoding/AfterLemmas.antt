@@ -27,8 +27,7 @@ encoded-open front code bytes frame message noted = encoded-by (front ++ (code �
     lone_behind : (fr : List (List ℕ)) (c : List ℕ) → IsFull c → front ++ (code ∷ bytes) ∷ [] ≢ fr ++ c ∷ lone_block ∷ []
     lone_behind fr c full e =
         let same = same_from_push front (fr ++ c ∷ []) (code ∷ bytes) lone_block (e ∙ sym (append_assoc fr (c ∷ []) (lone_block ∷ []))) in
-        let last = last_of-push fr c in
-        grind (arith, true≢false)
+        grind (arith, true≢false, last_of-push)
 
 -- and so are the blocks in front of a lone one behind a full one, which says nothing
 module _ (front : List (List ℕ)) (full : is_full (last_of front) ≡ true) where
@@ -38,17 +37,11 @@ module _ (front : List (List ℕ)) (full : is_full (last_of front) ≡ true) whe
   full-frame : All IsBlock front → IsFrameOf (concat front) front
   full-frame each = grind arith
 
-  message_of-lone : message_of (front ++ lone_block ∷ []) ≡ message_of front
-  message_of-lone = grind (arith, message_of-close, append-nil)
-
   ends_lone : (fr : List (List ℕ)) (c : List ℕ) → front ≢ fr ++ c ∷ lone_block ∷ []
-  ends_lone fr c e =
-      let last = last_of-push (fr ++ c ∷ []) lone_block in
-      let same = append_assoc fr (c ∷ []) (lone_block ∷ []) in
-      grind (arith, true≢false)
+  ends_lone fr c e = let last = last_of-push (fr ++ c ∷ []) lone_block in grind (arith, true≢false, append_assoc)
 
   encoded-full : {m : List ℕ} → All IsBlock front → m ≡ message_of (front ++ lone_block ∷ []) → IsEncodedFrame (concat front) m
-  encoded-full each message = grind (arith, encoded-by, full-frame, message_of-lone, ends_lone)
+  encoded-full each message = grind (arith, encoded-by, full-frame, message_of-close, append-nil, ends_lone)
 
 pub to_after : {slice m : List ℕ} {index next : ℕ} {full : Bool} (code : ℕ) → index + code ≡ next → code < 255 → (if full then index else next) ≤ length slice
     → Opened slice m index next full → CobsEncoderAfter slice (place_at index code full) m
@@ -65,10 +58,10 @@ to_after {slice} {m} {index} {next} {full} code is short fits o = by_end full fi
     f = concat o.front ++ code ∷ o.bytes
 
     frame : IsFrameOf f (o.front ++ (code ∷ o.bytes) ∷ [])
-    frame = frame_push o.front (code ∷ o.bytes) o.each (sym code-is, omega arith, o.nonzero)
+    frame = grind (arith, frame_push, code-is)
 
     follows : IsOpenFrame f m index code
-    follows = record { front = o.front; bytes = o.bytes; frame = frame; message = message; begins = o.begins; not_full = short }
+    follows = grind (arith, frame, message)
 
     by_end : (noted : Bool) → (if noted then index else next) ≤ length slice → noted ≡ ends_in_full o.front o.bytes → CobsEncoderAfter slice (place_at index code noted) m
     by_end false fits noted =
@@ -143,8 +136,7 @@ module _ {slice m : List ℕ} {r : Reached} (h : CobsEncoderAfter slice r m) whe
       let b = o.begins in
       let is : h.frame ≡ concat o.front = whole-is full ∙ append-nil (concat o.front) in
       let l = length-take (next_of r) slice in
-      let begins = h.begins.1 ∙ set_past h.frame r.block.index h.begins.0 (omega (arith, ap length is)) in
-      (rw (is, ← b) at begins, drop_all (r.block.index + 1) (take (next_of r) slice) (omega arith) ∙ sym none.0)
+      grind (arith, drop_all, set_past)
   there (inr open') =
       let c = parts.1.0 in
       let b = o.begins in
@@ -187,7 +179,7 @@ module _ {slice m : List ℕ} {r : Reached} (h : CobsEncoderAfter slice r m) whe
 
   -- it is within the slice
   pub after-fits : encoded_len m ≤ length slice
-  after-fits = let l = length-frame in let e = end-is in let f = h.fits in omega arith
+  after-fits = grind (arith, length-frame, end-is)
 
   pub after-place : IsPlaceIn (length slice) r
   after-place = grind (arith, parts, o, end-is, after-fits)
@@ -199,8 +191,8 @@ module _ {slice m : List ℕ} {r : Reached} (h : CobsEncoderAfter slice r m) whe
       rw code at (Opened-len bytes (λ full. some) from_after)
 
   pub after-end : (bytes : List ℕ) → encoded_len (m ++ bytes) ≡ end_after r bytes
-  after-end [] = ap encoded_len (append-nil m) ∙ end-is
-  after-end (b ∷ bytes) = after-len (b ∷ bytes) (λ e. cc)
+  after-end [] = grind (arith, append-nil, end-is)
+  after-end (b ∷ bytes) = grind (arith, after-len)
 
   -- the code of the open block completes the frame; a frame that ends in a full block is complete
   pub closed-full : r.full ≡ true → IsEncodedFrame (take r.block.index slice) m
@@ -209,9 +201,8 @@ module _ {slice m : List ℕ} {r : Reached} (h : CobsEncoderAfter slice r m) whe
   pub closed-open : r.full ≡ false → IsEncodedFrame (take (next_of r) (set slice r.block.index r.block.code)) m
   closed-open open' =
       let some = after-place.some in
-      let long : length h.frame ≡ next_of r = length-frame ∙ ap (λ (b : Bool). if b then r.block.index else next_of r) open' in
       let same : h.frame ≡ concat o.front ++ r.block.code ∷ o.bytes = whole-is open' in
-      grind (arith, set_at, take-set-lt, set-set)
+      grind (arith, set_at, take-set-lt, set-set, length-frame)
 
 -- the encoder that has taken nothing
 pub after-nothing : (slice : List ℕ) → 0 < length slice → CobsEncoderAfter slice (place_at 0 1 false) []

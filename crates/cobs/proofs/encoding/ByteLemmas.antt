@@ -52,19 +52,16 @@ fits-byte slice r byte some short room = grind (arith, short_room)
 
 -- the same for the bytes that it has taken
 module _ {slice m : List ℕ} {r : Reached} (h : CobsEncoderAfter slice r m) (room : next_of r < length slice) where
-  place : IsPlaceIn (length slice) r
-  place = after-place h
-
   fits : (byte : ℕ) → end_after r (byte ∷ []) ≤ length slice
-  fits byte = grind (arith, fits-byte, place)
+  fits byte = grind (arith, fits-byte, (after-place h))
 
   pub after-byte : (byte : ℕ) → byte ≢ 0 → r.block.code < 254 → CobsEncoderAfter (set slice (next_of r) byte) (place_at r.block.index (r.block.code + 1) false) (m ++ byte ∷ [])
-  after-byte byte other short = (byte-joins {source = byte ∷ []} place (fits byte) (omega arith) refl other (omega arith) refl refl).after m h
+  after-byte byte other short = (byte-joins {source = byte ∷ []} (after-place h) (fits byte) (omega arith) refl other (omega arith) refl refl).after m h
 
   pub after-filled : (byte : ℕ) → byte ≢ 0 → r.block.code ≡ 254 → CobsEncoderAfter (set (set slice (next_of r) byte) r.block.index 255) (place_at (r.block.index + 255) 1 true) (m ++ byte ∷ [])
   after-filled byte other last =
       let full : r.block.index + 255 ≡ next_of r + 1 = omega arith in
-      (byte-fills {source = byte ∷ []} place (fits byte) (omega arith) refl other last (ap (λ (i : ℕ). place_at i 1 true) full)).after m h
+      (byte-fills {source = byte ∷ []} (after-place h) (fits byte) (omega arith) refl other last (ap (λ (i : ℕ). place_at i 1 true) full)).after m h
 
   pub after-zero : CobsEncoderAfter (set slice r.block.index r.block.code) (place_at (next_of r) 1 false) (m ++ 0 ∷ [])
-  after-zero = (byte-zero {source = 0 ∷ []} place (fits 0) (omega arith) refl refl refl refl).after m h
+  after-zero = (byte-zero {source = 0 ∷ []} (after-place h) (fits 0) (omega arith) refl refl refl refl).after m h

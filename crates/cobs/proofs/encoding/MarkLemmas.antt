@@ -7,6 +7,8 @@ use Rattle.std.proofs.Math.Seq.{take-append-add, take-set-lt}
 use Rattle.std.proofs.lemmas.Bool.{cases_eq}
 use Rattle.std.proofs.lemmas.List.{drop-drop, drop-take, take-take, get_or-take, get_or-drop, drop-set-lt, length-set, length-replicate, take-append-le, take-replicate, take-set}
 use Rattle.std.specs.Int.Count.{trailing_of_zero}
+use Rattle.std.proofs.lemmas.Grind.{common_steps}
+use Rattle.cobs.proofs.encoding.OpenedLemmas.{Opened-same}
 use Rattle.cobs.specs.Grammar.{HasNoZero}
 use Rattle.cobs.specs.OpenBlock.{Reached, end_after, next_of, place_at}
 use Rattle.cobs.specs.Internal.Marks.{IsMasked, IsMaskedAt}
@@ -15,7 +17,7 @@ use Rattle.cobs.specs.Internal.Taking.{TakesFront}
 use Rattle.cobs_bytes.specs.Mask.{lowest, without_lowest, zero_mask}
 use Rattle.cobs_bytes.proofs.bytes.ListLemmas.{behind-three, front-three, mid-three}
 use Rattle.cobs_bytes.proofs.bytes.MaskLemmas.{mask_behind, mask_behind-none, mask_behind-and, some_left, lowest_bit, lowest_left, nonzero_len, nonzero_len-lt, nonzero_len-before, nonzero_len-at, clear_front}
-use Rattle.cobs.proofs.encoding.ReachLemmas.{Reaches-at, Reaches-weaker, Reaches-same, Reaches-full, Reaches-join, Reaches-zero, Reaches-zeros, IsNotFull, least}
+use Rattle.cobs.proofs.encoding.ReachLemmas.{Reaches-at, Reaches-weaker, Reaches-full, Reaches-join, Reaches-zero, Reaches-zeros, IsNotFull, least}
 use Rattle.cobs.proofs.encoding.TakingLemmas.{front-open, reaches-start}
 
 -- len bytes of a source at `read` were copied after the open block, and so `slice` became `after`
@@ -36,13 +38,10 @@ module _ {s : Start} {slice after : List ℕ} {read len index next : ℕ} (c : C
   length-after = let l = least c.reaches in grind (arith, length-row, length-append, length-take-le, length-drop)
 
   pub copied-reaches : Reaches s after read index next (λ _. Unit {0})
-  copied-reaches =
-      let l = least c.reaches in
-      Reaches-same c.reaches after (rw c.is (front-three slice row next len length-row (omega arith)))
-      (rw c.is (behind-three slice row next len length-row (omega arith) (whole_end s) (omega arith)))
+  copied-reaches = grind (arith, common_steps, least, Opened-same, front-three, length-row, behind-three)
 
   copied-here : take len (drop next after) ≡ row
-  copied-here = let l = least c.reaches in rw c.is (mid-three slice row next len length-row (omega arith))
+  copied-here = grind (arith, common_steps, least, mid-three, length-row)
 
   -- the first k of them, which aren't zeros, join the open block
   copied-joins : (k : ℕ) → 0 < k → k ≤ len → next + k ≤ index + 255 → HasNoZero (take k (drop read s.source)) → Reaches s after (read + k) index (next + k) IsNotFull
@@ -64,12 +63,7 @@ module _ {s : Start} {slice after : List ℕ} {read len index next zeros : ℕ} 
 
   -- a zero is within the window
   pub first-within : zeros ≢ 0 → lowest zeros < len
-  first-within some =
-      let l = length-row w.copied in
-      let some' : zero_mask window ≢ 0 = λ none. some (w.bits ∙ none) in
-      let first = ap lowest w.bits ∙ lowest_bit window (omega arith) some' in
-      let lt = nonzero_len-lt window some' in
-      omega arith
+  first-within some = grind (arith, common_steps, length-row, lowest_bit, nonzero_len-lt)
 
   pub masked-start : min (lowest zeros) len < index + 255 - next → IsMasked s read len next zeros index after
   masked-start near =
@@ -102,7 +96,7 @@ pub record WindowTaken (s : Start) (slice : List ℕ) (read len index next : ℕ
 
 -- no zero is left in an empty mask
 pub lowest-none : (mask : ℕ) → mask ≡ 0 → lowest mask ≡ 64
-lowest-none mask none = ap lowest none ∙ trailing_of_zero 64
+lowest-none mask none = grind (arith, trailing_of_zero)
 
 module _ {s : Start} {slice : List ℕ} {read len index next zeros d : ℕ} (m : IsMaskedAt s read len next zeros index slice d) where
   abbrev left : List ℕ
@@ -126,10 +120,10 @@ module _ {s : Start} {slice : List ℕ} {read len index next zeros d : ℕ} (m :
     small = grind (arith, length-take-le, length-drop)
 
     some_bits : mask_behind d left ≢ 0
-    some_bits e = some (m.bits ∙ e)
+    some_bits e = grind arith
 
     first-is : lowest zeros ≡ d + nonzero_len left
-    first-is = ap lowest m.bits ∙ lowest_left d left small some_bits
+    first-is = grind (arith, lowest_left, small, some_bits)
 
     first-lt : nonzero_len left < len - d
     first-lt = grind (arith, nonzero_len-lt, some_left, small, some_bits, length-take-le, length-drop)
@@ -156,16 +150,11 @@ module _ {s : Start} {slice : List ℕ} {read len index next zeros d : ℕ} (m :
         let code : next + d + j - index ≡ next + k - index = omega arith in
         let long = length-set slice index (next + k - index) in
         let others = ap without_lowest m.bits ∙ mask_behind-and d left small some_bits in
-        let coded : List ℕ = set slice index (next + k - index) in
-        let kept = drop-set-lt (next + (k + 1)) slice index (next + k - index) (omega arith) in
-        grind (arith, mask_behind, left, Reaches-at, set)
+        grind (arith, mask_behind, left, Reaches-at, set, drop-set-lt)
 
   -- the place of the next code is no later than the next zero
   pub masked-ordered : index ≤ next + lowest zeros
-  masked-ordered = elim (cases_eq zeros 0) [
-    | inl none ↦ omega (arith, m.seen, m.few, m.reaches.ordered, lowest-none zeros none)
-    | inr some ↦ omega (arith, m.reaches.ordered, first-is some)
-  ]
+  masked-ordered = grind (arith, cases_eq, lowest-none, first-is)
 
 -- a zero is marked, if there is one left
 pub masked-first : {s : Start} {slice : List ℕ} {read len index next zeros : ℕ} → IsMasked s read len next zeros index slice → (after : List ℕ) (r : ℕ × ℕ)

@@ -5,6 +5,7 @@ use Rattle.std.specs.List.{concat}
 use Rattle.std.proofs.lemmas.Bool.{ne_eqb}
 use Rattle.std.proofs.lemmas.List.{set_at, length_push}
 use Rattle.std.proofs.lemmas.List.Elements.{All-head, All-nil, All-push}
+use Rattle.std.proofs.lemmas.Grind.{common_steps}
 use Rattle.cobs.specs.Grammar.{IsBlock, joint, last_of, lone_block, message_of, IsFrameOf, IsOpenFrame}
 use Rattle.cobs.specs.OpenBlock.{OpenBlock, AgreeOutside, IsOpenOutput}
 use Rattle.cobs.proofs.format.GrammarLemmas.{lone_block-is_block}
@@ -37,7 +38,7 @@ All-front bs b h = grind (arith, All-apart, All-head)
 
 -- the frame of blocks with one more
 pub frame_push : (bs : List (List ℕ)) (b : List ℕ) → All IsBlock bs → IsBlock b → IsFrameOf (concat bs ++ b) (bs ++ b ∷ [])
-frame_push bs b h i = record { some = append-some bs b []; each = All-push IsBlock bs b h i; whole = sym (concat-push bs b) }
+frame_push bs b h i = grind (arith, common_steps, append-some, All-push, concat-push)
 
 -- the open frame of the empty message
 pub IsOpenFrame-start : IsOpenFrame lone_block [] 0 1
@@ -127,4 +128,4 @@ module _ (g : List ℕ) (state : OpenBlock) (m : List ℕ) (o : IsOpenOutput g s
       omega arith
 
   pub index-IsOpenOutput : state.index < length g
-  index-IsOpenOutput = let code = (blocks-of o.1).1.0 in let len = length-IsOpenOutput in omega arith
+  index-IsOpenOutput = grind (arith, common_steps, blocks-of, length-IsOpenOutput)

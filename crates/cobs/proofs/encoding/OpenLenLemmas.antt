@@ -7,14 +7,14 @@ use Rattle.std.proofs.lemmas.List.{drop_all, drop_more, nil_from_length}
 use Rattle.std.proofs.lemmas.List.Elements.{All-append, All-cons, All-nil, All-head, All-tail}
 use Rattle.cobs.specs.Grammar.{HasNoZero, IsBlock, is_full, bytes_of, joint, last_of, message_of}
 use Rattle.cobs.specs.Length.{encoded_len, max_encoded_len, open_len}
-use Rattle.cobs.proofs.format.LengthLemmas.{stretches-append, encoded_len-zero, encoded_len-full, encoded_len-last, encoded_len-le}
+use Rattle.cobs.proofs.format.LengthLemmas.{stretches-front, encoded_len-zero, encoded_len-full, encoded_len-last, encoded_len-le}
 use Rattle.cobs.proofs.encoding.OpenLemmas.{append-some}
 use Rattle.cobs_bytes.proofs.bytes.ListLemmas.{length-ones, ones-nonzero}
 use Rattle.cobs.specs.Internal.Reaches.{Opened, ends_in_full}
 
 -- which nonzero bytes begin a message is no matter
 pub same_start : (a b t : List ℕ) → HasNoZero a → HasNoZero b → length a ≡ length b → encoded_len (a ++ t) ≡ encoded_len (b ++ t)
-same_start a b t na nb e = grind (arith, stretches-append, length-append)
+same_start a b t na nb e = grind (arith, stretches-front, length-append)
 
 -- nonzero bytes join the open block
 pub open_len-join : (code : ℕ) (more t : List ℕ) → 0 < code → HasNoZero more → open_len code (more ++ t) ≡ open_len (code + length more) t
@@ -22,17 +22,11 @@ open_len-join code more t some nonzero =
     let front : List ℕ = replicate (code - 1) 1 in
     let longer : List ℕ = replicate (code + length more - 1) 1 in
     let both = All-append (λ byte. byte ≢ 0) front more (ones-nonzero (code - 1)) nonzero in
-    let long : length (front ++ more) ≡ length longer = grind (arith, length-append, length-ones) in
-    let same = same_start (front ++ more) longer t both (ones-nonzero (code + length more - 1)) long in
-    grind (arith, append_assoc)
+    grind (arith, append_assoc, same_start, ones-nonzero, length-append, length-ones)
 
 -- a full block is closed if there are more bytes
 pub open_len-full : (t : List ℕ) → t ≢ [] → open_len 255 t ≡ 255 + open_len 1 t
 open_len-full t more = encoded_len-full (replicate 254 1) t (length-ones 254) (ones-nonzero 254) more
-
--- the block ends if there are none
-pub open_len-end : (code : ℕ) → 0 < code → code ≤ 255 → open_len code [] ≡ code
-open_len-end code some short = grind (arith, append-nil, length-ones, encoded_len-last, ones-nonzero)
 
 -- a zero closes it
 pub open_len-zero : (code : ℕ) (t : List ℕ) → 0 < code → code < 255 → open_len code (0 ∷ t) ≡ code + open_len 1 t
@@ -40,7 +34,7 @@ open_len-zero code t some short = grind (arith, length-ones, encoded_len-zero, o
 
 -- each byte of the message takes one of the frame at the least
 pub open_len-least : (code : ℕ) (t : List ℕ) → 0 < code → code + length t ≤ open_len code t
-open_len-least code t some = omega (arith, length-append (replicate (code - 1) 1) t, length-ones (code - 1))
+open_len-least code t some = grind (arith, length-append, length-ones)
 
 pub open_len-most : (code : ℕ) (t : List ℕ) → 0 < code → open_len code t ≤ max_encoded_len (code - 1 + length t)
 open_len-most code t some = grind (arith, length-append, length-ones, encoded_len-le)
@@ -78,7 +72,7 @@ Opened-len {full = full} t more o = grind (arith, length-ones, len-blocks, same_
 module _ (bytes : List ℕ) (i : ℕ) where
   -- the bytes are all taken
   pub len-end : (code : ℕ) → 0 < code → code ≤ 255 → length bytes ≤ i → open_len code (drop i bytes) ≡ code
-  len-end code some short last = grind (arith, drop_all, open_len-end)
+  len-end code some short last = grind (arith, drop_all, append-nil, length-ones, encoded_len-last, ones-nonzero)
 
   module _ (more : i < length bytes) where
     -- a full block is closed

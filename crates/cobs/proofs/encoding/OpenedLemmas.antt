@@ -6,13 +6,14 @@ use Rattle.std.proofs.Math.ListN.{set}
 use Rattle.std.proofs.Math.Seq.{take-set-lt, take-add}
 use Rattle.std.proofs.lemmas.List.{take-take, take-set-le, drop-set-lt, set_split, drop-append-le, drop_all}
 use Rattle.std.proofs.lemmas.List.Elements.{All-append, All-push, All-nil}
+use Rattle.std.proofs.lemmas.Grind.{common_steps}
 use Rattle.cobs.specs.Grammar.{HasNoZero, IsBlock, is_full, joint}
 use Rattle.cobs.proofs.encoding.OpenLemmas.{append-some, concat-push, message_of-close, message_of-more}
 use Rattle.cobs.proofs.format.FrameLemmas.{last_of-push}
 use Rattle.cobs.specs.Internal.Reaches.{Opened, ends_in_full}
 
 not_full-more : (front : List (List ℕ)) (bytes more : List ℕ) → more ≢ [] → ends_in_full front (bytes ++ more) ≡ false
-not_full-more front [] [] some = absurd (some refl)
+not_full-more front [] [] some = grind arith
 not_full-more front [] (x ∷ more) some = refl
 not_full-more front (b ∷ bytes) more some = refl
 
@@ -32,7 +33,7 @@ module _ {slice m : List ℕ} {index next : ℕ} {full : Bool} (o : Opened slice
   Opened-same-empty slice' empty same = Opened-in slice' same (none slice' ∙ sym (none slice))
     where
       none : (xs : List ℕ) → drop (index + 1) (take next xs) ≡ []
-      none xs = drop_all (index + 1) (take next xs) (let l = length-take next xs in omega arith)
+      none xs = grind (arith, common_steps, drop_all, length-take)
 
   -- nor is the byte in its code's place
   pub Opened-code : (x : ℕ) → Opened (set slice index x) m index next full

@@ -5,10 +5,12 @@ use Rattle.std.proofs.Math.ListN.{set}
 use Rattle.std.proofs.Math.Seq.{take-add}
 use Rattle.std.proofs.lemmas.Bool.{cases_eq, ne_eqb}
 use Rattle.std.proofs.lemmas.List.{drop-drop, drop_more, drop_all, drop-set-lt, take_more, take_more_set, length-set}
+use Rattle.cobs.proofs.format.LengthLemmas.{encoded_len-last}
+use Rattle.cobs_bytes.proofs.bytes.ListLemmas.{length-ones, ones-nonzero}
 use Rattle.cobs.specs.Grammar.{HasNoZero}
 use Rattle.cobs.specs.Length.{open_len}
-use Rattle.cobs.proofs.encoding.OpenedLemmas.{Opened-code, Opened-same, Opened-same-empty, Opened-join, Opened-close}
-use Rattle.cobs.proofs.encoding.OpenLenLemmas.{open_len-end, open_len-full, open_len-join, open_len-zero, open_len-least}
+use Rattle.cobs.proofs.encoding.OpenedLemmas.{Opened-code, Opened-same-empty, Opened-join, Opened-close}
+use Rattle.cobs.proofs.encoding.OpenLenLemmas.{open_len-full, open_len-join, open_len-zero, open_len-least}
 use Rattle.cobs.specs.Internal.Reaches.{HadTaken, Opened, Reaches, Start, whole_end}
 
 -- the same places, by other names
@@ -24,10 +26,6 @@ module _ {s : Start} {slice : List ℕ} {pos index next : ℕ} {P : Bool → Typ
   -- less said of the last block
   pub Reaches-weaker : {Q : Bool → Type 0} → ((full : Bool) → P full → Q full) → Reaches s slice pos index next Q
   Reaches-weaker weaker = grind (arith, Reaches-at)
-
-  -- other bytes after it
-  pub Reaches-same : (slice' : List ℕ) → take next slice' ≡ take next slice → drop (whole_end s) slice' ≡ drop (whole_end s) slice → Reaches s slice' pos index next P
-  Reaches-same slice' front back = grind (arith, Opened-same)
 
   Reaches-same-empty : (slice' : List ℕ) → next ≡ index + 1 → take index slice' ≡ take index slice → drop (whole_end s) slice' ≡ drop (whole_end s) s.slice → Reaches s slice' pos index next P
   Reaches-same-empty slice' empty front back = grind (arith, Opened-same-empty)
@@ -53,14 +51,13 @@ module _ {s : Start} {slice : List ℕ} {pos index next : ℕ} {P : Bool → Typ
         bytes = take k (drop pos s.source)
 
         long : length bytes ≡ k
-        long = length-take-le k (drop pos s.source) (let l = length-drop pos s.source in omega arith)
+        long = grind (arith, length-take-le, length-drop)
 
         goes-on : open_len (next + k - index) (drop (pos + k) s.source) ≡ open_len (next - index) (drop pos s.source)
         goes-on =
             let l = long in
             let split : drop pos s.source ≡ bytes ++ drop (pos + k) s.source = sym (take-append-drop k (drop pos s.source)) ∙ ap (λ (x : List ℕ). bytes ++ x) (drop-drop k pos s.source) in
-            let joined = open_len-join (next - index) bytes (drop (pos + k) s.source) (omega arith) nonzero in
-            grind arith
+            grind (arith, open_len-join)
 
         by_count : (k ≡ 0) ⊎ (k ≢ 0) → (m : List ℕ) → (full : Bool) × P full × Opened slice (m ++ take pos s.source) index next full → (full : Bool) × Q full × Opened slice (m ++ take (pos + k) s.source) index (next + k) full
         by_count (inl is) m t = grind arith
@@ -68,7 +65,7 @@ module _ {s : Start} {slice : List ℕ} {pos index next : ℕ} {P : Bool → Typ
             let l = long in
             let least' = least in
             let joined = Opened-join t.2 bytes (λ e. other (omega (arith, ap length e))) nonzero (omega arith) (omega arith) (rw l here) in
-            (false, some (omega arith), grind (arith, append_assoc, take-add))
+            grind (arith, append_assoc, take-add)
 
     -- a zero closes the open block
     pub Reaches-zero : pos < length s.source → get_or s.source pos 0 ≡ 0 → next < index + 255 → Q false → Reaches s (set slice index (next - index)) (pos + 1) next (next + 1) Q
@@ -103,7 +100,7 @@ module _ {s : Start} {slice : List ℕ} {pos index next : ℕ} {P : Bool → Typ
 
   -- the last byte ends the frame
   pub ends : pos ≡ length s.source → whole_end s ≡ next
-  ends last = grind (arith, drop_all, open_len-end)
+  ends last = grind (arith, drop_all, append-nil, length-ones, encoded_len-last, ones-nonzero)
 
 -- after a step it is known that the last block isn't full
 abbrev pub IsNotFull : Bool → Type 0

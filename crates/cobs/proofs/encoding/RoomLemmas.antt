@@ -18,7 +18,7 @@ abbrev pub behind : ℕ → List ℕ → List ℕ
 behind n t = replicate n 1 ++ t
 
 blocks-cons : (run : ℕ) (parts : List (List ℕ)) → parts ≢ [] → full_blocks (run ∷ map length parts) ≡ run / 254 + full_blocks (map length parts)
-blocks-cons run [] some = absurd (some refl)
+blocks-cons run [] some = grind arith
 blocks-cons run (p ∷ ps) some = refl
 
 -- there are fewer of them than bytes

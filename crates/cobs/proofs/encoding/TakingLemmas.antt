@@ -6,13 +6,15 @@ use Rattle.std.proofs.Math.Seq.{take-add}
 use Rattle.std.proofs.lemmas.Bool.{cases_Bool, cases_lt}
 use Rattle.std.proofs.lemmas.List.{drop-drop, drop-set, drop-set-lt, drop_all, drop_more, length-set, take-set-le, take_rest}
 use Rattle.std.proofs.lemmas.List.Elements.{All-cons, All-nil}
+use Rattle.std.proofs.lemmas.Grind.{common_steps}
+use Rattle.cobs.proofs.encoding.OpenedLemmas.{Opened-same}
 use Rattle.cobs.specs.Grammar.{HasNoZero}
 use Rattle.cobs.specs.Length.{encoded_len, open_len}
 use Rattle.cobs.specs.OpenBlock.{Reached, CobsEncoderAfter, IsPlaceIn, end_after, end_of, next_of, place_at}
 use Rattle.cobs.specs.Internal.Taking.{TakesFront}
 use Rattle.cobs.proofs.encoding.AfterLemmas.{after-end, after-nothing, end-is, from_after, to_after}
 use Rattle.cobs.proofs.encoding.OpenLenLemmas.{open_len-least, open_len-most}
-use Rattle.cobs.proofs.encoding.ReachLemmas.{IsNotFull, Reaches-at, Reaches-full, Reaches-join, Reaches-same, ends, full-taken, least}
+use Rattle.cobs.proofs.encoding.ReachLemmas.{IsNotFull, Reaches-at, Reaches-full, Reaches-join, ends, full-taken, least}
 use Rattle.cobs.specs.Internal.Reaches.{HadTaken, Reaches, Start, start_with, whole_end}
 
 pub after-some : (r : Reached) (bytes : List ℕ) → 0 < length bytes → end_after r bytes ≡ r.block.index + open_len r.block.code bytes
@@ -32,7 +34,7 @@ reaches-start {source} {old} {r} some code short = grind (arith, after-some, app
 -- a byte is written after the open block's bytes
 module _ {s : Start} {slice : List ℕ} {read index next : ℕ} {P : Bool → Type 0} (byte : ℕ) (more : read < length s.source) (r : Reaches s slice read index next P) where
   pub written : Reaches s (set slice next byte) read index next P
-  written = let l = least r in Reaches-same r (set slice next byte) (take-set-le next slice next byte (omega arith)) (drop-set-lt (whole_end s) slice next byte (omega arith))
+  written = grind (arith, common_steps, least, Opened-same, take-set-le, drop-set-lt)
 
   -- and joins them, unless it is a zero
   pub joined : get_or s.source read 0 ≡ byte → byte ≢ 0 → next < index + 255 → whole_end s ≤ length slice → Reaches s (set slice next byte) (read + 1) index (next + 1) IsNotFull
@@ -54,7 +56,6 @@ module _ {source old slice : List ℕ} {r r' : Reached} (fits : end_after r sour
       let l = least s in
       let place : Reached = place_at index code full in
       let code-is : next - index ≡ code = omega arith in
-      let within : end_of place ≤ next = grind (arith, cases_Bool) in
       let end : end_after place (drop pos source) ≡ end_after r source = elim (cases_lt pos (length source)) [
         | inl more ↦ after-some place (drop pos source) (omega (arith, length-drop pos source)) ∙ (rw code-is at s.room)
         | inr none ↦ (let all : pos ≡ length source = omega arith in rw (drop_all pos source (omega arith), last all, ends s all) (omega arith))

@@ -60,7 +60,7 @@ longer_not_canonical c = c.shorter [] block_of_ones refl (one_frame (block_of_on
 -- a piece that breaks off: its parts, its output, and its kept output
 broken_piece : (parts (2 ∷ 5 ∷ 3 ∷ 1 ∷ []) ≡ (2 ∷ 5 ∷ []) ∷ (3 ∷ 1 ∷ []) ∷ []) × (output (2 ∷ 5 ∷ 3 ∷ 1 ∷ []) ≡ 5 ∷ 0 ∷ 1 ∷ []) × (kept_output (2 ∷ 5 ∷ 3 ∷ 1 ∷ []) ≡ 5 ∷ 0 ∷ [])
 unfolding parts parts_after output kept_output is_whole last_part
-broken_piece = (refl, refl, refl)
+broken_piece = grind arith
 
 -- its outcome is no message; that of a whole piece is a message exactly if there is room
 outcomes : (map (outcome_of (2 ∷ 5 ∷ 3 ∷ 1 ∷ [])) (3 ∷ 2 ∷ []) ≡ Broken 3 ∷ TooLong ∷ []) × (map (outcome_of (2 ∷ 12 ∷ [])) (1 ∷ 0 ∷ []) ≡ Message (12 ∷ []) ∷ TooLong ∷ [])
@@ -123,4 +123,4 @@ first_pieces = (refl, refl)
 
 behind_zeros : (first_piece (0 ∷ 0 ∷ 2 ∷ 5 ∷ 0 ∷ 9 ∷ []) ≡ Some (2 ∷ 5 ∷ [])) × (head (0 ∷ 0 ∷ 2 ∷ 5 ∷ 0 ∷ 9 ∷ []) ≡ []) × (first_piece (0 ∷ 0 ∷ []) ≡ None)
 unfolding first_piece head
-behind_zeros = (refl, refl, refl)
+behind_zeros = grind arith

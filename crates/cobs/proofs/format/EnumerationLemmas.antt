@@ -1,7 +1,7 @@
 -- All frames of a message are its encoded frame and, if the message ends in a full run, that frame with the lone block: by
 -- induction on the blocks, and `one_encoded`.
 use Rattle.std.proofs.Common.{◌≡◌, ◌≢◌, ℕ, zero, suc, ◌+◌, ◌↔◌, true, false, List, [], ◌∷◌, ◌++◌, length, map, All, refl, sym, ap, ◌∙◌, subst, arith, append-nil, append_assoc, length-append, inl, inr, ⊎_elim, ◌⊎◌}
-use Rattle.std.specs.List.{concat, join_with_byte}
+use Rattle.std.specs.List.{concat}
 use Rattle.std.proofs.lemmas.List.Folds.{concat-append}
 use Rattle.std.proofs.lemmas.List.{length_push}
 use Rattle.std.proofs.lemmas.Bool.{cases_Bool, cases_eq, true≢false, eqb-true, eqb-false}
@@ -14,53 +14,41 @@ use Rattle.cobs.proofs.encoding.OpenLemmas.{IsOpenFrame-start, open-full, open-m
 use Rattle.cobs.specs.Laws.{IsFrameFor}
 use Rattle.cobs.proofs.format.FrameLemmas.{All-apart, last_of-cons, last_of-push}
 use Rattle.cobs.proofs.format.GrammarLemmas.{encoded-by, lone_block-reads, IsShorter, IsShorter-tail, IsShorter-cons, IsShorter-single}
-use Rattle.cobs.proofs.format.LengthLemmas.{no_zero, some_stretch, stretches-append, onto_parts}
+use Rattle.cobs.proofs.format.LengthLemmas.{no_zero, some_stretch, stretches-front}
 use Rattle.cobs.proofs.format.JoinLemmas.{message_of-append, Reads-append}
 use Rattle.cobs.proofs.format.UniqueLemmas.{IsEncodedFrame-shorter, first-block, length-encoded}
 
 -- THE LAST RUN
 
 last_number-cons : (x : ℕ) (ps : List (List ℕ)) → ps ≢ [] → last_number (x ∷ map length ps) ≡ last_number (map length ps)
-last_number-cons x [] some = absurd (some refl)
+last_number-cons x [] some = grind arith
 last_number-cons x (p ∷ ps) some = refl
 
 -- a message without a zero is its last run
 last_run-all : (bytes : List ℕ) → HasNoZero bytes → last_run bytes ≡ length bytes
 last_run-all bytes h = grind (arith, slice_split_none, no_zero)
 
--- it is the last run of what follows a zero
-last_run-zero : (bytes m : List ℕ) → HasNoZero bytes → last_run (bytes ++ 0 ∷ m) ≡ last_run m
-last_run-zero bytes m h = grind (arith, slice_split_at, no_zero, some_stretch, last_number-cons)
-
--- nonzero bytes before a message lengthen its last run, or don't change it
-last-onto_parts : (bytes : List ℕ) (ps : List (List ℕ)) → ps ≢ [] → let last = last_number (map length ps) in let longer = last_number (map length (onto_parts bytes ps)) in
-    (longer ≡ last) ⊎ ((longer ≡ length bytes + last) × (length (join_with_byte 0 ps) ≡ last))
-last-onto_parts bytes ps h = grind (arith, length-append)
-
 last_run-append : (bytes m : List ℕ) → HasNoZero bytes → (last_run (bytes ++ m) ≡ last_run m) ⊎ ((last_run (bytes ++ m) ≡ length bytes + last_run m) × (length m ≡ last_run m))
 last_run-append bytes m h =
     let j = join_with_byte-slice_split 0 m in
-    grind (arith, stretches-append, last-onto_parts, some_stretch)
+    grind (arith, stretches-front, length-append, some_stretch)
 
 -- what follows a full block ends in a full run exactly if all does
 full_run-append : (bytes k : List ℕ) → length bytes ≡ 254 → HasNoZero bytes → k ≢ [] → EndsInFullRun (bytes ++ k) ↔ EndsInFullRun k
-full_run-append bytes [] l h some = absurd (some refl)
+full_run-append bytes [] l h some = grind arith
 full_run-append bytes (x ∷ k) l h some = grind (arith, last_run-append)
 
 -- CANONICAL BLOCKS END IN A FULL ONE EXACTLY IF THEIR MESSAGE ENDS IN A FULL RUN
 
 ends_full : (bs : List (List ℕ)) → bs ≢ [] → All IsBlock bs → IsShorter bs → IsFull (last_of bs) ↔ EndsInFullRun (message_of bs)
-ends_full [] some h s = absurd (some refl)
-ends_full ([] ∷ bs) some h s = absurd (All-head IsBlock [] bs h)
-ends_full ((c ∷ bytes) ∷ []) some h s =
-    let is = All-head IsBlock (c ∷ bytes) [] h in
-    let l = last_run-all bytes is.2 in
-    grind (arith, eqb-true, eqb-false)
+ends_full [] some h s = grind arith
+ends_full ([] ∷ bs) some h s = grind (arith, All-head)
+ends_full ((c ∷ bytes) ∷ []) some h s = let is = All-head IsBlock (c ∷ bytes) [] h in grind (arith, eqb-true, eqb-false, last_run-all)
 ends_full ((c ∷ bytes) ∷ d ∷ ds) some h s =
     let nonzero = (All-head IsBlock (c ∷ bytes) (d ∷ ds) h).2 in
     let k : List ℕ = message_of (d ∷ ds) in
     let ih = ends_full (d ∷ ds) (λ e. cc) (All-tail IsBlock (c ∷ bytes) (d ∷ ds) h) (IsShorter-tail (c ∷ bytes) (d ∷ ds) s) in
-    grind (arith, last_run-zero, full_run-append, first-block)
+    grind (arith, slice_split_at, no_zero, some_stretch, last_number-cons, full_run-append, first-block)
 
 -- the same of an encoded frame
 pub ends_in_full : (g m : List ℕ) (e : IsEncodedFrame g m) → IsFull (last_of e.reads.blocks) ↔ EndsInFullRun m
@@ -82,7 +70,7 @@ two b (k ∷ []) h = ⊎_elim
     (cases_Bool (is_full b))
 
 either_blocks : (bs : List (List ℕ)) → bs ≢ [] → All IsBlock bs → IsShorter bs ⊎ EndsInLone bs
-either_blocks [] some h = absurd (some refl)
+either_blocks [] some h = grind arith
 either_blocks (b ∷ []) some h = inl (IsShorter-single b)
 either_blocks (b ∷ c ∷ []) some h = two b c (All-head IsBlock c [] (All-tail IsBlock b (c ∷ []) h))
 either_blocks (b ∷ c ∷ d ∷ ds) some h = ⊎_elim

@@ -1,7 +1,7 @@
 -- A frame reads as its output, since the parts of a frame are its blocks: by induction on the blocks.
-use Rattle.std.proofs.Common.{◌≡◌, ◌≢◌, ℕ, zero, suc, ◌-◌, ◌<◌, ◌≤◌, List, [], ◌∷◌, ◌++◌, length, drop, All, refl, sym, ap, ◌∙◌, subst, arith, append-nil, append_assoc, length-take, length-take-le, take-append-drop, take_at, drop_at, ⊎_elim}
+use Rattle.std.proofs.Common.{◌≡◌, ◌≢◌, ℕ, zero, suc, ◌-◌, ◌<◌, ◌≤◌, List, [], ◌∷◌, ◌++◌, length, drop, All, refl, sym, ap, ◌∙◌, subst, arith, append-nil, append_assoc, length-take, length-take-le, take-append-drop, take_at, drop_at}
 use Rattle.std.specs.List.{concat}
-use Rattle.std.proofs.lemmas.Bool.{cases_lt, eq-eqb, eqb-true}
+use Rattle.std.proofs.lemmas.Bool.{eq-eqb, eqb-true}
 use Rattle.std.proofs.lemmas.List.{drop_all}
 use Rattle.std.proofs.lemmas.List.Elements.{All-head, All-tail, All-cons, All-nil, All-append, All-take, All-drop}
 use Rattle.cobs.specs.Grammar.{HasNoZero, IsBlock, bytes_of, joint, message_of, last_of, IsFrameOf, Reads}
@@ -23,7 +23,7 @@ parts_after-past n p h = grind (arith, parts_after-drop, drop_all)
 
 pub parts_after-some : (n : ℕ) (p : List ℕ) → n < length p → parts_after n p ≢ []
 unfolding parts_after
-parts_after-some n [] h = absurd (omega arith)
+parts_after-some n [] h = grind arith
 parts_after-some zero (c ∷ p) h = λ e. cc
 parts_after-some (suc n) (x ∷ p) h = parts_after-some n p (omega arith)
 
@@ -41,8 +41,8 @@ concat-parts p = concat-parts_after 0 p
 
 pub parts-some : (p : List ℕ) → p ≢ [] → parts p ≢ []
 unfolding parts
-parts-some [] some = absurd (some refl)
-parts-some (c ∷ p) some = parts_after-some 0 (c ∷ p) (omega arith)
+parts-some [] some = grind arith
+parts-some (c ∷ p) some = grind (arith, parts_after-some)
 
 pub last_of-cons : (xs : List ℕ) (more : List (List ℕ)) → more ≢ [] → last_of (xs ∷ more) ≡ last_of more
 last_of-cons xs more h = grind arith
@@ -88,10 +88,7 @@ blocks_behind zero (c ∷ p) h below whole =
     let fits : c < 256 = All-head (λ b. b < 256) c p below in
     let rest = blocks_behind (c - 1) p (All-tail (λ b. b ≢ 0) c p h) (All-tail (λ b. b < 256) c p below) in
     let nonzero = All-take (λ b. b ≢ 0) (c - 1) p (All-tail (λ b. b ≢ 0) c p h) in
-    ⊎_elim
-    (λ (long : c - 1 < length p). grind (arith, last_of-cons, parts_after-some, length-take-le, All-cons))
-    (λ (short : length p ≤ c - 1). grind (arith, parts_after-past, length-take, All-cons, All-nil))
-    (cases_lt (c - 1) (length p))
+    grind (arith, last_of-cons, parts_after-some, length-take-le, All-cons, parts_after-past, length-take, All-nil)
 
 pub blocks_of_whole : (p : List ℕ) → HasNoZero p → All (λ b. b < 256) p → IsWhole p → All IsBlock (parts p)
 unfolding parts last_part is_whole
@@ -107,8 +104,8 @@ concat_nonzero (block ∷ blocks) h =
     All-append (λ b. b ≢ 0) block (concat blocks) (grind (arith, All-cons)) (concat_nonzero blocks (All-tail IsBlock block blocks h))
 
 concat_some : (blocks : List (List ℕ)) → blocks ≢ [] → All IsBlock blocks → concat blocks ≢ []
-concat_some [] some h = absurd (some refl)
-concat_some ([] ∷ blocks) some h = absurd (All-head IsBlock [] blocks h)
+concat_some [] some h = grind arith
+concat_some ([] ∷ blocks) some h = grind (arith, All-head)
 concat_some ((c ∷ bytes) ∷ blocks) some h = λ e. cc
 
 module _ (f m : List ℕ) (r : Reads f m) where

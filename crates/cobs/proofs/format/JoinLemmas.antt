@@ -55,6 +55,4 @@ front_frame p q m r some = (
 )
 
 pub front_message : (p q k m : List ℕ) → Reads (p ++ q) m → Reads p k → IsFront k m
-front_message p q k m r s =
-    let more = message_of-front s.blocks (parts q) s.frame.some in
-    (more.0, cc (first_blocks p q r.blocks s.blocks r.frame s.frame, more.1))
+front_message p q k m r s = let more = message_of-front s.blocks (parts q) s.frame.some in grind (arith, first_blocks)

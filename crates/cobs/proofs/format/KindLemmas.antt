@@ -1,5 +1,5 @@
 -- The bytes after the first blocks decide which frame all bytes are: by `IsCanonical-block`, block by block.
-use Rattle.std.proofs.Common.{◌≡◌, ◌≢◌, ◌↔◌, ℕ, zero, suc, ◌<◌, Bool, true, false, eqb, List, [], ◌∷◌, length, take, drop, get_or, All, refl, ap, subst, arith, length-drop, length-take-le, take-append-drop}
+use Rattle.std.proofs.Common.{◌≡◌, ◌≢◌, ◌↔◌, ℕ, zero, suc, ◌<◌, Bool, true, eqb, List, [], ◌∷◌, length, take, drop, get_or, All, refl, ap, subst, arith, length-drop, length-take-le, take-append-drop}
 use Rattle.std.proofs.lemmas.List.Elements.{All-head, All-tail, All-take, All-drop}
 use Rattle.cobs.specs.Grammar.{HasNoZero, IsBlock, IsFull, IsFrame, IsCanonical, lone_block, message_of}
 use Rattle.cobs.specs.declared.dec.kind.FrameKind.{FrameKind}
@@ -36,9 +36,6 @@ pub record BlocksBehind (f rest : List ℕ) (after_full : Bool) : Type 0 where
   pub frame : IsFrame f ↔ IsFrame rest
   pub canonical : IsCanonical f ↔ (IsCanonical rest × (after_full ≡ true → rest ≢ lone_block))
 
-pub behind-start : (f : List ℕ) → HasNoZero f → All (λ b. b < 256) f → BlocksBehind f f false
-behind-start f nonzero below = grind arith
-
 -- nothing is after them, or a broken block
 pub broken-kind : (f rest : List ℕ) (t : Bool) → BlocksBehind f rest t → (0 < length rest → length rest < get_or rest 0 0) → IsKindOf NotAFrame f
 broken-kind f [] t i broken = λ frame. (let h = i.frame.0 frame in frame_some [] h.0 h.1 refl)
@@ -46,8 +43,8 @@ broken-kind f (code ∷ bytes) t i broken = λ frame. short-frame code bytes (le
 
 -- one block more
 pub one-more : (f rest : List ℕ) (t : Bool) → BlocksBehind f rest t → get_or rest 0 0 < length rest → BlocksBehind f (drop (get_or rest 0 0) rest) (eqb (get_or rest 0 0) 255)
-one-more f [] t i more = absurd (omega arith)
-one-more f (zero ∷ bytes) t i more = absurd (All-head (λ b. b ≢ 0) 0 bytes i.nonzero refl)
+one-more f [] t i more = grind arith
+one-more f (zero ∷ bytes) t i more = grind (arith, All-head)
 one-more f (suc n ∷ bytes) t i more =
     let b : List ℕ = suc n ∷ take n bytes in
     let q : List ℕ = drop n bytes in
@@ -68,13 +65,13 @@ one-more f (suc n ∷ bytes) t i more =
 
 -- the last block is after them
 last-block : (rest : List ℕ) → HasNoZero rest → All (λ b. b < 256) rest → 0 < length rest → length rest ≡ get_or rest 0 0 → IsBlock rest
-last-block [] nonzero below some last = absurd (omega arith)
+last-block [] nonzero below some last = grind arith
 last-block (code ∷ bytes) nonzero below some last = (omega arith, All-head (λ b. b < 256) code bytes below, All-tail (λ b. b ≢ 0) code bytes nonzero)
 
 lone-is : (rest : List ℕ) → length rest ≡ get_or rest 0 0 → length rest ≡ 1 → rest ≡ lone_block
-lone-is [] last one = absurd (omega arith)
+lone-is [] last one = grind arith
 lone-is (code ∷ []) last one = grind arith
-lone-is (code ∷ x ∷ bytes) last one = absurd (omega arith)
+lone-is (code ∷ x ∷ bytes) last one = grind arith
 
 module _ (f rest : List ℕ) (t : Bool) (i : BlocksBehind f rest t) (some : 0 < length rest) (last : length rest ≡ get_or rest 0 0) where
   canonical : IsCanonical rest

@@ -1,6 +1,6 @@
 -- How long an encoded frame is, by the runs of its message: each run has a code for each 254 of its bytes. By cutting the
 -- message at its zeros.
-use Rattle.std.proofs.Common.{◌≡◌, ◌≢◌, ℕ, ◌+◌, ◌<◌, ◌≤◌, ◌==◌, false, List, [], ◌∷◌, ◌++◌, length, map, All, refl, ap, ◌∙◌, subst, arith, length-append}
+use Rattle.std.proofs.Common.{◌≡◌, ◌≢◌, ℕ, ◌+◌, ◌<◌, ◌≤◌, ◌==◌, false, List, [], ◌∷◌, ◌++◌, length, map, All, ap, ◌∙◌, subst, arith, length-append}
 use Rattle.std.specs.List.{join_with_byte}
 use Rattle.std.proofs.lemmas.Bool.{ne_eqb}
 use Rattle.std.proofs.lemmas.List.{length-replicate}
@@ -31,13 +31,13 @@ onto_parts a [] = a ∷ []
 onto_parts a (p ∷ ps) = (a ++ p) ∷ ps
 
 -- nonzero bytes lengthen the first stretch
-pub stretches-append : (bytes m : List ℕ) → HasNoZero bytes → stretches (bytes ++ m) ≡ onto_parts bytes (stretches m)
-stretches-append [] m h = grind (arith, some_stretch)
-stretches-append (b ∷ bs) m h = grind (arith, slice_split-cons_no, ne_eqb, All-head, All-tail, stretches-append bs m (All-tail (λ b. b ≢ 0) b bs h))
+pub stretches-front : (bytes m : List ℕ) → HasNoZero bytes → stretches (bytes ++ m) ≡ onto_parts bytes (stretches m)
+stretches-front [] m h = grind (arith, some_stretch)
+stretches-front (b ∷ bs) m h = grind (arith, slice_split-cons_no, ne_eqb, All-head, All-tail, stretches-front bs m (All-tail (λ b. b ≢ 0) b bs h))
 
 full_more : (bytes : List ℕ) (parts : List (List ℕ)) → length bytes ≡ 254 → parts ≢ [] → join_with_byte 0 parts ≢ [] → full_blocks (map length (onto_parts bytes parts)) ≡ 1 + full_blocks (map length parts)
-full_more bytes [] l some more = absurd (some refl)
-full_more bytes ([] ∷ []) l some more = absurd (more refl)
+full_more bytes [] l some more = grind arith
+full_more bytes ([] ∷ []) l some more = grind arith
 full_more bytes ((x ∷ p) ∷ []) l some more = grind (arith, length-append)
 full_more bytes (p ∷ q ∷ ps) l some more = grind (arith, length-append)
 
@@ -45,7 +45,7 @@ full_more bytes (p ∷ q ∷ ps) l some more = grind (arith, length-append)
 pub encoded_len-full : (bytes m : List ℕ) → length bytes ≡ 254 → HasNoZero bytes → m ≢ [] → encoded_len (bytes ++ m) ≡ 255 + encoded_len m
 encoded_len-full bytes m l h more =
     let joined = join_with_byte-slice_split 0 m in
-    grind (arith, stretches-append, full_more, some_stretch, length-append)
+    grind (arith, stretches-front, full_more, some_stretch, length-append)
 
 full_blocks-le : (parts : List (List ℕ)) → full_blocks (map length parts) + 1 ≤ max_overhead (length (join_with_byte 0 parts))
 full_blocks-le [] = omega arith

@@ -33,7 +33,7 @@ module _ (bytes : List ℕ) (s : ℕ) where
       xored_ones (suc n) = rw (xor_twice 1 s, xored_ones n) refl
 
 pub first_xored : (bytes : List ℕ) (s : ℕ) → 0 < length bytes → take 1 (xor_each s bytes) ≡ bit_xor (get_or bytes 0 0) s ∷ []
-first_xored [] s some = absurd (omega arith)
+first_xored [] s some = grind arith
 first_xored (b ∷ bytes) s some = refl
 
 -- after a frame and two sentinels a slice is as it was, if the part between its ends is so after the frame
@@ -65,4 +65,4 @@ encoded_free s f {m} e = no_sentinel_for s f (m, e.reads)
 
 -- a frame between two sentinels
 pub delimited_nonzero : {bytes m : List ℕ} → IsDelimitedFrame bytes m → HasNoZero (between_ends bytes)
-delimited_nonzero {bytes} {m} (f, e, is) = let n = encoded_nonzero e in let l = length-append f (0 ∷ []) in grind (arith, take_at)
+delimited_nonzero {bytes} {m} (f, e, is) = let n = encoded_nonzero e in grind (arith, take_at, length-append)

@@ -1,5 +1,5 @@
 -- A stream in two parts, and one more byte of it: the ended pieces, and the unended bytes. By std's lemmas on `slice_split`.
-use Rattle.std.proofs.Common.{◌≡◌, ◌≢◌, ℕ, zero, suc, ◌+◌, ◌-◌, ◌<◌, ◌==◌, true, cond, eqb, List, [], ◌∷◌, ◌++◌, length, take, refl, sym, ap, ◌∙◌, arith, append_assoc, length-append, filter, not, get_or, inl, inr}
+use Rattle.std.proofs.Common.{◌≡◌, ◌≢◌, ℕ, zero, suc, ◌+◌, ◌-◌, ◌<◌, true, cond, eqb, List, [], ◌∷◌, ◌++◌, length, take, refl, sym, ap, ◌∙◌, arith, append_assoc, length-append, filter, not, get_or, inl, inr}
 use Rattle.std.proofs.lemmas.List.{map-append, take_all, take_more}
 use Rattle.std.proofs.lemmas.List.Elements.{All-push, All-nil, All-cons, filter-append}
 use Rattle.std.proofs.lemmas.List.Splits.{slice_split-cons_no, slice_split_at, slice_split_none, length-slice_split}
@@ -19,19 +19,16 @@ fed-nonzero p b h = grind (arith, ne_eqb)
 
 -- STRETCHES OF A STREAM IN TWO PARTS
 
-stretches-nonzero : (b : ℕ) (t : List ℕ) → b ≢ 0 → stretches (b ∷ t) ≡ onto_first b (stretches t)
-stretches-nonzero b t h = grind (arith, slice_split-cons_no, ne_eqb)
-
 -- a stream has a stretch
 pub length-stretches : (t : List ℕ) → 0 < length (stretches t)
-length-stretches t = omega (arith, length-slice_split (λ byte. byte == 0) t)
+length-stretches t = grind (arith, length-slice_split)
 
 -- the stretches of a stream in two parts: the last stretch of the first continues in the second
 pub stretches-append : (t u : List ℕ) → stretches (t ++ u) ≡ but_last (stretches t) ++ stretches (last_of (stretches t) ++ u)
 unfolding but_last
 stretches-append [] u = refl
 stretches-append (zero ∷ t) u = let some = length-stretches t in grind (arith, (stretches-append t u))
-stretches-append (suc b ∷ t) u = grind (arith, stretches-nonzero, length-stretches, (stretches-append t u))
+stretches-append (suc b ∷ t) u = grind (arith, slice_split-cons_no, ne_eqb, length-stretches, (stretches-append t u))
 
 but_last-append : (xs ys : List (List ℕ)) → 0 < length ys → but_last (xs ++ ys) ≡ xs ++ but_last ys
 unfolding but_last
@@ -105,7 +102,7 @@ push_outcomes p (suc b) n h =
 
 push_unended : (p : List ℕ) (b : ℕ) → HasNoZero p → unended (p ++ b ∷ []) ≡ fed p b
 unfolding unended
-push_unended p zero h = ap last_of (stretches-piece p [] h)
+push_unended p zero h = grind (arith, stretches-piece)
 push_unended p (suc b) h =
     let nonzero = All-push (λ x. x ≢ 0) p (suc b) h (λ e. omega arith) in
     grind (arith, unended-no_zero, fed-nonzero)
@@ -119,7 +116,7 @@ pub unended_no_zero : (t : List ℕ) → HasNoZero (unended t)
 unfolding unended
 unended_no_zero [] = All-nil (λ x. x ≢ 0)
 unended_no_zero (zero ∷ t) = grind (arith, length-stretches, unended_no_zero t)
-unended_no_zero (suc b ∷ t) = grind (arith, stretches-nonzero, last_of-onto_first, length-stretches, (unended_no_zero t))
+unended_no_zero (suc b ∷ t) = grind (arith, slice_split-cons_no, ne_eqb, last_of-onto_first, length-stretches, (unended_no_zero t))
 
 -- ONE MORE BYTE OF A STREAM
 
@@ -162,8 +159,7 @@ unended-at_sentinel t (inr (front, ends)) = ap unended ends ∙ unended-zero fro
 pub stream_outcomes-apart : (a d z : List ℕ) (n : ℕ) → IsAtSentinel a → stream_outcomes (a ++ d ++ 0 ∷ z) n ≡ stream_outcomes a n ++ stream_outcomes (d ++ 0 ∷ []) n ++ stream_outcomes z n
 stream_outcomes-apart a d z n h =
     let cut = stream_outcomes-append (a ++ d ++ 0 ∷ []) z n in
-    let inner = stream_outcomes-append a (d ++ 0 ∷ []) n in
-    grind (arith, append_assoc, unended-at_sentinel, unended-zero)
+    grind (arith, append_assoc, unended-at_sentinel, unended-zero, stream_outcomes-append)
 
 -- one piece between two sentinels has one outcome
 pub stream_outcomes-one : (d : List ℕ) (n : ℕ) → d ≢ [] → HasNoZero d → stream_outcomes (d ++ 0 ∷ []) n ≡ outcome_of d n ∷ []

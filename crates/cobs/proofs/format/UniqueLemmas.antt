@@ -13,12 +13,12 @@ use Rattle.cobs.proofs.format.LengthLemmas.{encoded_len-last, encoded_len-zero, 
 -- WHAT BLOCKS STAND FOR
 
 -- blocks without a byte or a zero between them are the lone block
-pub no_message : (b : List ℕ) (bs : List (List ℕ)) → All IsBlock (b ∷ bs) → message_of (b ∷ bs) ≡ [] → b ∷ bs ≡ lone_block ∷ []
-no_message [] bs h e = absurd (All-head IsBlock [] bs h)
-no_message (c ∷ []) [] h e = grind (arith, All-head)
-no_message (c ∷ x ∷ bytes) [] h e = absurd (cc)
-no_message (c ∷ x ∷ bytes) (d ∷ ds) h e = absurd (cc)
-no_message (c ∷ []) (d ∷ ds) h e = grind (arith, All-head)
+pub empty_message : (b : List ℕ) (bs : List (List ℕ)) → All IsBlock (b ∷ bs) → message_of (b ∷ bs) ≡ [] → b ∷ bs ≡ lone_block ∷ []
+empty_message [] bs h e = grind (arith, All-head)
+empty_message (c ∷ []) [] h e = grind (arith, All-head)
+empty_message (c ∷ x ∷ bytes) [] h e = absurd (cc)
+empty_message (c ∷ x ∷ bytes) (d ∷ ds) h e = absurd (cc)
+empty_message (c ∷ []) (d ∷ ds) h e = grind (arith, All-head)
 
 -- a message begins with the bytes of its first block
 message-first : (c : ℕ) (a : List ℕ) (bs : List (List ℕ)) → (more : List ℕ) × (message_of ((c ∷ a) ∷ bs) ≡ a ++ more)
@@ -31,7 +31,7 @@ message-rest b d ds t e = grind (arith, append_assoc)
 
 -- after a full block of canonical blocks something is left
 pub full-more : (b d : List ℕ) (ds : List (List ℕ)) → All IsBlock (b ∷ d ∷ ds) → IsShorter (b ∷ d ∷ ds) → is_full b ≡ true → message_of (d ∷ ds) ≢ []
-full-more b d ds h s full none = s [] b full (ap (λ (l : List (List ℕ)). b ∷ l) (no_message d ds (All-tail IsBlock b (d ∷ ds) h) none))
+full-more b d ds h s full none = s [] b full (ap (λ (l : List (List ℕ)). b ∷ l) (empty_message d ds (All-tail IsBlock b (d ∷ ds) h) none))
 
 -- between a block and canonical ones after it is a zero, or the block is full and something is left
 pub first-block : (c : ℕ) (a d : List ℕ) (ds : List (List ℕ)) → All IsBlock ((c ∷ a) ∷ d ∷ ds) → IsShorter ((c ∷ a) ∷ d ∷ ds) → let k = message_of (d ∷ ds) in
@@ -46,7 +46,7 @@ first-block c a d ds h s =
 -- how long canonical blocks are
 length-blocks : (bs : List (List ℕ)) → bs ≢ [] → All IsBlock bs → IsShorter bs → length (concat bs) ≡ encoded_len (message_of bs)
 length-blocks [] p h s = absurd (p refl)
-length-blocks ([] ∷ bs) p h s = absurd (All-head IsBlock [] bs h)
+length-blocks ([] ∷ bs) p h s = grind (arith, All-head)
 length-blocks ((c ∷ a) ∷ []) p h s = let is = All-head IsBlock (c ∷ a) [] h in omega (arith, encoded_len-last a (omega arith) is.2, ap length (append-nil a))
 length-blocks ((c ∷ a) ∷ d ∷ ds) p h s = grind (arith, All-head, All-tail, IsShorter-tail, length-append, encoded_len-zero, encoded_len-full, first-block, length-blocks (d ∷ ds) (λ e. cc) (All-tail IsBlock (c ∷ a) (d ∷ ds) h) (IsShorter-tail (c ∷ a) (d ∷ ds) s))
 
@@ -66,8 +66,8 @@ not_shorter c d a b (x ∷ bs) cs h i e lt =
 
 -- the first blocks of one message are one
 same_first : (b c : List ℕ) (bs cs : List (List ℕ)) → All IsBlock (b ∷ bs) → All IsBlock (c ∷ cs) → message_of (b ∷ bs) ≡ message_of (c ∷ cs) → b ≡ c
-same_first [] c bs cs h i e = absurd (All-head IsBlock [] bs h)
-same_first (x ∷ b) [] bs cs h i e = absurd (All-head IsBlock [] cs i)
+same_first [] c bs cs h i e = grind (arith, All-head)
+same_first (x ∷ b) [] bs cs h i e = grind (arith, All-head)
 same_first (x ∷ b) (y ∷ c) bs cs h i e =
     let len : length b ≡ length c = omega (arith, not_shorter x y b c bs cs h i e, not_shorter y x c b cs bs i h (sym e)) in
     let more_b = message-first x b bs in let more_c = message-first y c cs in
@@ -84,8 +84,8 @@ one_blocks : (bs cs : List (List ℕ)) → bs ≢ [] → cs ≢ [] → All IsBlo
 one_blocks [] cs p q h i s t e = absurd (p refl)
 one_blocks (b ∷ bs) [] p q h i s t e = absurd (q refl)
 one_blocks (b ∷ []) (c ∷ []) p q h i s t e = ap (λ (l : List ℕ). l ∷ []) (same_first b c [] [] h i e)
-one_blocks (b ∷ []) (c ∷ d ∷ ds) p q h i s t e = let first = same_first b c [] (d ∷ ds) h i e in absurd (no_more c d ds i t (rw first at e))
-one_blocks (b ∷ d ∷ ds) (c ∷ []) p q h i s t e = let first = same_first b c (d ∷ ds) [] h i e in absurd (no_more b d ds h s (sym (rw (← first) at e)))
+one_blocks (b ∷ []) (c ∷ d ∷ ds) p q h i s t e = let first = same_first b c [] (d ∷ ds) h i e in grind (arith, no_more)
+one_blocks (b ∷ d ∷ ds) (c ∷ []) p q h i s t e = let first = same_first b c (d ∷ ds) [] h i e in grind (arith, no_more)
 one_blocks (b ∷ d ∷ ds) (c ∷ k ∷ ks) p q h i s t e =
     let first = same_first b c (d ∷ ds) (k ∷ ks) h i e in
     let rest : message_of (d ∷ ds) ≡ message_of (k ∷ ks) = append_cancel_left (bytes_of c ++ joint c) _ _ (ap (λ (l : List ℕ). message_of (l ∷ d ∷ ds)) (sym first) ∙ e) in

@@ -11,14 +11,11 @@ use Rattle.cobs.specs.Piece.{output}
 use Rattle.cobs.specs.declared.error.DecodeError.{DecodeError}
 use Rattle.cobs.specs.declared.dec.frame_decoder.PieceEnd.{PieceEnd}
 use Rattle.cobs.proofs.format.StreamLemmas.{fed-nonzero, unended-push, unended-no_zero, ended_pieces-no_zero}
-use Rattle.cobs.proofs.streaming.LastPiece.{begun, output-longer, last_piece-unended, last_piece-zero, ended_pieces-nonzero}
-use Rattle.cobs.proofs.streaming.SoFar.{SoFar-start, SoFar-more, TakesBytes-byte, outcome_reported, reported_by, count-within, here, nil-alike, no_outcomes}
+use Rattle.cobs.proofs.streaming.LastPiece.{overwritten-is, output-longer, last_piece-unended, last_piece-zero, ended_pieces-nonzero}
+use Rattle.cobs.proofs.streaming.SoFar.{SoFar-start, SoFar-more, TakesBytes-byte, outcome_reported, reported_by, count-within, here, no_outcomes}
 use Rattle.cobs_bytes.proofs.bytes.ListLemmas.{drop-later}
 
 -- THE RESULT FOR A ZERO
-
-stated-none : (result : Result (Option ℕ) DecodeError) (buffer : List ℕ) → end_reported result ≡ None → outcome_reported result buffer ≡ []
-stated-none result buffer e = grind arith
 
 stated-some : (result : Result (Option ℕ) DecodeError) (buffer : List ℕ) (end : PieceEnd) → end_reported result ≡ Some end → IfOk result (λ found. IfSome found (λ n. n ≤ length buffer))
     → (outcome_reported result buffer ≡ outcome_at end buffer ∷ []) × IsWithin (length buffer) end
@@ -30,7 +27,7 @@ pub piece-nothing : (buffer : List ℕ) (phase : Phase) → TakesPiece buffer ph
 piece-nothing buffer phase = record {
   takes = SoFar-start buffer phase;
   ends = tt;
-  holds = λ p h. begun _ buffer buffer refl (rw (last p h.phased) h.begins) refl;
+  holds = λ p h. overwritten-is _ buffer buffer refl (rw (last p h.phased) h.begins) refl;
   untouched = λ p h. refl;
   bound = λ p h. tt;
   idle = tt;
@@ -44,7 +41,7 @@ piece-nothing buffer phase = record {
 module _ {buffer₀ buffer buffer' : List ℕ} {phase₀ phase phase' : Phase} {result : Result (Option ℕ) DecodeError} (bytes : List ℕ) (i : ℕ) (inside : i < length bytes)
     (t : TakesPiece buffer₀ phase₀ (take i bytes) None buffer phase) (f : Feeds buffer phase (get_or bytes i 0) result buffer' phase') where
   pub none_before : (p : List ℕ) → PhaseAfter (length buffer₀) phase₀ p → stream_outcomes (p ++ take i bytes) (length buffer₀) ≡ []
-  none_before p h = nil-alike _ (t.takes.alike p h)
+  none_before p h = grind arith
 
   stream_on : (p : List ℕ) → p ++ take (i + 1) bytes ≡ (p ++ take i bytes) ++ get_or bytes i 0 ∷ []
   stream_on p = grind (arith, take_more, append_assoc, get_or)
@@ -75,7 +72,7 @@ module _ {buffer₀ buffer buffer' : List ℕ} {phase₀ phase phase' : Phase} {
   ]
 
   pub holds_behind : (p : List ℕ) → DecoderAfter buffer₀ phase₀ p → buffer' ≡ overwritten buffer₀ (output (last_piece (p ++ take (i + 1) bytes)))
-  holds_behind p h = grind (arith, begun, begins_behind, untouched_behind)
+  holds_behind p h = grind (arith, overwritten-is, begins_behind, untouched_behind)
 
   pub takes_behind : TakesBytes buffer₀ phase₀ (take (i + 1) bytes) (reported_by (get_or bytes i 0) result buffer') buffer' phase'
   takes_behind = rw (take_more bytes i 0 inside) (SoFar-more t.takes (TakesBytes-byte f))
@@ -93,7 +90,7 @@ module _ {buffer₀ buffer buffer' : List ℕ} {phase₀ phase phase' : Phase} {
   }
     where
       nothing : reported_by (get_or bytes i 0) result buffer' ≡ []
-      nothing = grind (arith, cases_eq, eq-eqb, ne_eqb, stated-none)
+      nothing = grind (arith, cases_eq, eq-eqb, ne_eqb)
 
   -- it ends a piece
   pub piece-ended : (end : PieceEnd) → get_or bytes i 0 ≡ 0 → end_reported result ≡ Some end → TakesPiece buffer₀ phase₀ bytes (Some (end, i + 1)) buffer' phase'

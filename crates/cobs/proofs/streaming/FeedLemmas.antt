@@ -6,7 +6,7 @@ use Rattle.std.proofs.lemmas.List.Elements.{All-push, All-nil}
 use Rattle.std.proofs.lemmas.Bool.{cases_lt, cond-true, cond-false, ne_eqb, le-leb, leb-true, lt-leb}
 use Rattle.cobs.specs.Grammar.{HasNoZero, is_full}
 use Rattle.cobs.specs.Piece.{missing, output, last_part, is_whole}
-use Rattle.cobs.specs.Stream.{outcome_of, TooLong}
+use Rattle.cobs.specs.Stream.{outcome_of}
 use Rattle.cobs.specs.Feed.{Phase, Idle, Within, Overlong, phase_after, PhaseAfter, DecoderAfter, fed, result_at_end, result_for, Feeds}
 use Rattle.cobs.specs.Fields.Decoders.{phase_of}
 use Rattle.cobs.specs.declared.dec.unbuffered.UnbufferedDecoder.{UnbufferedDecoder}
@@ -15,6 +15,7 @@ use Rattle.cobs.specs.declared.error.DecodeError.{DecodeError}
 use Rattle.cobs.specs.declared.error.DecodeError.TheVariants.{TargetBufTooSmall}
 use Rattle.std.specs.Prelude.{IfOk, IfSome}
 use Rattle.std.proofs.lemmas.Grind.{common_steps}
+use Rattle.cobs.proofs.decoding.OutcomeLemmas.{outcome_of_long}
 use Rattle.cobs.proofs.format.StreamLemmas.{fed-nonzero}
 use Rattle.cobs.proofs.streaming.LastPiece.{output-longer}
 use Rattle.cobs.proofs.streaming.TableLemmas.{output-nil}
@@ -41,7 +42,7 @@ grows-is : (n : ℕ) (full : Bool) (left count : ℕ) → grows n full left coun
 grows-is n full left count = rw add-one refl
 
 nonzero : (b : ℕ) → 0 < b → eqb b 0 ≡ false
-nonzero b h = ne_eqb b 0 (λ e. omega arith)
+nonzero b h = grind (arith, ne_eqb)
 
 -- within a part
 within_step : (n c : ℕ) (q : List ℕ) (b : ℕ) (full : Bool) (left : ℕ) → is_full (last_part (c ∷ q)) ≡ full → missing (last_part (c ∷ q)) ≡ left → 0 < b → length (output (c ∷ q)) ≤ n
@@ -62,10 +63,6 @@ unfolding phase_after
 nonzero_step n [] b h = grind (arith, nonzero, phase_after-is, last_part-one, output-one, cond-true, le-leb)
 nonzero_step n (c ∷ q) b h = grind (arith, cases_lt, over_phase, nonzero, output-longer (c ∷ q) b, fits_phase, within_step)
 
-phase-step : (n : ℕ) (p : List ℕ) (b : ℕ) → next_phase n (phase_after p n) b ≡ phase_after (fed p b) n
-unfolding phase_after
-phase-step n p b = grind (arith, next_phase-zero, nonzero_step, fed-nonzero)
-
 -- RESULTS
 
 result_within : (n c : ℕ) (q : List ℕ) (left : ℕ) → missing (last_part (c ∷ q)) ≡ left → length (output (c ∷ q)) ≤ n
@@ -73,25 +70,17 @@ result_within : (n c : ℕ) (q : List ℕ) (left : ℕ) → missing (last_part (
 unfolding result_at_end outcome_of is_whole
 result_within n c q left h e = grind (arith, cond-true, le-leb, nonzero)
 
-too_long : (c : ℕ) (q : List ℕ) (n : ℕ) → n < length (output (c ∷ q)) → outcome_of (c ∷ q) n ≡ TooLong
-unfolding outcome_of
-too_long c q n more = cond-false _ _ _ (lt-leb _ _ more)
-
 end_result-is : (n : ℕ) (p : List ℕ) → end_result n (phase_after p n) ≡ result_at_end p n
 unfolding phase_after result_at_end
-end_result-is n p = grind (arith, cases_lt, over_phase, too_long, fits_phase, result_within)
+end_result-is n p = grind (arith, cases_lt, over_phase, outcome_of_long, fits_phase, result_within)
 
 error_if_overlong-is : (c : ℕ) (q : List ℕ) (n : ℕ) → error_if_overlong (phase_after (c ∷ q) n) ≡ cond (leb (length (output (c ∷ q))) n) (Ok None) (Err TargetBufTooSmall)
 unfolding phase_after
-error_if_overlong-is c q n = elim (leb (length (output (c ∷ q))) n) as (λ v. error_if_overlong (cond v (Within (is_full (last_part (c ∷ q))) (missing (last_part (c ∷ q))) (length (output (c ∷ q)))) Overlong) ≡ cond v (Ok None) (Err TargetBufTooSmall)) [ true ↦ refl | false ↦ refl ]
+error_if_overlong-is c q n = grind arith
 
 error_if_overlong-push : (p : List ℕ) (b n : ℕ) → error_if_overlong (phase_after (p ++ b ∷ []) n) ≡ cond (leb (length (output (p ++ b ∷ []))) n) (Ok None) (Err TargetBufTooSmall)
 error_if_overlong-push [] b n = error_if_overlong-is b [] n
 error_if_overlong-push (c ∷ q) b n = error_if_overlong-is c (q ++ b ∷ []) n
-
-result_for-step : (n : ℕ) (p : List ℕ) (b : ℕ) → next_result n (phase_after p n) b ≡ result_for p b n
-unfolding result_for
-result_for-step n p b = grind (arith, end_result-is, nonzero, nonzero_step, error_if_overlong-push)
 
 -- BUFFERS
 
@@ -128,19 +117,20 @@ length-next_buffer buffer phase b = grind (arith, eqb, length-set)
 
 piece-fed : (p : List ℕ) (b : ℕ) → HasNoZero p → HasNoZero (fed p b)
 piece-fed p zero h = All-nil (λ byte. byte ≢ 0)
-piece-fed p (suc b) h = rw (fed-nonzero p (suc b) (λ e. omega arith)) (All-push (λ byte. byte ≢ 0) p (suc b) h (λ e. omega arith))
+piece-fed p (suc b) h = grind (arith, common_steps, fed-nonzero, All-push)
 
 -- THE STEP, for `PhaseAfter` and `DecoderAfter`
 
 pub PhaseAfter-step : (n : ℕ) (phase : Phase) (p : List ℕ) (b : ℕ) → PhaseAfter n phase p → PhaseAfter n (next_phase n phase b) (fed p b)
-PhaseAfter-step n phase p b h = grind (arith, piece-fed, phase-step)
+unfolding phase_after
+PhaseAfter-step n phase p b h = grind (arith, piece-fed, next_phase-zero, nonzero_step, fed-nonzero)
 
 pub PhaseAfter-result_for : (n : ℕ) (phase : Phase) (p : List ℕ) (b : ℕ) → PhaseAfter n phase p → next_result n phase b ≡ result_for p b n
-PhaseAfter-result_for n phase p b h = grind (arith, result_for-step)
+unfolding result_for
+PhaseAfter-result_for n phase p b h = grind (arith, end_result-is, nonzero, nonzero_step, error_if_overlong-push)
 
 pub DecoderAfter-step : (buffer : List ℕ) (phase : Phase) (p : List ℕ) (b : ℕ) → DecoderAfter buffer phase p → DecoderAfter (next_buffer buffer phase b) (next_phase (length buffer) phase b) (fed p b)
-DecoderAfter-step buffer phase p b h =
-    grind (arith, common_steps, length-next_buffer, PhaseAfter-step, begins-step)
+DecoderAfter-step buffer phase p b h = grind (arith, common_steps, length-next_buffer, PhaseAfter-step, begins-step)
 
 untouched_within : (buffer : List ℕ) (c : ℕ) (q : List ℕ) (b : ℕ) (full : Bool) (left : ℕ) → is_full (last_part (c ∷ q)) ≡ full → missing (last_part (c ∷ q)) ≡ left → 0 < b
     → drop (length (output (c ∷ q ++ b ∷ []))) (next_buffer buffer (Within full left (length (output (c ∷ q)))) b) ≡ drop (length (output (c ∷ q ++ b ∷ []))) buffer
@@ -148,15 +138,11 @@ untouched_within buffer c q b full (suc left) f l h = grind (arith, output-push_
 untouched_within buffer c q b true zero f l h = refl
 untouched_within buffer c q b false zero f l h = grind (arith, output-push_next, nonzero, drop-set-lt, length_push)
 
-untouched-step : (buffer p : List ℕ) (b : ℕ) → 0 < b
-    → drop (length (output (p ++ b ∷ []))) (next_buffer buffer (phase_after p (length buffer)) b) ≡ drop (length (output (p ++ b ∷ []))) buffer
-unfolding phase_after
-untouched-step buffer p b h = grind (arith, cases_lt, over_phase, fits_phase, untouched_within)
-
 -- the bytes after the output stay
 pub PhaseAfter-untouched : (buffer : List ℕ) (phase : Phase) (p : List ℕ) (b : ℕ) → PhaseAfter (length buffer) phase p → b ≢ 0
     → drop (length (output (p ++ b ∷ []))) (next_buffer buffer phase b) ≡ drop (length (output (p ++ b ∷ []))) buffer
-PhaseAfter-untouched buffer phase p b h nz = grind (arith, untouched-step)
+unfolding phase_after
+PhaseAfter-untouched buffer phase p b h nz = grind (arith, cases_lt, over_phase, fits_phase, untouched_within)
 
 -- an idle decoder has taken nothing of a piece, whatever its buffer holds
 pub DecoderAfter-idle : (buffer : List ℕ) (phase : Phase) → phase ≡ Idle → DecoderAfter buffer phase []

@@ -13,8 +13,7 @@ use Rattle.cobs.specs.declared.error.DecodeError.{DecodeError}
 use Rattle.cobs.specs.declared.dec.frame_decoder.PieceEnd.{PieceEnd}
 use Rattle.cobs.specs.declared.dec.frame_decoder.PieceEnd.TheVariants as ends
 use Rattle.cobs.proofs.format.FrameLemmas.{frame_output}
-use Rattle.cobs.proofs.decoding.HeadlineLemmas.{outcome_of_long}
-use Rattle.cobs.proofs.decoding.OutcomeLemmas.{outcome_frame, outcome_reads}
+use Rattle.cobs.proofs.decoding.OutcomeLemmas.{outcome_frame, outcome_reads, outcome_of_long}
 use Rattle.cobs.proofs.decoding.ReadsLemmas.{frame_piece}
 use Rattle.cobs.proofs.streaming.FeedLemmas.{DecoderAfter-idle}
 use Rattle.cobs.proofs.format.StreamLemmas.{stream_outcomes-append, stream_outcomes-one, unended-no_zero, unended-zero}
@@ -56,7 +55,7 @@ module _ (buffer buffer' f more : List ℕ) (phase phase' : Phase) (idle : phase
   after = DecoderAfter-idle buffer phase idle
 
   cut : f ++ 0 ∷ more ≡ (f ++ 0 ∷ []) ++ more
-  cut = sym (append_assoc f (0 ∷ []) more)
+  cut = grind (arith, append_assoc)
 
   front_is : take (length f + 1) (f ++ 0 ∷ more) ≡ f ++ 0 ∷ []
   front_is = grind (arith, cut, take_at, length-append)
@@ -92,9 +91,8 @@ module _ (buffer buffer' f more : List ℕ) (phase phase' : Phase) (idle : phase
   end_is : (end : PieceEnd) (count : ℕ) → TakesPiece buffer phase (f ++ 0 ∷ more) (Some (end, count)) buffer' phase' → outcome_at end buffer' ≡ outcome_of f (length buffer)
   end_is end count t =
       let n = length buffer in
-      let o : outcome_at end buffer' ∷ [] ≡ stream_outcomes (take count (f ++ 0 ∷ more)) n = t.takes.outcomes [] after in
       let same : take count (f ++ 0 ∷ more) ≡ f ++ 0 ∷ [] = ap (λ (k : ℕ). take k (f ++ 0 ∷ more)) (count_is end count t) ∙ front_is in
-      grind (arith, stream_outcomes-one)
+      grind (arith, stream_outcomes-one, after)
 
   not_none : TakesPiece buffer phase (f ++ 0 ∷ more) None buffer' phase' → ⊥
   not_none t = grind (arith, after, cut, one)

@@ -27,8 +27,8 @@ front-of-head (byte ∷ source) (suc n) none = grind (arith, head-cons, All-head
 
 -- a front of a source that begins with a code begins with it
 code-first : (source : List ℕ) (n : ℕ) → 0 < length (head source) → 0 < length (take n source) → get_or (take n source) 0 0 ≢ 0
-code-first source zero begins some = absurd (omega arith)
-code-first [] (suc n) begins some = absurd (omega arith)
+code-first source zero begins some = grind arith
+code-first [] (suc n) begins some = grind arith
 code-first (byte ∷ source) (suc n) begins some = grind (arith, head-zero)
 
 -- the first `run` bytes were fed
@@ -42,12 +42,12 @@ module _ {source old new : List ℕ} {phase : Phase} {run : ℕ} (f : FrontFed s
   none = grind (arith, quiet-piece, code-first)
 
   front : Quiet old new phase (take run source)
-  front = quiet (take run source) old new phase none f.fed
+  front = grind (arith, quiet, none)
 
   -- up to the end of the piece
   module _ (stop : run < length source → get_or source run 0 ≡ 0) where
     all : take run source ≡ head source
-    all = front_is_head source run f.within none stop
+    all = grind (arith, front_is_head, none)
 
     pub whole : Quiet old new phase (head source)
     whole = rw all at front
@@ -72,4 +72,4 @@ module _ {source old new : List ℕ} {phase : Phase} {run : ℕ} (f : FrontFed s
     over-written = grind (arith, split, quiet-full, front, tail)
 
     pub over-count : length (head source) ≡ run + 1 + length tail
-    over-count = omega (arith, ap length split, length-append (take run source) (get_or source run 0 ∷ tail), length-take-le run source f.within)
+    over-count = grind (arith, split, length-append, length-take-le)

@@ -1,9 +1,9 @@
 -- The bytes before a zero, decoded up to the last ones that are kept: the result, and the contents of the buffer. By
 -- `quiet` for the bytes that are fed, and `TailLemmas` for those that aren't.
-use Rattle.std.proofs.Common.{◌≡◌, ◌≢◌, ℕ, zero, suc, ◌-◌, ◌<◌, ◌≤◌, ◌↔◌, IsTrue, Bool, true, false, get_or, List, [], ◌∷◌, ◌++◌, length, take, drop, refl, sym, ap, ◌∙◌, arith, length-drop, take_all, Result, Ok, Err}
+use Rattle.std.proofs.Common.{◌≡◌, ◌≢◌, ℕ, zero, suc, ◌-◌, ◌<◌, ◌≤◌, ◌↔◌, IsTrue, Bool, false, get_or, List, [], ◌∷◌, ◌++◌, length, take, drop, refl, ap, ◌∙◌, arith, length-drop, take_all, Result, Ok, Err}
 use Rattle.std.specs.List.{All}
-use Rattle.std.proofs.lemmas.List.Elements.{All-head, All-tail, All-drop, All-take, All-append}
-use Rattle.std.proofs.lemmas.Bool.{cases_lt, eq-eqb, le-leb, lt-leb, ne_eqb}
+use Rattle.std.proofs.lemmas.List.Elements.{All-head, All-tail, All-drop, All-take, All-append, All-get_or}
+use Rattle.std.proofs.lemmas.Bool.{cases_lt, eq-eqb, le-leb, lt-leb, ne_eqb, cases_eq}
 use Rattle.cobs.specs.Grammar.{HasNoZero}
 use Rattle.cobs.specs.Piece.{kept_output, last_part, missing, output, parts, parts_after}
 use Rattle.cobs.specs.Overwritten.{overwritten}
@@ -15,17 +15,19 @@ use Rattle.cobs.specs.declared.error.DecodeError.{DecodeError}
 use Rattle.cobs.specs.declared.error.DecodeError.TheVariants.{InvalidFrame, TargetBufTooSmall}
 use Rattle.cobs.specs.Fields.Decoders.{phase_of}
 use Rattle.cobs.specs.Internal.FeedsQuietly.{FeedsQuietly}
-use Rattle.cobs.proofs.decoding.PieceCuts.{is_whole-of, last_part-last, last_part-more}
-use Rattle.cobs.proofs.decoding.KeptLemmas.{kept_output-empty}
+use Rattle.cobs.proofs.decoding.OutcomeLemmas.{head_alone}
+use Rattle.cobs.proofs.streaming.FrontFed.{FrontFed, over-long, over-written}
+use Rattle.cobs.proofs.decoding.PieceCuts.{last_part-last, last_part-more}
+use Rattle.cobs.proofs.decoding.KeptLemmas.{head_result-is}
 use Rattle.cobs.proofs.decoding.TailLemmas.{whole-kept}
-use Rattle.cobs.proofs.streaming.QuietLemmas.{Quiet, quiet, quiet-stop, quiet-at, quiet-written}
+use Rattle.cobs.proofs.streaming.QuietLemmas.{Quiet, quiet, quiet-at, quiet-written}
 use Rattle.cobs.proofs.streaming.SpanLemmas.{FeedsQuietly-append}
 
 -- the last part of bytes is missing fewer than a full block has
 few_by : (n : ℕ) (p : List ℕ) → length p ≤ n → All (λ b. b < 256) p → missing (last_part p) < 255
 unfolding last_part parts parts_after
 few_by n [] h small = omega arith
-few_by zero (code ∷ bytes) h small = absurd (omega arith)
+few_by zero (code ∷ bytes) h small = grind arith
 few_by (suc n) (code ∷ bytes) h small = grind (arith, cases_lt, last_part-more, length-drop, All-drop, All-tail, All-head, last_part-last, few_by n (drop (code - 1) bytes) (omega (arith, length-drop (code - 1) bytes)) (All-drop (λ b. b < 256) (code - 1) bytes (All-tail (λ b. b < 256) code bytes small)))
 
 -- where all but the last 254 bytes are fed, a block is missing no more than these
@@ -37,13 +39,11 @@ tail_left (code ∷ bytes) end is small = omega (arith, few_by (length (code ∷
 -- the result for the bytes before a zero
 head_by : (h : List ℕ) (n : ℕ) (whole : Bool) (result : Result ℕ DecodeError) → (IsTrue whole → result ≡ Ok n) → (whole ≡ false → result ≡ Err (InvalidFrame n)) → n ≡ length (kept_output h)
     → (IsTrue whole ↔ (missing (last_part h) ≡ 0)) → result ≡ head_result h
-unfolding last_part parts parts_after
-head_by [] n whole result ok broken count is = grind (arith, kept_output-empty)
-head_by (byte ∷ bytes) n whole result ok broken count is = grind (arith, is_whole-of, whole-kept, eq-eqb, ne_eqb)
+head_by h n whole result ok broken count is = grind (arith, head_result-is, cases_eq, eq-eqb, ne_eqb)
 
 -- of whole blocks
 pub whole_result : (h : List ℕ) → missing (last_part h) ≡ 0 → head_result h ≡ Ok (length (output h))
-whole_result h whole = sym (head_by h (length (output h)) true (Ok (length (output h))) (λ _. refl) (λ f. absurd (cc)) (ap length (whole-kept h whole)) ((λ _. whole), (λ _. refl)))
+whole_result h whole = grind (arith, head_result-is, whole-kept, eq-eqb)
 
 pub whole_front : (h old front : List ℕ) (n : ℕ) → missing (last_part h) ≡ 0 → front ≡ output h → length front ≤ length old → n ≡ length front → front ++ drop n old ≡ overwritten old (kept_output h)
 whole_front h old front n whole is fits count = grind (arith, whole-kept, take_all)
@@ -68,4 +68,9 @@ module _ (p q old b1 b2 : List ℕ) (phase : Phase) (inner : UnbufferedDecoder) 
 -- or one of these bytes has no room
 pub kept_stop : (h p old new : List ℕ) (phase : Phase) (run : ℕ) → output p ≡ kept_output h → HasNoZero p → run < length p → FeedsQuietly old Idle (take run p) new phase → next_phase (length new) phase (get_or p run 0) ≡ Overlong
     → (Err TargetBufTooSmall ≡ head_result_within h (length old)) × (new ≡ overwritten old (kept_output h))
-kept_stop h p old new phase run kept none more f over = grind (arith, quiet-stop, run, lt-leb)
+kept_stop h p old new phase run kept none more f over =
+    let alone = head_alone p none in
+    let front : FrontFed p old new phase run = record { begins = omega (arith, ap length alone); within = omega arith; fed = f } in
+    let other = All-get_or (λ b. b ≢ 0) p run 0 more none in
+    let long = over-long front more other over in
+    grind (arith, lt-leb, over-written)

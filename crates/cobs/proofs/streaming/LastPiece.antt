@@ -15,7 +15,7 @@ use Rattle.cobs.proofs.format.StreamLemmas.{fed-nonzero, length-stretches, ended
 -- some lists are all but the last, and the last
 all_but_last : (xs : List (List ℕ)) → 0 < length xs → xs ≡ but_last xs ++ last_of xs ∷ []
 unfolding but_last
-all_but_last [] h = absurd (omega arith)
+all_but_last [] h = grind arith
 all_but_last (x ∷ []) h = refl
 all_but_last (x ∷ y ∷ xs) h = grind (arith, all_but_last (y ∷ xs) (omega arith))
 
@@ -29,13 +29,10 @@ pub last_piece-unended : (t : List ℕ) → ended_pieces t ≡ [] → last_piece
 unfolding last_piece
 last_piece-unended t none = grind (arith, pieces, filter)
 
-ended_at : (q : List ℕ) → HasNoZero q → ended_pieces (q ++ 0 ∷ []) ≡ filter is_nonempty (q ∷ [])
-unfolding ended_pieces but_last
-ended_at q h = grind (arith, stretches-piece)
-
 -- the pieces that have ended after one more byte
 ended_pieces-zero : (t : List ℕ) → ended_pieces (t ++ 0 ∷ []) ≡ ended_pieces t ++ filter is_nonempty (unended t ∷ [])
-ended_pieces-zero t = grind (arith, ended_pieces-append, ended_at, unended_no_zero)
+unfolding ended_pieces but_last
+ended_pieces-zero t = grind (arith, ended_pieces-append, stretches-piece, unended_no_zero)
 
 pub ended_pieces-nonzero : (t : List ℕ) (b : ℕ) → b ≢ 0 → ended_pieces (t ++ b ∷ []) ≡ ended_pieces t
 ended_pieces-nonzero t b h =
@@ -58,10 +55,10 @@ output-longer (c ∷ q) b = omega (arith, ap length (output-push c q b).1, lengt
 
 -- an output grows with its piece
 pub output-grows : (q tail : List ℕ) → length (output q) ≤ length (output (q ++ tail))
-output-grows q [] = omega (arith, ap (λ (x : List ℕ). length (output x)) (append-nil q))
-output-grows q (x ∷ tail) = omega (arith, output-longer q x, output-grows (q ++ x ∷ []) tail, ap (λ (z : List ℕ). length (output z)) (append_assoc q (x ∷ []) tail))
+output-grows q [] = grind (arith, append-nil)
+output-grows q (x ∷ tail) = grind (arith, output-longer, append_assoc, (output-grows (q ++ x ∷ []) tail))
 
 -- a buffer that begins with an output, as far as it fits, and is otherwise as before
-pub begun : (written buffer buffer' : List ℕ) → length buffer' ≡ length buffer → take (length written) buffer' ≡ take (length buffer') written → drop (length written) buffer' ≡ drop (length written) buffer
+pub overwritten-is : (written buffer buffer' : List ℕ) → length buffer' ≡ length buffer → take (length written) buffer' ≡ take (length buffer') written → drop (length written) buffer' ≡ drop (length written) buffer
     → buffer' ≡ overwritten buffer written
-begun written buffer buffer' len begins rest = grind (arith, take-append-drop, len)
+overwritten-is written buffer buffer' len begins rest = grind (arith, take-append-drop, len)

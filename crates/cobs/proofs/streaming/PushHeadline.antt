@@ -1,25 +1,27 @@
 -- A push of a list and the zero after it reports the message m exactly if the list reads as m: by `PushesBytes`, whose field
 -- `outcomes` says it of a push through the zero, and `push_returns` of an error before it.
-use Rattle.std.proofs.Common.{◌≡◌, ◌≢◌, ℕ, ◌-◌, ◌+◌, ◌<◌, ◌≤◌, Fits, get_or, w8, ◌↔◌, List, [], ◌∷◌, ◌++◌, length, take, All, Option, Some, None, Result, Ok, Err, refl, sym, ap, ◌∙◌, subst, arith, length-append, length-take-le, take-append-drop, take_all, take_at, drop, ⊎_elim}
+use Rattle.std.proofs.Common.{◌≡◌, ◌≢◌, ℕ, ◌+◌, ◌<◌, ◌≤◌, Fits, get_or, w8, ◌↔◌, List, [], ◌∷◌, ◌++◌, length, take, All, Option, Some, None, Result, Ok, Err, sym, ap, ◌∙◌, arith, length-append, length-take-le, take-append-drop, take_all, drop, ⊎_elim, ◌-◌}
 use Rattle.std.proofs.lemmas.Bool.{cases_lt, cases_Bool, eq-eqb, ne_eqb, le-leb}
 use Rattle.std.proofs.lemmas.List.{take-append-le, take_more, get_or_append_left}
 use Rattle.std.proofs.lemmas.List.Elements.{All-take, All-get_or}
+use Rattle.std.proofs.lemmas.Grind.{common_steps}
 use Rattle.cobs.specs.Grammar.{Reads}
 use Rattle.cobs.specs.Piece.{output}
-use Rattle.cobs.specs.Stream.{Outcome, Message, outcome_of, stream_outcomes, unended}
+use Rattle.cobs.specs.Stream.{Message, outcome_of, stream_outcomes, unended, Outcome}
 use Rattle.cobs.specs.Feed.{Phase, Idle, result_for}
 use Rattle.cobs.specs.Fields.Report.{parsed_size_of, frame_size_of}
 use Rattle.cobs.specs.Push.{PushesBytes, pushed_outcomes}
 use Rattle.cobs.specs.Headline.{IsPiece, PushesMessage}
 use Rattle.cobs.specs.declared.error.DecodeReport.{DecodeReport}
 use Rattle.cobs.specs.declared.error.PushError.{PushError}
+use Rattle.cobs.proofs.format.FrameLemmas.{All-apart}
 use Rattle.cobs.proofs.streaming.FeedLemmas.{DecoderAfter-idle}
 use Rattle.cobs.proofs.streaming.LastPiece.{output-grows}
 use Rattle.cobs.proofs.streaming.PushLemmas.{result_at}
 use Rattle.cobs.proofs.format.StreamLemmas.{stream_outcomes-no_zero, stream_outcomes-one, unended-no_zero}
-use Rattle.cobs.proofs.decoding.OutcomeLemmas.{outcome_reads}
+use Rattle.cobs.proofs.decoding.OutcomeLemmas.{outcome_reads, outcome_of_long}
 use Rattle.cobs.proofs.decoding.ReadsLemmas.{frame_piece}
-use Rattle.cobs.proofs.decoding.HeadlineLemmas.{bytes_below, reads_where_fits, outcome_of_long}
+use Rattle.cobs.proofs.decoding.HeadlineLemmas.{bytes_below, reads_where_fits}
 
 -- a front's output is no longer
 output-take : (f : List ℕ) (k : ℕ) → length (output (take k f)) ≤ length (output f)
@@ -28,7 +30,7 @@ output-take f k = let h = output-grows (take k f) (drop k f) in let e = ap (λ (
 -- a byte of the piece whose output so far fits returns `Ok(None)`
 result_for-quiet : (q : List ℕ) (b n : ℕ) → b ≢ 0 → length (output (q ++ b ∷ [])) ≤ n → result_for q b n ≡ Ok None
 unfolding result_for
-result_for-quiet q b n some fits = cc (ne_eqb b 0 some, le-leb (length (output (q ++ b ∷ []))) n fits)
+result_for-quiet q b n some fits = grind (arith, ne_eqb, le-leb)
 
 module _ (f : List ℕ) (n : ℕ) (piece : IsPiece f) where
   -- the bytes before the zero are quiet if the output fits
@@ -40,7 +42,7 @@ module _ (f : List ℕ) (n : ℕ) (piece : IsPiece f) where
 
   -- a front of the piece alone has no outcome
   no_outcome : (k : ℕ) → k ≤ length f → stream_outcomes (take k (f ++ 0 ∷ [])) n ≡ []
-  no_outcome k within = ap (λ (x : List ℕ). stream_outcomes x n) (take-append-le k f (0 ∷ []) within) ∙ stream_outcomes-no_zero (take k f) n (All-take (λ b. b ≢ 0) k f piece.1)
+  no_outcome k within = grind (arith, common_steps, take-append-le, stream_outcomes-no_zero, All-take)
 
   -- all of it has one
   one_outcome : (k : ℕ) → length f < k → stream_outcomes (take k (f ++ 0 ∷ [])) n ≡ outcome_of f n ∷ []
@@ -70,14 +72,12 @@ module _ (buffer bytes buffer' f : List ℕ) (phase phase' : Phase) (idle : phas
       let n = length buffer in
       let l = ap length is ∙ length-append f (0 ∷ []) in
       let o : stream_outcomes (take (length bytes) (f ++ 0 ∷ [])) n ≡ [] = ap (λ (x : List ℕ). stream_outcomes (take (length bytes) x) n) (sym is) ∙ w.outcomes [] (DecoderAfter-idle buffer phase idle) in
-      let one = one_outcome f n piece (length bytes) (omega arith) in
-      absurd (cc)
+      grind (arith, one_outcome)
   pushes_to fits (Ok (Some report)) w r =
       let message : outcome_of f (length buffer) ≡ Message m = (outcome_reads f m (length buffer) piece.0 piece.1 below fits).1 r in
       let same : take (frame_size_of report) buffer' ≡ m = (let t = stated report w in cc) in
       let bound = w.bound in
-      let len = w.len in
-      (sym (sym (ap length same) ∙ length-take-le (frame_size_of report) buffer' (omega arith)), same)
+      grind (arith, length-take-le)
   pushes_to fits (Err failure) w r =
       let n = length buffer in
       let k = failure.parsed_size in
@@ -94,14 +94,10 @@ module _ (buffer bytes buffer' f : List ℕ) (phase phase' : Phase) (idle : phas
       absurd (let e = sym quiet ∙ ap (λ (x : List ℕ). result_at [] x n (k - 1)) (sym is) ∙ last in cc))
       (cases_lt (length f) k)
 
--- the bytes of a front are bytes
-All-front : (f : List ℕ) (bytes : List ℕ) → bytes ≡ f ++ 0 ∷ [] → All (λ b. b < 256) bytes → All (λ b. b < 256) f
-All-front f bytes is h = subst (λ (x : List ℕ). All (λ b. b < 256) x) (ap (take (length f)) is ∙ take_at f (0 ∷ []) (length f) refl) (All-take (λ b. b < 256) (length f) bytes h)
-
 pub push_reads : {buffer bytes buffer' : List ℕ} {phase phase' : Phase} {result : Result (Option DecodeReport) PushError} → PushesBytes buffer phase bytes result buffer' phase' → All (λ b. b < 256) bytes
     → (f m : List ℕ) → phase ≡ Idle → bytes ≡ f ++ 0 ∷ [] → IsPiece f → PushesMessage result buffer' m ↔ (Reads f m × (length m ≤ length buffer))
 push_reads {buffer} {bytes} {buffer'} {phase} {phase'} {result} w below f m idle is piece =
-    let front = All-front f bytes is below in
+    let front = (All-apart (λ b. b < 256) f (0 ∷ []) (rw is at below)).0 in
     reads_where_fits f m (length buffer) (PushesMessage result buffer' m)
     (λ fits. (
       pushes_from buffer bytes buffer' f phase phase' idle is front piece m fits result w,
@@ -116,4 +112,4 @@ push_message {bytes = bytes} w fits f m idle is r room = (push_reads w (bytes_be
 
 pub push_only : {buffer bytes buffer' : List ℕ} {phase phase' : Phase} {result : Result (Option DecodeReport) PushError} → PushesBytes buffer phase bytes result buffer' phase' → ((i : ℕ) → Fits w8 (get_or bytes i 0))
     → (f m : List ℕ) → phase ≡ Idle → bytes ≡ f ++ 0 ∷ [] → IsPiece f → PushesMessage result buffer' m → Reads f m × (length m ≤ length buffer)
-push_only {bytes = bytes} w fits f m idle is piece stated = (push_reads w (bytes_below bytes fits) f m idle is piece).0 stated
+push_only {bytes = bytes} w fits f m idle is piece stated = grind (arith, push_reads, bytes_below, stated)

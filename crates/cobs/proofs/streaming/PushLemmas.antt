@@ -1,8 +1,9 @@
 -- A push so far, and its end: a byte that returns `Ok(None)` continues the push, any other ends it. By `ByByteLemmas`.
-use Rattle.std.proofs.Common.{Err, IfOk, IfSome, List, None, Ok, Option, Result, Some, [], ap, arith, cond, drop, eqb, get_or, length, refl, sym, take, ℕ, ◌++◌, ◌+◌, ◌<◌, ◌∙◌, ◌∷◌, ◌≡◌, ◌≢◌, ◌≤◌, ⊎_elim}
+use Rattle.std.proofs.Common.{Err, IfOk, IfSome, List, None, Ok, Option, Result, Some, [], ap, arith, cond, drop, eqb, get_or, length, refl, sym, take, ℕ, ◌++◌, ◌+◌, ◌<◌, ◌∙◌, ◌∷◌, ◌≡◌, ◌≤◌}
 use Rattle.std.proofs.lemmas.List.{take_more, length_push, same_from_push}
 use Rattle.std.proofs.lemmas.Bool.{ne_eqb, eq-eqb, cases_eq}
 use borrow.Author.Count.{below_more}
+use Rattle.std.proofs.lemmas.Grind.{common_steps}
 use Rattle.cobs.specs.Stream.{unended}
 use Rattle.cobs.specs.Feed.{DecoderAfter, Feeds, Idle, Phase, PhaseAfter, result_for}
 use Rattle.cobs.specs.FeedPiece.{TakesPiece, end_reported}
@@ -18,9 +19,9 @@ use Rattle.cobs.specs.declared.error.DecodeReport.{DecodeReport}
 use Rattle.cobs.specs.declared.error.PushError.{PushError}
 
 -- a byte that is no zero returns no message
-no_message : (q : List ℕ) (b n k : ℕ) → result_for q b n ≡ Ok (Some k) → b ≡ 0
+message_at_zero : (q : List ℕ) (b n k : ℕ) → result_for q b n ≡ Ok (Some k) → b ≡ 0
 unfolding result_for
-no_message q b n k h = grind (arith, ne_eqb)
+message_at_zero q b n k h = grind (arith, ne_eqb)
 
 -- the result for the byte at this place, if the bytes are fed one by one after the front p
 abbrev pub result_at : List ℕ → List ℕ → ℕ → ℕ → Result (Option ℕ) DecodeError
@@ -32,10 +33,7 @@ IsQuiet p bytes n i = (place : ℕ) → place < i → result_at p bytes n place 
 
 -- the byte after them, which ends the push
 ends_at : (p bytes : List ℕ) (n i place : ℕ) (r : Result (Option ℕ) DecodeError) → IsQuiet p bytes n i → result_at p bytes n i ≡ r → place < i + 1 → result_at p bytes n place ≡ cond (eqb (place + 1) (i + 1)) r (Ok None)
-ends_at p bytes n i place r quiet last within = ⊎_elim
-    (λ (e : place ≡ i). rw (eq-eqb (place + 1) (i + 1) (omega (arith, e))) (ap (result_at p bytes n) e ∙ last))
-    (λ (ne : place ≢ i). rw (ne_eqb (place + 1) (i + 1) (λ e. ne (omega (arith, e)))) (quiet place (omega (arith, ne))))
-    (cases_eq place i)
+ends_at p bytes n i place r quiet last within = grind (arith, eq-eqb, ne_eqb, cases_eq)
 
 -- the first i bytes took a decoder from a buffer and phase to others, and each returned `Ok(None)`
 pub record Pushed (buffer₀ : List ℕ) (phase₀ : Phase) (buffer : List ℕ) (phase : Phase) (bytes : List ℕ) (i : ℕ) : Type 0 where
@@ -60,10 +58,10 @@ module _ {buffer₀ buffer buffer' : List ℕ} {phase₀ phase phase' : Phase} {
   result_here p h = grind (arith, get_or, here)
 
   zero_behind : (front : List ℕ) → take (i + 1) bytes ≡ front ++ 0 ∷ [] → phase' ≡ Idle
-  zero_behind front e = f.zero_idle (same_from_push (take i bytes) front (get_or bytes i 0) 0 (sym (take_more bytes i 0 within) ∙ e)).1
+  zero_behind front e = grind (arith, common_steps, same_from_push, take_more)
 
   feeds_behind : FeedsInTurn buffer₀ phase₀ (take (i + 1) bytes) result buffer' phase'
-  feeds_behind = rw (take_more bytes i 0 within) (FeedsInTurn-push (take i bytes) buffer₀ phase₀ s.feeds f)
+  feeds_behind = grind (arith, common_steps, take_more, FeedsInTurn-push)
 
   -- the push continues
   pub Pushed-more : result ≡ Ok None → Pushed buffer₀ phase₀ buffer' phase' bytes (i + 1)
@@ -98,7 +96,7 @@ module _ {buffer₀ buffer buffer' : List ℕ} {phase₀ phase phase' : Phase} {
   -- a message is reported
   pub pushed_some : (n : ℕ) → result ≡ Ok (Some n) → PushesBytes buffer₀ phase₀ bytes (Ok (Some (record { parsed_size = i + 1; frame_size = n }))) buffer' phase'
   pushed_some n e = ended (Ok (Some (record { parsed_size = i + 1; frame_size = n }))) refl (sym e)
-      (λ p h. rw (e, eq-eqb _ 0 (no_message _ _ _ n (result_here p h.phased ∙ e))) refl) (rw (← s.piece.takes.len) (rw e at f.bound))
+      (λ p h. rw (e, eq-eqb _ 0 (message_at_zero _ _ _ n (result_here p h.phased ∙ e))) refl) (rw (← s.piece.takes.len) (rw e at f.bound))
 
   -- an error is returned
   pub pushed_error : (e : DecodeError) → result ≡ Err e → PushesBytes buffer₀ phase₀ bytes (Err (record { error = e; parsed_size = i + 1 })) buffer' phase'

@@ -1,8 +1,8 @@
 -- Bytes fed quietly to an idle decoder, as the decoders of whole frames feed them: the buffer holds their output, and the
 -- phase is that after them. By `Feeds-step`, byte by byte.
 use Rattle.std.proofs.Common.{◌≡◌, ◌≢◌, ℕ, ◌+◌, ◌<◌, ◌≤◌, Bool, cond, eqb, List, [], ◌∷◌, ◌++◌, length, take, drop, get_or, refl, sym, ap, ◌∙◌, subst, arith, append_assoc, append-nil, Ok, None, take_all, take_at}
-use Rattle.std.proofs.lemmas.List.{drop_all, drop_more, take-append-drop, take-take}
-use Rattle.std.proofs.lemmas.List.Elements.{All-nil, All-cons, All-head, All-tail, All-take, All-get_or}
+use Rattle.std.proofs.lemmas.List.{drop_all, take-take}
+use Rattle.std.proofs.lemmas.List.Elements.{All-nil, All-cons, All-head, All-tail}
 use Rattle.std.proofs.lemmas.Bool.{cases_Bool, ne_eqb, le-leb, leb-true, leb-false}
 use Rattle.cobs.specs.Grammar.{HasNoZero}
 use Rattle.cobs.specs.Piece.{last_part, missing, output, parts, parts_after}
@@ -15,7 +15,7 @@ use Rattle.cobs.specs.Step.{next_phase, next_buffer, next_result}
 use Rattle.cobs.proofs.decoding.PieceLemmas.{output-push}
 use Rattle.cobs.proofs.format.StreamLemmas.{fed-nonzero}
 use Rattle.cobs.proofs.streaming.FeedLemmas.{Feeds-step, DecoderAfter-idle}
-use Rattle.cobs.proofs.streaming.LastPiece.{begun, output-longer, output-grows}
+use Rattle.cobs.proofs.streaming.LastPiece.{overwritten-is, output-longer, output-grows}
 use Rattle.cobs.proofs.streaming.TableLemmas.{output-nil}
 use Rattle.cobs_bytes.proofs.bytes.ListLemmas.{drop-later}
 
@@ -83,7 +83,7 @@ long-by (c ∷ p) n e = grind (arith, cases_Bool, leb-false)
 
 full-by : (p : List ℕ) (n x : ℕ) → x ≢ 0 → length (output p) ≤ n → next_phase n (phase_after p n) x ≡ Overlong → n ≤ length (output p)
 unfolding phase_after
-full-by [] n x nz fits e = absurd (grind (arith, ne_eqb))
+full-by [] n x nz fits e = grind (arith, ne_eqb)
 full-by (c ∷ p) n x nz fits e = grind (arith, ne_eqb, le-leb, cases_Bool, leb-false)
 
 -- the phase of a decoder, by its fields
@@ -94,7 +94,7 @@ at-by (c ∷ p) n going full left count e fits = grind (arith, le-leb)
 
 module _ (old new p : List ℕ) (phase : Phase) (s : Quiet old new phase p) where
   pub quiet-written : new ≡ overwritten old (output p)
-  quiet-written = grind (arith, begun)
+  quiet-written = grind (arith, overwritten-is)
 
   -- the next byte has no room
   module _ (x : ℕ) (tail : List ℕ) (nz : x ≢ 0) (over : next_phase (length new) phase x ≡ Overlong) where
@@ -111,12 +111,3 @@ module _ (old new p : List ℕ) (phase : Phase) (s : Quiet old new phase p) wher
   -- the phase of the decoder
   pub quiet-at : (inner : UnbufferedDecoder) → phase_of inner ≡ phase → (inner.written ≡ length (output p)) × (inner.missing ≡ missing (last_part p))
   quiet-at inner is = at-by p (length new) (eqb inner.too_long 0) (eqb inner.joint 0) inner.missing inner.written (is ∙ s.after.phased.phase_is) (omega (arith, s.len, s.fits))
-
--- the same for a place in a piece, if the bytes before it were fed
-pub quiet-stop : (p old new : List ℕ) (phase : Phase) (run : ℕ) → HasNoZero p → run < length p → FeedsQuietly old Idle (take run p) new phase → next_phase (length new) phase (get_or p run 0) ≡ Overlong
-    → (length old < length (output p)) × (new ≡ overwritten old (output p))
-quiet-stop p old new phase run none more f over =
-    let split : take run p ++ get_or p run 0 ∷ drop (run + 1) p ≡ p = ap (λ (l : List ℕ). take run p ++ l) (sym (drop_more p run 0 more)) ∙ take-append-drop run p in
-    let s = quiet (take run p) old new phase (All-take (λ b. b ≢ 0) run p none) f in
-    let nz = All-get_or (λ b. b ≢ 0) p run 0 more none in
-    grind (arith, quiet-long, get_or, quiet-full)

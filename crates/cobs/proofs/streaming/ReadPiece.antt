@@ -1,10 +1,10 @@
 -- The first piece of a source, read byte by byte into a buffer: `IsRead` says how far. A byte that has room keeps it
--- (`read-byte`, `read-full`, `read-zero`); one without room, a zero or the source's end make it the answer (`Ended`).
+-- (`read-byte`, `read-full`, `read-zero`); one without room, a zero or the source's end is the last (`Ended`).
 use Rattle.std.proofs.Common.{◌≡◌, ◌≢◌, ◌∙◌, ◌+◌, ◌-◌, ◌<◌, ◌≤◌, ℕ, zero, suc, Bool, true, false, eqb, List, [], ◌∷◌, length, take, drop, get_or, set, min, Option, Some, None, refl, sym, ap, arith, length-drop, length-set}
-use Rattle.std.proofs.lemmas.Bool.{cases_eq, eq-eqb, le-leb, le-ltb, lt-leb, lt-ltb, ne_eqb}
+use Rattle.std.proofs.lemmas.Bool.{cases_eq, le-leb, le-ltb, lt-ltb, ne_eqb}
 use Rattle.std.proofs.lemmas.List.{drop-drop, drop_more, get_or-drop}
 use Rattle.cobs.specs.Decode.{first_output, leading_zeros}
-use Rattle.cobs.specs.Feed.{Idle, Overlong, Phase, Within, phase_after}
+use Rattle.cobs.specs.Feed.{Overlong, Phase, Within, phase_after}
 use Rattle.cobs.specs.FirstPiece.{end_of_first, end_with}
 use Rattle.cobs.specs.Internal.FeedsQuietly.{FeedsQuietly}
 use Rattle.cobs.specs.Overwritten.{overwritten}
@@ -14,9 +14,8 @@ use Rattle.cobs.specs.Stream.{head, outcome_of}
 use Rattle.cobs.specs.declared.dec.frame_decoder.PieceEnd.{PieceEnd}
 use Rattle.cobs.specs.declared.dec.frame_decoder.PieceEnd.TheVariants as ends
 use Rattle.cobs.proofs.decoding.HeadLemmas.{first_piece_found, first_piece_none, head_some, leading_zeros-stop}
-use Rattle.cobs.proofs.decoding.OutcomeLemmas.{length-head}
+use Rattle.cobs.proofs.decoding.OutcomeLemmas.{length-head, outcome_of_long, outcome_of_none_missing, outcome_of_some_missing}
 use Rattle.cobs.proofs.decoding.OutcomeSteps.{overwritten-none}
-use Rattle.cobs.proofs.decoding.PieceCuts.{is_whole-of}
 use Rattle.cobs.proofs.streaming.FrontFed.{FrontFed, over-count, over-long, over-written, rest, whole, whole-count}
 use Rattle.cobs.proofs.streaming.QuietLemmas.{quiet-written}
 use Rattle.cobs.proofs.streaming.SpanLemmas.{joined}
@@ -48,15 +47,7 @@ read-first source old start is more =
     let b : ℕ = get_or source start 0 in
     let long = length-drop (leading_zeros source) source in
     let starts = leading_zeros-stop source (omega arith) in
-    let other : b ≢ 0 = first-code source start is more in
-    let here : take 1 (rest source) ≡ b ∷ [] = ap (λ (k : ℕ). take 1 (drop k source)) (sym is) ∙ ap (take 1) (drop_more source start 0 more) in
-    record {
-      n = 1;
-      place = omega arith;
-      within = omega arith;
-      room = omega arith;
-      front = record { begins = head_some (rest source) (omega arith) starts; within = omega arith; fed = rw here (one old Idle other refl (rw (ne_eqb b 0 other) refl)) };
-    }
+    grind (arith, head_some, rest, one, ne_eqb, drop_more, first-code)
 
 -- a source that has only zeros
 pub no-piece : (source old : List ℕ) (start : ℕ) → start ≡ leading_zeros source → start ≡ length source → Ended source old old None
@@ -68,32 +59,18 @@ unfolding phase_after
 within-at [] n full left count e fits = absurd (cc)
 within-at (c ∷ p) n full left count e fits = grind (arith, le-leb)
 
--- how a piece ends whose output fits
-end-whole : (p : List ℕ) (n : ℕ) → 0 < length p → length (output p) ≤ n → missing (last_part p) ≡ 0 → end_with (outcome_of p n) ≡ ends.Message (length (output p))
-unfolding outcome_of
-end-whole p n some fits whole = grind (arith, is_whole-of, eq-eqb, le-leb)
-
-end-broken : (p : List ℕ) (n : ℕ) → 0 < length p → length (output p) ≤ n → missing (last_part p) ≢ 0 → end_with (outcome_of p n) ≡ ends.Broken (length (output p))
-unfolding outcome_of
-end-broken p n some fits broken = grind (arith, is_whole-of, ne_eqb, le-leb)
-
--- and one whose output doesn't
-end-too-long : (p : List ℕ) (n : ℕ) → n < length (output p) → end_with (outcome_of p n) ≡ ends.TooLong
-unfolding outcome_of
-end-too-long p n long = grind (arith, lt-leb)
-
 -- a byte of an open block, in the machine of `Step`
 module _ (written byte : ℕ) (other : byte ≢ 0) (full : Bool) where
   buffer-byte : (new : List ℕ) (left : ℕ) → left ≢ 0 → set new written byte ≡ next_buffer new (Within full left written) byte
-  buffer-byte new zero some = absurd (some refl)
-  buffer-byte new (suc left) some = rw (ne_eqb byte 0 other) refl
+  buffer-byte new zero some = grind arith
+  buffer-byte new (suc left) some = grind (arith, ne_eqb)
 
   phase-byte : (n left : ℕ) → left ≢ 0 → written < n → Within full (left - 1) (written + 1) ≡ next_phase n (Within full left written) byte
-  phase-byte n zero some room = absurd (some refl)
+  phase-byte n zero some room = grind arith
   phase-byte n (suc left) some room = grind (arith, ne_eqb, lt-ltb)
 
   phase-over : (n left : ℕ) → left ≢ 0 → n ≤ written → next_phase n (Within full left written) byte ≡ Overlong
-  phase-over n zero some room = absurd (some refl)
+  phase-over n zero some room = grind arith
   phase-over n (suc left) some room = grind (arith, ne_eqb, le-ltb)
 
 module _ {source old new : List ℕ} {at left written : ℕ} {full : Bool} (s : IsRead source old at new full left written) where
@@ -103,7 +80,7 @@ module _ {source old new : List ℕ} {at left written : ℕ} {full : Bool} (s : 
   here : get_or (rest source) s.n 0 ≡ get_or source at 0
   here = grind (arith, get_or-drop, get_or)
 
-  -- the answer, from how the piece ends and how long it is
+  -- the result, from how the piece ends and how long it is
   ended-by : (end : PieceEnd) (count : ℕ) → end_with (outcome_of piece (length old)) ≡ end → count ≡ min (length source) (leading_zeros source + length piece + 1)
       → new ≡ overwritten old (output piece) → Ended source old new (Some (end, count))
   ended-by end count is counted written-is = grind (arith, first_piece_found, length-head, rest)
@@ -116,8 +93,7 @@ module _ {source old new : List ℕ} {at left written : ℕ} {full : Bool} (s : 
       let w = whole s.front at-stop in
       let long = whole-count s.front at-stop in
       let counts = within-at piece (length new) full left written w.after.phased.phase_is (omega (arith, w.len, w.fits)) in
-      let buffer = quiet-written old new piece _ w in
-      grind (arith, cases_eq, ended-by, end-whole, piece, end-broken)
+      grind (arith, cases_eq, ended-by, piece, outcome_of_none_missing, outcome_of_some_missing, quiet-written)
 
   -- another byte
   module _ (more : at < length source) (other : get_or source at 0 ≢ 0) where
@@ -150,7 +126,7 @@ module _ {source old new : List ℕ} {at left written : ℕ} {full : Bool} (s : 
         let too-long : next_phase (length new) (Within full left written) (get_or (rest source) s.n 0) ≡ Overlong = rw here no-room in
         let behind : drop (s.n + 1) (rest source) ≡ drop (at + 1) source = drop-drop (s.n + 1) (leading_zeros source) source ∙ ap (λ (k : ℕ). drop k source) (omega (arith, s.place)) in
         let long = over-count s.front inside not-zero too-long in
-        ended-by ends.TooLong count (end-too-long piece (length old) (over-long s.front inside not-zero too-long))
+        ended-by ends.TooLong count (ap end_with (outcome_of_long piece (length old) (over-long s.front inside not-zero too-long)))
         (omega (arith, counted, long, ap (λ (l : List ℕ). length (head l)) behind, s.place)) (over-written s.front inside not-zero too-long)
 
     -- one of the block's bytes

@@ -3,12 +3,11 @@ use Rattle.std.proofs.Common.{◌≡◌, ◌≢◌, ℕ, ◌+◌, ◌-◌, ◌<�
 use Rattle.std.specs.List.{All}
 use Rattle.std.proofs.lemmas.List.{append-nil, nil_from_length, take_all, take-append-le, take-append-drop, drop-take, drop-drop, flat_map_more, length_push, same_from_push}
 use Rattle.std.proofs.lemmas.List.Elements.{All-nil, All-push, All-take, All-head, All-tail}
-use Rattle.std.proofs.lemmas.Grind.{flat_map-append}
+use Rattle.std.proofs.lemmas.Grind.{flat_map-append, common_steps}
 use Rattle.std.proofs.Math.Logic.{∥∥₁_elim}
 use Rattle.std.proofs.Math.Bool.{Bool-set}
 use Rattle.cobs.specs.Piece.{output}
 use Rattle.cobs.specs.Overwritten.{overwritten}
-use Rattle.cobs.specs.Push.{last_piece}
 use Rattle.cobs.specs.Stream.{Outcome, Message, Broken, TooLong, outcome_of, stream_outcomes, unended, is_nonempty}
 use Rattle.cobs.specs.Feed.{Phase, Idle, Within, Overlong, DecoderAfter, phase_after}
 use Rattle.cobs.specs.FeedPiece.{outcome_at, TakesPiece}
@@ -47,18 +46,11 @@ long-exceeds p n e = grind (arith, leb-false, cases_Bool)
 written-fits : (out buffer : List ℕ) (count : ℕ) → length out ≤ length buffer → count ≡ length out → (count ≤ length (overwritten buffer out)) × (take count (overwritten buffer out) ≡ out)
 written-fits out buffer count fits is = grind (arith, take_all, length-append, take-append-le)
 
-written-long : (out buffer : List ℕ) → length buffer < length out → overwritten buffer out ≡ take (length (overwritten buffer out)) out
-written-long out buffer long =
-    let none : drop (length out) buffer ≡ [] = nil_from_length _ (omega (arith, length-drop (length out) buffer)) in
-    let e : overwritten buffer out ≡ take (length buffer) out = ap (λ (x : List ℕ). take (length buffer) out ++ x) none ∙ append-nil (take (length buffer) out) in
-    let len : length (overwritten buffer out) ≡ length buffer = omega (arith, ap length e, length-take (length buffer) out) in
-    grind arith
-
 HasDecoded-written : (outcome : Outcome) (piece buffer : List ℕ) → outcomes_at piece 0 (length buffer) ≡ outcome ∷ [] → HasDecoded outcome (overwritten buffer (output piece)) piece
 HasDecoded-written outcome [] buffer e = absurd cc
 HasDecoded-written (Message message) (byte ∷ bytes) buffer e = tt
 HasDecoded-written (Broken count) (byte ∷ bytes) buffer e = let fits = broken-fits (byte ∷ bytes) count (length buffer) cc in written-fits (output (byte ∷ bytes)) buffer count fits.0 fits.1
-HasDecoded-written TooLong (byte ∷ bytes) buffer e = grind (arith, written-long, long-exceeds)
+HasDecoded-written TooLong (byte ∷ bytes) buffer e = grind (arith, common_steps, nil_from_length, length-drop, append-nil, length-take, long-exceeds)
 
 -- the contents of the buffer after a piece that a decoder has taken
 pub HasDecoded-taken : {buffer buffer' : List ℕ} {phase phase' : Phase} {end : PieceEnd} {count : ℕ} (bytes : List ℕ) → (t : TakesPiece buffer phase bytes (Some (end, count)) buffer' phase')
@@ -67,10 +59,7 @@ HasDecoded-taken {buffer} {buffer'} {phase} {phase'} {end} {count} bytes t p h =
     let front = p ++ t.ends.front in
     let none = t.ends.none_before p h.phased in
     let cut : p ++ take count bytes ≡ front ++ 0 ∷ [] = ap (λ (x : List ℕ). p ++ x) t.ends.taken ∙ sym (append_assoc p t.ends.front (0 ∷ [])) in
-    let outcome : outcomes_at (unended front) 0 (length buffer) ≡ outcome_at end buffer' ∷ [] =
-    ap (λ (x : List Outcome). x ++ outcomes_at (unended front) 0 (length buffer)) (sym none) ∙ sym (stream_outcomes-push front 0 (length buffer)) ∙ ap (λ (x : List ℕ). stream_outcomes x (length buffer)) (sym cut) ∙ sym (t.takes.outcomes p h) in
-    let written : buffer' ≡ overwritten buffer (output (unended front)) = t.holds p h ∙ ap (λ (x : List ℕ). overwritten buffer (output x)) (ap last_piece cut ∙ last_piece-zero front (no_outcomes front (length buffer) none)) in
-    grind (arith, HasDecoded-written)
+    grind (arith, HasDecoded-written, last_piece-zero, no_outcomes, outcomes_at, stream_outcomes-push)
 
 -- bytes after a stream t in which no piece has ended
 abbrev pub EndsFirst-behind : (t : List ℕ) {bytes behind : List ℕ} {n : ℕ} {outcome : Outcome} → stream_outcomes t n ≡ [] → EndsFirstIn (unended t) bytes n outcome behind → EndsFirst (t ++ bytes) n outcome behind
@@ -141,8 +130,7 @@ EachCalledFor-push front n reads last more = λ earlier later read e.
 
 -- the same of reads of which none is called for any more
 EachCalledFor-all : (front : List ℕ) (n : ℕ) (reads : List Read) → length reads ≤ 65536 → All GaveBytes reads → stream_outcomes (front ++ all_given reads) n ≡ [] → EachCalledFor front n reads
-EachCalledFor-all front n reads few gave none = λ earlier later read e.
-    called_earlier front n reads earlier (read ∷ later) e (omega (arith, ap length e, length-append earlier (read ∷ later))) gave none
+EachCalledFor-all front n reads few gave none = grind (arith, common_steps, called_earlier, length-append)
 
 -- no reads
 EachCalledFor-nil : (front : List ℕ) (n : ℕ) → EachCalledFor front n []

@@ -1,7 +1,7 @@
 -- Bytes that the machine takes quietly at once are as many feeds (`ran-on`), by induction on the bytes; and what such bytes
 -- leave of the buffer.
 use Rattle.std.proofs.Common.{◌≡◌, ◌≢◌, ℕ, zero, suc, ◌+◌, ◌-◌, ◌<◌, ◌≤◌, Bool, List, [], ◌∷◌, ◌++◌, length, take, drop, set, get_or, sym, ap, ◌∙◌, subst, refl, arith, append_assoc, None, Ok}
-use Rattle.std.proofs.lemmas.List.{drop_more, take_more_set, drop-set-lt, take-append-drop, drop-drop}
+use Rattle.std.proofs.lemmas.List.{drop_more, take_more_set, drop-set-lt, drop-drop}
 use Rattle.cobs.specs.declared.dec.unbuffered.UnbufferedDecoder.{UnbufferedDecoder}
 use Rattle.std.proofs.lemmas.List.Elements.{All-head, All-tail}
 use Rattle.std.proofs.lemmas.Bool.{ne_eqb, cases_lt}
@@ -19,9 +19,6 @@ use Rattle.cobs_bytes.proofs.bytes.ListLemmas.{part-nonzero}
 -- the list with xs written over as many elements from the place on
 abbrev pub over : ℕ → List ℕ → List ℕ → List ℕ
 over count buffer xs = take count buffer ++ (xs ++ drop (count + length xs) buffer)
-
-pub over-nil : (count : ℕ) (buffer : List ℕ) → over count buffer [] ≡ buffer
-over-nil count buffer = grind (arith, take-append-drop)
 
 pub over-cons : (count x : ℕ) (xs buffer : List ℕ) → count < length buffer → over (count + 1) (set buffer count x) xs ≡ over count buffer (x ∷ xs)
 over-cons count x xs buffer room = grind (arith, take_more_set, append_assoc, drop-set-lt)
@@ -61,24 +58,16 @@ piece-over {buffer₀} {buffer} {phase₀} bytes i (suc r) within some t =
 -- THE RUN OF A DECODER
 
 -- a block of which bytes are missing, or that has written some, is one of a piece
-pub begun : (full : Bool) (left count : ℕ) → 0 < left + count → phase_with full left count ≡ Within full left count
-begun full left count h = grind arith
-
--- the bytes after the written ones stay
-quiet_step : (buffer : List ℕ) (phase : Phase) (x : ℕ) → x ≢ 0 → next_result (length buffer) phase x ≡ Ok None → let n = written_in (next_phase (length buffer) phase x) in
-    (written_in phase ≤ n) × ((k : ℕ) → n ≤ k → drop k (next_buffer buffer phase x) ≡ drop k buffer)
-quiet_step buffer phase x nz quiet = grind (arith, ne_eqb, cases_lt, drop-set-lt)
+pub phase_with-begun : (full : Bool) (left count : ℕ) → 0 < left + count → phase_with full left count ≡ Within full left count
+phase_with-begun full left count h = grind arith
 
 quiet_rest : (xs buffer buffer' : List ℕ) (phase phase' : Phase) → HasNoZero xs → FeedsQuietly buffer phase xs buffer' phase' →
     (written_in phase ≤ written_in phase') × ((k : ℕ) → written_in phase' ≤ k → drop k buffer' ≡ drop k buffer)
 quiet_rest [] buffer buffer' phase phase' nz f = grind arith
-quiet_rest (x ∷ xs) buffer buffer' phase phase' nz f = grind (arith, quiet_step, All-head, All-tail, quiet_rest xs (next_buffer buffer phase x) buffer' (next_phase (length buffer) phase x) phase' (All-tail (λ b. b ≢ 0) x xs nz) f.1)
-
-written_by : (inner : UnbufferedDecoder) → written_in (phase_of inner) ≤ inner.written
-written_by inner = grind arith
+quiet_rest (x ∷ xs) buffer buffer' phase phase' nz f = grind (arith, ne_eqb, cases_lt, drop-set-lt, All-head, All-tail, quiet_rest xs (next_buffer buffer phase x) buffer' (next_phase (length buffer) phase x) phase' (All-tail (λ b. b ≢ 0) x xs nz) f.1)
 
 pub rest_kept : (xs buffer buffer' : List ℕ) (inner inner' : UnbufferedDecoder) (k : ℕ) → HasNoZero xs → FeedsQuietly buffer (phase_of inner) xs buffer' (phase_of inner') → inner'.written ≤ k → drop k buffer' ≡ drop k buffer
-rest_kept xs buffer buffer' inner inner' k nz f past = grind (arith, quiet_rest, written_by)
+rest_kept xs buffer buffer' inner inner' k nz f past = grind (arith, quiet_rest)
 
 -- so do those from a place on, when a decoder has read those before it, from another place on
 pub rest_read : (buffer buffer' : List ℕ) (inner inner' : UnbufferedDecoder) (read at end : ℕ) → read ≤ at → at ≤ end → HasNoZero (take (end - read) (drop read buffer))

@@ -6,6 +6,7 @@ use Rattle.std.proofs.lemmas.List.{append-nil, nil_from_length, length-map, take
 use Rattle.std.proofs.lemmas.List.Elements.{All-nil, All-cons, All-append, Contains-push_cases, Contains-append_cases}
 use Rattle.std.proofs.lemmas.Bool.{leb-true, cases_Bool, cases_eq, eq-eqb, ne_eqb}
 use Rattle.std.proofs.Math.Seq.{take-add}
+use Rattle.std.proofs.lemmas.Grind.{common_steps}
 use Rattle.cobs.specs.Grammar.{HasNoZero}
 use Rattle.cobs.specs.Stream.{ended_pieces, unended, Outcome, Message, Broken, outcome_of, stream_outcomes}
 use Rattle.cobs.specs.Feed.{Phase, PhaseAfter, DecoderAfter, Feeds, fed, result_for, result_at_end}
@@ -32,23 +33,10 @@ outcome_reported (Err error) buffer = error_outcomes error
 abbrev pub reported_by : ℕ → Result (Option ℕ) DecodeError → List ℕ → List Outcome
 reported_by byte result buffer = cond (eqb byte 0) (outcome_reported result buffer) []
 
--- the result for the zero after a piece reports its outcome, over a buffer that begins with the output
-stated-after : (buffer : List ℕ) (phase : Phase) (p : List ℕ) → DecoderAfter buffer phase p → outcome_reported (result_for p 0 (length buffer)) buffer ≡ outcomes_at p 0 (length buffer)
-unfolding result_for result_at_end outcome_of
-stated-after buffer phase p h = grind (arith, take_all, leb-true)
-
--- over any buffer of that length it reports it but for the bytes of the message
-stated-phased : (buffer p : List ℕ) → AreAlikeAtFirst (outcome_reported (result_for p 0 (length buffer)) buffer) (outcomes_at p 0 (length buffer))
-unfolding result_for result_at_end outcome_of
-stated-phased buffer p = grind (arith, length-take, leb-true)
-
 -- LISTS OF OUTCOMES
 
 alike-nil : (xs : List Outcome) → AreAlikeAtFirst xs [] → xs ≡ []
 alike-nil xs h = grind arith
-
-pub nil-alike : (xs : List Outcome) → AreAlikeAtFirst [] xs → xs ≡ []
-nil-alike xs h = grind arith
 
 alike-append : (xs ys zs : List Outcome) → AreAlikeAtFirst xs ys → AreAlikeAtFirst (xs ++ zs) (ys ++ zs)
 alike-append xs ys zs h = grind arith
@@ -73,13 +61,10 @@ fits-map : (ps : List (List ℕ)) (count n : ℕ) → Broken count ∷ [] ≡ ma
 fits-map [] count n e = absurd cc
 fits-map (p ∷ ps) count n e = fits-outcome p count n cc
 
-fits-stream : (t : List ℕ) (count n : ℕ) → Broken count ∷ [] ≡ stream_outcomes t n → count ≤ n
-unfolding stream_outcomes
-fits-stream t count n e = grind (arith, fits-map)
-
 -- so the count of a result is within it
 pub count-within : (end : PieceEnd) (buffer t : List ℕ) (n : ℕ) → AreAlikeAtFirst (outcome_at end buffer ∷ []) (stream_outcomes t n) → IsWithin n end → IsCountWithin n end
-count-within end buffer t n h e = grind (arith, fits-stream)
+unfolding stream_outcomes
+count-within end buffer t n h e = grind (arith, fits-map)
 
 -- THE STEPS
 
@@ -87,8 +72,7 @@ count-within end buffer t n h e = grind (arith, fits-stream)
 FeedsEach-append : (done more buffer₀ buffer buffer' : List ℕ) (phase₀ phase phase' : Phase) → FeedsEach buffer₀ phase₀ done buffer phase → FeedsEach buffer phase more buffer' phase'
     → FeedsEach buffer₀ phase₀ (done ++ more) buffer' phase'
 FeedsEach-append [] more buffer₀ buffer buffer' phase₀ phase phase' f g = grind arith
-FeedsEach-append (byte ∷ done) more buffer₀ buffer buffer' phase₀ phase phase' f g =
-    (f.0, f.1, f.2, f.3, FeedsEach-append done more f.1 buffer buffer' f.2 phase phase' f.4 g)
+FeedsEach-append (byte ∷ done) more buffer₀ buffer buffer' phase₀ phase phase' f g = grind (arith, (FeedsEach-append done more f.1 buffer buffer' f.2 phase phase' f.4 g))
 
 pub SoFar-start : (buffer : List ℕ) (phase : Phase) → SoFar buffer phase buffer phase [] []
 SoFar-start buffer phase = grind (arith, append-nil, unended-no_zero, stream_outcomes-no_zero)
@@ -103,23 +87,15 @@ module _ {buffer buffer' : List ℕ} {phase phase' : Phase} {byte : ℕ} {result
   outcomes_byte p h = grind (arith, stream_outcomes-push, stream_outcomes-no_zero, unended-no_zero)
 
   reported_byte : (p : List ℕ) → DecoderAfter buffer phase p → reported_by byte result buffer' ≡ outcomes_at p byte (length buffer)
-  reported_byte p h = grind (arith, cases_eq, eq-eqb, ne_eqb, stated-after, outcomes_at-nonzero)
+  unfolding result_for result_at_end outcome_of
+  reported_byte p h = grind (arith, cases_eq, eq-eqb, ne_eqb, take_all, leb-true, outcomes_at-nonzero)
 
   alike_byte : (p : List ℕ) → PhaseAfter (length buffer) phase p → AreAlikeAtFirst (reported_by byte result buffer') (outcomes_at p byte (length buffer))
-  alike_byte p h = grind (arith, cases_eq, eq-eqb, ne_eqb, stated-phased, outcomes_at-nonzero)
+  unfolding result_for result_at_end outcome_of
+  alike_byte p h = grind (arith, cases_eq, eq-eqb, ne_eqb, length-take, leb-true, outcomes_at-nonzero)
 
   pub TakesBytes-byte : TakesBytes buffer phase (byte ∷ []) (reported_by byte result buffer') buffer' phase'
-  TakesBytes-byte = record {
-    len = f.len;
-    feeds = (result, buffer', phase', f, (refl, refl));
-    phased = λ p h. rw (unended_byte p h.piece) (f.phased p h);
-    after = λ p h. rw (unended_byte p h.phased.piece) (f.after p h);
-    outcomes = λ p h. reported_byte p h ∙ sym (outcomes_byte p h.phased.piece);
-    alike = λ p h. rw (outcomes_byte p h.piece) (alike_byte p h);
-    after_zero = λ p h z.
-        let is : byte ≡ 0 = elim (Contains-push_cases [] byte 0 z) [ inl none ↦ absurd (omega (arith, none.1)) | inr is ↦ is ] in
-        rw (unended_byte p h.piece, is) (DecoderAfter-idle buffer' phase' (f.zero_idle is));
-  }
+  TakesBytes-byte = grind (arith, unended_byte, reported_byte, outcomes_byte, alike_byte, Contains-push_cases, DecoderAfter-idle)
 
 -- the front that the decoder has taken, over its own buffer
 pub here : {buffer₀ buffer : List ℕ} {phase₀ phase : Phase} {done : List ℕ} {found : List Outcome} → SoFar buffer₀ phase₀ buffer phase done found
@@ -169,9 +145,7 @@ no_outcomes t n e = nil_from_length (ended_pieces t) (sym (length-map (ended_pie
 -- a piece that ends in them takes some, and no more than they are
 pub piece_count : {buffer buffer' : List ℕ} {phase phase' : Phase} (bytes : List ℕ) (i : ℕ) (end : PieceEnd) (count : ℕ) → i ≤ length bytes
     → TakesPiece buffer phase (take (length bytes - i) (drop i bytes)) (Some (end, count)) buffer' phase' → (0 < count) × (i + count ≤ length bytes)
-piece_count bytes i end count within t =
-    let rest = take (length bytes - i) (drop i bytes) in
-    (omega (arith, ap length t.ends.taken, length-append t.ends.front (0 ∷ []), length-take count rest), omega (arith, t.within.0, length-take (length bytes - i) (drop i bytes), length-drop i bytes, within))
+piece_count bytes i end count within t = grind (arith, common_steps, length-append, length-take, length-drop)
 
 module _ {buffer₀ buffer buffer' : List ℕ} {phase₀ phase phase' : Phase} {found : List Outcome} (bytes : List ℕ) (i : ℕ) where
   -- no piece ends in them

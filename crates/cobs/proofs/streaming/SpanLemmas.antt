@@ -1,20 +1,21 @@
 -- Bytes after an open block in which no full block ends, fed as a whole: they are written with a zero over each code
 -- (`walked`). By the machine's step, byte by byte.
-use Rattle.std.proofs.Common.{◌≡◌, ◌≢◌, ℕ, zero, suc, ◌+◌, ◌-◌, ◌<◌, ◌≤◌, Bool, eqb, List, [], ◌∷◌, ◌++◌, length, set, take, drop, refl, sym, ap, ◌∙◌, arith, inl, inr, length-take-le, length-drop, length-set, replicate, take-append-drop}
-use Rattle.std.proofs.lemmas.List.{append-nil, drop_all, drop-drop, length-replicate, take_rest}
+use Rattle.std.proofs.Common.{◌≡◌, ◌≢◌, ℕ, zero, suc, ◌+◌, ◌-◌, ◌<◌, ◌≤◌, Bool, eqb, List, [], ◌∷◌, ◌++◌, length, set, take, drop, refl, sym, ap, ◌∙◌, arith, length-take-le, length-drop, length-set, replicate, take-append-drop}
+use Rattle.std.proofs.lemmas.List.{append-nil, drop_all, drop-drop, length-replicate, take_rest, take-append-drop}
 use Rattle.std.proofs.Math.Seq.{drop-append_seam, take-add, take-append_seam}
 use Rattle.std.proofs.lemmas.List.Elements.{All-head, All-tail}
 use Rattle.std.proofs.lemmas.Bool.{ne_eqb, lt-ltb, cases_eq}
 use borrow.Rule.Slice.PartMut.{put_mid}
+use Rattle.std.proofs.lemmas.Grind.{common_steps}
 use Rattle.cobs.specs.Grammar.{HasNoZero}
 use Rattle.cobs.specs.Feed.{Phase, Within}
 use Rattle.cobs.specs.declared.dec.unbuffered.UnbufferedDecoder.{UnbufferedDecoder}
-use Rattle.cobs.specs.Fields.Decoders.{phase_of, phase_with}
+use Rattle.cobs.specs.Fields.Decoders.{phase_of}
 use Rattle.cobs.specs.Internal.FeedsQuietly.{FeedsQuietly}
 use Rattle.cobs.specs.Internal.Walk.{walked}
 use Rattle.cobs.specs.Sentinel.{xor_each}
 use Rattle.cobs.specs.Step.{next_phase, next_buffer}
-use Rattle.cobs.proofs.streaming.RunLemmas.{over, over-nil, over-cons, begun}
+use Rattle.cobs.proofs.streaming.RunLemmas.{over, over-cons, phase_with-begun}
 use Rattle.cobs.proofs.streaming.WalkLemmas.{length-walked, walked-past, walked-any}
 use Rattle.cobs_bytes.proofs.bytes.ListLemmas.{ones-nonzero}
 
@@ -33,7 +34,7 @@ joined bytes buffer buffer' buffer'' phase phase' phase'' run more f g = grind (
 -- after an open block
 fed_walked : (bytes buffer : List ℕ) (code left count : ℕ) → HasNoZero bytes → (code ≡ 255 → length bytes ≤ left) → (left < length bytes → length bytes < 254) → count + length bytes ≤ length buffer
     → let w = walked code left bytes in FeedsQuietly buffer (Within (eqb code 255) left count) bytes (over count buffer w.0) (Within (eqb w.1 255) w.2 (count + length bytes))
-fed_walked [] buffer code left count nz full few room = grind (arith, over-nil)
+fed_walked [] buffer code left count nz full few room = grind (arith, take-append-drop)
 fed_walked (x ∷ xs) buffer code (suc left) count nz full few room = grind (arith, All-head, All-tail, length-set, ne_eqb, lt-ltb, over-cons, fed_walked xs (set buffer count x) code left (count + 1) (All-tail (λ b. b ≢ 0) x xs nz) (λ e. omega (arith, full e)) (λ h. omega (arith, few (omega arith))) (omega (arith, length-set buffer count x)))
 fed_walked (x ∷ xs) buffer code zero count nz full few room = grind (arith, All-head, All-tail, length-set, over, ne_eqb, lt-ltb, over-cons, fed_walked xs (set buffer count 0) x (x - 1) (count + 1) (All-tail (λ b. b ≢ 0) x xs nz) (λ e. omega (arith, few (omega arith))) (λ h. omega (arith, few (omega arith))) (omega (arith, length-set buffer count 0)))
 
@@ -47,31 +48,16 @@ pub copied_put : (at n s : ℕ) (dest ys part xs : List ℕ) → ys ≡ xor_each
 copied_put at n s dest ys part xs is same long = grind (arith, part_put)
 
 module _ (base : ℕ) (buffer xs : List ℕ) (room : base + length xs ≤ length buffer) where
-  front-of : length (take base buffer) ≡ base
-  front-of = grind (arith, length-take-le)
-
   behind : drop base (over base buffer xs) ≡ xs ++ drop (base + length xs) buffer
-  behind = grind (arith, over, front-of, drop-append_seam)
-
-  -- bytes that were copied to the end of the output so far
-  over-span : take (base + length xs - base) (drop base (over base buffer xs)) ≡ xs
-  over-span = ap (take (base + length xs - base)) behind ∙ ap (λ (k : ℕ). take k (xs ++ drop (base + length xs) buffer)) (omega arith) ∙ take-append_seam xs (drop (base + length xs) buffer)
+  behind = let l = length-take-le base buffer (omega arith) in grind (arith, over, drop-append_seam)
 
   -- written over by as many bytes
   over-over : (ys : List ℕ) → length ys ≡ length xs → put_mid base (base + length xs - base) (over base buffer xs) ys ≡ over base buffer ys
-  over-over ys same =
-      ap (λ (l : List ℕ). l ++ (ys ++ drop (base + length xs - base) (drop base (over base buffer xs))))
-      (ap (λ (k : ℕ). take k (over base buffer xs)) (sym front-of) ∙ take-append_seam (take base buffer) (xs ++ drop (base + length xs) buffer))
-      ∙ ap (λ (l : List ℕ). take base buffer ++ (ys ++ drop (base + length xs - base) l)) behind
-      ∙ ap (λ (k : ℕ). take base buffer ++ (ys ++ drop k (xs ++ drop (base + length xs) buffer))) (omega arith)
-      ∙ ap (λ (l : List ℕ). take base buffer ++ (ys ++ l)) (drop-append_seam xs (drop (base + length xs) buffer))
-      ∙ ap (λ (k : ℕ). take base buffer ++ (ys ++ drop (base + k) buffer)) (sym same)
+  over-over ys same = grind (arith, common_steps, over, length-take-le, take-append_seam, behind, drop-append_seam)
 
 -- what was copied is there
 pub copied-there : (at len : ℕ) (before dest xs : List ℕ) → at + len ≤ length before → length xs ≡ len → dest ≡ take at before ++ (xs ++ drop (at + len) before) → take len (drop at dest) ≡ xs
-copied-there at len before dest xs room long is =
-    ap (λ (l : List ℕ). take len (drop at l)) (is ∙ ap (λ (k : ℕ). take at before ++ (xs ++ drop (at + k) before)) (sym long))
-    ∙ ap (λ (k : ℕ). take k (drop at (over at before xs))) (omega arith) ∙ over-span at before xs (omega arith)
+copied-there at len before dest xs room long is = grind (arith, common_steps, over, behind, take-append_seam)
 
 -- a code of the block whose `joint` is this: a full one, or another
 abbrev pub code_by : ℕ → ℕ
@@ -84,23 +70,20 @@ code_by-full (suc joint) = grind (arith, ne_eqb)
 
 full_by : (joint : ℕ) → code_by joint ≡ 255 → joint ≡ 0
 full_by zero is = refl
-full_by (suc joint) is = absurd (omega arith)
+full_by (suc joint) is = grind arith
 
 -- a decoder takes bytes, and they are written as what they are from code to code
 module _ (inner : UnbufferedDecoder) (len : ℕ) (before xs : List ℕ) (room : inner.written + len ≤ length before) (long : length xs ≡ len)
     (going : inner.too_long ≡ 0) (full : inner.joint ≡ 0 → len ≤ inner.missing) (nz : HasNoZero xs) (some : 0 < len) (few : inner.missing < len → len < 254)
     (ys : List ℕ) (code left joint : ℕ) (w : ◌≡◌ {A = List ℕ × ℕ × ℕ} (ys, code, left) (walked (code_by inner.joint) inner.missing xs)) (joint-is : eqb joint 0 ≡ eqb code 255) where
   from : phase_of inner ≡ Within (eqb (code_by inner.joint) 255) inner.missing inner.written
-  from = elim (cases_eq inner.joint 0) [
-    | inl e ↦ rw going (begun (eqb inner.joint 0) inner.missing inner.written (omega (arith, full e)))
-    | inr other ↦ rw going (ap (λ (v : Bool). phase_with v inner.missing inner.written) (ne_eqb inner.joint 0 other) ∙ ap (λ (v : Bool). Within v inner.missing inner.written) (sym (ne_eqb inner.joint 0 other)))
-  ] ∙ ap (λ (v : Bool). Within v inner.missing inner.written) (code_by-full inner.joint)
+  from = grind (arith, cases_eq, phase_with-begun, ne_eqb, code_by-full)
 
   pub open_fed : FeedsQuietly before (phase_of inner) xs (over inner.written before ys) (phase_of (record { written = inner.written + len; missing = left; joint = joint; too_long = inner.too_long }))
   open_fed =
       let v = walked (code_by inner.joint) inner.missing xs in
       let to : phase_of (record { written = inner.written + len; missing = left; joint = joint; too_long = inner.too_long }) ≡ Within (eqb v.1 255) v.2 (inner.written + length xs)
-      = rw going (begun (eqb joint 0) left (inner.written + len) (omega arith)) ∙ ap (λ (b : Bool). Within b left (inner.written + len)) joint-is
+      = rw going (phase_with-begun (eqb joint 0) left (inner.written + len) (omega arith)) ∙ ap (λ (b : Bool). Within b left (inner.written + len)) joint-is
       ∙ ap (λ (t : List ℕ × ℕ × ℕ). Within (eqb t.1 255) t.2 (inner.written + len)) w ∙ ap (λ (k : ℕ). Within (eqb v.1 255) v.2 (inner.written + k)) (sym long) in
       rw (from, to, ap (λ (t : List ℕ × ℕ × ℕ). t.0) w)
       (fed_walked xs before (code_by inner.joint) inner.missing inner.written nz (λ e. omega (arith, full (full_by inner.joint e))) (λ h. omega (arith, few (omega arith))) (omega arith))
@@ -116,7 +99,6 @@ pub block_fed : (inner : UnbufferedDecoder) (run : ℕ) (dest bytes new : List �
 block_fed inner zero dest bytes new going most room within nz is = grind (arith, take-append-drop)
 block_fed inner (suc run) dest bytes new going most room within nz is =
     let xs : List ℕ = take (suc run) bytes in
-    let code : ℕ = code_by inner.joint in
     let long : length xs ≡ suc run = length-take-le (suc run) bytes within in
     grind (arith, open_fed, walked-past, code_by-full)
 
@@ -137,7 +119,7 @@ row_fed n inner dest bytes new some few going none due room ones is =
 
 -- what `joint_after` returns for a code
 pub joint-is : (code joint : ℕ) → (code ≡ 255 → joint ≡ 0) → (code ≢ 255 → joint ≡ 1) → eqb joint 0 ≡ eqb code 255
-joint-is code joint full other = elim (cases_eq code 255) [ inl e ↦ rw (full e, e) refl | inr o ↦ rw (other o, ne_eqb code 255 o) refl ]
+joint-is code joint full other = grind (arith, cases_eq, ne_eqb)
 
 -- bytes that were copied or moved to the end of the output
 module _ (inner : UnbufferedDecoder) (len : ℕ) (dest : List ℕ) (nz : HasNoZero (take len (drop inner.written dest))) (before xs : List ℕ) (room : inner.written + len ≤ length before) (long : length xs ≡ len)

@@ -9,7 +9,7 @@ use Rattle.cobs.specs.Piece.{parts, parts_after, last_part, missing, is_whole, o
 use Rattle.cobs.specs.Table.{opened_by, table_result, table_state, data_of, state_after, StateAfter, counted, state_in, written_in, FeedsByTable}
 use Rattle.cobs.specs.declared.dec.state.DecoderState.{DecoderState}
 use Rattle.cobs.specs.declared.dec.state.DecoderState.TheVariants.{Idle, Grab, GrabChain}
-use Rattle.cobs.specs.Feed.{Phase, Within, Overlong}
+use Rattle.cobs.specs.Feed.{Phase, Within}
 use Rattle.cobs.specs.Feed as phases
 use Rattle.cobs.specs.Step.{next_result, next_phase}
 use Rattle.cobs.specs.declared.dec.state.DecodeResult.TheVariants.{DataComplete}
@@ -55,14 +55,10 @@ next_data p b h = grind (arith, ne_eqb, append-nil, output-nil, output-one, data
 
 pub StateAfter-step : (state : DecoderState) (p so_far : List ℕ) (b : ℕ) → b < 256 → StateAfter state p so_far → b ≢ 0
     → StateAfter (table_state state b) (p ++ b ∷ []) (so_far ++ data_of (table_result state b))
-StateAfter-step state p so_far b below s some =
-    grind (arith, common_steps, All-push, next_state, next_data)
+StateAfter-step state p so_far b below s some = grind (arith, common_steps, All-push, next_state, next_data)
 
 pub StateAfter-start : StateAfter Idle [] []
 StateAfter-start = grind (arith, All-nil, output-nil)
-
-pub table_state-zero : (state : DecoderState) → table_state state 0 ≡ Idle
-table_state-zero state = grind arith
 
 at_end : (c : ℕ) (q : List ℕ) → table_result (state_after (c ∷ q)) 0 ≡ cond (is_whole (c ∷ q)) (Ok DataComplete) (Err (InvalidFrame 0))
 unfolding is_whole
@@ -81,20 +77,13 @@ complete (c ∷ q) m nonzero below = (
     whole false e = absurd cc
 
 pub StateAfter-end : (state : DecoderState) (p so_far m : List ℕ) → StateAfter state p so_far → ((table_result state 0 ≡ Ok DataComplete) × (so_far ≡ m)) ↔ Reads p m
-StateAfter-end state p so_far m s =
-    let h = complete p m s.piece s.bytes in (
-      λ (e, is). h.0 (ap (λ x. table_result x 0) (sym s.state_is) ∙ e, sym s.so_far_is ∙ is),
-      λ r. let w = h.1 r in (ap (λ x. table_result x 0) s.state_is ∙ w.0, s.so_far_is ∙ w.1),
-    )
+StateAfter-end state p so_far m s = let h = complete p m s.piece s.bytes in grind arith
 
 -- THE PHASES OF A STREAMING DECODER
 
 -- a code, or a zero in its place
 coded : (n b count : ℕ) → state_in (cond (eqb b 0) phases.Idle (Within (eqb b 255) (b - 1) count)) ≡ Some (cond (eqb b 0) Idle (opened_by b))
 coded n b count = grind (arith, eqb-true)
-
-phase_by_table : (n : ℕ) (phase : Phase) (b : ℕ) (state : DecoderState) → state_in phase ≡ Some state → next_phase n phase b ≢ Overlong → state_in (next_phase n phase b) ≡ Some (table_state state b)
-phase_by_table n phase b state h e = grind (arith, coded, eqb-true)
 
 returned_by_table : (n : ℕ) (phase : Phase) (b : ℕ) (state : DecoderState) → state_in phase ≡ Some state
     → let stated = table_result state b in
@@ -103,4 +92,4 @@ returned_by_table n phase b state h = grind (arith, cases_lt)
 
 -- the machine moves by the table
 pub FeedsByTable-step : (n : ℕ) (phase : Phase) (b : ℕ) → FeedsByTable n phase b (next_result n phase b) (next_phase n phase b)
-FeedsByTable-step n phase b = grind (arith, phase_by_table, returned_by_table)
+FeedsByTable-step n phase b = grind (arith, coded, eqb-true, returned_by_table)

@@ -31,7 +31,7 @@ walked-piece first bytes few nz = walked-opened first (first - 1) [] bytes (omeg
 
 pub as_piece : (first : ℕ) (bytes : List ℕ) {ys : List ℕ} {code left : ℕ} → ◌≡◌ {A = List ℕ × ℕ × ℕ} (ys, code, left) (walked first (first - 1) bytes) → length bytes < 254 → HasNoZero (first ∷ bytes)
     → (ys ≡ output (first ∷ bytes)) × (left ≡ missing (last_part (first ∷ bytes)))
-as_piece first bytes w few nz = let e = w ∙ sym (walked-piece first bytes few nz) in (ap (λ (t : List ℕ × ℕ × ℕ). t.0) e, ap (λ (t : List ℕ × ℕ × ℕ). t.2) e)
+as_piece first bytes w few nz = let e = w ∙ sym (walked-piece first bytes few nz) in grind arith
 
 -- in two parts
 pub walked-append : (code n : ℕ) (xs ys : List ℕ) → walked code n (xs ++ ys) ≡ let w = walked code n xs in let v = walked w.1 w.2 ys in (w.0 ++ v.0, v.1, v.2)
@@ -44,11 +44,11 @@ walked-append code zero (x ∷ xs) ys = grind (arith, walked-append x (x - 1) xs
 pub walked-past : (code n : ℕ) (bytes : List ℕ) → length bytes ≤ n → walked code n bytes ≡ (bytes, code, n - length bytes)
 walked-past code n [] past = grind arith
 walked-past code (suc n) (b ∷ bytes) past = grind (arith, walked-past code n bytes (omega arith))
-walked-past code zero (c ∷ bytes) past = absurd (omega arith)
+walked-past code zero (c ∷ bytes) past = grind arith
 
 -- with a code among them, the one before doesn't matter
 pub walked-any : (code code' n : ℕ) (bytes : List ℕ) → n < length bytes → walked code n bytes ≡ walked code' n bytes
-walked-any code code' n [] some = absurd (omega arith)
+walked-any code code' n [] some = grind arith
 walked-any code code' (suc n) (b ∷ bytes) some = grind (arith, walked-any code code' n bytes (omega arith))
 walked-any code code' zero (c ∷ bytes) some = refl
 

@@ -26,9 +26,6 @@ part-nonzero i n m bytes nonzero within =
 
 -- the contents of a list whose n elements from `at` on were overwritten with a part
 module _ (dest part : List ℕ) (at n : ℕ) (long : length part ≡ n) (fits : at ≤ length dest) where
-  length-front : length (take at dest) ≡ at
-  length-front = length-take-le at dest fits
-
   pub front-three : take at (take at dest ++ (part ++ drop (at + n) dest)) ≡ take at dest
   front-three = grind (arith, take_at, length-take-le)
 
@@ -37,7 +34,7 @@ module _ (dest part : List ℕ) (at n : ℕ) (long : length part ≡ n) (fits : 
 
   pub behind-three : (r : ℕ) → at + n ≤ r → drop r (take at dest ++ (part ++ drop (at + n) dest)) ≡ drop r dest
   behind-three r le =
-      let l = length-front in
+      let l = length-take-le at dest fits in
       ap (drop r) (sym (append_assoc (take at dest) part (drop (at + n) dest)))
       ∙ drop-append-drop (at + n) dest (take at dest ++ part) r le (length-append (take at dest) part ∙ omega arith)
 
@@ -45,6 +42,6 @@ module _ (dest part : List ℕ) (at n : ℕ) (long : length part ≡ n) (fits : 
   pub three-next : (more : List ℕ) (k : ℕ) → let three = take at dest ++ (part ++ drop (at + n) dest) in take (at + n) three ++ (more ++ drop (at + n + k) three) ≡ take at dest ++ ((part ++ more) ++ drop (at + (n + k)) dest)
   three-next more k =
       let b = behind-three (at + n + k) (omega arith) in
-      let l = length-front in
+      let l = length-take-le at dest fits in
       let front : take (at + n) (take at dest ++ (part ++ drop (at + n) dest)) ≡ take at dest ++ part = grind (arith, append_assoc, take_at, length-append) in
       grind (arith, append_assoc)

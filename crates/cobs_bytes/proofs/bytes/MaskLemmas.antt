@@ -1,6 +1,6 @@
 -- The mask of the zeros among bytes: its lowest bit is the first zero, and without that bit it is the mask of what follows.
 -- By induction on the bytes.
-use Rattle.std.proofs.Common.{min, ◌≡◌, ◌≢◌, ℕ, ◌+◌, ◌-◌, ◌*◌, ◌%◌, ◌^◌, ◌<◌, ◌≤◌, cond, eqb, not, List, [], ◌∷◌, ◌++◌, length, map, drop, take, get_or, replicate, All, if◌then◌else◌, ◌==◌, suc, zero, refl, sym, ap, ◌∙◌, subst, inl, inr, arith, length-take-le, length-append, w8, w64}
+use Rattle.std.proofs.Common.{min, ◌≡◌, ◌≢◌, ℕ, ◌+◌, ◌-◌, ◌*◌, ◌%◌, ◌^◌, ◌<◌, ◌≤◌, cond, eqb, not, List, [], ◌∷◌, ◌++◌, length, map, drop, take, get_or, replicate, All, if◌then◌else◌, ◌==◌, suc, zero, refl, sym, ap, ◌∙◌, subst, inl, inr, arith, length-take-le, length-append, w8}
 use Rattle.std.proofs.Math.Nat.{pow-suc, pow-le-pow_right}
 use Rattle.std.proofs.lemmas.Bool.{ne_eqb, eq-eqb, eqb-true, not-true, not-false, cases_eq, cases_lt}
 use Rattle.std.proofs.lemmas.List.{get_or-take, drop-drop, length-map, take-take}
@@ -12,10 +12,8 @@ use Rattle.std.specs.List.{prefix_len}
 use lib.Lanes.{mask_l, put_chunk, zip2, top}
 use lib.Count.{count_trailing_zeros}
 use Rattle.std.specs.Int.Bits.{bit_and, and_self}
-use Rattle.std.specs.Int.Count.{trailing_of_zero}
-use Rattle.std.proofs.lemmas.Nat.{and_le_l}
 use Rattle.std.specs.Int.{bit_at}
-use Rattle.std.proofs.lemmas.Nat.Bits.{same_from_bits, bit_at_lowest, bit_at-suc, bit_at_and, bit_at_above, bit_at-trailing_zeros}
+use Rattle.std.proofs.lemmas.Nat.Bits.{same_from_bits, bit_at_lowest, bit_at-suc, bit_at_and}
 use Rattle.cobs_bytes.specs.Bytes.{HasNoZero}
 use Rattle.cobs_bytes.specs.Mask.{zero_mask}
 use Rattle.cobs_bytes.proofs.bytes.ListLemmas.{length-ones}
@@ -57,7 +55,7 @@ abbrev pub nonzero_len : List ℕ → ℕ
 nonzero_len bytes = prefix_len (λ b. not (eqb b 0)) bytes
 
 pub nonzero_len-lt : (bytes : List ℕ) → zero_mask bytes ≢ 0 → nonzero_len bytes < length bytes
-nonzero_len-lt [] some = absurd (some refl)
+nonzero_len-lt [] some = grind arith
 nonzero_len-lt (b ∷ bytes) some = grind (arith, cases_eq, eq-eqb, ne_eqb, nonzero_len-lt bytes)
 
 -- the bytes before the first zero
@@ -94,7 +92,7 @@ nonzero_len-behind (suc d) bytes = grind (arith, nonzero_len, nonzero_len-behind
 
 -- a number's lowest bit, and the others
 pub bit_at-first : (a x : ℕ) → a ≤ 1 → bit_at (a + 2 * x) 0 ≡ a
-bit_at-first a x le = omega (arith, bit_at_lowest (a + 2 * x))
+bit_at-first a x le = grind (arith, bit_at_lowest)
 
 pub bit_at-next : (a x i : ℕ) → a ≤ 1 → bit_at (a + 2 * x) (suc i) ≡ bit_at x i
 bit_at-next a x i le = grind (arith, bit_at-suc)
@@ -121,7 +119,7 @@ less-even m z some is =
 
 -- a mask and one less: the first zero is taken from it
 mask-and : (bytes : List ℕ) → zero_mask bytes ≢ 0 → bit_and (zero_mask bytes) (zero_mask bytes - 1) ≡ mask_behind (nonzero_len bytes + 1) (drop (nonzero_len bytes + 1) bytes)
-mask-and [] some = absurd (some refl)
+mask-and [] some = grind arith
 mask-and (b ∷ bytes) some =
     elim (cases_eq b 0) [
       | inl is ↦ (let here = set_if b is in
@@ -159,24 +157,6 @@ clear_front bytes k few le =
 
 pub zero_mask-lt : (bytes : List ℕ) → zero_mask bytes < 2 ^ length bytes
 zero_mask-lt bytes = rw (← zero_mask-lanes bytes) (subst (λ (n : ℕ). mask_l (map (λ b. eqb b 0) bytes) < 2 ^ n) (length-map bytes (λ b. eqb b 0)) (mask_l-lt (map (λ b. eqb b 0) bytes)))
-
--- the first zero of a mask is within its bits, and before the others
-module _ (zeros : ℕ) (some : zeros ≢ 0) (few : zeros < 2 ^ 64) where
-  pub lowest-within : (k : ℕ) → zeros < 2 ^ k → count_trailing_zeros 64 zeros < k
-  lowest-within k lt = let one = bit_at-trailing_zeros w64 zeros (omega arith) few in let none = bit_at_above zeros k (count_trailing_zeros 64 zeros) lt in grind arith
-
-  pub lowest-ordered : count_trailing_zeros 64 zeros ≤ count_trailing_zeros 64 (bit_and zeros (zeros - 1))
-  lowest-ordered =
-      let left : ℕ = bit_and zeros (zeros - 1) in
-      let first = bit_at-trailing_zeros w64 zeros (omega arith) few in
-      let le = and_le_l zeros (zeros - 1) in
-      elim (cases_eq left 0) [
-        | inl none ↦ (let all : count_trailing_zeros 64 left ≡ 64 = ap (count_trailing_zeros 64) none ∙ trailing_of_zero 64 in omega arith)
-        | inr other ↦ (let next = bit_at-trailing_zeros w64 left (omega arith) (omega arith) in
-            let both = bit_at_and zeros (zeros - 1) (count_trailing_zeros 64 left) in
-            let none = first.2 (count_trailing_zeros 64 left) in
-            grind arith)
-      ]
 
 -- where every bit is set, each byte is 0
 pub zero_mask-all : (bytes : List ℕ) → zero_mask bytes + 1 ≡ 2 ^ length bytes → bytes ≡ replicate (length bytes) 0

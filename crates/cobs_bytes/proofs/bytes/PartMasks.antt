@@ -19,7 +19,7 @@ bit-le b = grind (arith, cases_eq, set_if, clear_if)
 
 bit_at-zero_mask : (bytes : List ℕ) (i : ℕ) → bit_at (zero_mask bytes) i ≡ bit_of (get_or bytes i 1)
 bit_at-zero_mask [] i = bit_at-zero i
-bit_at-zero_mask (b ∷ bytes) zero = bit_at-first (bit_of b) (zero_mask bytes) (bit-le b)
+bit_at-zero_mask (b ∷ bytes) zero = grind (arith, bit_at-first, bit-le)
 bit_at-zero_mask (b ∷ bytes) (suc i) = grind (arith, bit_at-next, bit_of, bit-le, bit_at-zero_mask bytes i)
 
 -- the mask of a window, from those of its first n bytes and its last n

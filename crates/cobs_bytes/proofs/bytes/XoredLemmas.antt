@@ -31,11 +31,11 @@ module _ (source : List ℕ) (s n : ℕ) where
 -- XOR with 0 changes nothing
 pub xor_each-zero : (bytes : List ℕ) → xor_each 0 bytes ≡ bytes
 xor_each-zero [] = refl
-xor_each-zero (b ∷ bytes) = ap (λ (x : ℕ). x ∷ xor_each 0 bytes) (xor_zero_r b) ∙ ap (λ (l : List ℕ). b ∷ l) (xor_each-zero bytes)
+xor_each-zero (b ∷ bytes) = grind (arith, xor_zero_r, (xor_each-zero bytes))
 
 -- XOR with the same byte twice changes nothing
 pub xor_twice : (b s : ℕ) → bit_xor (bit_xor b s) s ≡ b
-xor_twice b s = xor_assoc b s s ∙ ap (bit_xor b) (xor_self s) ∙ xor_zero_r b
+xor_twice b s = grind (arith, xor_assoc, xor_self, xor_zero_r)
 
 -- two parts of n bytes, which may overlap
 module _ (source dest : List ℕ) (s n : ℕ) (long : n ≤ length source) (short : length source ≤ n + n) (room : length source ≤ length dest) (small : n ≤ 64) where
@@ -46,7 +46,7 @@ module _ (source dest : List ℕ) (s n : ℕ) (long : n ≤ length source) (shor
   at = length source - n
 
   h-long : length h ≡ length source
-  h-long = length-map source (λ (b : ℕ). bit_xor b s)
+  h-long = grind (arith, length-map)
 
   whole : take (at + n) h ≡ h
   whole = grind (arith, take_all, at, h, h-long)

@@ -39,9 +39,6 @@ module _ {bytes : List ℕ} {zeros : ℕ} (w : Window bytes zeros) (some : zeros
   stop : get_or bytes first 0 ≡ 0
   stop = sym (get_or-take 32 bytes first 0 within) ∙ ap (λ (k : ℕ). get_or window k 0) place ∙ nonzero_len-at window window_some
 
-first-window : (c : After-zeros_at-zeros) → Window c.args.source.now c.zeros_at-zeros.result
-first-window c = grind arith
-
 -- the first window has no zero
 module _ (c : After-zeros_at-later) where
   abbrev source : List ℕ
@@ -51,7 +48,7 @@ module _ (c : After-zeros_at-later) where
   at = c.min-at.result
 
   inside : c.min-at.result + 32 ≤ length source
-  inside = omega (arith, c.min-at.ensures, c.if-source-lt-WINDOW.false)
+  inside = grind arith
 
   later : Window (drop at source) c.zeros_at-later.result
   later = grind (arith, inside, length-drop, at, source)
@@ -76,13 +73,13 @@ module _ (c : After-zeros_at-later) where
     wide_more more other = All-more (λ b. b ≢ 0) source 64 0 more (wide (omega arith)) other
 
 pub returns-then-zeros-ne0-clause-within : goal.returns-then-zeros-ne0-clause-within
-returns-then-zeros-ne0-clause-within c = grind (arith, first-window, at, After-zeros_at-zeros, within)
+returns-then-zeros-ne0-clause-within c = grind (arith, at, After-zeros_at-zeros, within)
 
 pub returns-then-zeros-ne0-clause-before : goal.returns-then-zeros-ne0-clause-before
-returns-then-zeros-ne0-clause-before c _ = grind (arith, before, first-window, at, After-zeros_at-zeros)
+returns-then-zeros-ne0-clause-before c _ = grind (arith, before, at, After-zeros_at-zeros)
 
 pub returns-then-zeros-ne0-clause-stop : goal.returns-then-zeros-ne0-clause-stop
-returns-then-zeros-ne0-clause-stop c _ = grind (arith, stop, first-window, at, After-zeros_at-zeros)
+returns-then-zeros-ne0-clause-stop c _ = grind (arith, stop, at, After-zeros_at-zeros)
 
 pub returns-then-later-ne0-clause-within : goal.returns-then-later-ne0-clause-within
 returns-then-later-ne0-clause-within c =

@@ -5,13 +5,14 @@ use Rattle.std.proofs.lemmas.Bool.{eqb-false}
 use Rattle.std.proofs.lemmas.List.{drop-drop, take_more}
 use Rattle.std.proofs.lemmas.List.Elements.{All-append, All-nil, All-push}
 use Rattle.std.proofs.Math.Seq.{take-add}
+use Rattle.std.proofs.lemmas.Grind.{common_steps}
 use Rattle.cobs.specs.Grammar.{HasNoZero}
 use Rattle.cobs.proofs.find.len_to_zero.Invariants.{Searched}
 use Rattle.cobs.proofs.find.len_to_zero.Goals as goal
 
 -- one more byte that isn't a zero
 next : (xs : List ℕ) (n : ℕ) → n < length xs → get_or xs n 0 ≢ 0 → HasNoZero (take n xs) → HasNoZero (take (n + 1) xs)
-next xs n here other front = subst HasNoZero (sym (take_more xs n 0 here)) (All-push (λ b. b ≢ 0) (take n xs) (get_or xs n 0) front other)
+next xs n here other front = grind (arith, common_steps, take_more, All-push)
 
 -- the rest without its first bytes, which have no zero
 shorter : (bytes rest after : List ℕ) (k : ℕ) → Searched bytes rest → k ≤ length rest → HasNoZero (take k rest) → after ≡ take (length rest - k) (drop k rest) → Searched bytes after

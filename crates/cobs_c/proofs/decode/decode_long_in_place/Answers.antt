@@ -5,8 +5,9 @@ use Rattle.cobs.specs.Decode.{result_in_place}
 use Rattle.cobs.specs.Stream.{head}
 use Rattle.cobs.specs.declared.DecodeError.TheVariants.{InvalidFrame}
 use Rattle.cobs_abi.specs.Answer.{result_by, head_end}
-use Rattle.cobs_c.proofs.HeadLemmas.{behind-kept, broken-within, head-drop, reported}
+use Rattle.cobs_c.proofs.HeadLemmas.{behind-kept, broken-within, head-drop}
 use Rattle.cobs_c.proofs.decode.decode_long_in_place.Goals as goal
+use Rattle.cobs_c.proofs.SourceLemmas.{report_result-err}
 
 pub slice_bounds-first_sentinel-count : goal.slice_bounds-first_sentinel-count
 slice_bounds-first_sentinel-count c =
@@ -37,7 +38,7 @@ returns-in-Err-InvalidFrame c =
       decodes = record {
         returned = c.result_by-returned-in-Err-InvalidFrame.ensures
             ∙ ap (λ (k : ℕ). result_by k (length old) (Err (InvalidFrame d))) (c.with_zero.ensures ∙ end)
-            ∙ ap (result_by (head_end old) (length old)) (reported (length (head old)) (result_in_place old) (InvalidFrame d) is);
+            ∙ ap (result_by (head_end old) (length old)) (report_result-err (length (head old)) (result_in_place old) (InvalidFrame d) is);
         buffer = c.decode_in_place_report.ensures.buffer;
       };
     }

@@ -1,3 +1,4 @@
+-- The loop collects what the iterator yields, and this is the split text at its end (`YieldsList-end`).
 use Rattle.std.proofs.Common.{arith}
 use Rattle.std.proofs.lemmas.Iterator.Consumers.{YieldsList-at, YieldsList-end}
 use Rattle.std.proofs.lemmas.Iterator.Splits.{YieldsList-from_str_split}

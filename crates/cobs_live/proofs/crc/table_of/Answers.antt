@@ -1,3 +1,4 @@
+-- The words before the place are right, and so is the one that is set there (`below_more`).
 use Rattle.std.proofs.Common.{◌≡◌, ◌<◌, ℕ, List, length, arith, ◌∙◌, length-set, refl}
 use Rattle.std.proofs.Math.ListN.{set}
 use Rattle.std.proofs.lemmas.Grind.{get_or-set_at}

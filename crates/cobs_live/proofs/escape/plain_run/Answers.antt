@@ -1,3 +1,4 @@
+-- A plain byte is ASCII (`plain_below`), so the index after it is the start of a character.
 use Rattle.std.proofs.Common.{IsTrue, get_or, arith, rules}
 use Rattle.std.proofs.lemmas.List.Elements.{All-more}
 use Rattle.std.proofs.lemmas.Str.{IsCharBoundary-after_ascii, IsCharBoundary-start}

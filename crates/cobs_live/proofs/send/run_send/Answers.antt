@@ -24,7 +24,7 @@ returns-then-count-eq0 g c =
     let start : c.clear.new.self.items ≡ [] = c.clear.ensures.items in
     let consumed : Consumes (g.S.LiveLines.remaining c.by_line.input) (g.S.LiveLines.remaining c.read_line_beside.new.self) c.read_line_beside.new.line.items = rw start at c.in-Ok.ensures.none_lost in
     record {
-      sent = sent_all _ _ _ _ _ _ _ _ c.by_line.invariant.live.so_far consumed nothing (c.in-Ok.ensures.end none);
+      sent = sent_all _ _ c.by_line.invariant.live.so_far consumed nothing (c.in-Ok.ensures.end none);
       live = live-read _ c.by_line.invariant.live c.in-Ok.ensures.step c.by_line.invariant.flushed refl;
       flushed = c.by_line.invariant.flushed;
     }
@@ -58,17 +58,17 @@ by_line-preserved g c =
 pub returns-in_default : goal.returns-in_default
 returns-in_default g c =
     record {
-      sent = unsent _ _ _ _ _ _ _ _ _ c.by_line.invariant.live.so_far (rw c.clear.ensures.items at c.in_default.ensures.stops) (rw c.clear.ensures.items at c.in_default.ensures.none_lost) (Keeps-refl _);
+      sent = unsent _ _ _ c.by_line.invariant.live.so_far (rw c.clear.ensures.items at c.in_default.ensures.stops) (rw c.clear.ensures.items at c.in_default.ensures.none_lost) (Keeps-refl _);
       live = live-read _ c.by_line.invariant.live c.in_default.ensures.step c.by_line.invariant.flushed refl;
       flushed = c.by_line.invariant.flushed;
     }
 
 pub returns-in_err-send_text-clause-sent : goal.returns-in_err-send_text-clause-sent
 returns-in_err-send_text-clause-sent g c =
-    send_failed _ _ _ _ _ _ _ _ _ _ (search rules) c.by_line.invariant.live.so_far (rw c.clear.ensures.items at c.in-Ok.ensures.stops) (rw c.clear.ensures.items at c.in-Ok.ensures.none_lost)
+    send_failed _ _ _ _ (search rules) c.by_line.invariant.live.so_far (rw c.clear.ensures.items at c.in-Ok.ensures.stops) (rw c.clear.ensures.items at c.in-Ok.ensures.none_lost)
 
 pub returns-clause-sent : goal.returns-clause-sent
-returns-clause-sent g c = unsent _ _ _ _ _ _ _ _ [] c.by_line.invariant.live.so_far (All-nil (λ (b : ℕ). b ≢ 10)) (Consumes-nil _) (Keeps-refl _)
+returns-clause-sent g c = unsent _ _ [] c.by_line.invariant.live.so_far (All-nil (λ (b : ℕ). b ≢ 10)) (Consumes-nil _) (Keeps-refl _)
 
 pub returns-in_err-send_text-clause-live : goal.returns-in_err-send_text-clause-live
 returns-in_err-send_text-clause-live g c = live-read _ c.by_line.invariant.live c.in-Ok.ensures.step c.by_line.invariant.flushed refl

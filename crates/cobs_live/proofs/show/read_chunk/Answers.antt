@@ -1,3 +1,4 @@
+-- Each try adds one read to those that were made before (`once-more`).
 use Rattle.std.proofs.Common.{refl, arith}
 use Rattle.std.proofs.KnownBytes.{Keeps-refl, Keeps-trans}
 use Rattle.cobs_live.proofs.ReadLemmas.{once-more, once-none}

@@ -26,7 +26,7 @@ by_part-preserved g c =
           let counted = c.count_piece.ensures.one_more _ _ _ (outcome_at c.in-Some.end c.feed_piece.new.dest) (sym (ap (λ (seen : Seen). seen.kind) c.sight_of-piece.ensures.seen)) s.tallied in
           let last = IsLastPiece-taken (assumption c.law_9.ensures) c.law_12.ensures.last_ended h _ s.taken c.args.view.now.checksum c.args.view.now.partial (seen_in c.sight_of-piece.result) c.sight_of-piece.ensures.seen in
           rw is (ShowsBytes-piece (assumption c.law_9.ensures) s (take count part) (outcome_at c.in-Some.end c.feed_piece.new.dest) last.piece h.takes.len (h.takes.after _ s.taken) (h.takes.outcomes _ s.taken) last.ended
-          (shown_now c.args.view.now times _ _ _ _ _ _ _ _ last.piece (c.with_part-piece.ensures.seen ∙ last.seen_so) counted s.timed c.in_ok-show_at_once.ensures.shown) counted
+          (shown_now c.args.view.now times _ _ _ _ last.piece (c.with_part-piece.ensures.seen ∙ last.seen_so) counted s.timed c.in_ok-show_at_once.ensures.shown) counted
           (IsReadAt-next times _ _ _ _ s.timed c.advance.ensures.last c.advance.ensures.next)));
     }
 

@@ -1,3 +1,5 @@
+-- The bytes so far and those of this read are more than the limit (`HasRead-too_long`), or had no memory
+-- (`HasRead-no_memory`).
 use Rattle.std.proofs.Common.{◌++◌, take, arith, length-append}
 use Rattle.cobs_tool.proofs.InputLemmas.{Consumes-append, HasRead-too_long, HasRead-no_memory}
 use Rattle.cobs_tool.proofs.input.read_input.Goals as goal

@@ -1,3 +1,4 @@
+-- Each byte adds its digits to the line, after a space unless it is the first (`words_of-next`, `words_of-first`).
 use Rattle.std.proofs.Common.{string_bytes, ◌++◌, ap, ◌∙◌, lit<}
 use Rattle.cobs_tool.proofs.TextLemmas.{words_of-first, words_of-next}
 use Rattle.cobs_tool.proofs.text.hex_line.Goals.{then-at-gt0+in_ok-push, else-at-gt0}

@@ -1,3 +1,5 @@
+-- A log that ends in a zero, a frame and a zero report what the log reported and then the frame's message: by `law_10: apart`
+-- (`reported`).
 use Rattle.std.proofs.Common.{◌≡◌, ◌≢◌, ℕ, List, [], ◌∷◌, ◌++◌, length, ap, ◌∙◌, arith, append-nil, inr, rules}
 use Rattle.std.proofs.lemmas.List.Elements.{All-nil}
 use Rattle.cobs.specs.Grammar.{HasNoZero}

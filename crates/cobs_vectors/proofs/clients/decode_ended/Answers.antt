@@ -1,3 +1,4 @@
+-- A message is returned exactly if the piece reads as it and it fits: by `reads` and `only` of the push (`reported`).
 use Rattle.std.proofs.Common.{◌≤◌, ◌↔◌, length, List, ℕ, subst, arith}
 use Rattle.cobs.specs.Grammar.{Reads}
 use Rattle.cobs.specs.Fields.Decoders.{borrowed_buffer}

@@ -1,3 +1,5 @@
+-- The encoder has taken both messages, so `finalize` gives the frame of one after the other; each call keeps the bytes
+-- after what it wrote (`drop_later`).
 use Rattle.std.proofs.Common.{List, take, drop, ◌≤◌, ◌≡◌, ◌+◌, ◌-◌, ℕ, [], ◌++◌, ap, arith, sym, subst, ◌∙◌}
 use Rattle.std.proofs.lemmas.List.{drop-drop}
 use Rattle.cobs.specs.Grammar.{IsEncodedFrame}

@@ -1,3 +1,4 @@
+-- The zero returns the message of the frame that was fed, by `law_18: fed`, so the other arms can't happen.
 use Rattle.std.proofs.Common.{◌≡◌, ◌∙◌, ap, length, sym, take, Ok}
 use Rattle.cobs_vectors.proofs.clients.on_zero.Goals as goal
 

@@ -1,9 +1,11 @@
-use Rattle.std.proofs.Common.{◌≡◌, ◌≢◌, ◌∙◌, ◌++◌, ◌∷◌, ◌+◌, ◌-◌, ◌<◌, ◌≤◌, ◌==◌, [], false, true, ℕ, List, length, take, drop, get_or, refl, sym, ap, arith, append_assoc, append-nil, length-drop}
+-- The rest of the piece is its first block, and more bytes if there are any (`Blocks`). So each round adds one block's bytes
+-- to the output, by `law_20`.
+use Rattle.std.proofs.Common.{◌≡◌, ◌≢◌, ◌∙◌, ◌++◌, ◌∷◌, ◌+◌, ◌-◌, ◌<◌, ◌≤◌, ◌==◌, [], false, true, ℕ, List, length, take, drop, get_or, refl, sym, ap, arith, append_assoc, append-nil}
 use Rattle.std.proofs.lemmas.Bool.{eq-eqb, ne_eqb, true≢false}
 use Rattle.std.proofs.lemmas.List.Elements.{All-from_get_or}
 use Rattle.cobs.specs.Grammar.{HasNoZero, IsBlock, bytes_of, joint}
 use Rattle.cobs.specs.Piece.{IsWhole, is_whole, kept_output, output}
-use Rattle.cobs_vectors.proofs.Blocks.{block_at, broken, is_block, last, split}
+use Rattle.cobs_vectors.proofs.Blocks.{block_at, broken, is_block, last, split, more_some}
 use Rattle.cobs_vectors.proofs.own_coders.decode_by_code.Goals as goal
 use Rattle.cobs_vectors.proofs.own_coders.decode_by_code.Goals.{then-code-ne-FULL+in_ok-push, else-code-ne-FULL}
 
@@ -26,15 +28,12 @@ module _ (list : List ℕ) (read : ℕ) (nonzero : HasNoZero list) (within : rea
 
   -- more follow
   module _ (far : get_or list read 0 < length list - read) where
-    more_some : drop (read + get_or list read 0) list ≢ []
-    more_some none = let l = length-drop (read + code) list in let e = ap length none in omega arith
-
     whole_more : ((block p : List ℕ) → IsBlock block → p ≢ [] → is_whole (block ++ p) ≡ is_whole p) → is_whole (drop read list) ≡ is_whole (drop (read + get_or list read 0) list)
-    whole_more whole = ap is_whole (split list read nonzero within) ∙ whole (block_at list read) (drop (read + code) list) block more_some
+    whole_more whole = ap is_whole (split list read nonzero within) ∙ whole (block_at list read) (drop (read + code) list) block (more_some list read nonzero within far)
 
     kept_more : ((block p : List ℕ) → IsBlock block → p ≢ [] → kept_output (block ++ p) ≡ bytes_of block ++ joint block ++ kept_output p)
         → kept_output (drop read list) ≡ take (get_or list read 0 - 1) (drop (read + 1) list) ++ joint (block_at list read) ++ kept_output (drop (read + get_or list read 0) list)
-    kept_more kept = ap kept_output (split list read nonzero within) ∙ kept (block_at list read) (drop (read + code) list) block more_some
+    kept_more kept = ap kept_output (split list read nonzero within) ∙ kept (block_at list read) (drop (read + code) list) block (more_some list read nonzero within far)
 
 -- the slice that was copied
 copied : (list : List ℕ) (read code : ℕ) → take (read + code - (read + 1)) (drop (read + 1) list) ≡ take (code - 1) (drop (read + 1) list)

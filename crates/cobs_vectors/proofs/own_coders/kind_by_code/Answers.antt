@@ -1,8 +1,9 @@
+-- Each block that is read leaves the question to the bytes after it (`frame_left`, `canonical_left`), by `law_19`.
 use Rattle.std.proofs.Common.{◌≡◌, ◌≢◌, ◌↔◌, ◌∙◌, ◌++◌, ◌+◌, ◌-◌, ◌<◌, [], ℕ, List, length, drop, get_or, refl, sym, ap, subst, arith, length-drop}
 use Rattle.std.proofs.lemmas.Bool.{true≢false}
 use Rattle.std.proofs.lemmas.List.{drop_more}
 use Rattle.cobs.specs.Grammar.{HasNoZero, IsBlock, IsCanonical, IsFrame, IsFull, lone_block, message_of}
-use Rattle.cobs_vectors.proofs.Blocks.{block_at, broken, code_some, is_block, last, split}
+use Rattle.cobs_vectors.proofs.Blocks.{block_at, broken, code_some, is_block, last, split, more_some}
 use Rattle.cobs_vectors.proofs.own_coders.kind_by_code.Goals as goal
 use Rattle.cobs_vectors.proofs.own_coders.kind_by_code.Goals.{else-after_full-via-then-after_full+else-code-eq1, else-after_full-via-else-after_full}
 
@@ -20,19 +21,16 @@ module _ (list : List ℕ) (read : ℕ) (nonzero : HasNoZero list) (within : rea
 
   -- the rest is a block and more
   module _ (far : get_or list read 0 < length list - read) where
-    more_some : drop (read + get_or list read 0) list ≢ []
-    more_some none = let l = length-drop (read + get_or list read 0) list in let e = ap length none in omega arith
-
     block : IsBlock (block_at list read)
     block = is_block list read nonzero within (omega arith) below
 
     frame_left : ((block f : List ℕ) → IsBlock block → f ≢ [] → (IsFrame (block ++ f) ↔ IsFrame f)) → IsFrame (drop read list) ↔ IsFrame (drop (read + get_or list read 0) list)
-    frame_left law = subst (λ (x : List ℕ). IsFrame x ↔ IsFrame (drop (read + get_or list read 0) list)) (sym (split list read nonzero within)) (law (block_at list read) (drop (read + get_or list read 0) list) block more_some)
+    frame_left law = subst (λ (x : List ℕ). IsFrame x ↔ IsFrame (drop (read + get_or list read 0) list)) (sym (split list read nonzero within)) (law (block_at list read) (drop (read + get_or list read 0) list) block (more_some list read nonzero within far))
 
     canonical_left : ((block f : List ℕ) → IsBlock block → f ≢ [] → (IsCanonical (block ++ f) ↔ (IsCanonical f × (IsFull block → f ≢ lone_block))))
         → IsCanonical (drop read list) ↔ (IsCanonical (drop (read + get_or list read 0) list) × (IsFull (block_at list read) → drop (read + get_or list read 0) list ≢ lone_block))
     canonical_left law = subst (λ (x : List ℕ). IsCanonical x ↔ (IsCanonical (drop (read + get_or list read 0) list) × (IsFull (block_at list read) → drop (read + get_or list read 0) list ≢ lone_block)))
-        (sym (split list read nonzero within)) (law (block_at list read) (drop (read + get_or list read 0) list) block more_some)
+        (sym (split list read nonzero within)) (law (block_at list read) (drop (read + get_or list read 0) list) block (more_some list read nonzero within far))
 
     not_lone : drop read list ≢ lone_block
     not_lone lone = let l = length-drop read list in let e = ap length lone in let some = code_some list read nonzero within in omega arith

@@ -1,3 +1,4 @@
+-- A message is returned exactly if the piece reads as it and it fits: by `pushed` and `pushed_only` of `law_18` (`reported`).
 use Rattle.std.proofs.Common.{◌↔◌, ◌<◌, ◌≤◌, List, ℕ, length}
 use Rattle.std.proofs.lemmas.List.Elements.{All-from_get_or}
 use Rattle.cobs.specs.Grammar.{Reads}

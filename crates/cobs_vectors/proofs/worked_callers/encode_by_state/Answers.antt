@@ -1,3 +1,4 @@
+-- The output is open after each byte, by `push: carried`; and each result names an index within it (`within`).
 use Rattle.std.proofs.Common.{◌≡◌, ◌<◌, ◌≤◌, ◌==◌, ℕ, Bool, true, false, List, [], ◌∷◌, ◌++◌, if◌then◌else◌, length, take, get_or, set, sym, ap, subst, arith, take_all, append_assoc}
 use Rattle.std.proofs.lemmas.List.{take_more}
 use Rattle.cobs.specs.declared.PushResult.{PushResult}

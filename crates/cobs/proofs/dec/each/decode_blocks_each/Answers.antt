@@ -1,5 +1,5 @@
 -- What is left of the kept output begins with the bytes of the open block (`kept-block`), and each is moved to its place.
-use Rattle.std.proofs.Common.{◌≡◌, ◌≢◌, ◌∙◌, ◌+◌, ◌-◌, ◌<◌, ◌≤◌, ◌⊎◌, ◌++◌, ◌∷◌, [], ℕ, suc, List, true, false, length, take, drop, get_or, set, refl, sym, ap, arith, inl, inr, length-drop, length-take-le}
+use Rattle.std.proofs.Common.{◌≡◌, ◌≢◌, ◌∙◌, ◌+◌, ◌-◌, ◌<◌, ◌≤◌, ◌++◌, ◌∷◌, [], ℕ, suc, List, true, false, length, take, drop, get_or, set, refl, sym, ap, arith, length-drop, length-take-le}
 use Rattle.std.proofs.lemmas.List.{drop-drop, drop_all, drop_more, get_or-drop, get_or-take}
 use Rattle.std.proofs.lemmas.List.Elements.{All-drop}
 use Rattle.cobs.specs.Grammar.{HasNoZero}
@@ -7,7 +7,7 @@ use Rattle.cobs.specs.Piece.{kept_output}
 use Rattle.cobs.proofs.decoding.KeptLemmas.{kept_output-empty}
 use Rattle.cobs.proofs.decoding.WrittenLemmas.{Written, code-some, in-place, kept-block, kept-none, whole-block, whole-none, whole_left, written-behind, written-long, written-more, written-none, zero_before, zero_before-none, zero_before-some}
 use Rattle.cobs.proofs.dec.each.decode_blocks_each.Goals as goal
-use Rattle.cobs.proofs.dec.each.decode_blocks_each.Goals.{Joined-read-next, then-read-next+then-read-next-2, else-read-next, else-code-ne-FULL_CODE-via-then-code-ne-FULL_CODE+else-read-end, else-code-ne-FULL_CODE-via-else-code-ne-FULL_CODE}
+use Rattle.cobs.proofs.dec.each.decode_blocks_each.Goals.{Joined-read-next, then-read-next+then-read-next-2, else-read-next}
 
 module _ (old : List ℕ) (end : ℕ) (fits : end ≤ length old) where
   abbrev h : List ℕ
@@ -29,10 +29,7 @@ module _ (old : List ℕ) (end : ℕ) (fits : end ≤ length old) where
 
     -- the last one
     last-byte : (next : ℕ) (tail : List ℕ) → left ≡ take (next - read) (drop read h) ++ tail → read + 1 ≡ next → written < length buffer → Written h old (set buffer written (get_or buffer read 0)) (written + 1) tail
-    last-byte next tail e last room =
-        let none : next - (read + 1) ≡ 0 = omega arith in
-        let m = written-more w (get_or buffer read 0) (take (next - (read + 1)) (drop (read + 1) h) ++ tail) (e ∙ next-byte next tail (omega arith)) room in
-        rw none at m
+    last-byte next tail e last room = grind (arith, written-more, next-byte)
 
     -- the code of a block
     module _ (nonzero : HasNoZero h) (small : (i : ℕ) → get_or old i 0 < 256) where
@@ -43,13 +40,13 @@ module _ (old : List ℕ) (end : ℕ) (fits : end ≤ length old) where
       p = drop read h
 
       p-long : length p ≡ end - read
-      p-long = length-drop read h ∙ ap (λ (n : ℕ). n - read) long
+      p-long = grind (arith, length-drop, long)
 
       some : 0 < length p
       some = omega (arith, p-long)
 
       is : code ≡ get_or p 0 0
-      is = byte-is ∙ sym (get_or-drop read h 0 0 ∙ ap (λ (k : ℕ). get_or h k 0) (omega arith))
+      is = grind (arith, byte-is, get_or-drop)
 
       p-nonzero : HasNoZero p
       p-nonzero = All-drop (λ b. b ≢ 0) read h nonzero
@@ -64,8 +61,8 @@ module _ (old : List ℕ) (end : ℕ) (fits : end ≤ length old) where
         p-fits : code ≤ length p
         p-fits = omega (arith, p-long)
 
-        begun : left ≡ kept_output p → Written h old buffer written (take (code - 1) (drop (read + 1) h) ++ (zero_before code (drop (read + code) h) ++ kept_output (drop (read + code) h)))
-        begun e = rw (← drop-drop 1 read h, ← drop-drop code read h, ← kept-block p code some is p-nonzero below p-fits, ← e) w
+        block-begun : left ≡ kept_output p → Written h old buffer written (take (code - 1) (drop (read + 1) h) ++ (zero_before code (drop (read + code) h) ++ kept_output (drop (read + code) h)))
+        block-begun e = rw (← drop-drop 1 read h, ← drop-drop code read h, ← kept-block p code some is p-nonzero below p-fits, ← e) w
 
         whole-next : whole_left p ≡ whole_left (drop (read + code) h)
         whole-next = whole-block p code some is p-nonzero below p-fits ∙ ap whole_left (drop-drop code read h)
@@ -77,9 +74,7 @@ record BlockMoved (old : List ℕ) (end code next : ℕ) (after : List ℕ) (r w
   written : Written (take end old) old after w (zero_before code (drop next (take end old)) ++ kept_output (drop next (take end old)))
 
 pub by_block-init : goal.by_block-init
-by_block-init c =
-    let below = λ (i : ℕ). (let fits = c.type_inv.buffer i in let n : get_or c.args.buffer.now i 0 < 256 = omega arith in n) in
-    record { order = omega arith; within = omega arith; below = below; whole = refl; written = written-none _ _ }
+by_block-init c = grind (arith, below, written-none)
 
 pub returns-then-end-read : goal.returns-then-end-read
 returns-then-end-read c =
@@ -98,21 +93,13 @@ by_byte-init c =
     let i = c.by_block.invariant in
     let old : List ℕ = c.args.buffer.now in
     let here : c.by_block.read < c.args.end = c.by_block-test.true in
-    let b = begun old c.args.end c.requires.within i.written c.by_block.read i.order here c.requires.nonzero i.below c.if-end-read.false refl in
+    let b = block-begun old c.args.end c.requires.within i.written c.by_block.read i.order here c.requires.nonzero i.below c.if-end-read.false refl in
     let some = positive old c.args.end c.requires.within i.written c.by_block.read i.order here c.requires.nonzero i.below in
     let rest : c.by_block.read + get_or c.by_block.buffer c.by_block.read 0 - (c.by_block.read + 1) ≡ get_or c.by_block.buffer c.by_block.read 0 - 1 = omega arith in
     record { from = omega arith; order = omega arith; left = omega (arith, some, c.if-read-next.true); written = rw rest b }
 
 pub by_byte-preserved : goal.by_byte-preserved
-by_byte-preserved c =
-    let s = c.by_byte.invariant in
-    let here : c.by_byte.read < c.args.end = omega (arith, s.left, c.if-end-read.false) in
-    record {
-      from = omega (arith, s.from);
-      order = omega (arith, s.order);
-      left = omega (arith, s.left, c.if-read-next-2.false);
-      written = written-more s.written _ _ (next-byte c.args.buffer.now c.args.end c.requires.within s.written c.by_byte.read (omega (arith, s.order)) here _ _ s.left) (omega (arith, written-long s.written, s.order, c.requires.within));
-    }
+by_byte-preserved c = grind (arith, written-more, next-byte, written-long)
 
 -- where the block ends
 moved : (c : Joined-read-next) → let code = get_or c.by_block.buffer c.by_block.read 0 in
@@ -133,7 +120,7 @@ moved c =
           record {
             read-is = omega arith;
             order = omega (arith, i.order);
-            written = rw (w.buffer-is, w.written-is) (rw none at (begun _ _ c.requires.within i.written _ i.order c.by_block-test.true c.requires.nonzero i.below c.if-end-read.false refl));
+            written = rw (w.buffer-is, w.written-is) (rw none at (block-begun _ _ c.requires.within i.written _ i.order c.by_block-test.true c.requires.nonzero i.below c.if-end-read.false refl));
           })
     ]
 
@@ -144,37 +131,10 @@ whole-from c =
     rw (moved c).read-is (i.whole ∙ whole-next _ _ c.requires.within i.written _ i.order c.by_block-test.true c.requires.nonzero i.below c.if-end-read.false)
 
 pub by_block-preserved-then-read-end : goal.by_block-preserved-then-read-end
-by_block-preserved-then-read-end c =
-    let m = moved (goal.at.by_block-preserved-then-read-end c).Joined-read-next in
-    let next : ℕ = c.by_block.read + get_or c.by_block.buffer c.by_block.read 0 in
-    let h : List ℕ = take c.args.end c.args.buffer.now in
-    let far : 0 < length (drop next h) = omega (arith, length-drop next h, long c.args.buffer.now c.args.end c.requires.within, m.read-is, c.if-read-end.true) in
-    let zero = ap (λ (x : List ℕ). x ++ kept_output (drop next h)) (zero_before-some _ _ far c.if-code-ne-FULL_CODE.true) in
-    record {
-      order = omega (arith, m.order);
-      within = omega (arith, c.if-read-end.true);
-      below = c.by_block.invariant.below;
-      whole = whole-from (goal.at.by_block-preserved-then-read-end c).Joined-read-next;
-      written = rw m.read-is (written-more m.written _ _ zero (omega (arith, written-long m.written, m.order, c.if-read-end.true, c.requires.within)));
-    }
+by_block-preserved-then-read-end c = grind (arith, moved, length-drop, long, zero_before-some, below, whole-from, written-more, written-long)
 
 pub by_block-preserved : goal.by_block-preserved
-by_block-preserved c =
-    let m = moved (goal.at.by_block-preserved c).Joined-read-next in
-    let next : ℕ = c.by_block.read + get_or c.by_block.buffer c.by_block.read 0 in
-    let h : List ℕ = take c.args.end c.args.buffer.now in
-    let none-due : (length (drop next h) ≡ 0) ⊎ (get_or c.by_block.buffer c.by_block.read 0 ≡ 255) = elim c.else-code-ne-FULL_CODE.branch [
-      | else-code-ne-FULL_CODE-via-then-code-ne-FULL_CODE+else-read-end w ↦
-          inl (omega (arith, length-drop next h, long c.args.buffer.now c.args.end c.requires.within, m.read-is, w.if-read-end.false))
-      | else-code-ne-FULL_CODE-via-else-code-ne-FULL_CODE w ↦ inr w.if-code-ne-FULL_CODE.false
-    ] in
-    record {
-      order = omega (arith, m.order);
-      within = omega (arith, m.read-is, c.if-end-read.false);
-      below = c.by_block.invariant.below;
-      whole = whole-from (goal.at.by_block-preserved c).Joined-read-next;
-      written = rw m.read-is (rw (zero_before-none _ _ none-due) at m.written);
-    }
+by_block-preserved c = grind (arith, moved, length-drop, long, below, whole-from, zero_before-none)
 
 pub returns : goal.returns
 returns c =

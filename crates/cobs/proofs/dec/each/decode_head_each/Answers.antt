@@ -24,7 +24,7 @@ none-left : (rest : List ℕ) (empty : Bool) → empty ≡ eqb (length rest) 0 �
 none-left rest empty is e = eqb-true (length rest) 0 (sym is ∙ e)
 
 some-left : (rest : List ℕ) (empty : Bool) → empty ≡ eqb (length rest) 0 → empty ≡ false → 0 < length rest
-some-left rest empty is e = omega (arith, eqb-false (length rest) 0 (sym is ∙ e))
+some-left rest empty is e = grind (arith, eqb-false, is)
 
 no-bytes : (s : ℕ) (bytes : List ℕ) → length bytes ≡ 0 → xor_each s bytes ≡ []
 no-bytes s [] none = refl
@@ -32,11 +32,11 @@ no-bytes s (b ∷ bytes) none = absurd (omega arith)
 
 -- the next byte of a block
 more-bytes : (s : ℕ) (items tail : List ℕ) (k : ℕ) → k < length items → xor_each s (drop k items) ++ tail ≡ bit_xor (get_or items k 0) s ∷ (xor_each s (drop (k + 1) items) ++ tail)
-more-bytes s items tail k less = ap (λ (x : List ℕ). xor_each s x ++ tail) (drop_more items k 0 less)
+more-bytes s items tail k less = grind (arith, drop_more)
 
 -- after the last one
-bytes-ended : (h old buffer : List ℕ) (written s : ℕ) (items tail : List ℕ) (k : ℕ) → Written h old buffer written (xor_each s (drop k items) ++ tail) → length items ≤ k → Written h old buffer written tail
-bytes-ended h old buffer written s items tail k w all = rw (drop_all k items all) at w
+bytes-ended : {h old buffer : List ℕ} {written : ℕ} (s : ℕ) (items tail : List ℕ) (k : ℕ) → Written h old buffer written (xor_each s (drop k items) ++ tail) → length items ≤ k → Written h old buffer written tail
+bytes-ended s items tail k w all = rw (drop_all k items all) at w
 
 module _ (source old : List ℕ) (s : ℕ) where
   abbrev h : List ℕ
@@ -45,7 +45,7 @@ module _ (source old : List ℕ) (s : ℕ) where
   -- the clauses, by the bytes before the first sentinel
   answered : (buffer : List ℕ) (result : Result ℕ DecodeError) → 0 < length source → Decoded h old buffer result
       → record { returned : result ≡ result_of_sentinel_decode (xor_each s source) (length old); buffer : buffer ≡ overwritten old (kept_output h) }
-  answered buffer result some d = record { returned = d.0 ∙ result_of_sentinel_decode-head source s (length old) some; buffer = d.1 }
+  answered buffer result some d = grind (arith, result_of_sentinel_decode-head)
 
 -- a block of the frame, by its code
 module _ (rest : List ℕ) (s : ℕ) where
@@ -62,14 +62,14 @@ module _ (rest : List ℕ) (s : ℕ) where
   long = length-map rest (λ b. bit_xor b s)
 
   items-are : xor_each s items ≡ take (code - 1) (drop 1 p)
-  items-are = sym (ap (take (code - 1)) (drop-map (λ b. bit_xor b s) 1 rest) ∙ take-map (λ b. bit_xor b s) (code - 1) (drop 1 rest))
+  items-are = grind (arith, drop-map, take-map)
 
   module _ (some : 0 < length rest) where
     p-some : 0 < length p
     p-some = omega (arith, long)
 
     is : code ≡ get_or p 0 0
-    is = sym (get_or-map (λ b. bit_xor b s) rest 0 0 0 some)
+    is = grind (arith, get_or-map)
 
     -- that is whole
     module _ (nonzero : HasNoZero p) (below : All (λ b. b < 256) p) (fits : code ≤ length rest) where
@@ -77,11 +77,11 @@ module _ (rest : List ℕ) (s : ℕ) where
       p-fits = omega (arith, long)
 
       small : code < 256
-      small = omega (arith, is, All-get_or (λ b. b < 256) p 0 0 p-some below)
+      small = grind (arith, is, All-get_or, p-some)
 
-      begun : (h old buffer : List ℕ) (written : ℕ) → Written h old buffer written (kept_output p)
+      block-begun : (h old buffer : List ℕ) (written : ℕ) → Written h old buffer written (kept_output p)
           → Written h old buffer written (xor_each s items ++ (zero_before code (drop code p) ++ kept_output (drop code p)))
-      begun h old buffer written w = rw (items-are, ← kept-block p code p-some is nonzero small p-fits) w
+      block-begun h old buffer written w = rw (items-are, ← kept-block p code p-some is nonzero small p-fits) w
 
       -- and the bytes after it
       abbrev next : List ℕ
@@ -91,11 +91,11 @@ module _ (rest : List ℕ) (s : ℕ) where
       next-is = rest_xored rest s code
 
       next-long : length (drop code p) ≡ length next
-      next-long = sym (ap length next-is) ∙ length-map next (λ b. bit_xor b s)
+      next-long = grind (arith, next-is, length-map)
 
       -- with a zero before them
       next-zero : 0 < length next → code ≢ 255 → zero_before code (drop code p) ++ kept_output (drop code p) ≡ 0 ∷ kept_output (drop code p)
-      next-zero more other = ap (λ (x : List ℕ). x ++ kept_output (drop code p)) (zero_before-some code (drop code p) (omega (arith, next-long)) other)
+      next-zero more other = grind (arith, zero_before-some, next-long)
 
       ended : (h old buffer : List ℕ) (written : ℕ) → whole_left h ≡ whole_left p → Written h old buffer written (kept_output (drop code p))
           → record { nonzero : HasNoZero (xor_each s next); below : All (λ b. b < 256) (xor_each s next); whole : whole_left h ≡ whole_left (xor_each s next); written : Written h old buffer written (kept_output (xor_each s next)) }
@@ -107,7 +107,7 @@ module _ (rest : List ℕ) (s : ℕ) where
       }
 
 pub returns-then-is_empty-clause-buffer : goal.returns-then-is_empty-clause-buffer
-returns-then-is_empty-clause-buffer c = nothing_kept c.args.source.now c.args.dest.now c.args.sentinel (none-left _ _ c.is_empty.ensures c.if-is_empty.true)
+returns-then-is_empty-clause-buffer c = grind (arith, nothing_kept, none-left)
 
 pub by_block-init : goal.by_block-init
 by_block-init c =
@@ -131,22 +131,16 @@ returns-then-rest-code c =
     (all-written i.written (kept-none _ _ (p-some rest s some) (is rest s some) less) false (i.whole ∙ whole-none _ _ (p-some rest s some) (is rest s some) less))
 
 pub slice_bounds-byte-items-count : goal.slice_bounds-byte-items-count
-slice_bounds-byte-items-count c =
-    let rest : List ℕ = c.by_block.rest.now in
-    let s : ℕ = c.args.sentinel in
-    let some = some-left rest _ c.is_empty-in-by_block.ensures c.by_block-test.true in
-    code-some _ _ (p-some rest s some) (is rest s some) c.by_block.invariant.nonzero
+slice_bounds-byte-items-count c = grind (arith, some-left, code-some, p-some, is)
 
 pub slice_bounds-byte-items-start : goal.slice_bounds-byte-items-start
 slice_bounds-byte-items-start c = omega (arith, slice_bounds-byte-items-count c)
 
 pub by_byte-init : goal.by_byte-init
-by_byte-init c =
-    let i = c.by_block.invariant in
-    begun c.by_block.rest.now c.args.sentinel (some-left _ _ c.is_empty-in-by_block.ensures c.by_block-test.true) i.nonzero i.below c.if-rest-code.false _ _ _ _ i.written
+by_byte-init c = grind (arith, block-begun, some-left)
 
 pub by_byte-preserved : goal.by_byte-preserved
-by_byte-preserved c = written-more c.by_byte.invariant _ _ (more-bytes _ _ _ _ c.by_byte-test.true) c.if-dest-written.false
+by_byte-preserved c = grind (arith, written-more, more-bytes)
 
 pub returns-then-dest-written : goal.returns-then-dest-written
 returns-then-dest-written c =
@@ -158,7 +152,7 @@ returns-then-dest-written-2 c =
     let rest : List ℕ = c.by_block.rest.now in
     let s : ℕ = c.args.sentinel in
     let some = some-left rest _ c.is_empty-in-by_block.ensures c.by_block-test.true in
-    let w = bytes-ended _ _ _ _ _ _ _ _ c.by_byte.invariant c.by_byte-test.false in
+    let w = bytes-ended _ _ _ _ c.by_byte.invariant c.by_byte-test.false in
     let zero = next-zero rest s some i.nonzero i.below c.if-rest-code.false (some-left _ _ c.is_empty-then-code-ne-FULL_CODE.ensures c.if-not-is_empty.true) c.if-code-ne-FULL_CODE.true in
     answered _ _ _ _ _ (some-left _ _ c.is_empty.ensures c.if-is_empty.false) (buffer-full w _ _ zero c.if-dest-written-2.true)
 
@@ -168,7 +162,7 @@ by_block-preserved-then-not-is_empty c =
     let rest : List ℕ = c.by_block.rest.now in
     let s : ℕ = c.args.sentinel in
     let some = some-left rest _ c.is_empty-in-by_block.ensures c.by_block-test.true in
-    let w = bytes-ended _ _ _ _ _ _ _ _ c.by_byte.invariant c.by_byte-test.false in
+    let w = bytes-ended _ _ _ _ c.by_byte.invariant c.by_byte-test.false in
     let zero = next-zero rest s some i.nonzero i.below c.if-rest-code.false (some-left _ _ c.is_empty-then-code-ne-FULL_CODE.ensures c.if-not-is_empty.true) c.if-code-ne-FULL_CODE.true in
     ended rest s some i.nonzero i.below c.if-rest-code.false _ _ _ _ i.whole (written-more w _ _ zero c.if-dest-written-2.false)
 
@@ -183,7 +177,7 @@ by_block-preserved c =
       | else-code-ne-FULL_CODE-via-then-code-ne-FULL_CODE+else-not-is_empty w ↦ inl (long ∙ none-left _ _ w.is_empty-then-code-ne-FULL_CODE.ensures w.if-not-is_empty.false)
       | else-code-ne-FULL_CODE-via-else-code-ne-FULL_CODE w ↦ inr w.if-code-ne-FULL_CODE.false
     ] in
-    let w = bytes-ended _ _ _ _ _ _ _ _ c.by_byte.invariant c.by_byte-test.false in
+    let w = bytes-ended _ _ _ _ c.by_byte.invariant c.by_byte-test.false in
     ended rest s some i.nonzero i.below c.if-rest-code.false _ _ _ _ i.whole (rw (zero_before-none _ _ none) at w)
 
 pub returns : goal.returns

@@ -3,7 +3,7 @@ use Rattle.std.proofs.Common.{arith}
 use Rattle.std.proofs.lemmas.Bool.{eq-eqb, ne_eqb}
 use Rattle.cobs.proofs.streaming.ReadPiece.{ended, first-code, no-piece, over-byte, over-zero, read-byte, read-first, read-full, read-zero}
 use Rattle.cobs.proofs.dec.each.decode_piece.Goals as goal
-use Rattle.cobs.proofs.dec.each.decode_piece.Goals.{else-by_byte-test, else-code, then-by_byte-test+then-byte-eq0, then-code+else-written-dest-2}
+use Rattle.cobs.proofs.dec.each.decode_piece.Goals.{else-by_byte-test, then-by_byte-test+then-byte-eq0}
 
 pub returns-then-start-source-clause-answer : goal.returns-then-start-source-clause-answer
 returns-then-start-source-clause-answer c = grind (arith, no-piece)
@@ -42,10 +42,7 @@ returns-then-written-dest-2-clause-buffer c =
     (over-zero c.by_byte.invariant c.by_byte-test.true c.if-byte-eq0.false c.if-left-ne0.false (ne_eqb _ 255 c.if-code.true) (omega arith) after).buffer
 
 pub by_byte-preserved : goal.by_byte-preserved
-by_byte-preserved c =
-    let more = c.by_byte-test.true in
-    let none = c.if-left-ne0.false in
-    grind (arith, read-zero, ne_eqb, else-code, read-full, eq-eqb)
+by_byte-preserved c = grind (arith, read-zero, ne_eqb, read-full, eq-eqb)
 
 -- the end of the source, or a zero
 pub returns-clause-answer : goal.returns-clause-answer

@@ -4,6 +4,7 @@ use Rattle.std.proofs.Common.{◌≡◌, ◌≢◌, ◌∙◌, ◌+◌, ◌-◌,
 use Rattle.std.proofs.lemmas.List.{take-take, get_or-take, get_or-append-add, length-map}
 use Rattle.std.proofs.lemmas.List.Elements.{All-append, All-take, All-drop}
 use Rattle.std.proofs.Math.Seq.{take-append-add}
+use Rattle.std.proofs.lemmas.Grind.{common_steps}
 use Rattle.cobs.specs.Decode.{head_result_within}
 use Rattle.cobs.specs.Feed.{Idle, Overlong}
 use Rattle.cobs.specs.Fields.Decoders.{phase_of}
@@ -64,10 +65,7 @@ module _ {h old b1 : List ℕ} {tail run : ℕ} {inner : UnbufferedDecoder} (f :
     left-is = grind (arith, quiet-at, p, quiet, p-nonzero, first)
 
     left_fits : inner.missing ≤ length q
-    left_fits =
-        let l = length-take-le tail h (let is = f.tail-is in omega arith) in
-        let t = tail_left p (length h) (let is = f.tail-is in omega arith) (All-take (λ b. b < 256) tail h f.below) in
-        omega (arith, left-is, length-drop tail h)
+    left_fits = grind (arith, common_steps, length-take-le, tail_left, All-take, left-is, length-drop)
 
     module _ {b2 : List ℕ} {more : ℕ} (inner' : UnbufferedDecoder) (len : ℕ) (kept : output (p ++ take len q) ≡ kept_output (p ++ q))
         (fed' : FeedsQuietly b1 (phase_of inner) (take more (take len q)) b2 (phase_of inner')) (fits : len ≤ length q) where
@@ -92,13 +90,10 @@ fed-first : (c : After-take_blocks)
 fed-first c = grind (arith, length-map, xored_below, front_xored)
 
 pub take_blocks-requires-clause-nonzero : goal.take_blocks-requires-clause-nonzero
-take_blocks-requires-clause-nonzero c = rw front_xored (All-take (λ b. b ≢ 0) c.saturating_sub-tail.result _ c.requires)
+take_blocks-requires-clause-nonzero c = grind (arith, common_steps, front_xored, All-take)
 
 pub take_blocks-requires-2-clause-nonzero : goal.take_blocks-requires-2-clause-nonzero
-take_blocks-requires-2-clause-nonzero c =
-    let tail : ℕ = c.saturating_sub-tail.result in
-    let behind = All-drop (λ b. b ≢ 0) tail _ c.requires in
-    rw slice_xored (All-take (λ b. b ≢ 0) c.kept_len-len.result.0 _ behind)
+take_blocks-requires-2-clause-nonzero c = grind (arith, common_steps, All-drop, slice_xored, All-take)
 
 pub kept_len-len-requires-clause-left : goal.kept_len-len-requires-clause-left
 kept_len-len-requires-clause-left c =
@@ -106,7 +101,7 @@ kept_len-len-requires-clause-left c =
     omega (arith, fits, length-map {A = ℕ} {B = ℕ}, length-take {A = ℕ}, length-drop {A = ℕ})
 
 pub kept_len-len-requires-clause-nonzero : goal.kept_len-len-requires-clause-nonzero
-kept_len-len-requires-clause-nonzero c = rw rest_xored (All-drop (λ b. b ≢ 0) c.saturating_sub-tail.result _ c.requires)
+kept_len-len-requires-clause-nonzero c = grind (arith, common_steps, rest_xored, All-drop)
 
 pub returns-then-take_blocks-tail : goal.returns-then-take_blocks-tail
 returns-then-take_blocks-tail c =
@@ -130,7 +125,7 @@ module _ (c : After-take_blocks-2)
   fed = grind (arith, slice_xored)
 
   within : n ≤ length (q f)
-  within = omega (arith, c.kept_len-len.ensures.within, length-map {A = ℕ} {B = ℕ}, length-take {A = ℕ}, length-drop {A = ℕ})
+  within = grind (arith, length-map, length-take, length-drop)
 
 pub returns-then-take_blocks-len : goal.returns-then-take_blocks-len
 returns-then-take_blocks-len c =

@@ -1,21 +1,24 @@
 -- The vector has as many bytes as the source, so the buffer is never too short: what `decode` wrote, cut to the message's
 -- length, is the message (`decoded-message`), and its errors are the frame's (`decoded-rejected`). `reads` and `only`
 -- follow by `decoded_reads`.
-use Rattle.std.proofs.Common.{◌≡◌, ◌<◌, length, sym, ap, ◌∙◌, arith, Err, rules}
+use Rattle.std.proofs.Common.{◌≡◌, ◌<◌, length, sym, ap, ◌∙◌, arith, Err, rules, take_at}
 use Rattle.std.proofs.lemmas.Bool.{eqb-false}
 use Rattle.cobs.specs.declared.error.DecodeError.{DecodeError}
 use Rattle.cobs.specs.declared.error.DecodeVecError.TheVariants.{Decode}
 use Rattle.cobs.proofs.decoding.HeadlineLemmas.{bytes_below}
 use Rattle.cobs.proofs.decoding.ReadsLemmas.{frame_piece}
-use Rattle.cobs.proofs.decoding.VectorHeadline.{decoded_reads, one_message, no_message, truncated}
+use Rattle.cobs.proofs.decoding.VectorHeadline.{decoded_reads}
 use Rattle.cobs.proofs.decoding.VectorSteps.{decoded-rejected, decoded-message}
 use Rattle.cobs.proofs.dec.forms.decode_vec.Goals as goal
 
 pub returns-clause-message : goal.returns-clause-message
-returns-clause-message c = grind (arith, truncated, decoded-message, eqb-false)
+returns-clause-message c = grind (arith, take_at, decoded-message, eqb-false)
 
 pub returns-clause-reads : goal.returns-clause-reads
-returns-clause-reads c found m r = one_message (returns-clause-message c) ((decoded_reads c.args.source.now (bytes_below _ c.type_inv.source) m (frame_piece r)).1 r)
+returns-clause-reads c found m r =
+    let message = returns-clause-message c in
+    let same = (decoded_reads c.args.source.now (bytes_below _ c.type_inv.source) m (frame_piece r)).1 r in
+    cc
 
 pub returns-clause-only : goal.returns-clause-only
 returns-clause-only c piece m same = grind (arith, decoded_reads, bytes_below, returns-clause-message)
@@ -30,6 +33,6 @@ returns-in_err-report c =
       refused = no.0;
       empty = λ none. absurd (omega (arith, ap length none));
       room = λ same. no.1 (cc);
-      reads = λ found m r. absurd (no_message no.0 ((decoded_reads c.args.source.now (bytes_below _ c.type_inv.source) m (frame_piece r)).1 r));
+      reads = λ found m r. absurd (let rejected = no.0 in let same = (decoded_reads c.args.source.now (bytes_below _ c.type_inv.source) m (frame_piece r)).1 r in cc);
       only = λ piece m e. absurd e;
     })

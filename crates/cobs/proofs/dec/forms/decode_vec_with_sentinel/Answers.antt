@@ -1,7 +1,7 @@
 -- The vector has as many bytes as the source, so the buffer is never too short: what `decode_with_sentinel` wrote, cut to
 -- the message's length, is the message (`decoded_head-message`), and its errors are the frame's
 -- (`decoded_head-rejected`). `reads` and `only` follow by `decoded_head_reads`.
-use Rattle.std.proofs.Common.{◌≡◌, ◌<◌, ℕ, length, sym, ap, ◌∙◌, arith, bit_xor, Err, rules}
+use Rattle.std.proofs.Common.{◌≡◌, ◌<◌, ℕ, length, sym, ap, ◌∙◌, arith, bit_xor, Err, rules, take_at}
 use Rattle.std.proofs.lemmas.List.{length-map}
 use Rattle.std.proofs.lemmas.Bool.{eqb-false}
 use Rattle.cobs.specs.Sentinel.{xor_each}
@@ -9,15 +9,18 @@ use Rattle.cobs.specs.declared.error.DecodeError.{DecodeError}
 use Rattle.cobs.specs.declared.error.DecodeVecError.TheVariants.{Decode}
 use Rattle.cobs.proofs.decoding.HeadlineLemmas.{xored_below}
 use Rattle.cobs.proofs.decoding.ReadsLemmas.{frame_piece}
-use Rattle.cobs.proofs.decoding.VectorHeadline.{decoded_head_reads, one_message, no_message, truncated}
+use Rattle.cobs.proofs.decoding.VectorHeadline.{decoded_head_reads}
 use Rattle.cobs.proofs.decoding.VectorSteps.{decoded_head-rejected, decoded_head-message}
 use Rattle.cobs.proofs.dec.forms.decode_vec_with_sentinel.Goals as goal
 
 pub returns-clause-message : goal.returns-clause-message
-returns-clause-message c = grind (arith, length-map, bit_xor, truncated, decoded_head-message, eqb-false)
+returns-clause-message c = grind (arith, length-map, bit_xor, take_at, decoded_head-message, eqb-false)
 
 pub returns-clause-reads : goal.returns-clause-reads
-returns-clause-reads c found m r = one_message (returns-clause-message c) ((decoded_head_reads _ (xored_below _ _ c.ranges.sentinel.fits c.type_inv.source) m (frame_piece r)).1 r)
+returns-clause-reads c found m r =
+    let message = returns-clause-message c in
+    let same = (decoded_head_reads _ (xored_below _ _ c.ranges.sentinel.fits c.type_inv.source) m (frame_piece r)).1 r in
+    cc
 
 pub returns-clause-only : goal.returns-clause-only
 returns-clause-only c piece m same = grind (arith, decoded_head_reads, xored_below, returns-clause-message)
@@ -34,6 +37,6 @@ returns-in_err-len c =
       refused = no.0;
       empty = λ none. absurd (omega (arith, ap length none));
       room = λ same. no.1 (cc);
-      reads = λ found m r. absurd (no_message no.0 ((decoded_head_reads _ (xored_below _ _ c.ranges.sentinel.fits c.type_inv.source) m (frame_piece r)).1 r));
+      reads = λ found m r. absurd (let rejected = no.0 in let same = (decoded_head_reads _ (xored_below _ _ c.ranges.sentinel.fits c.type_inv.source) m (frame_piece r)).1 r in cc);
       only = λ piece m e. absurd e;
     })

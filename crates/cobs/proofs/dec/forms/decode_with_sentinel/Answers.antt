@@ -14,15 +14,7 @@ use Rattle.cobs.proofs.streaming.KeptQuiet.{whole_front, whole_result}
 use Rattle.cobs.proofs.dec.forms.decode_with_sentinel.Goals as goal
 
 pub returns-then-not-has_vectors : goal.returns-then-not-has_vectors
-returns-then-not-has_vectors c =
-    let e = c.decode_head_each.ensures in
-    let below = xored_below c.args.sentinel c.args.source.now c.ranges.sentinel.fits c.type_inv.source in
-    record {
-      answer = e.returned;
-      buffer = e.buffer;
-      reads = source_reads _ _ _ _ e.returned e.buffer below;
-      only = source_only _ _ _ _ e.returned e.buffer below;
-    }
+returns-then-not-has_vectors c = grind (arith, xored_below, source_reads, source_only)
 
 pub returns-then-is_empty-clause-buffer : goal.returns-then-is_empty-clause-buffer
 returns-then-is_empty-clause-buffer c = grind (arith, nothing_kept, eqb-true)

@@ -58,7 +58,7 @@ module _ (c : After-take_in_place) where
   bytes-are = rw rest (xor_each-zero bytes)
 
   bytes-long : length (take (c.args.end - tail) (drop tail new)) ≡ c.args.end - tail
-  bytes-long = omega (arith, length-take (c.args.end - tail) (drop tail new), length-drop tail new)
+  bytes-long = grind (arith, length-take, length-drop)
 
   last : HasNoZero bytes
   last = part-nonzero tail (c.args.end - tail) c.args.end old c.requires.nonzero (omega arith)

@@ -9,8 +9,7 @@ use Rattle.cobs.proofs.decoding.OutcomeSteps.{in_place_report-rejected, in_place
 use Rattle.cobs.proofs.dec.in_place.decode_in_place_report.Goals as goal
 
 pub returns-in_err-frame_size-clause-answer : goal.returns-in_err-frame_size-clause-answer
-returns-in_err-frame_size-clause-answer c =
-    grind (arith, eqb-false, front_is_head, in_place_report-rejected)
+returns-in_err-frame_size-clause-answer c = grind (arith, eqb-false, front_is_head, in_place_report-rejected)
 
 pub returns-in_err-frame_size-clause-buffer : goal.returns-in_err-frame_size-clause-buffer
 returns-in_err-frame_size-clause-buffer c = grind (arith, front_is_head)
@@ -22,8 +21,7 @@ pub returns-in_err-frame_size-clause-only : goal.returns-in_err-frame_size-claus
 returns-in_err-frame_size-clause-only c = grind (arith, in_place_only, returns-in_err-frame_size-clause-answer, returns-in_err-frame_size-clause-buffer, bytes_below)
 
 pub returns-clause-answer : goal.returns-clause-answer
-returns-clause-answer c =
-    grind (arith, eqb-false, front_is_head, in_place_report-decoded, length-take-le)
+returns-clause-answer c = grind (arith, eqb-false, front_is_head, in_place_report-decoded, length-take-le)
 
 pub returns-clause-buffer : goal.returns-clause-buffer
 returns-clause-buffer c = grind (arith, front_is_head)

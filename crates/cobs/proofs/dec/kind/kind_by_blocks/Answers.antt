@@ -4,7 +4,7 @@ use Rattle.std.proofs.Common.{ℕ, List, ◌≡◌, ◌<◌, drop, length, get_o
 use Rattle.std.proofs.lemmas.List.{drop_more, drop-drop}
 use Rattle.cobs.specs.declared.dec.kind.FrameKind.TheVariants.{NotAFrame, Canonical}
 use Rattle.cobs.proofs.decoding.HeadlineLemmas.{bytes_below}
-use Rattle.cobs.proofs.format.KindLemmas.{says, behind-start, one-more, broken-kind, longer-kind, canonical-kind}
+use Rattle.cobs.proofs.format.KindLemmas.{says, one-more, broken-kind, longer-kind, canonical-kind}
 use Rattle.cobs.proofs.dec.kind.kind_by_blocks.Goals as goal
 
 -- the code of the block at a place
@@ -12,7 +12,7 @@ code_at : (bytes : List ℕ) (read : ℕ) → read < length bytes → get_or (dr
 code_at bytes read within = grind (arith, get_or, drop_more)
 
 pub by_block-init : goal.by_block-init
-by_block-init c = grind (arith, behind-start, bytes_below)
+by_block-init c = grind (arith, bytes_below)
 
 pub by_block-preserved : goal.by_block-preserved
 by_block-preserved c =

@@ -34,7 +34,7 @@ write_zeros_at_copied-requires t c =
     = ap (drop c.args.first) c.requires.copied ∙ sym (rest_xored c.args.copied.now c.args.sentinel c.args.first) in
     let rest : HasNoZero (get_or dest (c.args.first - 1) 0 ∷ drop c.args.first dest)
     = All-cons (λ b. b ≢ 0) _ _ (All-get_or (λ b. b ≢ 0) dest (c.args.first - 1) 0 (omega (arith, same)) (All-tail (λ b. b ≢ 0) c.args.first dest nz)) (All-drop (λ b. b ≢ 0) c.args.first dest (All-tail (λ b. b ≢ 0) c.args.first dest nz)) in
-    (rw (← is) at less, (below, (rw (← is) at copied, rw (← is) at rw code at rest)))
+    grind arith
 
 pub returns : goal.returns
 returns t c =

@@ -4,6 +4,7 @@ use Rattle.std.proofs.Common.{◌≡◌, ◌≢◌, ◌-◌, ◌<◌, ◌≤◌,
 use Rattle.std.proofs.Math.Seq.{take-append_seam}
 use Rattle.std.proofs.lemmas.List.{drop_more, length-map, take_rest}
 use Rattle.std.proofs.lemmas.List.Elements.{All-cons, All-drop}
+use Rattle.std.proofs.lemmas.Grind.{common_steps}
 use Rattle.cobs.specs.Grammar.{HasNoZero}
 use Rattle.cobs.specs.Internal.Walk.{walked}
 use Rattle.cobs.specs.Piece.{last_part, missing, output}
@@ -19,11 +20,10 @@ module _ (source dest rest : List ℕ) (s : ℕ) (some : 0 < length source) (cop
   behind = take (length source - 1) dest
 
   behind-is : behind ≡ xor_each s (drop 1 source)
-  behind-is = ap (take (length source - 1)) (copied ∙ ap (λ (l : List ℕ). xor_each s l ++ rest) (take_rest source 1))
-      ∙ ap (λ (k : ℕ). take k (xor_each s (drop 1 source) ++ rest)) (omega (arith, length-map (drop 1 source) (λ (b : ℕ). bit_xor b s), length-drop 1 source)) ∙ take-append_seam (xor_each s (drop 1 source)) rest
+  behind-is = grind (arith, common_steps, take_rest, length-map, length-drop, take-append_seam)
 
   long : length behind ≡ length source - 1
-  long = omega (arith, ap length behind-is, length-map (drop 1 source) (λ (b : ℕ). bit_xor b s), length-drop 1 source)
+  long = grind (arith, behind-is, length-map, length-drop)
 
   source-is : xor_each s source ≡ bit_xor (get_or source 0 0) s ∷ behind
   source-is = grind (arith, drop_more, bit_xor, get_or, behind-is)
@@ -41,14 +41,11 @@ module _ (c : goal.After-slice_known-3-1) where
   whole : (c.write_zeros_at_copied-left.new.dest ≡ output (xor_each c.args.sentinel c.args.source.now)) × (c.write_zeros_at_copied-left.result.1 ≡ missing (last_part (xor_each c.args.sentinel c.args.source.now)))
   whole = piece c.args.source.now c.copy_xored_short.new.dest _ c.args.sentinel (omega arith) (c.if-not-copy_xored_short.ensures.copied refl) (omega arith) c.if-source-sentinel.false (c.if-not-copy_xored_short.ensures.nonzero refl) c.write_zeros_at_copied-left.ensures
 
-  len-is : length c.write_zeros_at_copied-left.new.dest ≡ length c.args.source.now - 1
-  len-is = grind (arith, length-walked, long)
-
 pub returns-clause-len : goal.returns-clause-len
-returns-clause-len c = omega (arith, ap length (whole c).0, len-is c)
+returns-clause-len c = grind (arith, whole, length-walked, long)
 
 pub returns-clause-left : goal.returns-clause-left
 returns-clause-left c = (whole c).1
 
 pub returns-clause-begins : goal.returns-clause-begins
-returns-clause-begins c = grind (arith, len-is, take-append_seam, whole)
+returns-clause-begins c = grind (arith, length-walked, long, take-append_seam, whole)

@@ -31,7 +31,7 @@ by_block-preserved-then-is_all c =
     (omega arith, λ p is. ends-ones 32 p (xor_each s c.args.bytes.now) c.by_block.at (omega (arith, same)) ones (c.by_block.invariant.1 p is))
 
 pub by_block-smaller : goal.by_block-smaller
-by_block-smaller c = let s = some _ _ _ c.by_block-test.true c.requires.nonzero in omega arith
+by_block-smaller c = grind (arith, some)
 
 pub returns-then-rest-code-clause-kept : goal.returns-then-rest-code-clause-kept
 returns-then-rest-code-clause-kept c p is = grind (arith, broken-kept, code-is, length-map)

@@ -1,16 +1,17 @@
 -- The bytes after the leading zeros are fed, up to the end of the piece or up to a byte without room: by `FrontFed` for either.
-use Rattle.std.proofs.Common.{◌≡◌, ◌≢◌, ◌∙◌, ◌<◌, ◌-◌, ℕ, List, length, take, drop, get_or, Some, refl, ap, arith, rules, length-drop}
+use Rattle.std.proofs.Common.{◌≡◌, ◌≢◌, ◌∙◌, ◌<◌, ◌-◌, ℕ, List, length, take, drop, get_or, Some, refl, arith, rules, length-drop, sym, ap}
 use Rattle.std.proofs.lemmas.Bool.{eqb-true, eqb-false}
 use Rattle.std.proofs.lemmas.List.{take_rest}
-use Rattle.cobs.specs.Decode.{leading_zeros, report_result}
+use Rattle.cobs.specs.Decode.{report_result, outcome_result}
 use Rattle.cobs.specs.Fields.Decoders.{phase_of}
 use Rattle.cobs.specs.Feed.{Overlong}
 use Rattle.cobs.specs.Overwritten.{overwritten}
 use Rattle.cobs.specs.Piece.{output}
 use Rattle.cobs.specs.Step.{next_phase}
 use Rattle.cobs.specs.Stream.{first_piece, head}
+use Rattle.cobs.proofs.decoding.OutcomeLemmas.{outcome_of_long}
 use Rattle.cobs.proofs.decoding.HeadLemmas.{first_piece_empty, first_piece_none, first_piece_found, head_some, leading_zeros-stop}
-use Rattle.cobs.proofs.decoding.OutcomeSteps.{answer-by, result_of_decode-none, overwritten-none, outcome_result-too_long, result-by, always}
+use Rattle.cobs.proofs.decoding.OutcomeSteps.{answer-by, result_of_decode-none, overwritten-none, result-by, always}
 use Rattle.cobs.proofs.streaming.FrontFed.{FrontFed, over-long, over-written, rest, whole, whole-count}
 use Rattle.cobs.proofs.streaming.QuietLemmas.{Quiet, quiet-at, quiet-written}
 use Rattle.cobs.proofs.dec.whole.decode_long.Goals as goal
@@ -27,18 +28,14 @@ module _ (c : After-take_run-len) where
   rest-is = grind (arith, take_rest, source)
 
   some : 0 < length (rest source)
-  some = omega (arith, length-drop (leading_zeros source) source)
+  some = grind (arith, length-drop)
 
   found : first_piece source ≡ Some (head (rest source))
   found = first_piece_found source some
 
   -- the run
   front : FrontFed (rest source) c.args.dest.now c.take_run-len.new.dest (phase_of c.take_run-len.new.self) c.take_run-len.result
-  front = record {
-    begins = head_some (rest source) some (leading_zeros-stop source (omega arith));
-    within = omega (arith, ap length rest-is);
-    fed = rw rest-is at c.take_run-len.ensures.fed;
-  }
+  front = grind (arith, head_some, rest, some, leading_zeros-stop, rest-is)
 
   stop : c.take_run-len.result < length (rest source) → get_or (rest source) c.take_run-len.result 0 ≢ 0
       → next_phase (length c.take_run-len.new.dest) (phase_of c.take_run-len.new.self) (get_or (rest source) c.take_run-len.result 0) ≡ Overlong
@@ -70,7 +67,7 @@ pub returns-then-rest-len-ne0-clause-returned : goal.returns-then-rest-len-ne0-c
 returns-then-rest-len-ne0-clause-returned c =
     let at = (goal.at.returns-then-rest-len-ne0-clause-returned c).After-take_run-len in
     let long = too-long at c.if-len-rest.true c.if-rest-len-ne0.true in
-    answer-by _ _ _ _ 0 _ (omega arith) (found at) refl (outcome_result-too_long _ _ long.0) tt
+    answer-by _ _ _ _ 0 _ (omega arith) (found at) refl (sym (ap outcome_result (outcome_of_long _ _ long.0))) tt
 
 pub returns-then-rest-len-ne0-clause-buffer : goal.returns-then-rest-len-ne0-clause-buffer
 returns-then-rest-len-ne0-clause-buffer c =

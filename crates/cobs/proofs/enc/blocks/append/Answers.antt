@@ -3,6 +3,7 @@ use Rattle.std.proofs.Common.{arith}
 use Rattle.std.proofs.lemmas.List.{take_rest}
 use Rattle.cobs.proofs.encoding.TakingLemmas.{front-last, left-end}
 use Rattle.cobs.proofs.enc.blocks.append.Goals as goal
+use Rattle.std.proofs.lemmas.Grind.{common_steps}
 
 pub append_short-requires-clause-fits : goal.append_short-requires-clause-fits
 append_short-requires-clause-fits c = grind (arith, left-end, take_rest)
@@ -11,7 +12,7 @@ pub append_rest-reached-requires : goal.append_rest-reached-requires
 append_rest-reached-requires c = grind (arith, left-end, take_rest)
 
 pub returns-then-fits_window_and_block : goal.returns-then-fits_window_and_block
-returns-then-fits_window_and_block c = front-last _ (take_rest c.args.source.now _) c.append_windows-read.ensures.taken (omega arith) c.append_short.ensures
+returns-then-fits_window_and_block c = grind (arith, common_steps, front-last, take_rest)
 
 pub returns-else-fits_window_and_block : goal.returns-else-fits_window_and_block
-returns-else-fits_window_and_block c = front-last _ (take_rest c.args.source.now _) c.append_windows-read.ensures.taken (omega arith) c.append_rest-reached.ensures
+returns-else-fits_window_and_block c = grind (arith, common_steps, front-last, take_rest)

@@ -1,8 +1,9 @@
 -- Each turn takes a part of the run (`slice-joined`), which may fill its block; the zero after the run closes the last one.
-use Rattle.std.proofs.Common.{◌≡◌, ◌≤◌, ◌+◌, ◌-◌, ℕ, List, drop, get_or, length, refl, arith, length-drop}
+use Rattle.std.proofs.Common.{◌≡◌, ◌+◌, ◌-◌, ℕ, List, drop, get_or, refl, arith, length-drop}
 use borrow.Rule.Slice.PartMut.{put_mid}
 use Rattle.std.proofs.lemmas.List.{drop_more}
-use Rattle.cobs.specs.OpenBlock.{end_after, next_of}
+use Rattle.std.proofs.lemmas.Grind.{common_steps}
+use Rattle.cobs.specs.OpenBlock.{next_of}
 use Rattle.cobs.specs.Internal.Reaches.{Reaches, start_with}
 use Rattle.cobs.specs.Fields.Progress.{reached_at}
 use Rattle.cobs.proofs.encoding.ByteLemmas.{byte-zero}
@@ -14,14 +15,10 @@ use Rattle.cobs.proofs.enc.blocks.append_long_run.Goals as goal
 use Rattle.cobs_bytes.proofs.bytes.ListLemmas.{part-nonzero}
 
 pub by_block-init : goal.by_block-init
-by_block-init c = record { within = omega arith; taken = front-none c.args.dest.now (reached_at c.args.progress) c.args.source.now c.requires.place }
-
--- the remaining bytes fit
-left-fits : (c : After-min-len) → end_after (reached_at c.by_block.progress) (drop c.by_block.read c.args.source.now) ≤ length c.by_block.dest
-left-fits c = grind arith
+by_block-init c = grind (arith, common_steps, front-none)
 
 pub slice_bounds-copy_from_slice-end : goal.slice_bounds-copy_from_slice-end
-slice_bounds-copy_from_slice-end c = grind (arith, left-fits, After-min-len, length-drop, next-least)
+slice_bounds-copy_from_slice-end c = grind (arith, After-min-len, length-drop, next-least)
 
 -- a stretch of the run joins the open block
 joined : (c : After-copy_from_slice)

@@ -2,6 +2,7 @@
 -- (`row-taken`), or up to a full block (`filled`).
 use Rattle.std.proofs.Common.{ℕ, ◌≡◌, refl, ◌∙◌, ◌≢◌, ◌<◌, ◌≤◌, ◌+◌, ◌-◌, min, ap, sym, arith, length, take, drop, length-drop}
 use lib.Count.{count_trailing_zeros}
+use Rattle.std.proofs.lemmas.Grind.{common_steps}
 use Rattle.cobs_bytes.specs.Mask.{lowest, without_lowest}
 use Rattle.std.proofs.lemmas.List.{length-set, take_rest}
 use Rattle.cobs.specs.Internal.Marks.{IsMasked}
@@ -12,7 +13,7 @@ use Rattle.cobs.proofs.encoding.ReachLemmas.{Reaches-weaker}
 use Rattle.cobs.proofs.encoding.MarkLemmas.{CopiedWindow, WindowTaken, copied-reaches, filled, first-within, length-after, length-row, lowest-none, masked-end, masked-start, masked-step, row-taken}
 use Rattle.cobs_bytes.proofs.bytes.MaskLemmas.{window_all}
 use Rattle.cobs.proofs.encoding.TakingLemmas.{front-none, front-open, front-taken, reaches-start}
-use Rattle.cobs.proofs.enc.blocks.append_windows.Goals.{After-copy_at-window, Joined-window-eq0, After-write_codes_of_zeros-zeros, then-window-eq0+else-next-index, else-window-eq0+else-place-index-lt-FULL_CODE}
+use Rattle.cobs.proofs.enc.blocks.append_windows.Goals.{After-copy_at-window, Joined-window-eq0, After-write_codes_of_zeros-zeros}
 use Rattle.cobs.proofs.enc.blocks.append_windows.Goals as goal
 
 -- the window as it was copied
@@ -35,7 +36,7 @@ module _ (c : After-copy_at-window) where
   coded some near = let o = c.by_window.invariant.reaches.ordered in masked-step (masked-start copied (omega arith)) some
 
 pub returns-then-source-le-WINDOW-clause-taken : goal.returns-then-source-le-WINDOW-clause-taken
-returns-then-source-le-WINDOW-clause-taken c = front-none c.args.dest.now (reached_at c.args.start) c.args.source.now c.requires.place
+returns-then-source-le-WINDOW-clause-taken c = grind (arith, common_steps, front-none)
 
 pub by_window-init : goal.by_window-init
 by_window-init c =
@@ -89,10 +90,7 @@ by_window-preserved c =
 -- no zero is near enough to keep the block from being full
 none-near : (c : Joined-window-eq0) → (c.copy_at-window.result ≢ 0 → lowest c.copy_at-window.result < 32)
     → c.by_window.index + 255 - c.by_window.next ≤ min (lowest c.copy_at-window.result) 32
-none-near c first = elim c.if-window-eq0.branch [
-  | then-window-eq0+else-next-index b ↦ omega (arith, lowest-none _ b.if-window-eq0.true)
-  | else-window-eq0+else-place-index-lt-FULL_CODE b ↦ omega (arith, first b.if-window-eq0.false)
-]
+none-near c first = grind (arith, lowest-none)
 
 pub returns-in-by_window-clause-within : goal.returns-in-by_window-clause-within
 returns-in-by_window-clause-within c =

@@ -61,8 +61,7 @@ by_byte-preserved c =
     let more : take (c.by_byte.taken + 1) (drop before old) ≡ take c.by_byte.taken (drop before old) ++ get_or c.by_byte.buffer at 0 ∷ [] = grind (arith, take_more) in
     let le = end-le r in
     let least = next-least r (get_or c.by_byte.buffer at 0 ∷ []) (after-place i.after).some (omega arith) in
-    let reached = all-end e in
-    record { after = rw more (e.after _ i.after); rest = all-rest e ∙ drop-later (end_of r) (end_of r') c.by_byte.buffer old (omega arith) i.rest }
+    grind (arith, all-rest, drop-later, all-end)
 
 pub close-requires : goal.close-requires
 close-requires c = rw c.progress.ensures.progress (after-place c.by_byte.invariant.after)

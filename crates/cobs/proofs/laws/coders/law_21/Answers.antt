@@ -14,16 +14,13 @@ module _ {buffer buffer' : List ℕ} {phase phase' : Phase} {end : PieceEnd} {co
   cut : bytes ≡ take count bytes ++ drop count bytes
   cut = sym (take-append-drop count bytes)
 
-  nothing_left : unended (take count bytes) ≡ []
-  nothing_left = grind (arith, unended-zero)
-
   left_behind : unended bytes ≡ unended (drop count bytes)
-  left_behind = cc (cut, nothing_left, unended-append (take count bytes) (drop count bytes))
+  left_behind = grind (arith, cut, unended-zero, unended-append)
 
   reported_first : phase ≡ Idle → stream_outcomes bytes (length buffer) ≡ outcome_at end buffer' ∷ stream_outcomes (drop count bytes) (length buffer)
   reported_first idle =
       let first = t.takes.outcomes [] (DecoderAfter-idle buffer phase idle) in
-      cc (cut, nothing_left, stream_outcomes-append (take count bytes) (drop count bytes) (length buffer))
+      grind (arith, cut, unended-zero, stream_outcomes-append)
 
 pub returns : goal.returns
 returns c = record {

@@ -1,6 +1,6 @@
 -- A row of the table is one step of the piece: a nonzero byte (`StateAfter-step`), or its end (`StateAfter-end`).
 use Rattle.std.proofs.Common.{arith}
-use Rattle.cobs.proofs.streaming.TableLemmas.{StateAfter-start, StateAfter-step, StateAfter-end, table_state-zero}
+use Rattle.cobs.proofs.streaming.TableLemmas.{StateAfter-start, StateAfter-step, StateAfter-end}
 use Rattle.cobs.proofs.dec.state.DecoderState.feed.Goals as goal
 
 pub returns-clause-after : goal.returns-clause-after
@@ -11,4 +11,4 @@ pub returns-clause-message : goal.returns-clause-message
 returns-clause-message c = λ p so_far m s zero. rw (c.row-returned.ensures.returned, zero) (StateAfter-end c.args.self.now p so_far m s)
 
 pub returns-clause-idle : goal.returns-clause-idle
-returns-clause-idle c = grind (arith, table_state-zero, StateAfter-start)
+returns-clause-idle c = grind (arith, StateAfter-start)

@@ -6,7 +6,7 @@ use Rattle.cobs.specs.Internal.Taking.{TakesFront}
 use Rattle.cobs.proofs.encoding.StepLemmas.{has-room, room-only}
 use Rattle.cobs.proofs.encoding.TakingLemmas.{all-after, all-rest}
 use Rattle.cobs.proofs.encoding.AfterLemmas.{after-end, after-place}
-use Rattle.cobs.proofs.enc.unbuffered.UnbufferedEncoder.feed.Goals.{Joined-then-taken-gt253, After-append_byte, then-taken-gt253-via-then-taken-gt253, then-taken-gt253-via-else-taken-gt253+then-room-self, then-taken-gt253-via-else-taken-gt253+else-room-self+then-room-self-2}
+use Rattle.cobs.proofs.enc.unbuffered.UnbufferedEncoder.feed.Goals.{Joined-then-taken-gt253, After-append_byte, then-taken-gt253-via-then-taken-gt253}
 use Rattle.cobs.proofs.enc.unbuffered.UnbufferedEncoder.feed.Goals as goal
 
 none : (c : Joined-then-taken-gt253) → HasRoomFor (length c.args.dest.now) (reached_by c.args.self.now) (c.args.byte ∷ []) → ⊥
