@@ -103,6 +103,11 @@ INLINE = set(
     "decode_with_sentinel UnbufferedDecoder::feed_piece DecoderState::feed EncoderState::push UnbufferedEncoder::progress"
     " UnbufferedEncoder::from_progress".split()
 )
+# Functions whose marks differ from those of the proved source. The first two decode long frames: here a call for short frames
+# is their only caller, and saves fewer registers if they aren't compiled into it. In C a function of its own calls them. The
+# third one is apart in the proved source for compilers that can't see that two slices don't overlap; rustc can.
+APART = {"decode_long", "decode_blocks_in_place"}
+INTO_CALLER = {"cobs_bytes::copy_slice"}
 # Calls whose result is all that they are for: the lint says so if it isn't used.
 MUST_USE = set(
     "PieceEnd::reported DecodeReport::parsed_size DecodeReport::frame_size EncoderState::can_push EncoderState::finalize"
@@ -323,7 +328,7 @@ def signature(source):
         head[0] = head[0].replace("fn ", "const fn ", 1)
     source.seen.add(call)
     source.function = call
-    marks = [indent + "#[inline]"] * (call in INLINE) + [indent + "#[must_use]"] * (call in MUST_USE)
+    marks = [indent + "#[inline]"] * (call in INLINE | INTO_CALLER) + [indent + "#[inline(never)]"] * (call in APART) + [indent + "#[must_use]"] * (call in MUST_USE)
     return marks + without_allocator("\n".join(head)).split("\n")
 
 
@@ -401,7 +406,10 @@ def step(source, out):
         if f"{source.folder}{module[2]}.rt" not in SOURCES[source.crate][1]:
             out.append(f"pub(crate) mod {module[2]};")
     elif re.match(FUNCTION, text):
-        out += signature(source)
+        head = signature(source)
+        if source.function in INTO_CALLER and "inline(never)" not in out.pop():
+            source.fail("a function that isn't marked")
+        out += head
     elif re.match(r"law_\d+\(\);$", text):
         source.at += 1
     else:
@@ -572,7 +580,7 @@ def main():
         (to / place).parent.mkdir(parents=True, exist_ok=True)
         (to / place).write_text(text)
         written.append(to / place)
-    used = set(MORE_DERIVES) | STORED | CONST | INLINE | MUST_USE | LEFT_OUT | set(REWORDED) | {f"{name}, by target" for name in BY_TARGET}
+    used = set(MORE_DERIVES) | STORED | CONST | INLINE | APART | INTO_CALLER | MUST_USE | LEFT_OUT | set(REWORDED) | {f"{name}, by target" for name in BY_TARGET}
     if missing := used - seen - reworded:
         raise SystemExit(f"translate.py: no source has {sorted(missing)[0]}")
     for path in set(to.rglob("*.rs")) - set(written):

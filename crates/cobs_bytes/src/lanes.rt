@@ -75,6 +75,17 @@ pub fn copy_xored_short(source: &[u8], dest: &mut [u8], sentinel: u8) -> bool
     by_width!(source.len(), copy_xored_two(source, dest, sentinel))
 }
 
+/// Copies all bytes as one slice.
+// A function of its own. Compilers that can't see that two slices don't overlap add a loop for slices that do, and this loop
+// would cost each caller registers. The parameters have the order of `memmove`, which it then only jumps to.
+#[inline(never)]
+fn copy_slice(dest: &mut [u8], source: &[u8])
+    requires { length source.now ≡ length dest.old }
+    ensures { dest.new ≡ source.now }
+{
+    dest.copy_from_slice(source);
+}
+
 /// Copies all bytes as one slice, and XORs each with the sentinel if that isn't 0.
 #[inline(always)]
 fn copy_xored_slice(source: &[u8], dest: &mut [u8], sentinel: u8)
@@ -82,7 +93,7 @@ fn copy_xored_slice(source: &[u8], dest: &mut [u8], sentinel: u8)
     ensures { dest.new ≡ xor_each sentinel source.now ++ drop (length source.now) dest.old }
 {
     let copy = &mut dest[..source.len()];
-    copy.copy_from_slice(source);
+    copy_slice(copy, source);
     if sentinel != 0 {
         xor_bytes(copy, sentinel);
     }

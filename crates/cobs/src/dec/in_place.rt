@@ -98,7 +98,6 @@ impl UnbufferedDecoder {
 }
 
 /// Decodes the blocks in the first `end` bytes of the buffer, and returns the length of their output.
-#[inline(never)]
 fn decode_blocks_in_place(buffer: &mut [u8], end: usize) -> Result<usize, DecodeError>
     requires within { end ≤ length buffer.old }
     requires nonzero { HasNoZero (take end buffer.old) }

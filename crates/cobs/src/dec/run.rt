@@ -23,8 +23,7 @@ pub(crate) const SPAN_MAX: usize = FULL_BLOCK_BYTES - 1;
 /// Takes rows of 32 bytes from the front of `bytes`, as long as each byte of a row is `byte`, and writes a row of zeros
 /// for each, from `at` on. It stops if there is no room for another row, and after seven rows, because the caller
 /// treats the rows as one span, and eight rows would be longer than a span. Returns how many zeros it wrote.
-// A function of its own, so that the walk keeps its registers.
-#[inline(never)]
+#[inline(always)]
 fn write_rows(dest: &mut [u8], at: usize, bytes: &[u8], byte: u8) -> usize
     ensures within { result ≤ length bytes.now }
     ensures few { result < 254 }
@@ -319,8 +318,11 @@ impl UnbufferedDecoder {
         ensures stop { result < length bytes.now → next_phase (length dest.new) (phase_of self.new)
             (slice_index (xor_each sentinel bytes.now) result) ≡ Overlong }
     {
-        // A copy, so that it stays in registers.
-        let mut here = *self;
+        // A copy of the numbers that change, so that they stay in registers.
+        let mut here = UnbufferedDecoder {
+            too_long: 0,
+            ..*self
+        };
         let mut taken = 0;
         'by_step: while taken < bytes.len() {
             let step = here.take_part(dest, &bytes[taken..], sentinel);
@@ -329,7 +331,9 @@ impl UnbufferedDecoder {
                 break;
             }
         }
-        *self = here;
+        self.written = here.written;
+        self.missing = here.missing;
+        self.joint = here.joint;
         taken
     }
 

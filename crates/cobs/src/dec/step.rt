@@ -23,7 +23,7 @@ pub(crate) fn joint_after(code: u8) -> u8
 impl UnbufferedDecoder {
     /// Takes a zero, which ends a piece if one has begun. `len` is the buffer's length.
     #[inline(always)]
-    fn end(&mut self, len: usize) -> Result<Option<usize>, DecodeError>
+    pub(crate) fn end(&mut self, len: usize) -> Result<Option<usize>, DecodeError>
         ensures returned { result ≡ end_result len (phase_of self.old) }
         ensures idle { phase_of self.new ≡ Idle }
     {

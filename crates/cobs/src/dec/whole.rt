@@ -58,9 +58,7 @@ pub fn decode(source: &[u8], dest: &mut [u8]) -> Result<DecodeReport, DecodeErro
     decode_long(source, dest)
 }
 
-/// Does what [`decode`] does, for any source. It is a separate function, so that decoding a short frame doesn't save
-/// registers for it.
-#[inline(never)]
+/// Does what [`decode`] does, for any source.
 fn decode_long(source: &[u8], dest: &mut [u8]) -> Result<DecodeReport, DecodeError>
     ensures returned { result ≡ result_of_decode source.now (length dest.old) }
     ensures buffer { dest.new ≡ overwritten dest.old (first_output source.now) }

@@ -19,8 +19,7 @@ pub(crate) const SPAN_MAX: usize = FULL_BLOCK_BYTES - 1;
 /// Takes rows of 32 bytes from the front of `bytes`, as long as each byte of a row is `byte`, and writes a row of zeros
 /// for each, from `at` on. It stops if there is no room for another row, and after seven rows, because the caller
 /// treats the rows as one span, and eight rows would be longer than a span. Returns how many zeros it wrote.
-// A function of its own, so that the walk keeps its registers.
-#[inline(never)]
+#[inline(always)]
 fn write_rows(dest: &mut [u8], at: usize, bytes: &[u8], byte: u8) -> usize {
     let most = bytes.len().min(dest.len().saturating_sub(at)).min(SPAN_MAX);
     let mut len = 0;
@@ -205,8 +204,11 @@ impl UnbufferedDecoder {
     /// Takes bytes that have no sentinel, as long as their output has room, and returns how many it took.
     #[inline(always)]
     pub(crate) fn take_blocks(&mut self, dest: &mut [u8], bytes: &[u8], sentinel: u8) -> usize {
-        // A copy, so that it stays in registers.
-        let mut here = *self;
+        // A copy of the numbers that change, so that they stay in registers.
+        let mut here = UnbufferedDecoder {
+            too_long: 0,
+            ..*self
+        };
         let mut taken = 0;
         while taken < bytes.len() {
             let step = here.take_part(dest, &bytes[taken..], sentinel);
@@ -215,7 +217,9 @@ impl UnbufferedDecoder {
                 break;
             }
         }
-        *self = here;
+        self.written = here.written;
+        self.missing = here.missing;
+        self.joint = here.joint;
         taken
     }
 

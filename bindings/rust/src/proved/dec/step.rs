@@ -15,7 +15,7 @@ pub(crate) fn joint_after(code: u8) -> u8 {
 impl UnbufferedDecoder {
     /// Takes a zero, which ends a piece if one has begun. `len` is the buffer's length.
     #[inline(always)]
-    fn end(&mut self, len: usize) -> Result<Option<usize>, DecodeError> {
+    pub(crate) fn end(&mut self, len: usize) -> Result<Option<usize>, DecodeError> {
         let ended = *self;
         *self = START;
         if ended.too_long != 0 {

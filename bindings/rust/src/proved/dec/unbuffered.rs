@@ -298,42 +298,40 @@ impl UnbufferedDecoder {
         if bytes.len() <= FEW {
             return self.feed_each(dest, bytes, 0);
         }
-        self.feed_piece_long(dest, bytes)
+        let taken = self.take_to_end(dest, bytes);
+        if taken == bytes.len() {
+            return None;
+        }
+        let last = PieceEnd::reported(self.end(dest.len()))?;
+        Some((last, taken + 1))
     }
 
-    /// Does what `feed_piece` does, without its tests for short pieces.
-    // Not inlined, so that `feed_piece` saves no registers for a short piece.
+    /// Takes the bytes before the zero that ends a piece, or all bytes if no piece ends in them. Returns how many it took.
+    // Not inlined, so that `feed_piece` saves no registers for a short piece. It returns one number, which stays in a register.
     #[inline(never)]
-    fn feed_piece_long(&mut self, dest: &mut [u8], bytes: &[u8]) -> Option<(PieceEnd, usize)> {
+    fn take_to_end(&mut self, dest: &mut [u8], bytes: &[u8]) -> usize {
         let mut taken = 0;
         while taken < bytes.len() {
             if self.too_long != 0 {
-                // The piece is too long for the buffer: its bytes are skipped through its zero.
-                let rest = &bytes[taken..];
-                let len = position_or_len(rest, 0);
-                if len == rest.len() {
-                    return None;
-                }
-                self.reset();
-                return Some((PieceEnd::TooLong, taken + len + 1));
+                // The piece is too long for the buffer: its bytes are skipped up to its zero.
+                let len = position_or_len(&bytes[taken..], 0);
+                return taken + len;
             }
-            if bytes[taken] == 0 && self.is_idle() {
+            if bytes[taken] == 0 {
+                if !self.is_idle() {
+                    return taken;
+                }
                 // This zero ends no piece. Some lines carry many such zeros while nothing is sent.
                 taken += 1;
                 continue;
             }
             taken += self.take_run(dest, &bytes[taken..]);
-            if taken < bytes.len() {
-                let byte = bytes[taken];
-                let returned = self.feed(dest, byte);
+            if taken < bytes.len() && bytes[taken] != 0 {
+                // This byte has no room.
+                self.take_byte(dest, bytes[taken]);
                 taken += 1;
-                if byte == 0 {
-                    if let Some(end) = PieceEnd::reported(returned) {
-                        return Some((end, taken));
-                    }
-                }
             }
         }
-        None
+        taken
     }
 }

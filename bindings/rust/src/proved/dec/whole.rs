@@ -34,8 +34,7 @@ pub fn decode(source: &[u8], dest: &mut [u8]) -> Result<DecodeReport, DecodeErro
     decode_long(source, dest)
 }
 
-/// Does what [`decode`] does, for any source. It is a separate function, so that decoding a short frame doesn't save
-/// registers for it.
+/// Does what [`decode`] does, for any source.
 #[inline(never)]
 fn decode_long(source: &[u8], dest: &mut [u8]) -> Result<DecodeReport, DecodeError> {
     if source.is_empty() {

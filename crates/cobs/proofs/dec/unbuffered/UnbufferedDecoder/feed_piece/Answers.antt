@@ -1,15 +1,17 @@
 -- The bytes before a zero are fed quietly (`take_front`, `take_short`), and a zero after them ends the piece; or nothing was
 -- taken (`kept`), and the bytes are fed by the other functions.
-use Rattle.std.proofs.Common.{◌≡◌, ◌≢◌, ◌∙◌, ◌<◌, ◌+◌, List, ℕ, zero, suc, Bool, true, false, Option, Result, None, refl, sym, arith, get_or, length, take, take_all}
+use Rattle.std.proofs.Common.{◌≡◌, ◌≢◌, ◌∙◌, ◌<◌, ◌+◌, List, ℕ, zero, suc, Bool, true, false, Option, Result, None, refl, sym, ap, arith, get_or, length, take, take_all}
 use Rattle.std.proofs.Math.Seq.{take-length}
-use Rattle.cobs.specs.Feed.{Feeds, Phase}
+use Rattle.cobs.specs.Feed.{Feeds, Phase, Idle, Within, Overlong}
 use Rattle.cobs.specs.Fields.Decoders.{phase_of, phase_with}
 use Rattle.cobs.specs.FeedPiece.{TakesPiece, end_reported}
+use Rattle.cobs.specs.Step.{end_result}
 use Rattle.cobs.specs.Table.{FeedsByTable}
 use Rattle.cobs.specs.Internal.FeedsQuietly.{FeedsQuietly}
 use Rattle.cobs.specs.declared.dec.state.DecoderState.TheVariants.{Grab, GrabChain}
 use Rattle.cobs.specs.declared.error.DecodeError.{DecodeError}
 use Rattle.cobs.proofs.streaming.ByByteLemmas.{piece-nothing, piece-ended}
+use Rattle.cobs.proofs.streaming.FeedLemmas.{Feeds-zero}
 use Rattle.cobs.proofs.streaming.RunLemmas.{piece-run}
 use Rattle.cobs.proofs.dec.unbuffered.UnbufferedDecoder.feed_piece.Goals as goal
 use Rattle.cobs_bytes.proofs.bytes.XoredLemmas.{xor_each-zero}
@@ -32,6 +34,13 @@ ended_by : (written missing joint too_long n : ℕ) (phase' : Phase) (result : R
     → FeedsByTable n (phase_of (record { written = written; missing = missing; joint = joint; too_long = too_long })) 0 result phase' → end_reported result ≢ None
 ended_by zero missing joint too_long n phase' result going some f = absurd (omega arith)
 ended_by (suc count) missing joint too_long n phase' result going some f = grind (arith, ended_at)
+
+-- a zero ends a piece that has begun
+end_begun : (n : ℕ) (phase : Phase) → phase ≢ Idle → end_reported (end_result n phase) ≢ None
+end_begun n Idle begun none = begun refl
+end_begun n Overlong begun none = grind arith
+end_begun n (Within full (suc left) count) begun none = grind arith
+end_begun n (Within full zero count) begun none = grind arith
 
 pub returns-then-not-has_vectors : goal.returns-then-not-has_vectors
 returns-then-not-has_vectors c = grind (arith, xor_each-zero)
@@ -79,7 +88,26 @@ returns-then-bytes-le-FEW c =
     let same = kept (goal.at.returns-then-bytes-le-FEW c).Joined-bytes-gt-VERY_FEW in
     record { takes = rw (same.0, same.1, xor_each-zero c.args.bytes.now) at c.feed_each-then-bytes-le-FEW.ensures.takes }
 
+pub returns-then-taken-bytes : goal.returns-then-taken-bytes
+returns-then-taken-bytes c =
+    let same = kept (goal.at.returns-then-taken-bytes c).Joined-bytes-gt-VERY_FEW in
+    let all = take_all c.take_to_end-taken.result c.args.bytes.now (omega (arith, c.if-taken-bytes.true)) in
+    record { takes = rw (same.0, same.1, all) at c.take_to_end-taken.ensures.none_ended }
+
+pub returns-in_err-last : goal.returns-in_err-last
+returns-in_err-last c =
+    let within : c.take_to_end-taken.result < length c.args.bytes.now = omega (arith, c.if-taken-bytes.false, c.take_to_end-taken.ensures.within) in
+    absurd (end_begun _ _ (c.take_to_end-taken.ensures.begun within) (ap end_reported (sym c.end.ensures.returned) ∙ sym c.in_err-last.ensures.end))
+
 pub returns : goal.returns
 returns c =
     let same = kept (goal.at.returns c).Joined-bytes-gt-VERY_FEW in
-    record { takes = rw (same.0, same.1) at c.feed_piece_long.ensures.takes }
+    let bytes : List ℕ = c.args.bytes.now in
+    let taken : ℕ = c.take_to_end-taken.result in
+    let buffer : List ℕ = c.take_to_end-taken.new.dest in
+    let between : Phase = phase_of c.take_to_end-taken.new.self in
+    let within : taken < length bytes = omega (arith, c.if-taken-bytes.false, c.take_to_end-taken.ensures.within) in
+    let zero = c.take_to_end-taken.ensures.zero within in
+    let front : TakesPiece c.args.dest.now (phase_of c.args.self.now) (take taken bytes) None buffer between = rw (same.0, same.1) at c.take_to_end-taken.ensures.none_ended in
+    let last : Feeds buffer between (get_or bytes taken 0) (end_result (length buffer) between) buffer Idle = rw zero (Feeds-zero buffer between) in
+    record { takes = rw c.end.ensures.idle (piece-ended _ _ within front last _ zero (ap end_reported (sym c.end.ensures.returned) ∙ sym c.in_ok-last.ensures.end)) }

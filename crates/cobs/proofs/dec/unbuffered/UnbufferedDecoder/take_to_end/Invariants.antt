@@ -1,7 +1,7 @@
 use Rattle.std.proofs.Common.{length, ◌-◌, ◌≤◌, None, take}
 use Rattle.cobs.specs.Fields.Decoders.{phase_of}
 use Rattle.cobs.specs.FeedPiece.{TakesPiece}
-use Rattle.cobs.proofs.dec.unbuffered.UnbufferedDecoder.feed_piece_long.Given as goal
+use Rattle.cobs.proofs.dec.unbuffered.UnbufferedDecoder.take_to_end.Given as goal
 
 -- the bytes before `taken` are taken, and no piece has ended in them
 abbrev pub invariant-by_run : goal.invariant-by_run
