@@ -1,5 +1,5 @@
 -- Lemmas on bytes sixteen a line.
-use Rattle.std.proofs.Common.{◌≡◌, ◌+◌, ◌-◌, ℕ, add-one, List, [], ◌++◌, length, take, drop, min, inl, inr, refl, ap, sym, ◌∙◌, arith, length-drop, take_all}
+use Rattle.std.proofs.Common.{◌≡◌, ◌+◌, ◌-◌, ℕ, add-one, List, [], ◌++◌, length, take, drop, min, refl, arith, length-drop, take_all}
 use Rattle.std.proofs.lemmas.Bool.{cases_lt}
 use Rattle.cobs_live.specs.Dump.{upto}
 
@@ -13,9 +13,4 @@ upto-more f n = rw add-one refl
 
 -- the bytes of a row, as a slice has them
 pub row_of : (bytes : List ℕ) (start end : ℕ) → end ≡ min (length bytes) (start + 16) → take (end - start) (drop start bytes) ≡ take 16 (drop start bytes)
-row_of bytes start end e = elim (cases_lt (length bytes) (start + 16)) [
-  | inl short ↦ take_all (end - start) (drop start bytes) (omega (arith, length-drop start bytes)) ∙ sym (take_all 16 (drop start bytes) (omega (arith, length-drop start bytes)))
-  | inr long ↦
-      let whole : end - start ≡ 16 = omega arith in
-      ap (λ (n : ℕ). take n (drop start bytes)) whole
-]
+row_of bytes start end e = grind (arith, cases_lt, take_all, length-drop)

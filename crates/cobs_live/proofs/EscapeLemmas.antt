@@ -1,5 +1,5 @@
 -- Lemmas on text as a string of JSON has it.
-use Rattle.std.proofs.Common.{◌≡◌, ◌<◌, ◌+◌, ◌==◌, ◌||◌, nat_lt, true, false, ℕ, List, [], ◌∷◌, ◌++◌, All, IsTrue, Option, Result, Ok, Err, codes, length, take, drop, refl, sym, ap, subst, ◌∙◌, arith, chars, IsUtf8, append_assoc, append-nil}
+use Rattle.std.proofs.Common.{◌≡◌, ◌<◌, ◌+◌, ◌==◌, ◌||◌, nat_lt, false, ℕ, List, [], ◌∷◌, ◌++◌, All, IsTrue, Option, Result, Ok, Err, codes, length, take, drop, refl, sym, ap, subst, ◌∙◌, arith, chars, IsUtf8, append_assoc, append-nil}
 use Rattle.std.specs.Io.KnownBytes.{Appends}
 use Rattle.std.proofs.KnownBytes.{Appends-trans}
 use Rattle.std.proofs.lemmas.Bool.{eq-eqb}
@@ -7,7 +7,6 @@ use Rattle.std.specs.Prelude.{OnOk}
 use Rattle.std.proofs.Math.Seq.{take-add, take-append_seam}
 use Rattle.std.proofs.lemmas.List.{drop-drop, drop_at, nil_from_length, take-append-drop}
 use Rattle.std.specs.Char.{encode_utf8, len_utf8}
-use Rattle.std.specs.List.{flat_map}
 use Rattle.std.specs.Str.{IsCharBoundary}
 use Rattle.std.proofs.lemmas.List.Concat.{flat_map-cons}
 use Rattle.std.proofs.lemmas.List.Elements.{All-head, All-tail}
@@ -16,16 +15,13 @@ use Rattle.cobs_live.specs.Json.{json_text}
 use Rattle.cobs_live.specs.Escaped.{WritesFront, escaped, is_hidden, is_plain_byte, text_escaped}
 
 pub char_escaped : (text rest : List ℕ) (c : ℕ) → IsUtf8 text → text ≡ encode_utf8 c ++ rest → text_escaped text ≡ escaped c ++ text_escaped rest
-char_escaped text rest c u e = ap (λ (cs : List ℕ). flat_map escaped cs) (chars_past_char text rest c u e) ∙ flat_map-cons escaped c (chars rest)
+char_escaped text rest c u e = grind (arith, chars_past_char, flat_map-cons, chars)
 
 pub plain_below : (b : ℕ) → IsTrue (is_plain_byte b) → b < 128
 plain_below b h = grind arith
 
 plain_unseen : (b : ℕ) → IsTrue (is_plain_byte b) → is_hidden b ≡ false
-plain_unseen b h =
-    let below : nat_lt b 127 ≡ true = grind arith in
-    let above : nat_lt b 32 ≡ false = grind arith in
-    rw below above
+plain_unseen b h = grind (arith, nat_lt)
 
 plain_unquoted : (b : ℕ) → IsTrue (is_plain_byte b) → ((b == 34) || (b == 92)) ≡ false
 plain_unquoted b h = grind arith
@@ -51,24 +47,16 @@ front_run text run u all =
 -- a run, and a run after it
 run_more : (text : List ℕ) (run more : ℕ) → text_escaped text ≡ take run text ++ text_escaped (drop run text) → text_escaped (drop run text) ≡ take more (drop run text) ++ text_escaped (drop more (drop run text))
     → text_escaped text ≡ take (run + more) text ++ text_escaped (drop (run + more) text)
-run_more text run more first second =
-    first ∙ ap (λ (l : List ℕ). take run text ++ l) second
-    ∙ sym (append_assoc (take run text) (take more (drop run text)) (text_escaped (drop more (drop run text))))
-    ∙ ap (λ (l : List ℕ). l ++ text_escaped (drop more (drop run text))) (sym (take-add run more text))
-    ∙ ap (λ (l : List ℕ). take (run + more) text ++ text_escaped l) (drop-drop more run text)
+run_more text run more first second = grind (arith, append_assoc, take-add, drop-drop)
 
 -- a run, and bytes after it that need no escape
 pub run_past : (text rest : List ℕ) (run more : ℕ) → IsUtf8 text → IsCharBoundary text run → rest ≡ drop run text → All (λ byte. IsTrue (is_plain_byte byte)) (take more rest) → text_escaped text ≡ take run text ++ text_escaped (drop run text)
     → text_escaped text ≡ take (run + more) text ++ text_escaped (drop (run + more) text)
-run_past text rest run more u b is all same =
-    run_more text run more same (front_run (drop run text) more (IsUtf8-drop text run u b) (subst (λ (l : List ℕ). All (λ byte. IsTrue (is_plain_byte byte)) (take more l)) is all))
+run_past text rest run more u b is all same = grind (arith, run_more, front_run, IsUtf8-drop)
 
 -- a character that needs no escape is a run
 char_run : (text rest : List ℕ) (c : ℕ) → IsUtf8 text → text ≡ encode_utf8 c ++ rest → escaped c ≡ encode_utf8 c → text_escaped text ≡ take (len_utf8 c) text ++ text_escaped (drop (len_utf8 c) text)
-char_run text rest c u split same =
-    let after : drop (len_utf8 c) text ≡ rest = ap (drop (len_utf8 c)) split ∙ drop_at (encode_utf8 c) rest (len_utf8 c) (length-encode c) in
-    let before : take (len_utf8 c) text ≡ encode_utf8 c = ap (take (len_utf8 c)) split ∙ ap (λ (n : ℕ). take n (encode_utf8 c ++ rest)) (sym (length-encode c)) ∙ take-append_seam (encode_utf8 c) rest in
-    rw (before, after) (char_escaped text rest c u split ∙ ap (λ (l : List ℕ). l ++ text_escaped rest) same)
+char_run text rest c u split same = grind (arith, drop_at, length-encode, take-append_seam, char_escaped)
 
 -- after a run and such a character
 pub past_char : (text rest : List ℕ) (run c n : ℕ) → IsUtf8 text → IsCharBoundary text run → drop run text ≡ encode_utf8 c ++ rest → n ≡ len_utf8 c → IsCharBoundary text (run + n)
@@ -76,28 +64,19 @@ past_char text rest run c n u b split is = subst (λ (k : ℕ). IsCharBoundary t
 
 pub past_char_run : (text rest : List ℕ) (run c n : ℕ) → IsUtf8 text → IsCharBoundary text run → drop run text ≡ encode_utf8 c ++ rest → n ≡ len_utf8 c → escaped c ≡ encode_utf8 c → text_escaped text ≡ take run text ++ text_escaped (drop run text)
     → text_escaped text ≡ take (run + n) text ++ text_escaped (drop (run + n) text)
-past_char_run text rest run c n u b split is plain same =
-    subst (λ (k : ℕ). text_escaped text ≡ take (run + k) text ++ text_escaped (drop (run + k) text)) (sym is) (run_more text run (len_utf8 c) same (char_run (drop run text) rest c (IsUtf8-drop text run u b) split plain))
+past_char_run text rest run c n u b split is plain same = grind (arith, run_more, char_run, IsUtf8-drop)
 
 pub front_escaped : (text rest : List ℕ) (run c : ℕ) → IsUtf8 (drop run text) → text_escaped text ≡ take run text ++ text_escaped (drop run text) → drop run text ≡ encode_utf8 c ++ rest → text_escaped text ≡ (take run text ++ escaped c) ++ text_escaped rest
-front_escaped text rest run c v same split =
-    same ∙ ap (λ (l : List ℕ). take run text ++ l) (char_escaped (drop run text) rest c v split) ∙ sym (append_assoc (take run text) (escaped c) (text_escaped rest))
+front_escaped text rest run c v same split = grind (arith, char_escaped, append_assoc)
 
 pub front_ended : (text : List ℕ) (run : ℕ) → text_escaped text ≡ take run text ++ text_escaped (drop run text) → length (drop run text) ≡ 0 → text_escaped text ≡ take run text ++ text_escaped []
-front_ended text run same none = same ∙ ap (λ (l : List ℕ). take run text ++ text_escaped l) (nil_from_length (drop run text) none)
+front_ended text run same none = grind (arith, nil_from_length)
 
 pub front-more : {a b c : Option (List ℕ)} {text rest left : List ℕ} → WritesFront a b text rest → WritesFront b c rest left → WritesFront a c text left
-front-more {a} {b} {c} {text} {rest} {left} s t = record {
-  done = s.done ++ t.done;
-  written = Appends-trans _ _ _ _ _ s.written t.written;
-  is = s.is ∙ ap (λ (l : List ℕ). s.done ++ l) t.is ∙ sym (append_assoc s.done t.done (text_escaped left));
-}
+front-more {a} {b} {c} {text} {rest} {left} s t = grind (arith, Appends-trans, append_assoc)
 
 pub front-end : {a b : Option (List ℕ)} {text rest : List ℕ} → WritesFront a b text rest → length rest ≡ 0 → Appends a b (text_escaped text)
-front-end {a} {b} {text} {rest} s none =
-    let empty : text_escaped rest ≡ [] = ap text_escaped (nil_from_length rest none) ∙ ap (λ (cs : List ℕ). flat_map escaped cs) chars-nil in
-    let is : text_escaped text ≡ s.done = s.is ∙ ap (λ (l : List ℕ). s.done ++ l) empty ∙ append-nil s.done in
-    subst (λ (l : List ℕ). Appends a b l) (sym is) s.written
+front-end {a} {b} {text} {rest} s none = grind (arith, nil_from_length, chars-nil, append-nil)
 
 -- the text of bytes that are UTF-8, if its last quote was written
 pub quoted : {A E : Type 0} (r : Result A E) (a b c d : Option (List ℕ)) (bytes text : List ℕ) → IsUtf8 bytes → text ≡ bytes → Appends a b (codes ",\"text\":\"") → Appends b c (text_escaped text) → OnOk r (Appends c d (codes "\"")) → OnOk r (Appends a d (json_text bytes))

@@ -1,9 +1,8 @@
 -- Lemmas on lines that hang up, one after the other.
-use Rattle.std.proofs.Common.{◌≡◌, ◌≤◌, ◌+◌, ℕ, Bool, true, List, [], ◌∷◌, ◌++◌, length, map, refl, sym, ap, ◌∙◌, arith, append_assoc, append-nil, length-append, Option, Some, None}
+use Rattle.std.proofs.Common.{◌≡◌, ◌≤◌, ◌+◌, ℕ, Bool, true, List, [], ◌∷◌, ◌++◌, length, map, refl, sym, ap, ◌∙◌, arith, append_assoc, append-nil, length-append, Some, None}
 use Rattle.std.proofs.lemmas.List.{map-append}
 use Rattle.std.proofs.lemmas.List.Folds.{concat-append}
-use Rattle.std.specs.List.{concat}
-use Rattle.cobs.specs.Stream.{Outcome, is_nonempty, stream_outcomes, unended}
+use Rattle.cobs.specs.Stream.{is_nonempty, stream_outcomes, unended}
 use Rattle.cobs_live.proofs.PartLemmas.{length-all_ended}
 use Rattle.cobs_live.proofs.TimeLemmas.{extended, shown_from-extended}
 use Rattle.cobs_live.specs.Seen.{all_ended}
@@ -21,35 +20,29 @@ skips_behind-gone skip (g ∷ gone) line = skips_behind-gone true gone line
 
 pub streams_of-gone : (settings : Settings) (skip : Bool) (gone : List (List ℕ)) (line : List ℕ) → streams_of settings skip (gone ++ line ∷ []) ≡ streams_of settings skip gone ++ stream_of settings (skips_behind skip gone) line ∷ []
 streams_of-gone settings skip [] line = refl
-streams_of-gone settings skip (g ∷ gone) line = ap (λ (ts : List (List ℕ)). stream_of settings skip g ∷ ts) (streams_of-gone settings true gone line)
+streams_of-gone settings skip (g ∷ gone) line = grind (arith, (streams_of-gone settings true gone line))
 
 pub outcomes_of-gone : (ts : List (List ℕ)) (t : List ℕ) (n : ℕ) → outcomes_of (ts ++ t ∷ []) n ≡ outcomes_of ts n ++ stream_outcomes t n
 outcomes_of-gone [] t n = append-nil (stream_outcomes t n)
-outcomes_of-gone (u ∷ ts) t n = ap (λ (l : List Outcome). stream_outcomes u n ++ l) (outcomes_of-gone ts t n) ∙ sym (append_assoc (stream_outcomes u n) (outcomes_of ts n) (stream_outcomes t n))
+outcomes_of-gone (u ∷ ts) t n = grind (arith, append_assoc, (outcomes_of-gone ts t n))
 
 pub letters_of-gone : (gone : List (List ℕ)) (bytes : List ℕ) → letters_of (gone ++ bytes ∷ []) [] ≡ letters_of gone bytes ++ None ∷ []
 letters_of-gone [] bytes = refl
-letters_of-gone (g ∷ gone) bytes = ap (λ (l : List (Option ℕ)). map Some g ++ (None ∷ l)) (letters_of-gone gone bytes) ∙ sym (append_assoc (map Some g) (None ∷ letters_of gone bytes) (None ∷ []))
+letters_of-gone (g ∷ gone) bytes = grind (arith, append_assoc, (letters_of-gone gone bytes))
 
 pub letters_of-more : (gone : List (List ℕ)) (bytes more : List ℕ) → letters_of gone (bytes ++ more) ≡ letters_of gone bytes ++ map Some more
 letters_of-more [] bytes more = map-append Some bytes more
-letters_of-more (g ∷ gone) bytes more = ap (λ (l : List (Option ℕ)). map Some g ++ (None ∷ l)) (letters_of-more gone bytes more) ∙ sym (append_assoc (map Some g) (None ∷ letters_of gone bytes) (map Some more))
+letters_of-more (g ∷ gone) bytes more = grind (arith, append_assoc, (letters_of-more gone bytes more))
 
 pub count_bytes-gone : (gone : List (List ℕ)) (bytes : List ℕ) → count_bytes (gone ++ bytes ∷ []) [] ≡ count_bytes gone bytes
-count_bytes-gone gone bytes =
-    let all : concat (gone ++ bytes ∷ []) ≡ concat gone ++ bytes = concat-append gone (bytes ∷ []) ∙ ap (λ (l : List ℕ). concat gone ++ l) (append-nil bytes) in
-    let size : length (concat (gone ++ bytes ∷ [])) ≡ length (concat gone) + length bytes = ap length all ∙ length-append (concat gone) bytes in
-    omega (arith, size)
+count_bytes-gone gone bytes = grind (arith, concat-append, append-nil, length-append)
 
 -- WHAT IS SHOWN OF THEM
 
 -- with one more
 pub shown_gone-gone : (view : View) (times : ℕ → Moment) (n index : ℕ) (ts : List (List ℕ)) (t : List ℕ) → shown_gone view times n index (ts ++ t ∷ [])
     ≡ shown_gone view times n index ts ++ (shown_from view times (index + length (outcomes_of ts n)) (all_ended t n) ++ shown_hang_up view (is_nonempty (unended t)))
-shown_gone-gone view times n index [] t =
-    let at : index ≡ index + length (outcomes_of [] n) = omega arith in
-    ap (λ (k : ℕ). shown_from view times k (all_ended t n) ++ (shown_hang_up view (is_nonempty (unended t)) ++ [])) at
-    ∙ ap (λ (l : List ℕ). shown_from view times (index + length (outcomes_of [] n)) (all_ended t n) ++ l) (append-nil (shown_hang_up view (is_nonempty (unended t))))
+shown_gone-gone view times n index [] t = grind (arith, append-nil)
 shown_gone-gone view times n index (u ∷ ts) t =
     let pieces : List ℕ = shown_from view times index (all_ended u n) in
     let hang_up : List ℕ = shown_hang_up view (is_nonempty (unended u)) in

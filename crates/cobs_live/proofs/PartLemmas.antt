@@ -1,6 +1,5 @@
 -- Lemmas on the pieces that have ended in a stream, and on the bytes of the last one in a buffer.
-use Rattle.std.proofs.Common.{◌≡◌, ◌≤◌, ◌<◌, nat_le, ℕ, Bool, true, false, List, [], ◌∷◌, ◌++◌, length, take, drop, map, min, refl, sym, ap, ◌∙◌, arith, append_assoc, append-nil, length-append, length-take, Option, Some, None}
-use Rattle.std.specs.Prelude.{if◌then◌else◌}
+use Rattle.std.proofs.Common.{◌≡◌, ◌≤◌, ◌<◌, nat_le, ℕ, Bool, true, false, List, [], ◌∷◌, ◌++◌, length, take, map, min, refl, sym, ap, ◌∙◌, arith, append_assoc, append-nil, length-append, length-take, Option, Some, None}
 use Rattle.std.proofs.Math.ListN.{drop_of_length-le}
 use Rattle.std.proofs.Math.Seq.{take-append_seam}
 use Rattle.std.proofs.lemmas.Bool.{cases_Bool, leb-true, leb-false}
@@ -15,20 +14,19 @@ use Rattle.cobs.specs.Push.{last_piece}
 use Rattle.cobs.specs.Stream.{Outcome, Broken as OfBroken, TooLong as OfTooLong, but_last, ended_pieces, outcome_of, stream_outcomes, unended}
 use Rattle.cobs.specs.declared.PieceEnd.{PieceEnd}
 use Rattle.cobs.specs.declared.PieceEnd.TheVariants as ends
-use Rattle.cobs_live.specs.Checksum.{body_of, is_checked}
-use Rattle.cobs_live.specs.Seen.{Ended, Seen, all_ended, ended_in, held, seen_message, seen_of, seen_piece, whole, with_part}
+use Rattle.cobs_live.specs.Seen.{Ended, Seen, all_ended, ended_in, held, seen_message, seen_of, seen_piece, with_part}
 use Rattle.cobs_live.specs.declared.checksum.Checksum.{Checksum}
-use Rattle.cobs_live.specs.declared.seen.Kind.TheVariants.{Message, BadCrc}
+use Rattle.cobs_live.specs.declared.seen.Kind.TheVariants.{Message}
 
 -- THE PIECES THAT HAVE ENDED
 
 pub all_ended-append : (law : StreamLaw) (t u : List ℕ) (n : ℕ) → all_ended (t ++ u) n ≡ all_ended t n ++ all_ended (unended t ++ u) n
 unfolding all_ended
-all_ended-append law t u n = ap (map (ended_in n)) (law.pieces t u) ∙ map-append (ended_in n) (ended_pieces t) (ended_pieces (unended t ++ u))
+all_ended-append law t u n = grind (arith, map-append)
 
 pub length-all_ended : (t : List ℕ) (n : ℕ) → length (all_ended t n) ≡ length (stream_outcomes t n)
 unfolding all_ended stream_outcomes
-length-all_ended t n = length-map (ended_pieces t) (ended_in n) ∙ sym (length-map (ended_pieces t) (λ p. outcome_of p n))
+length-all_ended t n = grind (arith, length-map)
 
 pub all_ended-none : (t : List ℕ) (n : ℕ) → stream_outcomes t n ≡ [] → all_ended t n ≡ []
 all_ended-none t n none = nil_from_length (all_ended t n) (length-all_ended t n ∙ ap length none)
@@ -52,45 +50,29 @@ one_ended law t n outcome none reported =
 
 broken-fits : (q : List ℕ) (n count : ℕ) → OfBroken count ≡ outcome_of q n → (count ≡ length (output q)) × (length (output q) ≤ n)
 unfolding outcome_of
-broken-fits q n count e = (grind (arith, nat_le, leb-true, cases_Bool), grind (arith, nat_le, leb-true, cases_Bool))
+broken-fits q n count e = grind (arith, cases_Bool, leb-true)
 
 too_long-exceeds : (q : List ℕ) (n : ℕ) → OfTooLong ≡ outcome_of q n → n < length (output q)
 unfolding outcome_of
 too_long-exceeds q n e = grind (arith, nat_le, leb-false, cases_Bool)
 
 held-broken : (out buffer : List ℕ) → length out ≤ length buffer → take (min (length out) (length (overwritten buffer out))) (overwritten buffer out) ≡ take (length buffer) out
-held-broken out buffer fits =
-    let front : List ℕ = take (length buffer) out in
-    let rest : List ℕ = drop (length out) buffer in
-    let size : min (length out) (length (front ++ rest)) ≡ length front = omega (arith, length-append front rest, length-take (length buffer) out, fits) in
-    ap (λ (k : ℕ). take k (front ++ rest)) size ∙ take-append_seam front rest
+held-broken out buffer fits = grind (arith, length-append, length-take, take-append_seam)
 
 held-too_long : (out buffer : List ℕ) → length buffer < length out → overwritten buffer out ≡ take (length buffer) out
-held-too_long out buffer more = ap (λ (l : List ℕ). take (length buffer) out ++ l) (drop_of_length-le buffer (omega arith)) ∙ append-nil (take (length buffer) out)
+held-too_long out buffer more = grind (arith, drop_of_length-le, append-nil)
 
 -- of a message only its own bytes are seen
 message-alone : (checksum : Option Checksum) (message d e : List ℕ) → with_part true (seen_message checksum message) d ≡ with_part true (seen_message checksum message) e
 message-alone None message d e = refl
-message-alone (Some c) message d e = elim (is_checked c message) as (λ (b : Bool). with_part true (if b then whole Message (body_of c message) else whole BadCrc message) d ≡ with_part true (if b then whole Message (body_of c message) else whole BadCrc message) e) [ true ↦ refl | false ↦ refl ]
+message-alone (Some c) message d e = grind arith
 
 seen-held : (checksum : Option Checksum) (partial : Bool) (q buffer buffer' : List ℕ) (end : PieceEnd) → buffer' ≡ overwritten buffer (output q) → outcome_at end buffer' ≡ outcome_of q (length buffer)
     → (seen : Seen) → seen ≡ seen_of checksum (outcome_at end buffer') → with_part partial seen (held seen.kind seen.len buffer') ≡ seen_piece checksum partial (ended_in (length buffer) q)
-seen-held checksum false q buffer buffer' end holds same seen is = is ∙ ap (seen_of checksum) same
-seen-held checksum true q buffer buffer' (ends.Message k) holds same seen is =
-    ap (λ (s : Seen). with_part true s (held seen.kind seen.len buffer')) is
-    ∙ message-alone checksum (take k buffer') (held seen.kind seen.len buffer') (take (length buffer) (output q))
-    ∙ ap (λ (o : Outcome). with_part true (seen_of checksum o) (take (length buffer) (output q))) same
-seen-held checksum true q buffer buffer' (ends.Broken count) holds same seen is =
-    let size = broken-fits q (length buffer) count same in
-    let bytes : take (min count (length buffer')) buffer' ≡ take (length buffer) (output q) = rw (size.0, holds) (held-broken (output q) buffer size.1) in
-    ap (λ (s : Seen). with_part true s (held s.kind s.len buffer')) is
-    ∙ ap (λ (l : List ℕ). with_part true (seen_of checksum (OfBroken count)) l) bytes
-    ∙ ap (λ (o : Outcome). with_part true (seen_of checksum o) (take (length buffer) (output q))) same
-seen-held checksum true q buffer buffer' ends.TooLong holds same seen is =
-    let bytes : buffer' ≡ take (length buffer) (output q) = holds ∙ held-too_long (output q) buffer (too_long-exceeds q (length buffer) same) in
-    ap (λ (s : Seen). with_part true s (held s.kind s.len buffer')) is
-    ∙ ap (λ (l : List ℕ). with_part true (seen_of checksum OfTooLong) l) bytes
-    ∙ ap (λ (o : Outcome). with_part true (seen_of checksum o) (take (length buffer) (output q))) same
+seen-held checksum false q buffer buffer' end holds same seen is = grind arith
+seen-held checksum true q buffer buffer' (ends.Message k) holds same seen is = grind (arith, message-alone)
+seen-held checksum true q buffer buffer' (ends.Broken count) holds same seen is = grind (arith, broken-fits, held-broken)
+seen-held checksum true q buffer buffer' ends.TooLong holds same seen is = grind (arith, held-too_long, too_long-exceeds)
 
 -- the piece whose end a decoder has taken, and how it is seen
 pub record IsLastPiece (checksum : Option Checksum) (partial : Bool) (stream : List ℕ) (n : ℕ) (seen : Seen) : Type 0 where

@@ -6,7 +6,6 @@ use Rattle.std.proofs.lemmas.List.{map-append}
 use Rattle.std.proofs.lemmas.List.Elements.{All-nil}
 use Rattle.std.proofs.KnownBytes.{Appends-nil, Appends-trans, Consumes-nil, Consumes-trans, Consumes-kept}
 use Rattle.std.specs.Io.KnownBytes.{Appends, Consumes, IsAtEnd, Keeps, append_known}
-use Rattle.std.specs.Int.Bits.{bit_xor}
 use Rattle.cobs.specs.Sentinel.{xor_each}
 use Rattle.cobs.specs.Stream.{Outcome, is_nonempty, stream_outcomes, unended}
 use Rattle.cobs.specs.Feed.{DecoderAfter, Phase, Idle, phase_after}
@@ -23,7 +22,7 @@ use Rattle.cobs_live.specs.declared.input.Came.{Came}
 use Rattle.cobs_live.specs.declared.input.Came.TheVariants.{Bytes, HungUp}
 use Rattle.cobs_live.specs.Live.{BeginsAnew, HasShownSoFar, HoldsText, IsLiveSoFar, ShowsEnd, ShowsHangUp, ShowsNext}
 use Rattle.cobs_live.specs.Seen.{all_ended}
-use Rattle.cobs_live.specs.Shown.{outcomes_of, shown_from, shown_gone, shown_hang_up}
+use Rattle.cobs_live.specs.Shown.{outcomes_of, shown_from, shown_hang_up}
 use Rattle.cobs_live.specs.Timed.{IsReadAt}
 use Rattle.cobs_live.specs.declared.clock.Moment.{Moment}
 use Rattle.cobs_live.specs.declared.clock.Times.{Times}
@@ -41,7 +40,7 @@ pub begun-after : (p : List ℕ) (n : ℕ) (phase : Phase) (begun : Bool) → ph
 unfolding phase_after
 begun-after [] n phase begun is idle = idle.1 is
 begun-after (b ∷ bs) n phase true is idle = refl
-begun-after (b ∷ bs) n phase false is idle = absurd (let e = sym (idle.0 refl) ∙ is in grind (arith, e))
+begun-after (b ∷ bs) n phase false is idle = grind arith
 
 -- whatever is known of a reader
 pub whatever : (from : Option (List ℕ)) (P : Type 0) → P → IfSome from (λ _. P)
@@ -107,22 +106,22 @@ module _ {S : Type 0} {step : S → Read (Option ℕ) → S → Type 0} {source 
 
 -- a tally is one for equal settings
 pub same-tallied : (a b : Settings) (tally : Tally) (outcomes : List Outcome) (read : ℕ) → a ≡ b → IsTallyOf a.view.checksum tally outcomes read → IsTallyOf b.view.checksum tally outcomes read
-same-tallied a b tally outcomes read same t = subst (λ (w : Settings). IsTallyOf w.view.checksum tally outcomes read) same t
+same-tallied a b tally outcomes read same t = grind arith
 
 -- a writer that holds nothing back, before and after
 pub flushed-Appends : (inner inner' : Option (List ℕ)) (held held' text : List ℕ) → held ≡ [] → held' ≡ [] → Appends (append_known inner held) (append_known inner' held') text → Appends inner inner' text
 flushed-Appends None inner' held held' text none none' w = tt
 flushed-Appends (Some xs) None held held' text none none' w = absurd w
-flushed-Appends (Some xs) (Some ys) held held' text none none' w = sym (append-nil ys) ∙ ap (λ (l : List ℕ). ys ++ l) (sym none') ∙ w ∙ ap (λ (l : List ℕ). l ++ text) (ap (λ (l : List ℕ). xs ++ l) none ∙ append-nil xs)
+flushed-Appends (Some xs) (Some ys) held held' text none none' w = grind (arith, append-nil)
 
 -- an input that hangs up is one of whose bytes nothing is known
 pub unknown-alone : (from to : Option (List ℕ)) (bytes : List ℕ) (P : Type 0) → to ≡ None → Consumes from to bytes → IfSome from (λ _. P)
 unknown-alone None to bytes P none c = tt
-unknown-alone (Some xs) to bytes P none c = absurd (subst (λ (t : Option (List ℕ)). Consumes (Some xs) t bytes) none c)
+unknown-alone (Some xs) to bytes P none c = grind arith
 
 pub unknown-read : (from to to' : Option (List ℕ)) (bytes : List ℕ) → to ≡ None → Consumes from to bytes → Consumes from to' []
 unknown-read None to to' bytes none c = tt
-unknown-read (Some xs) to to' bytes none c = absurd (subst (λ (t : Option (List ℕ)). Consumes (Some xs) t bytes) none c)
+unknown-read (Some xs) to to' bytes none c = grind arith
 
 module _ (law : StreamLaw) {settings : Settings} {from to before after : Option (List ℕ)} {watch : Watch} (s : HasShownSoFar settings from to before after watch) where
   -- whether the begin of the open line is skipped
@@ -145,18 +144,10 @@ module _ (law : StreamLaw) {settings : Settings} {from to before after : Option 
 
   -- with more bytes, the unended bytes of a stream are those of the decoder, and its outcomes those that the decoder reports
   pub more-stream : (more : List ℕ) → open_stream settings s.ended.gone (s.ended.bytes ++ more) ≡ opened ++ newly more
-  more-stream more =
-      ap (begun skip) (map-append (λ b. bit_xor b settings.sentinel) s.ended.bytes more)
-      ∙ begun-append skip (xor_each settings.sentinel s.ended.bytes) (xor_each settings.sentinel more)
-      ∙ ap (λ (w : Settings). opened ++ begun (skips_on skip (xor_each settings.sentinel s.ended.bytes)) (xor_each w.sentinel more)) (sym s.same)
-      ∙ ap (λ (b : Bool). opened ++ begun b (xor_each watch.settings.now.sentinel more)) (sym s.skips)
+  more-stream more = grind (arith, map-append, begun-append)
 
   pub more-skips : (more : List ℕ) → skips_on watch.skipping (xor_each watch.settings.now.sentinel more) ≡ skips_on skip (xor_each settings.sentinel (s.ended.bytes ++ more))
-  more-skips more = sym (
-      ap (skips_on skip) (map-append (λ b. bit_xor b settings.sentinel) s.ended.bytes more)
-      ∙ skips_on-append skip (xor_each settings.sentinel s.ended.bytes) (xor_each settings.sentinel more)
-      ∙ ap (λ (w : Settings). skips_on (skips_on skip (xor_each settings.sentinel s.ended.bytes)) (xor_each w.sentinel more)) (sym s.same)
-      ∙ ap (λ (b : Bool). skips_on b (xor_each watch.settings.now.sentinel more)) (sym s.skips))
+  more-skips more = grind (arith, map-append, skips_on-append)
 
   pub more-left : (more : List ℕ) → unended (open_stream settings s.ended.gone (s.ended.bytes ++ more)) ≡ unended (unended opened ++ newly more)
   more-left more = ap unended (more-stream more) ∙ law.left opened (newly more)
@@ -174,18 +165,15 @@ module _ (law : StreamLaw) {settings : Settings} {from to before after : Option 
 
   pub more-pieces : (more : List ℕ) → all_ended (open_stream settings s.ended.gone (s.ended.bytes ++ more)) settings.length
       ≡ all_ended opened settings.length ++ all_ended (unended opened ++ newly more) (length watch.message.items)
-  more-pieces more = ap (λ (t : List ℕ). all_ended t settings.length) (more-stream more) ∙ all_ended-append law opened (newly more) settings.length
-      ∙ ap (λ (k : ℕ). all_ended opened settings.length ++ all_ended (unended opened ++ newly more) k) (sym s.len)
+  more-pieces more = grind (arith, more-stream, all_ended-append)
 
   more-count : (more : List ℕ) → count_bytes s.ended.gone (s.ended.bytes ++ more) ≡ count_bytes s.ended.gone s.ended.bytes + length more
-  more-count more = omega (arith, length-append s.ended.bytes more)
+  more-count more = grind (arith, length-append)
 
   pub more-tallied : (tally : Tally) (more : List ℕ)
       → IsTallyOf watch.settings.now.view.checksum tally (all_outcomes settings s.ended.gone s.ended.bytes ++ new_outcomes more) (count_bytes s.ended.gone s.ended.bytes + length more)
       → IsTallyOf settings.view.checksum tally (all_outcomes settings s.ended.gone (s.ended.bytes ++ more)) (count_bytes s.ended.gone (s.ended.bytes ++ more))
-  more-tallied tally more t =
-      subst (λ (os : List Outcome). IsTallyOf settings.view.checksum tally os (count_bytes s.ended.gone (s.ended.bytes ++ more))) (sym (more-outcomes more))
-      (subst (λ (k : ℕ). IsTallyOf settings.view.checksum tally (all_outcomes settings s.ended.gone s.ended.bytes ++ new_outcomes more) k) (sym (more-count more)) (same-tallied _ _ _ _ _ s.same t))
+  more-tallied tally more t = grind (arith, more-outcomes, more-count, same-tallied)
 
   -- how many pieces had ended
   abbrev pub known : ℕ
@@ -201,7 +189,7 @@ module _ (law : StreamLaw) {settings : Settings} {from to before after : Option 
   pub more-timed : (clock : Times) (now : Moment) (more : List ℕ)
       → IsReadAt (more-times now) (length (all_outcomes settings s.ended.gone s.ended.bytes ++ new_outcomes more)) clock
       → clock.last ≡ more-times now (length (all_outcomes settings s.ended.gone (s.ended.bytes ++ more)))
-  more-timed clock now more r = r.last ∙ ap (λ (os : List Outcome). more-times now (length os)) (sym (more-outcomes more))
+  more-timed clock now more r = grind (arith, more-outcomes)
 
   -- the text of the pieces that end in more bytes, after that of all others
   abbrev pub new_text : View → Moment → List ℕ → List ℕ
@@ -209,20 +197,7 @@ module _ (law : StreamLaw) {settings : Settings} {from to before after : Option 
 
   pub more-text : (now : Moment) (more : List ℕ) → shown_lines settings (more-times now) s.ended.gone (s.ended.bytes ++ more)
       ≡ shown_lines settings s.ended.times s.ended.gone s.ended.bytes ++ new_text settings.view now more
-  more-text now more =
-      let first : ℕ = length before_open in
-      let old = all_ended opened settings.length in
-      let new = all_ended (unended opened ++ newly more) (length watch.message.items) in
-      let gone : (ℕ → Moment) → List ℕ = λ times. shown_gone settings.view times settings.length 0 streams in
-      let size : known ≡ first + length old = omega (arith, length-append before_open (stream_outcomes opened settings.length), length-all_ended opened settings.length) in
-      ap (λ pieces. gone (more-times now) ++ shown_from settings.view (more-times now) first pieces) (more-pieces more)
-      ∙ ap (λ (l : List ℕ). gone (more-times now) ++ l) (shown_from-append settings.view (more-times now) first old new)
-      ∙ sym (append_assoc (gone (more-times now)) (shown_from settings.view (more-times now) first old) (shown_from settings.view (more-times now) (first + length old) new))
-      ∙ ap (λ (l : List ℕ). (l ++ shown_from settings.view (more-times now) first old) ++ shown_from settings.view (more-times now) (first + length old) new)
-      (shown_gone-extended s.ended.times known now settings.view settings.length 0 streams (omega (arith, size)))
-      ∙ ap (λ (l : List ℕ). (gone s.ended.times ++ l) ++ shown_from settings.view (more-times now) (first + length old) new)
-      (shown_from-extended s.ended.times known now settings.view first old (omega (arith, size)))
-      ∙ ap (λ (k : ℕ). (gone s.ended.times ++ shown_from settings.view s.ended.times first old) ++ shown_from settings.view (more-times now) k new) (sym size)
+  more-text now more = grind (arith, length-append, length-all_ended, more-pieces, shown_from-append, append_assoc, shown_gone-extended, shown_from-extended)
 
   abbrev pub more-ended : {to' after' : Option (List ℕ)} (more : List ℕ) (now : Moment) → watch.clock.last.millis ≤ now.millis → Consumes to to' more
       → Appends after after' (new_text watch.settings.now.view now more)
@@ -258,7 +233,7 @@ module _ (law : StreamLaw) {settings : Settings} {from to before after : Option 
 
   -- the next read failed
   pub next-failed : (to' after' : Option (List ℕ)) (fault : WatchFault) → fault ≡ ReadFailed → HasWritten (shown_ended settings) from to' before after' → ShowsNext settings (Err fault) from to' before after' watch
-  next-failed to' after' fault is w = subst (λ (f : WatchFault). HasShown settings (Err f) from to' before after') (sym is) w
+  next-failed to' after' fault is w = grind arith
 
   -- the input is at its end
   pub shown-all : {to' after' : Option (List ℕ)} → Consumes to to' [] → IsAtEnd to' → ShowsEnd (phase_of watch.decoder) watch.settings.now.view after after' → HasShownAll settings watch.tally from to' before after'
@@ -275,32 +250,14 @@ module _ (law : StreamLaw) {settings : Settings} {from to before after : Option 
   no_outcomes b = ap (λ (t : List ℕ). stream_outcomes t settings.length) (not_begun b) ∙ law.none [] settings.length (All-nil (λ (b : ℕ). b ≢ 0))
 
   gone-streams : gone_streams settings (s.ended.gone ++ s.ended.bytes ∷ []) ≡ streams ++ opened ∷ []
-  gone-streams = streams_of-gone settings settings.skip_first s.ended.gone s.ended.bytes
+  gone-streams = grind (arith, streams_of-gone)
 
   pub gone-outcomes : all_outcomes settings (s.ended.gone ++ s.ended.bytes ∷ []) [] ≡ all_outcomes settings s.ended.gone s.ended.bytes
-  gone-outcomes =
-      let next : Bool = skips_behind settings.skip_first (s.ended.gone ++ s.ended.bytes ∷ []) in
-      ap (λ (l : List Outcome). outcomes_of (gone_streams settings (s.ended.gone ++ s.ended.bytes ∷ [])) settings.length ++ l) (no_outcomes next)
-      ∙ append-nil (outcomes_of (gone_streams settings (s.ended.gone ++ s.ended.bytes ∷ [])) settings.length)
-      ∙ ap (λ (ts : List (List ℕ)). outcomes_of ts settings.length) gone-streams
-      ∙ outcomes_of-gone streams opened settings.length
+  gone-outcomes = grind (arith, no_outcomes, append-nil, gone-streams, outcomes_of-gone)
 
   pub gone-text : shown_lines settings s.ended.times (s.ended.gone ++ s.ended.bytes ∷ []) []
       ≡ shown_lines settings s.ended.times s.ended.gone s.ended.bytes ++ shown_hang_up settings.view (is_nonempty (unended opened))
-  gone-text =
-      let next : Bool = skips_behind settings.skip_first (s.ended.gone ++ s.ended.bytes ∷ []) in
-      let all : List (List ℕ) = gone_streams settings (s.ended.gone ++ s.ended.bytes ∷ []) in
-      let gone : List (List ℕ) → List ℕ = λ ts. shown_gone settings.view s.ended.times settings.length 0 ts in
-      let at : ℕ = length (outcomes_of all settings.length) in
-      let nothing : shown_from settings.view s.ended.times at (all_ended (stream_of settings next []) settings.length) ≡ [] =
-      ap (shown_from settings.view s.ended.times at) (all_ended-none (stream_of settings next []) settings.length (no_outcomes next)) ∙ shown_from-none settings.view s.ended.times at in
-      let first : 0 + length before_open ≡ length before_open = omega arith in
-      ap (λ (l : List ℕ). gone all ++ l) nothing
-      ∙ append-nil (gone all)
-      ∙ ap gone gone-streams
-      ∙ shown_gone-gone settings.view s.ended.times settings.length 0 streams opened
-      ∙ ap (λ (k : ℕ). gone streams ++ (shown_from settings.view s.ended.times k (all_ended opened settings.length) ++ shown_hang_up settings.view (is_nonempty (unended opened)))) first
-      ∙ sym (append_assoc (gone streams) (shown_from settings.view s.ended.times (length before_open) (all_ended opened settings.length)) (shown_hang_up settings.view (is_nonempty (unended opened))))
+  gone-text = grind (arith, all_ended-none, no_outcomes, shown_from-none, append-nil, gone-streams, shown_gone-gone, append_assoc)
 
   abbrev pub hung-up : {to' after' : Option (List ℕ)} {watch' : Watch} → to ≡ None → ShowsHangUp (phase_of watch.decoder) watch.settings.now.view after after' → BeginsAnew watch watch'
       → HasShownSoFar settings from to' before after' watch'
@@ -326,32 +283,32 @@ module _ (law : StreamLaw) {settings : Settings} {from to before after : Option 
 
 -- a vector whose items were written as a slice
 pub whole-message : (message items : List ℕ) (len : ℕ) → len ≡ length items → length message ≡ length items → take len (message ++ drop (length message) items) ≡ message
-whole-message message items len is same = ap (λ (k : ℕ). take k (message ++ drop (length message) items)) (is ∙ sym same) ∙ take-append_seam message (drop (length message) items)
+whole-message message items len is same = grind (arith, take-append_seam)
 
 -- a read that gave bytes, or a hang-up
 pub takes-bytes : (from to : Option (List ℕ)) (gave : Came) (n : ℕ) (chunk : List ℕ) → gave ≡ Bytes n → Takes from to gave chunk → Takes from to (Bytes n) chunk
-takes-bytes from to gave n chunk is h = subst (λ (c : Came). Takes from to c chunk) is h
+takes-bytes from to gave n chunk is h = grind arith
 
 pub takes-hang_up : (from to : Option (List ℕ)) (gave : Came) (chunk : List ℕ) → gave ≡ HungUp → Takes from to gave chunk → Takes from to HungUp chunk
-takes-hang_up from to gave chunk is h = subst (λ (c : Came). Takes from to c chunk) is h
+takes-hang_up from to gave chunk is h = grind arith
 
 pub given-bytes : (E : Type 0) (gave : Came) (n : ℕ) (chunk : List ℕ) → gave ≡ Bytes n → given {E = E} (Ok gave) chunk ≡ map Some (take n chunk)
-given-bytes E gave n chunk is = ap (λ (c : Came). given {E = E} (Ok c) chunk) is
+given-bytes E gave n chunk is = grind arith
 
 pub given-hang_up : (E : Type 0) (gave : Came) (chunk : List ℕ) → gave ≡ HungUp → given {E = E} (Ok gave) chunk ≡ None ∷ []
-given-hang_up E gave chunk is = ap (λ (c : Came). given {E = E} (Ok c) chunk) is
+given-hang_up E gave chunk is = grind arith
 
 -- a run ends with the fault of its last read
 pub shown-fault : (settings : Settings) (from to before after : Option (List ℕ)) (result : Result Tally WatchFault) (fault : WatchFault) → IsErrAnd result (λ found. found ≡ fault)
     → HasShown settings (Err fault) from to before after → HasShown settings result from to before after
-shown-fault settings from to before after (Err found) fault e s = subst (λ (f : WatchFault). HasShown settings (Err f) from to before after) (sym e) s
+shown-fault settings from to before after (Err found) fault e s = grind arith
 shown-fault settings from to before after (Ok tally) fault e s = absurd e
 
 -- of a write that failed nothing is shown
 pub unfinished-fault : (settings : Settings) (from to before after : Option (List ℕ)) (result : Result Tally WatchFault) (fault : WatchFault) → IsErrAnd result (λ found. found ≡ fault)
     → (fault ≢ ReadFailed) × (fault ≢ OutOfMemory) → HasShown settings result from to before after
-unfinished-fault settings from to before after (Err ReadFailed) fault e other = absurd (other.0 (sym e))
-unfinished-fault settings from to before after (Err OutOfMemory) fault e other = absurd (other.1 (sym e))
+unfinished-fault settings from to before after (Err ReadFailed) fault e other = grind arith
+unfinished-fault settings from to before after (Err OutOfMemory) fault e other = grind arith
 unfinished-fault settings from to before after (Err WriteFailed) fault e other = tt
 unfinished-fault settings from to before after (Err OutputClosed) fault e other = tt
 unfinished-fault settings from to before after (Ok tally) fault e other = absurd e

@@ -22,11 +22,8 @@ use Rattle.cobs_live.specs.declared.tally.Tally.{Tally}
 -- the text of outcomes, and of others after them
 pub shown_from-append : (view : View) (times : ℕ → Moment) (index : ℕ) (xs ys : List Ended) → shown_from view times index (xs ++ ys) ≡ shown_from view times index xs ++ shown_from view times (index + length xs) ys
 unfolding shown_from
-shown_from-append view times index [] ys = ap (λ (k : ℕ). shown_from view times k ys) (omega arith)
-shown_from-append view times index (x ∷ xs) ys =
-    let next : index + 1 + length xs ≡ index + length (x ∷ xs) = omega arith in
-    ap (λ (l : List ℕ). shown view times index x ++ l) (shown_from-append view times (index + 1) xs ys ∙ ap (λ (k : ℕ). shown_from view times (index + 1) xs ++ shown_from view times k ys) next)
-    ∙ sym (append_assoc (shown view times index x) (shown_from view times (index + 1) xs) (shown_from view times (index + length (x ∷ xs)) ys))
+shown_from-append view times index [] ys = grind arith
+shown_from-append view times index (x ∷ xs) ys = grind (arith, append_assoc, (shown_from-append view times (index + 1) xs ys))
 
 pub shown_from-none : (view : View) (times : ℕ → Moment) (index : ℕ) → shown_from view times index [] ≡ []
 unfolding shown_from
@@ -34,25 +31,18 @@ shown_from-none view times index = refl
 
 pub shown_from-one : (view : View) (times : ℕ → Moment) (index : ℕ) (piece : Ended) → shown_from view times index (piece ∷ []) ≡ shown view times index piece
 unfolding shown_from
-shown_from-one view times index piece = append-nil (shown view times index piece)
+shown_from-one view times index piece = grind (arith, append-nil)
 
 -- the text of a piece, given the tally that counts it too, and the clock before it
 pub shown_now : (view : View) (times : ℕ → Moment) {tally : Tally} {clock : Times} (gone : List Outcome) (outcome : Outcome) {read : ℕ} (before after : Option (List ℕ)) {seen : Seen} (piece : Ended) → seen ≡ seen_piece view.checksum view.partial piece
     → IsTallyOf view.checksum tally (gone ++ outcome ∷ []) read → IsReadAt times (length gone) clock
     → Appends before after (in_view view tally.pieces clock seen) → Appends before after (shown view times (length gone) piece)
-shown_now view times {tally} {clock} gone outcome {read} before after {seen} piece same t r written =
-    let size : length (gone ++ outcome ∷ []) ≡ length gone + 1 = length-append gone (outcome ∷ []) in
-    let is : tally.pieces ≡ counted (length gone + 1) = t.pieces ∙ ap counted size in
-    let now : clock.next ≡ times (length gone + 1) = sym (r.now (length gone + 1) (omega arith)) in
-    subst (λ (s : Seen). Appends before after (in_view view (counted (length gone + 1)) (record { last = times (length gone); next = times (length gone + 1) }) s)) same
-    (subst (λ (k : Moment). Appends before after (in_view view (counted (length gone + 1)) (record { last = times (length gone); next = k }) seen)) now
-    (subst (λ (k : Moment). Appends before after (in_view view (counted (length gone + 1)) (record { last = k; next = clock.next }) seen)) r.last
-    (subst (λ (k : ℕ). Appends before after (in_view view k clock seen)) is written)))
+shown_now view times {tally} {clock} gone outcome {read} before after {seen} piece same t r written = grind (arith, length-append)
 
 -- a writer to which nothing is still to be written holds the same bytes as before
 pub with_text-empty : (held : Option (List ℕ)) (text : Composed) → text.len ≡ 0 → with_text held text ≡ held
 with_text-empty None text none = refl
-with_text-empty (Some xs) text none = rw none (ap (λ (l : List ℕ). Some l) (append-nil xs))
+with_text-empty (Some xs) text none = grind (arith, append-nil)
 
 -- what was still to be written has been written
 append_through : (before a b : Option (List ℕ)) (t w : List ℕ) → Appends before (append_known a t) w → Appends a b t → Appends before b w
@@ -63,31 +53,22 @@ append_through (Some x) (Some y) (Some z) t w p q = q ∙ p
 
 pub ShowsBytes-through : {view : View} {times : ℕ → Moment} {n : ℕ} {p bytes : List ℕ} {gone : List Outcome} {read : ℕ} {buffer : List ℕ} {phase : Phase} {before : Option (List ℕ)} {tally : Tally} {clock : Times} (a b : Option (List ℕ)) (t : List ℕ)
     → ShowsBytes view times n p bytes gone read buffer phase before (append_known a t) tally clock → Appends a b t → ShowsBytes view times n p bytes gone read buffer phase before b tally clock
-ShowsBytes-through {before = before} a b t s q = record { written = append_through before a b t _ s.written q; taken = s.taken; tallied = s.tallied; timed = s.timed; len = s.len }
+ShowsBytes-through {before = before} a b t s q = grind (arith, append_through)
 
 pub ShowsBytes-start : (law : StreamLaw) (view : View) (times : ℕ → Moment) (p buffer : List ℕ) (phase : Phase) (gone : List Outcome) (read : ℕ) (before : Option (List ℕ)) (tally : Tally) (clock : Times) → DecoderAfter buffer phase p
     → IsTallyOf view.checksum tally gone read → IsReadAt times (length gone) clock → ShowsBytes view times (length buffer) p [] gone read buffer phase before before tally clock
-ShowsBytes-start law view times p buffer phase gone read before tally clock d t r =
-    let none : stream_outcomes (p ++ []) (length buffer) ≡ [] = ap (λ (l : List ℕ). stream_outcomes l (length buffer)) (append-nil p) ∙ law.none p (length buffer) d.phased.piece in
-    let no_piece : all_ended (p ++ []) (length buffer) ≡ [] = all_ended-none (p ++ []) (length buffer) none in
-    record {
-      written = rw (no_piece, shown_from-none view times (length gone)) (Appends-nil before);
-      taken = rw (append-nil p, law.same p d.phased.piece) d;
-      tallied = rw (none, append-nil) t;
-      timed = rw (none, append-nil) r;
-      len = refl;
-    }
+ShowsBytes-start law view times p buffer phase gone read before tally clock d t r = grind (arith, append-nil, all_ended-none, shown_from-none, Appends-nil)
 
 module _ (law : StreamLaw) {view : View} {times : ℕ → Moment} {n : ℕ} {p bytes : List ℕ} {gone : List Outcome} {read : ℕ} {buffer : List ℕ} {phase : Phase} {before after : Option (List ℕ)} {tally : Tally} {clock : Times}
     (s : ShowsBytes view times n p bytes gone read buffer phase before after tally clock) (rest : List ℕ) where
   left-on : unended (p ++ (bytes ++ rest)) ≡ unended (unended (p ++ bytes) ++ rest)
-  left-on = ap unended (sym (append_assoc p bytes rest)) ∙ law.left (p ++ bytes) rest
+  left-on = grind (arith, append_assoc)
 
   outcomes-on : stream_outcomes (p ++ (bytes ++ rest)) n ≡ stream_outcomes (p ++ bytes) n ++ stream_outcomes (unended (p ++ bytes) ++ rest) n
-  outcomes-on = ap (λ (l : List ℕ). stream_outcomes l n) (sym (append_assoc p bytes rest)) ∙ law.cut (p ++ bytes) rest n
+  outcomes-on = grind (arith, append_assoc)
 
   pieces-on : all_ended (p ++ (bytes ++ rest)) n ≡ all_ended (p ++ bytes) n ++ all_ended (unended (p ++ bytes) ++ rest) n
-  pieces-on = ap (λ (l : List ℕ). all_ended l n) (sym (append_assoc p bytes rest)) ∙ all_ended-append law (p ++ bytes) rest n
+  pieces-on = grind (arith, append_assoc, all_ended-append)
 
   -- the bytes through the end of one more piece
   pub ShowsBytes-piece : {buffer' : List ℕ} {phase' : Phase} {after' : Option (List ℕ)} {tally' : Tally} {clock' : Times} (outcome : Outcome) (piece : Ended) → length buffer' ≡ length buffer → DecoderAfter buffer' phase' (unended (unended (p ++ bytes) ++ rest))
@@ -117,28 +98,16 @@ module _ (law : StreamLaw) {view : View} {times : ℕ → Moment} {n : ℕ} {p b
   -- bytes in which no piece ends
   pub ShowsBytes-rest : {buffer' : List ℕ} {phase' : Phase} → length buffer' ≡ length buffer → DecoderAfter buffer' phase' (unended (unended (p ++ bytes) ++ rest)) → [] ≡ stream_outcomes (unended (p ++ bytes) ++ rest) (length buffer)
       → ShowsBytes view times n p (bytes ++ rest) gone read buffer' phase' before after tally clock
-  ShowsBytes-rest len taken reported =
-      let none : [] ≡ stream_outcomes (unended (p ++ bytes) ++ rest) n = subst (λ (k : ℕ). [] ≡ stream_outcomes (unended (p ++ bytes) ++ rest) k) s.len reported in
-      let same : stream_outcomes (p ++ (bytes ++ rest)) n ≡ stream_outcomes (p ++ bytes) n = outcomes-on ∙ ap (λ (l : List Outcome). stream_outcomes (p ++ bytes) n ++ l) (sym none) ∙ append-nil (stream_outcomes (p ++ bytes) n) in
-      let same_pieces : all_ended (p ++ (bytes ++ rest)) n ≡ all_ended (p ++ bytes) n = pieces-on ∙ ap (λ (l : List Ended). all_ended (p ++ bytes) n ++ l) (all_ended-none (unended (p ++ bytes) ++ rest) n (sym none)) ∙ append-nil (all_ended (p ++ bytes) n) in
-      record {
-        written = rw same_pieces s.written;
-        taken = rw left-on taken;
-        tallied = rw same s.tallied;
-        timed = rw same s.timed;
-        len = len ∙ s.len;
-      }
+  ShowsBytes-rest len taken reported = grind (arith, outcomes-on, append-nil, pieces-on, all_ended-none, left-on)
 
 -- the bytes after some of them, as a slice has them
 rest-of : (at : ℕ) (bytes : List ℕ) → take (length bytes - at) (drop at bytes) ≡ drop at bytes
-rest-of at bytes = take_all (length bytes - at) (drop at bytes) (omega (arith, length-drop at bytes))
+rest-of at bytes = grind (arith, take_all, length-drop)
 
 -- the first bytes of a part of those after some
 pub take-part : (at count : ℕ) (bytes part : List ℕ) → part ≡ take (length part) (take (length bytes - at) (drop at bytes)) → count ≤ length part → take (at + count) bytes ≡ take at bytes ++ take count part
-take-part at count bytes part is within =
-    let front : part ≡ take (length part) (drop at bytes) = is ∙ ap (take (length part)) (rest-of at bytes) in
-    take-add at count bytes ∙ ap (λ (l : List ℕ). take at bytes ++ l) (sym (ap (take count) front ∙ take-take count (length part) (drop at bytes) within))
+take-part at count bytes part is within = grind (arith, rest-of, take-add, take-take)
 
 -- and all of them
 pub take-whole_part : (at : ℕ) (bytes part : List ℕ) → part ≡ take (length part) (take (length bytes - at) (drop at bytes)) → take (at + length part) bytes ≡ take at bytes ++ part
-take-whole_part at bytes part is = take-part at (length part) bytes part is (omega arith) ∙ ap (λ (l : List ℕ). take at bytes ++ l) (take_all (length part) part (omega arith))
+take-whole_part at bytes part is = grind (arith, take-part, take_all)

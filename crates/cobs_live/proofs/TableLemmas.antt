@@ -25,7 +25,7 @@ doubled : (r s : ℕ) → bit_xor r s * 2 ≡ bit_xor (r * 2) (s * 2)
 doubled r s = grind (arith, xor_block 1 r s 0 0 (omega arith) (omega arith))
 
 mixed : (a b c d : ℕ) → bit_xor (bit_xor a b) (bit_xor c d) ≡ bit_xor (bit_xor a c) (bit_xor b d)
-mixed a b c d = xor_assoc a b (bit_xor c d) ∙ ap (bit_xor a) (sym (xor_assoc b c d) ∙ ap (λ (x : ℕ). bit_xor x d) (xor_comm b c) ∙ xor_assoc c b d) ∙ sym (xor_assoc a c (bit_xor b d))
+mixed a b c d = grind (arith, xor_assoc, xor_comm)
 
 shifted-parts : (poly p r q s : ℕ) → p < 2 → r < 2 ^ 31 → q < 2 → s < 2 ^ 31
     → shifted poly (bit_xor (p * 2 ^ 31 + r) (q * 2 ^ 31 + s)) ≡ bit_xor (shifted poly (p * 2 ^ 31 + r)) (shifted poly (q * 2 ^ 31 + s))
@@ -49,14 +49,13 @@ shifted-lt poly r hp hr = grind (arith, common_steps, xor_lt 32 (2 * r - 2 ^ 32)
 after_bits-lt : (poly n r : ℕ) → poly < 2 ^ 32 → r < 2 ^ 32 → after_bits poly n r < 2 ^ 32
 unfolding after_bits
 after_bits-lt poly zero r hp hr = hr
-after_bits-lt poly (suc n) r hp hr = shifted-lt poly (after_bits poly n r) hp (after_bits-lt poly n r hp hr)
+after_bits-lt poly (suc n) r hp hr = grind (arith, shifted-lt, (after_bits-lt poly n r hp hr))
 
 after_bits-xor : (poly n a b : ℕ) → poly < 2 ^ 32 → a < 2 ^ 32 → b < 2 ^ 32
     → after_bits poly n (bit_xor a b) ≡ bit_xor (after_bits poly n a) (after_bits poly n b)
 unfolding after_bits
 after_bits-xor poly zero a b hp ha hb = refl
-after_bits-xor poly (suc n) a b hp ha hb =
-    ap (shifted poly) (after_bits-xor poly n a b hp ha hb) ∙ shifted-xor poly _ _ (after_bits-lt poly n a hp ha) (after_bits-lt poly n b hp hb)
+after_bits-xor poly (suc n) a b hp ha hb = grind (arith, shifted-xor, after_bits-lt, (after_bits-xor poly n a b hp ha hb))
 
 low_step : (poly r : ℕ) → r * 2 < 2 ^ 32 → shifted poly r ≡ r * 2
 low_step poly r h = grind (arith, common_steps)

@@ -1,5 +1,5 @@
 -- The block at an index of bytes that have no zero.
-use Rattle.std.proofs.Common.{◌≡◌, ◌≢◌, ◌∙◌, ℕ, ◌+◌, ◌-◌, ◌<◌, ◌≤◌, List, [], ◌∷◌, ◌++◌, length, take, drop, get_or, sym, ap, subst, arith, append-nil, length-drop, length-take-le, take-append-drop}
+use Rattle.std.proofs.Common.{◌≡◌, ◌≢◌, ◌∙◌, ℕ, ◌+◌, ◌-◌, ◌<◌, ◌≤◌, List, [], ◌∷◌, ◌++◌, length, take, drop, get_or, sym, ap, arith, append-nil, length-drop, length-take-le, take-append-drop}
 use Rattle.std.proofs.lemmas.List.{drop-drop, drop_all, drop_more}
 use Rattle.std.proofs.lemmas.List.Elements.{All-drop, All-get_or, All-take}
 use Rattle.cobs.specs.Grammar.{HasNoZero, IsBlock}
@@ -15,7 +15,7 @@ module _ (list : List ℕ) (read : ℕ) (nonzero : HasNoZero list) (within : rea
   more = drop (read + 1) list
 
   pub code_some : 0 < get_or list read 0
-  code_some = let other = All-get_or (λ b. b ≢ 0) list read 0 within nonzero in omega arith
+  code_some = grind (arith, All-get_or)
 
   cons : drop read list ≡ code ∷ more
   cons = drop_more list read 0 within
@@ -23,7 +23,7 @@ module _ (list : List ℕ) (read : ℕ) (nonzero : HasNoZero list) (within : rea
   -- fewer bytes are left than the code says
   pub broken : (P : List ℕ → Type 0) → ((code : ℕ) (bytes : List ℕ) → length bytes + 1 < code → P (code ∷ bytes)) → length list - read < get_or list read 0
       → P (drop read list)
-  broken P short less = subst P (sym cons) (short code more (let l = length-drop (read + 1) list in omega arith))
+  broken P short less = grind (arith, cons, length-drop)
 
   pub is_block : get_or list read 0 ≤ length list - read → get_or list read 0 < 256 → IsBlock (block_at list read)
   is_block fits below =
@@ -45,6 +45,4 @@ module _ (list : List ℕ) (read : ℕ) (nonzero : HasNoZero list) (within : rea
 
   -- nothing is after it
   pub last : length list - read ≡ get_or list read 0 → drop read list ≡ block_at list read
-  last end =
-      let none = drop_all (read + code) list (omega arith) in
-      split ∙ ap (λ (x : List ℕ). block_at list read ++ x) none ∙ append-nil (block_at list read)
+  last end = grind (arith, drop_all, split, append-nil)

@@ -1,5 +1,5 @@
 -- The bytes between two sentinels, and the message at the front of a buffer.
-use Rattle.std.proofs.Common.{◌≢◌, ◌≤◌, ℕ, List, [], ◌∷◌, length, take, refl, ap, subst, arith, length-take}
+use Rattle.std.proofs.Common.{◌≢◌, ◌≤◌, ℕ, List, [], ◌∷◌, length, take, refl, arith, length-take}
 use Rattle.cobs.specs.Grammar.{HasNoZero, Reads}
 use Rattle.cobs.specs.Headline.{BeginsWith, IsPiece}
 use Rattle.cobs.specs.Sentinel.{xor_each}
@@ -7,11 +7,11 @@ use Rattle.cobs.specs.Sentinel.{xor_each}
 -- bytes without the sentinel are a piece once they are XORed with it
 pub coded_piece : (s : ℕ) (bytes : List ℕ) → bytes ≢ [] → HasNoZero (xor_each s bytes) → IsPiece (xor_each s bytes)
 coded_piece s [] some nonzero = absurd (some refl)
-coded_piece s (byte ∷ bytes) some nonzero = (λ none. absurd cc, nonzero)
+coded_piece s (byte ∷ bytes) some nonzero = grind arith
 
 -- what reads as the front of a buffer reads as the message that is there, which the buffer holds
 pub reads_front : (f buffer m : List ℕ) (n : ℕ) → Reads f (take n buffer) → BeginsWith buffer n m → Reads f m
-reads_front f buffer m n reads begins = subst (Reads f) begins.1 reads
+reads_front f buffer m n reads begins = grind arith
 
 pub held_front : (buffer m : List ℕ) (n : ℕ) → BeginsWith buffer n m → length m ≤ length buffer
-held_front buffer m n begins = (let e = ap length begins.1 in let l = length-take n buffer in omega (arith, e, l))
+held_front buffer m n begins = grind (arith, length-take)

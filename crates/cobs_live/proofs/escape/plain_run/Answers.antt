@@ -7,7 +7,7 @@ use Rattle.cobs_live.proofs.EscapeLemmas.{plain_below}
 use Rattle.cobs_live.proofs.escape.plain_run.Goals as goal
 
 pub loop-i-init : goal.loop-i-init
-loop-i-init c = record { boundary = IsCharBoundary-start _ c.utf8.text; plain = λ k d l. absurd (omega arith) }
+loop-i-init c = grind (arith, IsCharBoundary-start)
 
 pub loop-i-preserved : goal.loop-i-preserved
 loop-i-preserved c =

@@ -1,9 +1,9 @@
-use Rattle.std.proofs.Common.{◌≡◌, length, arith, rules}
+use Rattle.std.proofs.Common.{◌≡◌, length, arith}
 use Rattle.cobs_live.proofs.EscapeLemmas.{front-end, front-more}
 use Rattle.cobs_live.proofs.escape.write_escaped.Goals as goal
 
 pub by_run-preserved : goal.by_run-preserved
-by_run-preserved g c = (search rules, front-more c.by_run.invariant.1 c.in_ok-rest.ensures.written)
+by_run-preserved g c = grind (arith, front-more)
 
 pub returns : goal.returns
 returns g c =

@@ -1,10 +1,10 @@
 -- A log that ends in a zero, a frame and a zero report what the log reported and then the frame's message: by `law_10: apart`
 -- (`reported`).
-use Rattle.std.proofs.Common.{◌≡◌, ◌≢◌, ℕ, List, [], ◌∷◌, ◌++◌, length, ap, ◌∙◌, arith, append-nil, inr, rules}
+use Rattle.std.proofs.Common.{◌≡◌, ◌≢◌, ℕ, List, [], ◌∷◌, ◌++◌, length, ap, arith, append-nil, rules}
 use Rattle.std.proofs.lemmas.List.Elements.{All-nil}
 use Rattle.cobs.specs.Grammar.{HasNoZero}
 use Rattle.cobs.specs.Laws.{IsAtSentinel}
-use Rattle.cobs.specs.Stream.{Outcome, Message, stream_outcomes, outcome_of}
+use Rattle.cobs.specs.Stream.{Message, stream_outcomes, outcome_of}
 use Rattle.cobs_vectors.proofs.clients.append_to_log.Goals as goal
 
 -- a log, a frame and a zero
@@ -12,11 +12,7 @@ reported : (log f m : List ℕ) (n : ℕ) → IsAtSentinel log → f ≢ [] → 
     → ((a d z : List ℕ) (n : ℕ) → IsAtSentinel a → stream_outcomes (a ++ d ++ 0 ∷ z) n ≡ stream_outcomes a n ++ stream_outcomes (d ++ 0 ∷ []) n ++ stream_outcomes z n)
     → stream_outcomes (f ++ 0 ∷ []) n ≡ outcome_of f n ∷ [] → outcome_of f n ≡ Message m → stream_outcomes [] n ≡ []
     → stream_outcomes ((log ++ f) ++ 0 ∷ []) n ≡ stream_outcomes log n ++ Message m ∷ []
-reported log f m n at some nonzero apart one message none =
-    let s : List Outcome = stream_outcomes log n in
-    apart log f [] n at
-    ∙ ap (λ (x : List Outcome). (s ++ x) ++ stream_outcomes [] n) (one ∙ ap (λ (o : Outcome). o ∷ []) message)
-    ∙ ap (λ (x : List Outcome). (s ++ Message m ∷ []) ++ x) none ∙ append-nil (s ++ Message m ∷ [])
+reported log f m n at some nonzero apart one message none = grind (arith, append-nil)
 
 pub returns-clause-reported : goal.returns-clause-reported
 returns-clause-reported c = λ n held.
@@ -34,4 +30,4 @@ returns-clause-reported c = λ n held.
     rw items (reported log f m n c.requires.at_sentinel some nonzero c.law_10.ensures.apart one message none)
 
 pub returns-clause-at_sentinel : goal.returns-clause-at_sentinel
-returns-clause-at_sentinel c = inr (c.extend_from_slice.new.self.items, c.in_ok-push.ensures.items)
+returns-clause-at_sentinel c = grind arith

@@ -18,7 +18,7 @@ use Rattle.cobs_vectors.proofs.clients.count_messages.Goals as goal
 
 messages_of-append : (first more : List Outcome) → messages_of (first ++ more) ≡ messages_of first ++ messages_of more
 messages_of-append [] more = refl
-messages_of-append (Message message ∷ first) more = ap (λ (x : List Outcome). Message message ∷ x) (messages_of-append first more)
+messages_of-append (Message message ∷ first) more = grind (arith, (messages_of-append first more))
 messages_of-append (Broken count ∷ first) more = messages_of-append first more
 messages_of-append (TooLong ∷ first) more = messages_of-append first more
 
@@ -40,13 +40,11 @@ module _ (law : StreamLaw) {buffer buffer' : List ℕ} {phase phase' : Phase} (b
   joined = grind (arith, take-add, append_assoc)
 
   after : DecoderAfter buffer' phase' (unended (p ++ take (at + consumed_size (drop at bytes) result) bytes))
-  after = rw (joined, law.left (p ++ take at bytes) (consumed (drop at bytes) result)) (t.after _ h)
+  after = grind (arith, joined)
 
   counted : length (messages_of (stream_outcomes (p ++ take (at + consumed_size (drop at bytes) result) bytes) n))
       ≡ length (messages_of (stream_outcomes (p ++ take at bytes) n)) + length (messages_of (pushed_outcomes (drop at bytes) result buffer'))
-  counted =
-      let pushed : stream_outcomes (unended (p ++ take at bytes) ++ consumed (drop at bytes) result) n ≡ pushed_outcomes (drop at bytes) result buffer' = rw same at (t.outcomes _ h) in
-      rw (joined, law.cut (p ++ take at bytes) (consumed (drop at bytes) result) n, pushed) (grind (arith, messages_of-append, length-append))
+  counted = grind (arith, joined, messages_of-append, length-append)
 
 whole : (bytes : List ℕ) (at : ℕ) → at ≤ length bytes → take (at + length (drop at bytes)) bytes ≡ bytes
 whole bytes at within = grind (arith, length-drop, take_all)

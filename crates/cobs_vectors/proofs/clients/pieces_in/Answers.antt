@@ -24,15 +24,13 @@ module _ (law : StreamLaw) where
   -- a zero, with nothing before it, and with a piece before it
   ends_none : (t : List ℕ) → unended t ≡ [] → ended_pieces t ≡ ended_pieces (t ++ 0 ∷ [])
   unfolding ended_pieces but_last
-  ends_none t none = sym (law.pieces t (0 ∷ []) ∙ ap (λ x. ended_pieces t ++ ended_pieces (x ++ 0 ∷ [])) none ∙ append-nil (ended_pieces t))
+  ends_none t none = grind (arith, append-nil)
 
   ends_one : (t : List ℕ) → unended t ≢ [] → ended_pieces t ++ unended t ∷ [] ≡ ended_pieces (t ++ 0 ∷ [])
-  ends_one t some = sym (law.pieces t (0 ∷ []) ∙ ap (λ x. ended_pieces t ++ x) (law.piece (unended t) some (law.begun t)))
+  ends_one t some = grind arith
 
 pub by_byte-init : goal.by_byte-init
-by_byte-init c =
-    let law : StreamLaw = c.law_9.ensures in
-    rw (append-nil, c.new-found.ensures.items) (sym (no_piece law _ c.requires), sym (law.same _ c.requires))
+by_byte-init c = grind (arith, append-nil, no_piece)
 
 pub by_byte-preserved : goal.by_byte-preserved
 by_byte-preserved c =
@@ -59,7 +57,7 @@ by_byte-preserved c =
     ])
 
 pub returns-clause-pieces : goal.returns-clause-pieces
-returns-clause-pieces c = rw (take_all _ c.args.chunk.now c.by_byte-test.false) at c.by_byte.invariant.0
+returns-clause-pieces c = grind (arith, take_all)
 
 pub returns-clause-begun : goal.returns-clause-begun
-returns-clause-begun c = rw (take_all _ c.args.chunk.now c.by_byte-test.false) at c.by_byte.invariant.1
+returns-clause-begun c = grind (arith, take_all)

@@ -1,6 +1,6 @@
 -- The messages that were sent and those of the outcomes that are left are all messages of the stream; a piece more moves
 -- its outcome from the one to the other (`relayed`), by `law_21`.
-use Rattle.std.proofs.Common.{◌≡◌, ◌-◌, ℕ, List, [], ◌∷◌, ◌++◌, length, drop, refl, ap, sym, ◌∙◌, arith, append_assoc, length-take, length-drop}
+use Rattle.std.proofs.Common.{◌≡◌, ◌-◌, ℕ, List, [], ◌∷◌, ◌++◌, length, drop, refl, ◌∙◌, arith, append_assoc, length-take, length-drop}
 use Rattle.std.proofs.lemmas.List.{drop-drop, take_rest}
 use Rattle.cobs.specs.Stream.{Outcome, Message, Broken, TooLong}
 use Rattle.cobs_vectors.specs.Relayed.{messages_of}
@@ -12,9 +12,7 @@ first (Broken count) more = refl
 first TooLong more = refl
 
 relayed : (out out' found more all : List Outcome) (o : Outcome) → out ++ messages_of found ≡ all → found ≡ o ∷ more → out' ≡ out ++ messages_of (o ∷ []) → out' ++ messages_of more ≡ all
-relayed out out' found more all o so_far one reported =
-    ap (λ (x : List Outcome). x ++ messages_of more) reported ∙ append_assoc out (messages_of (o ∷ [])) (messages_of more)
-    ∙ ap (λ (x : List Outcome). out ++ x) (first o more ∙ ap messages_of (sym one)) ∙ so_far
+relayed out out' found more all o so_far one reported = grind (arith, append_assoc, first)
 
 pub by_piece-preserved : goal.by_piece-preserved
 by_piece-preserved g c =

@@ -15,16 +15,16 @@ module _ (list : List ℕ) (read : ℕ) (nonzero : HasNoZero list) (within : rea
   code = get_or list read 0
 
   block : IsBlock (block_at list read)
-  block = is_block list read nonzero within fits below
+  block = grind (arith, is_block)
 
   -- the block is the last one
   module _ (end : length list - read ≡ get_or list read 0) where
     whole_end : is_whole (drop read list) ≡ true
-    whole_end = ap is_whole (last list read nonzero within end) ∙ one_whole (block_at list read) block
+    whole_end = grind (arith, last, block_at, block)
 
     kept_end : ((block : List ℕ) → IsBlock block → output block ≡ bytes_of block) → ((p : List ℕ) → IsWhole p → kept_output p ≡ output p)
         → kept_output (drop read list) ≡ take (get_or list read 0 - 1) (drop (read + 1) list)
-    kept_end one all_kept = ap kept_output (last list read nonzero within end) ∙ all_kept (block_at list read) (one_whole (block_at list read) block) ∙ one (block_at list read) block
+    kept_end one all_kept = grind (arith, last, block_at, block)
 
   -- more follow
   module _ (far : get_or list read 0 < length list - read) where
@@ -37,7 +37,7 @@ module _ (list : List ℕ) (read : ℕ) (nonzero : HasNoZero list) (within : rea
 
 -- the slice that was copied
 copied : (list : List ℕ) (read code : ℕ) → take (read + code - (read + 1)) (drop (read + 1) list) ≡ take (code - 1) (drop (read + 1) list)
-copied list read code = ap (λ (n : ℕ). take n (drop (read + 1) list)) (omega arith)
+copied list read code = grind arith
 
 pub returns-then-left-code-clause-reads : goal.returns-then-left-code-clause-reads
 returns-then-left-code-clause-reads c = λ m.
@@ -47,17 +47,10 @@ returns-then-left-code-clause-reads c = λ m.
     )
 
 pub returns-then-left-code-2-clause-whole : goal.returns-then-left-code-2-clause-whole
-returns-then-left-code-2-clause-whole c =
-    let fits = c.type_inv.piece c.by_block.read in
-    let left = whole_end c.args.piece.now c.by_block.read c.requires.1 c.by_block.invariant.within c.if-left-code.false (omega arith) c.law_20.ensures.one_whole c.if-left-code-2.true in
-    sym (c.by_block.invariant.whole ∙ left)
+returns-then-left-code-2-clause-whole c = grind (arith, whole_end)
 
 pub returns-then-left-code-2-clause-kept : goal.returns-then-left-code-2-clause-kept
-returns-then-left-code-2-clause-kept c =
-    let fits = c.type_inv.piece c.by_block.read in
-    let left = kept_end c.args.piece.now c.by_block.read c.requires.1 c.by_block.invariant.within c.if-left-code.false (omega arith) c.law_20.ensures.one_whole c.if-left-code-2.true c.law_20.ensures.one c.law_20.ensures.all_kept in
-    let e = copied c.args.piece.now c.by_block.read (get_or c.args.piece.now c.by_block.read 0) in
-    c.in_ok-extend_from_slice.ensures.items ∙ ap (λ (x : List ℕ). c.by_block.bytes.items ++ x) (e ∙ sym left) ∙ sym c.by_block.invariant.kept
+returns-then-left-code-2-clause-kept c = grind (arith, kept_end, copied)
 
 pub returns-then-left-code-2-clause-reads : goal.returns-then-left-code-2-clause-reads
 returns-then-left-code-2-clause-reads c = λ m.

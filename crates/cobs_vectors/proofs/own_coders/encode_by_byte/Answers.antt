@@ -1,6 +1,6 @@
 -- Each byte is one of the three steps of `law_16`. There is room for it, because the frame of the whole message fits
 -- (`room`).
-use Rattle.std.proofs.Common.{◌≡◌, ◌≢◌, ◌<◌, ◌≤◌, ◌+◌, ◌-◌, ◌∙◌, ℕ, false, List, [], ◌++◌, length, replicate, take, drop, get_or, slice_set, ap, subst, arith, length-append, length-drop, take_all}
+use Rattle.std.proofs.Common.{◌≡◌, ◌≢◌, ◌<◌, ◌≤◌, ◌+◌, ◌-◌, ◌∙◌, ℕ, false, List, [], ◌++◌, length, replicate, take, drop, get_or, slice_set, ap, arith, length-append, length-drop, take_all}
 use Rattle.std.proofs.lemmas.List.{length-replicate, length-set, take-append-drop, take_more}
 use Rattle.std.proofs.lemmas.List.Elements.{All-replicate}
 use Rattle.cobs.specs.Fields.Encoders.{IsPlaceIn}
@@ -74,10 +74,10 @@ by_byte-preserved c =
 
 -- at the end
 whole : (dest m : List ℕ) (i n : ℕ) → length m ≤ i → IsEncodedFrame (take n dest) (take i m) → IsEncodedFrame (take n dest) m
-whole dest m i n end frame = subst (λ k. IsEncodedFrame (take n dest) k) (take_all i m end) frame
+whole dest m i n end frame = grind (arith, take_all)
 
 end_in : (n : ℕ) (reached : Reached) → IsPlaceIn n reached → reached.full ≡ false → (reached.block.index < n) × (next_of reached ≤ n)
-end_in n reached place short = let fits = rw short at place.fits in let some = place.some in (omega arith, fits)
+end_in n reached place short = grind arith
 
 pub returns-then-full : goal.returns-then-full
 returns-then-full c =

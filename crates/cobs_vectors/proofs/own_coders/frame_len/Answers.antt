@@ -14,15 +14,15 @@ ones run = All-replicate (λ b. b ≢ 0) run 1 (λ e. absurd cc)
 
 -- from `law_4` and `law_15`
 least : ((m : List ℕ) → length m + 1 ≤ encoded_len m) → (run : ℕ) (rest : List ℕ) → run + 1 ≤ encoded_len (replicate run 1 ++ rest)
-least lower run rest = omega (arith, lower (replicate run 1 ++ rest), length-append (replicate run 1) rest, length-replicate {A = ℕ} run 1)
+least lower run rest = grind (arith, length-append, length-replicate)
 
 close_full : ((a m : List ℕ) → length a ≡ 254 → HasNoZero a → m ≢ [] → encoded_len (a ++ m) ≡ 255 + encoded_len m)
     → (closed run : ℕ) (rest : List ℕ) → run ≡ 254 → rest ≢ [] → closed + encoded_len (replicate run 1 ++ rest) ≡ closed + 255 + encoded_len rest
-close_full full closed run rest is some = (let e = full (replicate run 1) rest (length-replicate {A = ℕ} run 1 ∙ is) (ones run) some in omega (arith, e))
+close_full full closed run rest is some = grind (arith, length-replicate, ones)
 
 close_zero : ((a m : List ℕ) → length a < 254 → HasNoZero a → encoded_len (a ++ 0 ∷ m) ≡ length a + 1 + encoded_len m)
     → (closed run : ℕ) (rest : List ℕ) → run < 254 → closed + encoded_len (replicate run 1 ++ 0 ∷ rest) ≡ closed + (run + 1) + encoded_len rest
-close_zero zero closed run rest short = (let l = length-replicate {A = ℕ} run 1 in let e = zero (replicate run 1) rest (omega arith) (ones run) in omega (arith, e, l))
+close_zero zero closed run rest short = grind (arith, length-replicate, ones)
 
 one_more : ((a b m : List ℕ) → HasNoZero a → HasNoZero b → length a ≡ length b → encoded_len (a ++ m) ≡ encoded_len (b ++ m))
     → (run byte : ℕ) (rest : List ℕ) → byte ≢ 0 → encoded_len (replicate run 1 ++ byte ∷ rest) ≡ encoded_len (replicate (run + 1) 1 ++ rest)

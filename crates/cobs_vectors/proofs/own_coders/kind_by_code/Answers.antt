@@ -1,11 +1,10 @@
 -- Each block that is read leaves the question to the bytes after it (`frame_left`, `canonical_left`), by `law_19`.
-use Rattle.std.proofs.Common.{◌≡◌, ◌≢◌, ◌↔◌, ◌∙◌, ◌++◌, ◌+◌, ◌-◌, ◌<◌, [], ℕ, List, length, drop, get_or, refl, sym, ap, subst, arith, length-drop}
+use Rattle.std.proofs.Common.{◌≡◌, ◌≢◌, ◌↔◌, ◌++◌, ◌+◌, ◌-◌, ◌<◌, [], ℕ, List, length, drop, get_or, refl, sym, ap, subst, arith, length-drop}
 use Rattle.std.proofs.lemmas.Bool.{true≢false}
 use Rattle.std.proofs.lemmas.List.{drop_more}
 use Rattle.cobs.specs.Grammar.{HasNoZero, IsBlock, IsCanonical, IsFrame, IsFull, lone_block, message_of}
 use Rattle.cobs_vectors.proofs.Blocks.{block_at, broken, code_some, is_block, last, split, more_some}
 use Rattle.cobs_vectors.proofs.own_coders.kind_by_code.Goals as goal
-use Rattle.cobs_vectors.proofs.own_coders.kind_by_code.Goals.{else-after_full-via-then-after_full+else-code-eq1, else-after_full-via-else-after_full}
 
 -- a canonical frame is a frame
 frame_of : (f : List ℕ) → IsCanonical f → IsFrame f
@@ -14,15 +13,15 @@ frame_of f is = (message_of is.blocks, record { blocks = is.blocks; frame = is.f
 module _ (list : List ℕ) (read : ℕ) (nonzero : HasNoZero list) (within : read < length list) (below : get_or list read 0 < 256) where
   -- the rest is a block
   one_left : ((block : List ℕ) → IsBlock block → IsCanonical block) → length list - read ≡ get_or list read 0 → IsCanonical (drop read list)
-  one_left one end = subst IsCanonical (sym (last list read nonzero within end)) (one (block_at list read) (is_block list read nonzero within (omega arith) below))
+  one_left one end = grind (arith, last, block_at, is_block)
 
   lone_left : drop read list ≡ lone_block → get_or list read 0 ≡ 1
-  lone_left lone = ap (λ (x : List ℕ). get_or x 0 0) (sym (drop_more list read 0 within) ∙ lone)
+  lone_left lone = grind (arith, drop_more)
 
   -- the rest is a block and more
   module _ (far : get_or list read 0 < length list - read) where
     block : IsBlock (block_at list read)
-    block = is_block list read nonzero within (omega arith) below
+    block = grind (arith, is_block)
 
     frame_left : ((block f : List ℕ) → IsBlock block → f ≢ [] → (IsFrame (block ++ f) ↔ IsFrame f)) → IsFrame (drop read list) ↔ IsFrame (drop (read + get_or list read 0) list)
     frame_left law = subst (λ (x : List ℕ). IsFrame x ↔ IsFrame (drop (read + get_or list read 0) list)) (sym (split list read nonzero within)) (law (block_at list read) (drop (read + get_or list read 0) list) block (more_some list read nonzero within far))
@@ -46,30 +45,13 @@ returns-then-left-code-clause-canonical c =
     (λ same. absurd cc, λ is. absurd (none (frame_of (drop c.by_block.read c.args.piece.now) (c.by_block.invariant.canonical.0 is).0)))
 
 pub returns-then-code-eq1-clause-frame : goal.returns-then-code-eq1-clause-frame
-returns-then-code-eq1-clause-frame c =
-    let fits = c.type_inv.piece c.by_block.read in
-    let is = one_left c.args.piece.now c.by_block.read c.requires.1 c.by_block.invariant.within (omega arith) c.law_19.ensures.one c.if-left-code-2.true in
-    (λ same. absurd cc, λ none. absurd (none (c.by_block.invariant.frame.1 (frame_of (drop c.by_block.read c.args.piece.now) is))))
+returns-then-code-eq1-clause-frame c = grind (arith, one_left, frame_of)
 
 pub returns-else-after_full-clause-frame : goal.returns-else-after_full-clause-frame
-returns-else-after_full-clause-frame c =
-    let fits = c.type_inv.piece c.by_block.read in
-    let is = one_left c.args.piece.now c.by_block.read c.requires.1 c.by_block.invariant.within (omega arith) c.law_19.ensures.one c.if-left-code-2.true in
-    (λ same. absurd cc, λ none. absurd (none (c.by_block.invariant.frame.1 (frame_of (drop c.by_block.read c.args.piece.now) is))))
+returns-else-after_full-clause-frame c = grind (arith, one_left, frame_of)
 
 pub returns-else-after_full-clause-canonical : goal.returns-else-after_full-clause-canonical
-returns-else-after_full-clause-canonical c =
-    let fits = c.type_inv.piece c.by_block.read in
-    let is = one_left c.args.piece.now c.by_block.read c.requires.1 c.by_block.invariant.within (omega arith) c.law_19.ensures.one c.if-left-code-2.true in (
-      λ _. c.by_block.invariant.canonical.1 (
-        is,
-        λ full lone. elim c.else-after_full.branch [
-          | else-after_full-via-then-after_full+else-code-eq1 w ↦ w.if-code-eq1.false (lone_left c.args.piece.now c.by_block.read c.requires.1 c.by_block.invariant.within (omega arith) lone)
-          | else-after_full-via-else-after_full w ↦ true≢false (sym full ∙ w.if-after_full.false)
-        ],
-      ),
-      λ _. refl,
-    )
+returns-else-after_full-clause-canonical c = grind (arith, one_left, lone_left, true≢false)
 
 pub by_block-preserved : goal.by_block-preserved
 by_block-preserved c =

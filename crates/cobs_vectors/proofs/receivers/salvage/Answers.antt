@@ -20,8 +20,7 @@ module _ (buffer buffer' received : List ℕ) (phase phase' : Phase) (idle : Dec
   cut_off : ((t : List ℕ) (n : ℕ) → stream_outcomes t n ≡ [] → last_piece t ≡ unended t)
       → (result : Option (PieceEnd × ℕ)) → TakesPiece buffer phase received result buffer' phase' → HasNoZero received
       → buffer' ≡ overwritten buffer (output received)
-  cut_off last None t nonzero =
-      t.holds [] idle ∙ ap (λ (x : List ℕ). overwritten buffer (output x)) (last received (length buffer) (no_outcomes received (length buffer) nonzero) ∙ same received nonzero)
+  cut_off last None t nonzero = grind arith
   cut_off last (Some (end, count)) t nonzero =
       let none = t.takes.outcomes [] idle ∙ no_outcomes (take count received) (length buffer) (All-take (λ b. b ≢ 0) count received nonzero) in
       absurd cc
@@ -32,7 +31,7 @@ module _ (buffer buffer' received : List ℕ) (phase phase' : Phase) (idle : Dec
       → (piece : List ℕ) → IsPiece piece → received ≡ piece ++ 0 ∷ []
       → ((end : PieceEnd) × (result ≡ Some (end, length piece + 1)) × (outcome_at end buffer' ≡ outcome_of piece (length buffer)))
       → buffer' ≡ overwritten buffer (output piece)
-  ended last None t piece is whole ends = absurd (let e = ends.1 in cc)
+  ended last None t piece is whole ends = grind arith
   ended last (Some (end, count)) t piece is whole ends =
       let n : ℕ = length buffer in
       let same_end : ◌≡◌ {A = PieceEnd × ℕ} (end, count) (ends.0, length piece + 1) = (let e = ends.1 in cc) in

@@ -23,10 +23,7 @@ index_of-push_result state byte = go (byte == 0) (state.code == 254)
     go false false = omega arith
 
 within : (g : List ℕ) (state : OpenBlock) (byte : ℕ) (returned : PushResult) → state.index < length g → returned ≡ push_result state byte → index_of returned < length g
-within g state byte returned end is =
-    let at = index_of-push_result state byte in
-    let same = ap index_of is in
-    omega arith
+within g state byte returned end is = grind (arith, index_of-push_result)
 
 pub by_byte-init : goal.by_byte-init
 by_byte-init c = subst (λ (g : List ℕ). IsOpenOutput g c.default-state.result []) (sym c.in_ok-output.ensures.items) (c.default-state.ensures.output 0)
