@@ -1,5 +1,5 @@
--- Each iteration takes a run (`ran`) and the byte after it, which continues the piece (`piece-more`) or ends it
--- (`piece-ended`). The bytes of a piece that is too long are passed up to its zero (`passed`).
+-- Each iteration takes a zero outside a piece, or a run (`ran`) and the byte after it that has no room (`piece-more`). The
+-- bytes of a piece that is too long are passed up to its zero (`passed`).
 use Rattle.std.proofs.Common.{◌≢◌, ◌+◌, ◌-◌, ◌∙◌, sym, subst, arith, None, Ok, refl, get_or, length, drop, take, length-drop, length-take, List, ℕ}
 use Rattle.std.proofs.lemmas.List.{get_or-drop, take_all, take_rest}
 use Rattle.cobs.specs.Feed.{Feeds, Idle, Overlong}
