@@ -712,6 +712,7 @@ static JCOBS_INLINE void jcobs_encoder_append(jcobs_encoder *encoder, unsigned c
             buffer[next] = byte;
             next++;
         }
+        /* A zero ends the block, and so does its 254th byte. */
         if (byte == 0 || next - index == JCOBS_FULL_CODE) {
             buffer[index] = (unsigned char)(next - index);
             index = next;

@@ -1,4 +1,4 @@
-//! The encoder byte by byte: the step for a byte of the message, and a piece as a loop of steps.
+//! The encoder byte by byte: the step for a byte of the message, and a piece as a loop over its bytes.
 ghost use Rattle.std.specs.Prelude.{◌≡◌, ◌<◌, ◌≤◌, ◌+◌, ◌++◌, ◌↔◌, [], ◌∷◌, ℕ, List, length, drop, IsOk, IsTrue, IfOk, OnOk, OnErr, false};
 ghost use Rattle.cobs.specs.Length.{encoded_len};
 ghost use Rattle.cobs.specs.OpenBlock.{CobsEncoderAfter, HasRoomFor, IsPlaceIn, end_after, end_of};
@@ -225,8 +225,8 @@ impl UnbufferedEncoder {
     }
 
     /// Takes the next bytes of the message, for which there is room, one at a time.
-    // The loop changes only two numbers, so that they stay in registers, and one line closes a block, whether a zero ends it or
-    // its 254th byte. `append_byte` in the loop would need more instructions, and more of flash, on a small processor.
+    // The loop changes only two numbers, so that they stay in registers, and one line closes every block. On a small processor
+    // `append_byte` in the loop would need more instructions and more flash.
     #[inline(always)]
     fn append_each(&mut self, dest: &mut [u8], bytes: &[u8])
         requires some { 0 < length bytes.now }
@@ -242,6 +242,7 @@ impl UnbufferedEncoder {
                 dest[next] = byte;
                 next += 1;
             }
+            // A zero ends the block, and so does its 254th byte.
             if byte == 0 || next - index == FULL_CODE {
                 dest[index] = (next - index) as u8;
                 index = next;

@@ -1,5 +1,5 @@
 // Made by bindings/rust/translate.py from `crates/cobs/src/enc/step.rt`: change that file, and run it again.
-//! The encoder byte by byte: the step for a byte of the message, and a piece as a loop of steps.
+//! The encoder byte by byte: the step for a byte of the message, and a piece as a loop over its bytes.
 
 use crate::proved::block::{FULL_BLOCK_BYTES, FULL_CODE};
 use crate::proved::enc::UnbufferedEncoder;
@@ -173,8 +173,8 @@ impl UnbufferedEncoder {
     }
 
     /// Takes the next bytes of the message, for which there is room, one at a time.
-    // The loop changes only two numbers, so that they stay in registers, and one line closes a block, whether a zero ends it or
-    // its 254th byte. `append_byte` in the loop would need more instructions, and more of flash, on a small processor.
+    // The loop changes only two numbers, so that they stay in registers, and one line closes every block. On a small processor
+    // `append_byte` in the loop would need more instructions and more flash.
     #[inline(always)]
     fn append_each(&mut self, dest: &mut [u8], bytes: &[u8]) {
         let mut index = self.index;
@@ -185,6 +185,7 @@ impl UnbufferedEncoder {
                 dest[next] = byte;
                 next += 1;
             }
+            // A zero ends the block, and so does its 254th byte.
             if byte == 0 || next - index == FULL_CODE {
                 dest[index] = (next - index) as u8;
                 index = next;
