@@ -42,7 +42,7 @@ DECODER = [
     ("jcobs_decoder_end_piece", "reported", "JCOBS_END_BROKEN, before", 0, "JCOBS_END_MESSAGE, before"),
     ("jcobs_decoder_take", "through_sentinel", "end.count, taken)", 0, "end.count, taken - 1)"),
     ("jcobs_decoder_take", "pushed", "*decoder = state;", 0, ";"),
-    ("jcobs_decoder_take", "through_sentinel", "byte == 0", 0, "byte <= 1"),
+    ("jcobs_decoder_take", "end_later", "byte == 0", 0, "byte <= 1"),
     ("jcobs_decoder_length", "", "jcobs_min(decoder->written, buffer_size)", 0, "buffer_size"),
     ("jcobs_decoder_answer", "broken", "jcobs_min(piece.count, buffer_size)", 0, "piece.count"),
     ("jcobs_decoder_reset", "", "jcobs_decoder_start(decoder);", 0, ";"),
