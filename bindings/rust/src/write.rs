@@ -73,7 +73,7 @@ impl<W: Write> MessageWriter<W> {
         Ok(())
     }
 
-    /// Flushes what the messages are written to.
+    /// Flushes the writer.
     ///
     /// # Errors
     ///
@@ -84,19 +84,18 @@ impl<W: Write> MessageWriter<W> {
 }
 
 impl<W> MessageWriter<W> {
-    /// Returns what the messages are written to.
+    /// Returns the writer.
     #[must_use]
     pub const fn get_ref(&self) -> &W {
         &self.inner
     }
 
-    /// Returns what the messages are written to, for changes. Bytes that are written to it directly come between two
-    /// frames.
+    /// Returns the writer, for changes. Bytes that are written to it directly come between two frames.
     pub fn get_mut(&mut self) -> &mut W {
         &mut self.inner
     }
 
-    /// Returns what the messages were written to.
+    /// Returns the writer.
     pub fn into_inner(self) -> W {
         self.inner
     }

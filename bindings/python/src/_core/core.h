@@ -83,7 +83,7 @@ void xor_each(unsigned char *to, const unsigned char *from, size_t len, unsigned
 jcobs_answer push(jcobs_decoder *decoder, unsigned char *buffer, size_t room, const unsigned char *bytes, size_t len,
                   unsigned char sentinel);
 
-/* Returns the object's memory, and then what it held of its class. */
+/* Frees the object's memory, and then its reference to its class. */
 void free_object(PyObject *self);
 
 /* Returns a new object of the class, zeroed, or NULL with MemoryError. */

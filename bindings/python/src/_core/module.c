@@ -271,7 +271,7 @@ static PyModuleDef definition_of_312 = {
     PyModuleDef_HEAD_INIT, "jcobs._core", NULL, 0, functions, slots_of_312, NULL, NULL, NULL,
 };
 
-/* Whether the processor has what the library was built for. */
+/* Returns whether the processor has the instructions that the library was built for. */
 static int has_processor(void)
 {
 #if defined(__x86_64__) && !defined(JCOBS_COMPILED)

@@ -19,7 +19,7 @@ NAMES = {jcobs.Message: "message", jcobs.Broken: "broken", jcobs.TooLong: "too l
 
 
 class Fault(Exception):
-    """What the user reads before the program ends with status 1."""
+    """An error that the user reads before the program ends with status 1."""
 
 
 def arguments() -> argparse.ArgumentParser:

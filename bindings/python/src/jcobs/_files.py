@@ -15,20 +15,20 @@ CHUNK = 65536
 GAP = bytes(bytearray(b"gap"))
 
 Kept = Deque[bytes]
-# Reads what a file has, or waits for it up to a number of seconds, and keeps the bytes: none at the end of the stream.
-# Returns whether it did. If not, that time is over, or without one the timeout of the file itself.
+# Reads the bytes that a file has, or waits for some, and keeps them: none at the end of the stream. Returns False if none has
+# arrived in this number of seconds, or without a number before the file's own timeout.
 Read = Callable[[Any, Optional[float], Kept], bool]
 
 
 class Readable(Protocol):
-    """An object with `read`, as a binary file or a `serial.Serial`."""
+    """An object with `read`, such as a binary file or a `serial.Serial`."""
 
     def read(self, size: int, /) -> Optional[bytes]:
         """Returns at most `size` bytes: none at the end, or None if there are none now."""
 
 
 class Receivable(Protocol):
-    """An object with `recv`, as a socket."""
+    """An object with `recv`, such as a socket."""
 
     def recv(self, size: int, /) -> bytes:
         """Returns at most `size` bytes, or none at the end."""
@@ -86,9 +86,9 @@ def is_ready(file: Any, timeout: float) -> bool:
 
 
 def read_port(port: Any, timeout: Optional[float], kept: Kept) -> bool:
-    """Reads what a serial port has, or waits for the next byte.
+    """Reads the bytes that a serial port has, or waits for the next one.
 
-    It waits for the descriptor. To set the port's own timeout would configure the port anew, while bytes come in.
+    It waits for the descriptor. Setting the port's own timeout would configure the port anew, while bytes come in.
     """
     waiting = port.in_waiting
     if not waiting:
@@ -101,7 +101,7 @@ def read_port(port: Any, timeout: Optional[float], kept: Kept) -> bool:
 
 
 def read_port_by_its_timeout(port: Any, timeout: Optional[float], kept: Kept) -> bool:
-    """Reads what a serial port without a descriptor has, or waits for the next byte: on Windows, or by rfc2217://."""
+    """Reads the bytes that a port without a descriptor has, or waits for the next one: on Windows, or by rfc2217://."""
     waiting = port.in_waiting
     if waiting or timeout is None:
         return keep_some(kept, port, waiting)
@@ -114,7 +114,7 @@ def read_port_by_its_timeout(port: Any, timeout: Optional[float], kept: Kept) ->
 
 
 def read_port_at_a_socket(port: Any, timeout: Optional[float], kept: Kept) -> bool:
-    """Reads what a port by socket:// has, or waits for it. Its `in_waiting` is 1 for any number of bytes."""
+    """Reads the bytes that a port by socket:// has, or waits for some. Its `in_waiting` is 1 for any number of bytes."""
     own = port.timeout
     if not wait([port.fileno()], own if timeout is None else timeout):
         return False
@@ -135,7 +135,7 @@ def keep_some(kept: Kept, port: Any, waiting: int) -> bool:
 
 
 def read_socket(sock: Any, timeout: Optional[float], kept: Kept) -> bool:
-    """Reads what a socket has, or waits for it."""
+    """Reads the bytes that a socket has, or waits for some."""
     if timeout is not None and not is_ready(sock, timeout):
         return False
     try:
@@ -149,7 +149,7 @@ def read_socket(sock: Any, timeout: Optional[float], kept: Kept) -> bool:
 
 
 def read_ssl(sock: Any, timeout: Optional[float], kept: Kept) -> bool:
-    """Reads what an SSL socket has, or waits for it: what makes it readable may be a record without data."""
+    """Reads the bytes that an SSL socket has, or waits for some. It may be readable because of a record without data."""
     from ssl import SSLWantReadError
 
     own = sock.gettimeout()
@@ -173,7 +173,7 @@ def waits(file: Any) -> bool:
 
 
 def read_file(file: Any, timeout: Optional[float], kept: Kept) -> bool:
-    """Reads what a file has, or waits for it."""
+    """Reads the bytes that a file has, or waits for some."""
     if timeout is not None and not is_ready(file, timeout):
         return False
     of_socket = isinstance(getattr(file, "raw", file), socket.SocketIO)
@@ -187,7 +187,7 @@ def read_file(file: Any, timeout: Optional[float], kept: Kept) -> bool:
 
 
 def read_of(file: Any) -> Read:
-    """Returns the read for what a file is, or raises TypeError if it can't be one."""
+    """Returns the function that reads this kind of file, or raises TypeError if it is none."""
     if isinstance(file, io.TextIOBase):
         raise TypeError(f'file must be binary, as by open(path, "rb"), not {type(file).__name__}')
     if hasattr(file, "in_waiting"):
