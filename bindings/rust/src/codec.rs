@@ -11,7 +11,7 @@ use crate::dec::{DecodeError, UnbufferedDecoder};
 /// A codec for [`Framed`](tokio_util::codec::Framed), which makes a stream and a sink of messages of anything that reads and writes
 /// bytes.
 ///
-/// It decodes the bytes as they come. So it keeps `max_len` bytes, and no frame, however long it is.
+/// It decodes the bytes as they come. So it keeps at most `max_len` bytes, however long a frame is.
 ///
 /// An item of the stream is a message, or the error of a damaged frame, as from [`MessageReader`](crate::MessageReader). A damaged
 /// frame never affects another one. The stream ends at an error of its source, or with [`UnexpectedEof`](ErrorKind::UnexpectedEof)

@@ -103,7 +103,7 @@ class AsyncFrameReader(Frames):
             await self._stream.aclose()
 
     async def _receive(self) -> bytes:
-        """Reads what the stream has, or waits for it."""
+        """Reads the bytes that the stream has, or waits for some."""
         if self._name != "receive":
             chunk: bytes = await getattr(self._stream, self._name)(CHUNK)
             return chunk
