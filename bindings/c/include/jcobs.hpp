@@ -91,7 +91,7 @@ struct is_temporary<Range, std::enable_if_t<!std::is_lvalue_reference_v<Range> &
 } // namespace detail
 
 // A pointer to bytes and their number, like std::span of C++20. A view can be made from any container or view of bytes:
-// unsigned char, char, std::byte. From an array of char, which may end with a '\0', make it by a pointer and a length. A
+// unsigned char, char, std::byte. For an array of char, which may end with a '\0', pass a pointer and a length. A
 // temporary can be read as long as it lives. A buffer to write to can't be made from a temporary, because the written bytes
 // would end with it.
 template <class Byte> class JCOBS_POINTER basic_view

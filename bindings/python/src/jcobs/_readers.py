@@ -126,7 +126,7 @@ class Frames(Coder):
         return chunk
 
     def _out(self, message: ReadableBuffer) -> bytes:
-        """Returns the bytes to send for a message. Until `_sent` is called, they count as cut."""
+        """Returns the bytes to send for a message. Until `_sent` is called, the reader assumes that they were cut."""
         frame = encode(message, sentinel=self._sentinel, terminated=True)
         lead = closing(self._cut, self._sentinel) if self._cut else self._lead
         # of a block fewer bytes are missing than the frame has; of one that was cut before, any number up to 254
@@ -224,7 +224,7 @@ class FrameReader(Frames):
         EOFError: the stream ended
         """
         deadline = Deadline(timeout)
-        # as in `alone`, by which the outcome would be the value of a call: see below
+        # as `alone` does it; `alone` itself would make the outcome the value of a call, which can be lost: see below
         calls, mine = self._calls.setdefault("reader", []), sys._getframe()
         try:
             if not begins(calls, mine):
