@@ -282,7 +282,7 @@ JCOBS_API jcobs_answer jcobs_decode_in_place(void *buffer, size_t buffer_len) JC
  * the sentinel and what follows it aren't changed, so that the next frame begins at buffer + consumed. */
 JCOBS_API jcobs_answer jcobs_decode_in_place_with_sentinel(void *buffer, size_t buffer_len, unsigned char sentinel)
     JCOBS_CHANGES(1, 2) JCOBS_CHECKED;
-/* returns: as jcobs_decode_in_place, with the sentinel for the zero */
+/* returns: as jcobs_decode_in_place, with the sentinel instead of the zero */
 
 /* Returns whether the bytes are a frame for the sentinel 0, and whether they are the one that encoders write. */
 JCOBS_API unsigned int jcobs_frame_kind(const void *bytes, size_t len) JCOBS_READS(1, 2) JCOBS_CHECKED;
@@ -316,7 +316,7 @@ JCOBS_API jcobs_answer jcobs_decoder_push_with_sentinel(jcobs_decoder *decoder, 
                                                         const void *bytes, size_t len,
                                                         unsigned char sentinel) JCOBS_STATE JCOBS_WRITES(2, 3)
     JCOBS_READS(4, 5) JCOBS_CHECKED;
-/* returns: as jcobs_decoder_push, with the sentinel for the zero */
+/* returns: as jcobs_decoder_push, with the sentinel instead of the zero */
 
 /* Returns whether no frame is open, that is, whether every pushed byte belongs to a frame that has been reported. At
  * the end of a stream, 0 says that the last frame has no sentinel. */

@@ -79,8 +79,8 @@ struct is_bytes<
                                                                 std::is_same_v<std::remove_const_t<element>, char>);
 };
 
-// Whether a range is a temporary that has bytes of its own, which end with it. The test is that a const range has const bytes:
-// a view has no bytes of its own, so those that a const view returns needn't be const.
+// Whether a range is a temporary that has bytes of its own, which end with it. A range has bytes of its own if those of a const
+// range of this type are const. A const view can still return bytes that aren't const.
 template <class Range, class = void> struct is_temporary : std::false_type {
 };
 template <class Range>

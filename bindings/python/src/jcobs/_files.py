@@ -15,8 +15,8 @@ CHUNK = 65536
 GAP = bytes(bytearray(b"gap"))
 
 Kept = Deque[bytes]
-# Reads the bytes that a file has, or waits for some, and keeps them: none at the end of the stream. Returns False if none has
-# arrived in this number of seconds, or without a number before the file's own timeout.
+# Reads the bytes that a file has, or waits for some, and keeps them: none at the end of the stream. Returns False if it has
+# kept nothing because none has arrived in time: in this number of seconds, or in the file's own timeout if it is None.
 Read = Callable[[Any, Optional[float], Kept], bool]
 
 
