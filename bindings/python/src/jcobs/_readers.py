@@ -50,7 +50,7 @@ def reply_of(outcome: Optional[Outcome]) -> bytes:
 
 
 class Deadline:
-    """The end of a time in seconds, if there is one."""
+    """The moment at which a call stops waiting, if there is one."""
 
     def __init__(self, timeout: Optional[float]) -> None:
         if isinstance(timeout, (str, bytes)) or not (timeout is None or hasattr(timeout, "__float__")):
