@@ -202,7 +202,7 @@ export class FrameDecoder {
     }
   }
 
-  /** Frees the decoder's memory: within a push, at its end. */
+  /** Frees the decoder's memory, or during a push marks it, so that the push frees it at its end. */
   close() {
     if (this.#isPushing) this.#isClosing = true;
     else this.#close();

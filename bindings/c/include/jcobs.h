@@ -187,8 +187,8 @@ typedef struct jcobs_encoder {
 
 /* GCC and Clang check that the result of a call is used and that its state isn't NULL. GCC also checks that the
  * pointers have room for the lengths. The numbers are those of a pointer and of its length among the arguments. The
- * calls that finish a message are marked as ones that write, though they read what was pushed: otherwise GCC would
- * warn of an empty message, whose buffer nothing has written before. */
+ * calls that finish a message are marked as calls that write the buffer, though they also read the pushed bytes:
+ * otherwise GCC would warn if nothing was pushed, because nothing has written the buffer then. */
 #ifdef __GNUC__
 #define JCOBS_CHECKED __attribute__((warn_unused_result))
 #define JCOBS_STATE __attribute__((nonnull(1)))

@@ -8,8 +8,8 @@ use crate::frames::append_frame;
 /// Ends a frame that was cut, so that no decoder takes it for a message.
 ///
 /// A single zero isn't enough: a frame that was cut between two blocks would be read as a shorter message. If k bytes of a
-/// block are missing, at most 254, the first k of these complete it. The next one is a code of 255, followed by fewer than
-/// 254 bytes. The 1 is there for k = 0: it is an empty block.
+/// block are missing (at most 254), the first k of these bytes complete it. The next byte is a code of 255 with fewer than 254
+/// bytes after it, so the frame is broken. The 1 is there for k = 0: it is an empty block.
 const CLOSING: [u8; 256] = {
     let mut bytes = [255; 256];
     bytes[0] = 1;

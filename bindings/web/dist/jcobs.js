@@ -573,7 +573,7 @@ class FrameDecoder {
     }
   }
 
-  /** Frees the decoder's memory: within a push, at its end. */
+  /** Frees the decoder's memory, or during a push marks it, so that the push frees it at its end. */
   close() {
     if (this.#isPushing) this.#isClosing = true;
     else this.#close();

@@ -37,7 +37,7 @@ static void decoder_dealloc(PyObject *self)
     free_object(self);
 }
 
-/* Pushes bytes through the next sentinel, without the GIL if that is far. */
+/* Pushes bytes through the next sentinel, without the GIL if it is far away. */
 static jcobs_answer decoder_step(Decoder *self, const unsigned char *bytes, size_t len)
 {
     int far = len >= LONG && memchr(bytes, self->sentinel, LONG) == NULL;

@@ -38,7 +38,7 @@ def keep(kept: Kept, read: Callable[[int], Optional[bytes]], size: int, in_pytho
     """Reads, and keeps the bytes, unless there are none now.
 
     No bytecode runs between the two if `read` is a function in C. So a signal handler that raises an exception can't
-    make bytes vanish that were read. One `in_python` may have dropped them: then a GAP is kept.
+    make bytes vanish that were read. A `read` in Python may have dropped them (`in_python`): then a GAP is kept.
     """
     try:
         kept.extend(map(read, (size,)))  # type: ignore[arg-type]
@@ -63,7 +63,7 @@ def descriptor_of(file: Any) -> Optional[int]:
 
 
 def wait(descriptors: Iterable[int], timeout: Optional[float]) -> bool:
-    """Waits until one of the descriptors has bytes or has ended, and returns whether that came in time."""
+    """Waits until one of the descriptors has bytes or has ended, and returns whether that happened in time."""
     if not hasattr(select, "poll"):
         return bool(select.select(list(descriptors), [], [], timeout)[0])
     poll = select.poll()
@@ -73,7 +73,7 @@ def wait(descriptors: Iterable[int], timeout: Optional[float]) -> bool:
 
 
 def is_ready(file: Any, timeout: float) -> bool:
-    """Waits until a file or socket has bytes or has ended, and returns whether that came in time."""
+    """Waits until a file or socket has bytes or has ended, and returns whether that happened in time."""
     if not hasattr(file, "fileno"):
         kind = type(file).__name__
         raise TypeError(f"a timeout needs a serial port, a socket or a file: {kind} has no fileno")
@@ -179,7 +179,7 @@ def read_file(file: Any, timeout: Optional[float], kept: Kept) -> bool:
     of_socket = isinstance(getattr(file, "raw", file), socket.SocketIO)
     found = keep(kept, getattr(file, "read1", file.read), CHUNK, in_python=of_socket)
     if (not found or not kept[-1]) and hasattr(file, "raw") and not waits(file):
-        # no bytes from `read1` are the end, or up to Python 3.13 none now; then the buffer is empty
+        # if `read1` returns no bytes, it is the end, or up to Python 3.13 there are none now; the buffer is then empty
         if found:
             kept.pop()
         return keep(kept, file.raw.read, CHUNK)

@@ -32,9 +32,9 @@ def closing(count: int, sentinel: int) -> bytes:
     """Returns bytes that end a frame which was cut, and that no decoder takes for the end of a message.
 
     A single sentinel isn't enough: a frame that was cut between two of its blocks would be a shorter message. If k bytes
-    of a block are missing, fewer than `count`, the first k of these complete it. The next one is a code of 255, and fewer than
-    254 bytes follow it. Up to 254 bytes of a block can be missing: for a `count` of 255 the first of these is the code of
-    an empty block, as the code of a full one would be followed by 254 bytes.
+    of a block are missing (k is less than `count`), the first k of the returned bytes complete it. The next byte is a code of
+    255 with fewer than 254 bytes after it, so the frame is broken. Up to 254 bytes of a block can be missing. So for a `count`
+    of 255 the first returned byte is the code of an empty block, because 254 bytes would follow the code of a full one.
     """
     spoiling = b"\xff" * count if count < 255 else b"\x01" + b"\xff" * 254
     return bytes(byte ^ sentinel for byte in spoiling + b"\0")
@@ -85,7 +85,7 @@ class Frames(Coder):
         return EOFError("the stream ended inside a frame" if self.unfinished else "the stream ended")
 
     def _lose(self, begun: bool) -> None:
-        """Has the decoder begin anew. If a frame had begun, its rest is to be dropped."""
+        """Resets the decoder. If a frame had begun, its rest will be dropped."""
         self._decoder.reset()
         self._headless = self._headless or begun
 
@@ -129,7 +129,7 @@ class Frames(Coder):
         """Returns the bytes to send for a message. Until `_sent` is called, the reader assumes that they were cut."""
         frame = encode(message, sentinel=self._sentinel, terminated=True)
         lead = closing(self._cut, self._sentinel) if self._cut else self._lead
-        # of a block fewer bytes are missing than the frame has; of one that was cut before, any number up to 254
+        # fewer bytes of a block are missing than the frame has; if an earlier frame was cut, any number up to 254
         self._cut = 255 if lead else min(len(frame), 255)
         return lead + frame
 
