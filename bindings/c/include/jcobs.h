@@ -241,8 +241,8 @@ JCOBS_API jcobs_answer jcobs_encode_terminated_with_sentinel(const void *message
     JCOBS_READS(1, 2) JCOBS_WRITES(3, 4) JCOBS_CHECKED;
 /* returns: as jcobs_encode_terminated */
 
-/* Encodes a message in its own buffer, so that no second buffer is needed. The message_len bytes of the message lie in
- * the buffer from JCOBS_MAX_OVERHEAD(message_len) on; the bytes before them don't matter. Afterwards the buffer begins
+/* Encodes a message in its own buffer, so that no second buffer is needed. The message, which has message_len bytes, begins
+ * at index JCOBS_MAX_OVERHEAD(message_len) of the buffer; the bytes before it don't matter. Afterwards the buffer begins
  * with the frame that jcobs_encode writes. */
 #define JCOBS_MAX_OVERHEAD(message_len) (JCOBS_MAX_LENGTH(message_len) - sizeof(char) * (message_len))
 JCOBS_API jcobs_answer jcobs_encode_in_place(void *buffer, size_t buffer_size, size_t message_len)

@@ -202,7 +202,7 @@ class AsyncFrameReader(Frames):
         await self._writer.drain()
 
     async def _send(self, message: ReadableBuffer) -> None:
-        """Sends a message to a stream of trio or anyio. Whether a call is at work is known by its coroutine."""
+        """Sends a message to a stream of trio or anyio. The coroutine of a call shows whether it is at work."""
         if self._sending is not None and (self._sending.cr_running or self._sending.cr_await is not None):
             raise RuntimeError("the writer is in use by another call")
         self._sending = self._send_alone(message)
