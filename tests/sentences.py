@@ -4,9 +4,11 @@
 usage: tests/sentences.py [SEED [COUNT]]
 
 A sentence that somebody who didn't write it has to read twice is mended. The sentences are those of the Markdown files
-that users and contributors read, of the doc comments of crates/cobs and crates/cobs_live, and of jcobs.h. SEED is any
-text, and the date if left out. COUNT is 40 if left out.
+that users and contributors read, of the manual pages, of the doc comments of crates/cobs and crates/cobs_live, and of the
+comments and docstrings of the headers for C and C++, of the hand-written code of the Rust crate, and of the packages for
+Python, Node and browsers. SEED is any text, and the date if left out. COUNT is 40 if left out.
 """
+import ast
 import datetime
 import random
 import re
@@ -16,7 +18,12 @@ sys.dont_write_bytecode = True
 import prose
 
 DOCUMENTS = re.compile(r"(docs/|bindings/.*|crates/.*|check/|conformance/)?[A-Z]+\.md")
-COMMENTED = re.compile(r"crates/cobs(_live)?/src/(?!tests).*\.rt|bindings/c/include/jcobs\.h")
+COMMENTED = re.compile(
+    r"crates/cobs(_live)?/src/(?!tests).*\.rt|bindings/c/include/jcobs\.h(pp)?|bindings/python/src/_core/.*\.[ch]"
+    r"|bindings/rust/(as-cobs/)?src/(?!proved/).*\.rs|bindings/web/(jcobs|serialport)(\.d)?\.[jt]s"
+)
+PYTHON = re.compile(r"bindings/python/src/.*\.py")
+MANUAL = re.compile(r"(crates|bindings)/.*\.[13]")
 SENTENCE = re.compile(r"(?<=[.?!])\s+(?=[A-Z`*\[(])")
 FEWEST_WORDS = 6
 
@@ -34,12 +41,11 @@ def paragraphs_of_document(name):
 
 
 def paragraphs_of_source(name):
-    """The line and the text of each paragraph of a doc comment, without examples and headings."""
-    is_header = name.endswith(".h")
-    opening = re.compile(r"^ ?(?:/\*\*?|\*/?)(.*?)(?:\*/)?$" if is_header else r"^\s*//[/!](.*)$")
+    """The line and the text of each paragraph of a comment, without examples and headings. Of .rt files only doc comments."""
+    opening = r"^\s*//[/!](.*)$" if name.endswith(".rt") else r"^\s*(?://[/!]?|/\*\*?|\*(?!\w)/?)(.*?)(?:\*/)?$"
     begun, lines, inside = 0, [], False
     for number, line in enumerate([*(prose.TOP / name).read_text().splitlines(), ""], 1):
-        found = opening.match(line)
+        found = re.match(opening, line)
         said = found[1].strip() if found else ""
         fence = said.startswith("```")
         inside = bool(found) and inside != fence
@@ -52,6 +58,28 @@ def paragraphs_of_source(name):
             lines.append(said.removeprefix("- "))
 
 
+def paragraphs_of_python(name):
+    """The line and the text of each paragraph of a docstring, without examples."""
+    for node in ast.walk(ast.parse((prose.TOP / name).read_text())):
+        if isinstance(node, (ast.Module, ast.ClassDef, ast.FunctionDef, ast.AsyncFunctionDef)):
+            for text in re.split(r"\n\s*\n", ast.get_docstring(node) or ""):
+                if ">>>" not in text:
+                    yield getattr(node, "lineno", 1), " ".join(text.split())
+
+
+def paragraphs_of_manual(name):
+    """The line and the text of each paragraph of a manual page."""
+    begun, lines = 0, []
+    for number, line in enumerate([*(prose.TOP / name).read_text().splitlines(), "."], 1):
+        words = re.sub(r'^\.[BI]?[BIR] |\\f.|(?<= )"|"(?= |$)', "", line).replace("\\-", "-")
+        if lines and words.startswith("."):
+            yield begun, " ".join(lines)
+            lines = []
+        if not words.startswith("."):
+            begun = begun if lines else number
+            lines.append(words)
+
+
 def sentences():
     """Each sentence with its place."""
     for name in prose.files():
@@ -59,6 +87,10 @@ def sentences():
             paragraphs = paragraphs_of_document(name)
         elif COMMENTED.fullmatch(name):
             paragraphs = paragraphs_of_source(name)
+        elif PYTHON.fullmatch(name):
+            paragraphs = paragraphs_of_python(name)
+        elif MANUAL.fullmatch(name):
+            paragraphs = paragraphs_of_manual(name)
         else:
             continue
         for number, text in paragraphs:

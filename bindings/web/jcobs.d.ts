@@ -1,6 +1,6 @@
 /** Consistent Overhead Byte Stuffing, by the proved code in cobs.wasm. */
 
-// What isn't in every `lib`: these declarations add nothing to those of `dom`, of @types/node and of newer compilers.
+// These names aren't in every `lib`. The declarations add nothing to those of `dom`, of @types/node and of newer compilers.
 declare global {
   interface SymbolConstructor {
     readonly dispose: unique symbol;
@@ -50,7 +50,7 @@ export interface DecoderOptions extends PieceOptions {
 export type Outcome =
   /** It is a frame, and this is its message. */
   | { message: Uint8Array; broken?: undefined; tooLong?: undefined }
-  /** It breaks off inside a block. Its bytes decode to this many bytes. */
+  /** It breaks off inside a block. The number is how many bytes it decodes to before it breaks off. */
   | { broken: number; message?: undefined; tooLong?: undefined }
   /** It decodes to more than `maxLength` bytes. */
   | { tooLong: true; message?: undefined; broken?: undefined };
@@ -151,7 +151,7 @@ export class FrameEncoder {
   [Symbol.dispose](): void;
 }
 
-/** Bytes in, outcomes out. Bytes that no sentinel has ended when the stream ends have no outcome. */
+/** Takes bytes, and returns outcomes. Bytes that no sentinel has ended when the stream ends have no outcome. */
 export class FrameDecoderStream {
   constructor(options?: DecoderOptions);
   readonly readable: ReadableStream<Outcome>;
@@ -162,7 +162,7 @@ export class FrameDecoderStream {
   get skipped(): number;
 }
 
-/** Messages in, their frames out, each with a sentinel after it. It is a `TransformStream`. */
+/** Takes messages, and returns their frames, each with a sentinel after it. It is a `TransformStream`. */
 export class FrameEncoderStream {
   constructor(options?: SentinelOptions);
   readonly readable: ReadableStream<Uint8Array>;

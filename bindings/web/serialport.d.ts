@@ -1,7 +1,7 @@
 import { Transform } from "node:stream";
 import type { DecoderOptions, SentinelOptions } from "./jcobs.js";
 
-/** Bytes in, an `Outcome` out for each piece that a sentinel ends. The module is loaded by itself. */
+/** Takes bytes, and returns an `Outcome` for each piece that a sentinel ends. It loads the module itself. */
 export class FrameDecoderTransform extends Transform {
   constructor(options?: DecoderOptions);
   /** Whether a frame has begun that no sentinel has ended yet. */
@@ -10,7 +10,7 @@ export class FrameDecoderTransform extends Transform {
   get skipped(): number;
 }
 
-/** Messages in, their frames out, each with a sentinel after it. */
+/** Takes messages, and returns their frames, each with a sentinel after it. */
 export class FrameEncoderTransform extends Transform {
   constructor(options?: SentinelOptions);
 }

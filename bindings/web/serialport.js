@@ -4,7 +4,7 @@
 import { Transform } from "node:stream";
 import { FrameDecoder, encode, load } from "./dist/node.js";
 
-/** Bytes in, outcomes out: `{message}`, `{broken: n}` or `{tooLong: true}` for each piece that a sentinel ends. */
+/** Takes bytes, and returns outcomes: `{message}`, `{broken: n}` or `{tooLong: true}` for each piece that a sentinel ends. */
 export class FrameDecoderTransform extends Transform {
   #options;
   #decoder;
@@ -46,7 +46,7 @@ export class FrameDecoderTransform extends Transform {
   }
 }
 
-/** Messages in, their frames out, each with a sentinel after it. */
+/** Takes messages, and returns their frames, each with a sentinel after it. */
 export class FrameEncoderTransform extends Transform {
   #options;
 

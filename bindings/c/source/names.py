@@ -1,6 +1,6 @@
-"""Names and comments that jcobs.c has in place of those of Rattle: what a reader of C, who has jcobs.h, calls these things."""
+"""Names and comments that jcobs.c has in place of those of Rattle, in the words of jcobs.h, for readers of C."""
 
-# Functions. The others are called after their names in Rattle, behind jcobs_ or the name of their type.
+# Functions. The others have their names in Rattle, after jcobs_ or the name of their type.
 FUNCTIONS = {
     "UnbufferedDecoder::end": "jcobs_decoder_end_piece",
     "UnbufferedDecoder::feed_each": "jcobs_decoder_take",
@@ -26,7 +26,7 @@ FUNCTIONS = {
     "write_each": "jcobs_write_blocks",
 }
 # Parameters and variables, by the function; those of "" in each. The length of the slice `NAME` is `NAME_len` if its bytes are there,
-# and `NAME_size` if it is a buffer's room. A call of jcobs.h and the functions behind it have the same names.
+# and `NAME_size` if it is a buffer's room. A call of jcobs.h and the functions that it calls have the same names.
 VARIABLES = {
     "": {"bytes_len": "len"},
     "UnbufferedDecoder::end": {"len": "buffer_size", "ended": "before"},
@@ -82,7 +82,8 @@ ENDS = {
     "JCOBS_END_BROKEN": ("Broken", "InvalidFrame"),
     "JCOBS_END_TOO_LONG": ("TooLong", "TargetBufTooSmall"),
 }
-# Comments: what a function's says, and what it says in C; those of "" in each. The words in quotes that are left are names of C.
+# Comments: a text in the comments of a function, and its text in C; those of "" in each. The words in quotes that are left are
+# names of C.
 COMMENTS = {
     "": [(" (A choice of this library.)", "")],
     "UnbufferedDecoder::end": [("`len` is the buffer's length.", "It returns how the piece ended. The buffer has buffer_size bytes.")],
@@ -95,7 +96,7 @@ COMMENTS = {
         ", and writes its output to the buffer.",
         ", and writes its output to the buffer. It returns JCOBS_END_TOO_LONG at each byte of a piece that is too long.",
     )],
-    "UnbufferedEncoder::append_byte": [(", for which there is room.", ", for which there is room: the step of loops over bytes.")],
+    "UnbufferedEncoder::append_byte": [(", for which there is room.", ", for which there is room: the step of the loop that encodes in place.")],
     "UnbufferedEncoder::append_one": [(
         "Takes the next byte of the message, for which there is room, and returns the length of the frame so far.",
         "Does what jcobs_encoder_append_byte does, and returns the length of the frame so far: in each case it ends after the byte at next."
@@ -142,7 +143,7 @@ COMMENTS = {
         ", given bytes without a zero. It goes from one code to the next.",
     )],
     "leading_zeros": [(", which [`decode`](crate::decode) skips before a frame.", ".")],
-    "len_to_zero": [(" It uses no vectors, so that it is small.", " Four bytes in a round take half the instructions of one.")],
+    "len_to_zero": [(" It uses no vectors, so that it is small.", " With four bytes in a round it needs half the instructions.")],
     "result_by": [(
         "a decoding call that took this many bytes, into a buffer of `room` bytes, given the message's length or the error.",
         "a call that decodes in place, and took this many bytes of the `room` bytes of a buffer, given how the frame ended."

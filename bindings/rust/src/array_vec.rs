@@ -54,7 +54,7 @@ impl<const N: usize> ArrayVec<N> {
         &self.bytes[..self.len]
     }
 
-    /// Returns the bytes, to be written to.
+    /// Returns the bytes, for writing.
     #[inline]
     pub fn as_mut_slice(&mut self) -> &mut [u8] {
         &mut self.bytes[..self.len]
@@ -102,7 +102,7 @@ impl<const N: usize> From<[u8; N]> for ArrayVec<N> {
     }
 }
 
-/// The bytes of the vector, as many as it has.
+/// Copies the bytes of the vector.
 #[cfg(feature = "heapless")]
 impl<const N: usize> From<heapless::Vec<u8, N>> for ArrayVec<N> {
     fn from(vec: heapless::Vec<u8, N>) -> Self {

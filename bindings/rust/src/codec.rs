@@ -11,11 +11,11 @@ use crate::dec::{DecodeError, UnbufferedDecoder};
 /// A codec for [`Framed`](tokio_util::codec::Framed), which makes a stream and a sink of messages of anything that reads and writes
 /// bytes.
 ///
-/// It decodes the bytes as they come. So it keeps `max_len` bytes, and no frame, however long it is.
+/// It decodes the bytes as they come. So it keeps at most `max_len` bytes, however long a frame is.
 ///
-/// An item of the stream is a message, or why a frame has none, as from [`MessageReader`](crate::MessageReader): a stream ends at an
-/// error, and the frame after a damaged one isn't affected. If the source ends inside a frame, the error is
-/// [`UnexpectedEof`](ErrorKind::UnexpectedEof). Each message is sent as its frame and a zero. The crate `cobs` doesn't have this type.
+/// An item of the stream is a message, or the error of a damaged frame, as from [`MessageReader`](crate::MessageReader). A damaged
+/// frame never affects another one. The stream ends at an error of its source, or with [`UnexpectedEof`](ErrorKind::UnexpectedEof)
+/// if the source ends inside a frame. Each message is sent as its frame and a zero. The crate `cobs` doesn't have this type.
 ///
 /// ```
 /// use bytes::BytesMut;
@@ -40,7 +40,8 @@ pub struct MessageCodec {
 }
 
 impl MessageCodec {
-    /// Makes a codec that receives messages of up to `max_len` bytes. It allocates that many. What it sends may be longer.
+    /// Makes a codec that receives messages of up to `max_len` bytes. It allocates that many bytes. Messages
+    /// that it sends may be longer.
     #[must_use]
     pub fn new(max_len: usize) -> Self {
         Self {
@@ -82,7 +83,7 @@ impl<M: AsRef<[u8]>> Encoder<M> for MessageCodec {
         let message = message.as_ref();
         let room = crate::max_encoding_length(message.len()) + 1;
         bytes.reserve(room);
-        // The spare room of `bytes`, which is joined to it again.
+        // The frame is written into the spare room of `bytes`, which is split off and then joined to it again.
         let mut frame = bytes.split_off(bytes.len());
         frame.resize(room, 0);
         let len = crate::encode(message, &mut frame);

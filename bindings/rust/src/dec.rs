@@ -19,7 +19,7 @@ impl Default for UnbufferedDecoder {
     }
 }
 
-/// The error without the number of bytes that were taken, so that `?` serves pushes to every decoder:
+/// Drops the number of bytes that were taken, so that `?` works for a push to each of the decoders:
 ///
 /// ```
 /// use jcobs::{DecodeError, UnbufferedDecoder};

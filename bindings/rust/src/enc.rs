@@ -112,10 +112,9 @@ pub fn encode_with_sentinel(source: &[u8], dest: &mut [u8], sentinel: u8) -> usi
     try_encode_with_sentinel(source, dest, sentinel).expect("the frame fits `dest`")
 }
 
-/// Encodes a message in its own buffer, and returns the frame's length in bytes. Before the call, the message's `len` bytes
-/// are in `buffer` after the first [`max_encoding_overhead`](crate::max_encoding_overhead) of `len` bytes. After it, the
-/// frame is at the front of `buffer`, and the bytes after the frame are as they were. The crate `cobs` doesn't have this
-/// call.
+/// Encodes a message in its own buffer, and returns the frame's length in bytes. Before the call the message, which has `len`
+/// bytes, begins at index [`max_encoding_overhead(len)`](crate::max_encoding_overhead) of `buffer`. After the call the frame
+/// is at the front of `buffer`, and the bytes after the frame are as they were. The crate `cobs` doesn't have this call.
 ///
 /// ```
 /// let mut buffer = *b"\0hello..";
@@ -125,7 +124,7 @@ pub fn encode_with_sentinel(source: &[u8], dest: &mut [u8], sentinel: u8) -> usi
 ///
 /// # Panics
 ///
-/// If `buffer` is shorter than [`max_encoding_length`](crate::max_encoding_length) of `len` bytes.
+/// If `buffer` is shorter than [`max_encoding_length(len)`](crate::max_encoding_length).
 #[track_caller]
 pub fn encode_in_place(buffer: &mut [u8], len: usize) -> usize {
     let room = len.checked_add(crate::max_encoding_overhead(len));

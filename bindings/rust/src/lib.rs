@@ -80,15 +80,15 @@
 //! The functions of `src/proved/` are those of the Rattle crates `cobs` and `cobs_bytes` without their contracts. There each
 //! one is proved to return the right result, not to panic, and to end, for a `usize` of 64 bits. The other files of `src/` have
 //! the signatures of the crate `cobs`, and choose one of the proved functions for a push of one byte; they are tested. Memory
-//! safety rests on the compiler and on `memchr`: only the vectors of `src/simd.rs` have `unsafe` code here, and with the feature
-//! `small` nothing has.
+//! safety rests on the compiler and on `memchr`: in this crate only `src/simd.rs` has `unsafe` code, and
+//! with the feature `small` no file has.
 //!
 //! # Features
 //!
 //! - `std` (default): `alloc`; [`MessageReader`] and [`MessageWriter`]; [`Recorded`], a [`FrameSource`] over any
 //!   [`std::io::Read`]; and `std` of `memchr`, which then searches with AVX2 if the processor has it.
 //! - `alloc`: the calls that make vectors, and [`CobsDecoderOwned`].
-//! - `small`: single bytes on any target, as below, and no `unsafe` code.
+//! - `small`: on every target a call takes one byte at a time, as below, and the crate has no `unsafe` code.
 //! - `serde`, `defmt`: derives for the errors ([`DecodeError`], [`DestBufTooSmallError`], [`PushError`], [`ReadFault`],
 //!   [`AllocError`]) and for [`DecodeReport`], [`PieceEnd`], [`Next`], [`FrameKind`] and `FrameOutcome`.
 //! - `heapless`: [`CobsDecoderHeapless::new_with_vec`] takes a `heapless::Vec`.

@@ -27,7 +27,7 @@ pub(crate) fn copied(bytes: &[u8]) -> Result<Vec<u8>, AllocError> {
     Ok(copy)
 }
 
-/// Appends the front of `room` zeros, to which `write` has written. It returns how many bytes these are.
+/// Appends the bytes that `write` writes to the front of `room` zeros. `write` returns their number.
 #[cfg(feature = "alloc")]
 #[inline]
 pub(crate) fn append(

@@ -110,7 +110,7 @@ impl<R: BufRead> MessageReader<R> {
         Ok(end.map(|end| end.into_result().map(|len| &self.message[..len])))
     }
 
-    /// Reads until a zero ends a piece, or the source ends between two.
+    /// Reads until a zero ends a piece, or the source ends between two pieces.
     fn read_piece(&mut self) -> io::Result<Option<PieceEnd>> {
         loop {
             let bytes = match self.inner.fill_buf() {

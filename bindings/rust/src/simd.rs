@@ -1,7 +1,8 @@
-//! Vectors of bytes, on stable Rust and for any target. Types and methods are those of `std::simd` that the proved source uses.
+//! Vectors of bytes, on stable Rust and for any target. They have the types and methods of `std::simd` that the
+//! proved source uses.
 //!
 //! The crate's only `unsafe` code is here: the calls of SSE2 and NEON. With the feature `small` there is none. The tests compare
-//! every operation with the same on single bytes, for each width from 1 to 64.
+//! every operation with the same operation on single bytes, for each width from 1 to 64.
 
 // Loops over indices, of which rustc makes vectors.
 #![allow(clippy::needless_range_loop)]
@@ -115,14 +116,14 @@ impl<const N: usize> BitXor for Simd<u8, N> {
 }
 
 impl<const N: usize> Mask<N> {
-    /// The property of byte `i` as bit `i`.
+    /// Returns the mask as bits: bit `i` is set if byte `i` has the property.
     #[inline(always)]
     pub fn to_bitmask(self) -> u64 {
         bits(&self.0)
     }
 }
 
-/// Up to 16 bytes, and zeros after them: of fewer bytes rustc makes no vector.
+/// Returns up to 16 bytes with zeros after them, because rustc makes no vector from fewer bytes.
 #[inline(always)]
 fn widened(bytes: &[u8]) -> [u8; 16] {
     let mut wide = [0; 16];
@@ -144,7 +145,7 @@ fn bits_by(mask: &[u8], sixteen: impl Fn(&[u8; 16]) -> u64) -> u64 {
     bits
 }
 
-/// One bit of each byte.
+/// Returns one bit for each byte.
 #[inline(always)]
 fn bits(mask: &[u8]) -> u64 {
     if let [byte] = *mask {
@@ -153,7 +154,7 @@ fn bits(mask: &[u8]) -> u64 {
     bits_by(mask, way::of_sixteen)
 }
 
-/// For any target: the product has one bit of each byte, side by side, in its highest byte.
+/// The code for all targets without SSE2 and NEON.
 #[allow(dead_code)]
 mod portable {
     pub const HAS_VECTORS: bool = false;
@@ -168,6 +169,7 @@ mod portable {
         mask
     }
 
+    // The highest byte of the product has one bit of each byte of the mask.
     #[inline(always)]
     fn of_word(mask: u64) -> u64 {
         (mask & 0x0101_0101_0101_0101).wrapping_mul(0x0102_0408_1020_4080) >> 56
@@ -195,8 +197,8 @@ mod sse2 {
 
     pub const HAS_VECTORS: bool = true;
 
-    /// Said as one vector, since rustc compares bytes of an integer one by one: a message of 8 bytes is encoded 1.9
-    /// times as fast by this.
+    /// Compares them as one vector, because rustc compares the bytes of an integer one by one: a message of 8 bytes is
+    /// encoded 1.9 times as fast this way.
     #[inline(always)]
     pub fn equal(bytes: [u8; 16], other: [u8; 16]) -> [u8; 16] {
         // SAFETY: the target has SSE2, and each vector has the 16 bytes of an array.
@@ -228,7 +230,7 @@ mod neon {
 
     pub const HAS_VECTORS: bool = true;
 
-    /// As one vector, as with SSE2.
+    /// Compares them as one vector, as with SSE2.
     #[inline(always)]
     pub fn equal(bytes: [u8; 16], other: [u8; 16]) -> [u8; 16] {
         // SAFETY: the target has NEON, and each vector has the 16 bytes of an array.
@@ -258,7 +260,7 @@ mod neon {
 mod tests {
     use super::*;
 
-    /// Bytes of which none is like its neighbour, and what is tested of them: this one at the place.
+    /// Returns bytes of which no two neighbours are equal, with `byte` at `place`.
     fn with(place: usize, byte: u8) -> [u8; 80] {
         let mut bytes = [0; 80];
         for (i, other) in bytes.iter_mut().enumerate() {
@@ -268,7 +270,7 @@ mod tests {
         bytes
     }
 
-    /// The mask by single bytes.
+    /// Returns the mask, computed from single bytes.
     fn plain(bytes: &[u8], has: impl Fn(u8) -> bool) -> u64 {
         bytes
             .iter()

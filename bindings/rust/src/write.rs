@@ -8,8 +8,8 @@ use crate::frames::append_frame;
 /// Ends a frame that was cut, so that no decoder takes it for a message.
 ///
 /// A single zero isn't enough: a frame that was cut between two blocks would be read as a shorter message. If k bytes of a
-/// block are missing, at most 254, the first k of these complete it. The next one is a code of 255, followed by fewer than
-/// 254 bytes. The 1 is there for k = 0: it is an empty block.
+/// block are missing (at most 254), the first k of these bytes complete it. The next byte is a code of 255 with fewer than 254
+/// bytes after it, so the frame is broken. The 1 is there for k = 0: it is an empty block.
 const CLOSING: [u8; 256] = {
     let mut bytes = [255; 256];
     bytes[0] = 1;
@@ -73,7 +73,7 @@ impl<W: Write> MessageWriter<W> {
         Ok(())
     }
 
-    /// Flushes what the messages are written to.
+    /// Flushes the writer.
     ///
     /// # Errors
     ///
@@ -84,19 +84,18 @@ impl<W: Write> MessageWriter<W> {
 }
 
 impl<W> MessageWriter<W> {
-    /// Returns what the messages are written to.
+    /// Returns the writer.
     #[must_use]
     pub const fn get_ref(&self) -> &W {
         &self.inner
     }
 
-    /// Returns what the messages are written to, for changes. Bytes that are written to it directly come between two
-    /// frames.
+    /// Returns the writer, for changes. Bytes that are written to it directly come between two frames.
     pub fn get_mut(&mut self) -> &mut W {
         &mut self.inner
     }
 
-    /// Returns what the messages were written to.
+    /// Returns the writer.
     pub fn into_inner(self) -> W {
         self.inner
     }

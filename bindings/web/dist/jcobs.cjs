@@ -384,7 +384,7 @@ function isGone(view) {
 // decodes to is decided only by the module.
 
 
-/** The options of a call, each its default if left out. One that the call doesn't have is an error. */
+/** Returns the options of a call, with the default for each that is left out. An option that the call doesn't have is an error. */
 function optionsOf(given, defaults) {
   if (given === undefined) return defaults;
   if (typeof given !== "object" || given === null) throw new TypeError(`options are wanted, as { ${Object.keys(defaults).join(", ")} }`);
@@ -417,7 +417,7 @@ function maxEncodedLength(length) {
   return loaded().machine.maxLength(length);
 }
 
-/** The longest frame of a message of `length` bytes, with a sentinel: one byte for each 254, a code and a sentinel fit. */
+/** Returns enough room for the frame of `length` bytes: a code, one byte for each 254 bytes, and a sentinel fit. */
 const roomFor = (length) => length + Math.floor(length / 128) + 2;
 
 /** Returns the frame of a message, with a sentinel after it if `terminated` is true. */
@@ -526,8 +526,8 @@ class FrameDecoder {
 
   /**
    * Calls `visit(outcome, end)` for each piece that `chunk` ends; `end` is the place in the chunk after its sentinel.
-   * After a visit that throws or closes the decoder there are no more. What was thrown is thrown on once the whole chunk
-   * is taken, so that the next chunk is decoded as if nothing had been thrown.
+   * After a visit that throws or closes the decoder there are no more visits. An error that a visit throws is thrown once the
+   * whole chunk is taken, so that the next chunk is decoded as if nothing had been thrown.
    */
   push(chunk, visit) {
     if (!this.#held.isOpen || this.#isClosing) throw new Error("the decoder is closed");
@@ -575,7 +575,7 @@ class FrameDecoder {
     }
   }
 
-  /** Frees the decoder's memory: within a push, at its end. */
+  /** Frees the decoder's memory, or during a push marks it, so that the push frees it at its end. */
   close() {
     if (this.#isPushing) this.#isClosing = true;
     else this.#close();
@@ -592,7 +592,7 @@ class FrameDecoder {
   }
 }
 
-/** Returns an iterator over what each piece of `bytes` that a sentinel ends decodes to, with `end`, the place after that sentinel. */
+/** Returns an iterator over the outcomes of the pieces of `bytes` that a sentinel ends. `end` of each is the place after that sentinel. */
 function frames(bytes, options) {
   const view = bytesOf(bytes);
   return outcomesOf(view, new FrameDecoder(optionsOf(options, { ...STREAM, maxLength: view.length })));
@@ -646,7 +646,7 @@ class FrameEncoder {
     this.#taken += bytes.length;
   }
 
-  /** Returns the frame of all that was taken, with a sentinel after it if `terminated` is true. The next message begins. */
+  /** Returns the frame of all bytes that were taken, with a sentinel after it if `terminated` is true. The next message begins. */
   finish(options) {
     this.#demandOpen();
     const { terminated } = optionsOf(options, { terminated: false });
@@ -673,15 +673,15 @@ class FrameEncoder {
 }
 
 /**
- * The two ends of a stream that `take(chunk, give)` carries each chunk through, as a TransformStream has them. `close` is
- * called once, however it ends: engines don't notify a TransformStream of every way.
+ * Makes the two ends of a stream, as a TransformStream has them. `take` is called with each chunk, and with a function `give`
+ * for its results. `close` is called once, however the stream ends: engines don't notify a TransformStream of every end.
  */
 function ends(take, close) {
   const link = { take, close, out: null, into: null, wake: () => {}, isWanted: false, isOver: false, reason: undefined };
   return { readable: readableOf(link), writable: writableOf(link) };
 }
 
-/** Ends both, with a reason for `end`, the controller of one of them. */
+/** Ends both ends of the stream. `end` is the controller of one of them, which gets the reason. */
 function fail(link, end, reason) {
   if (link.isOver) return;
   link.isOver = true;
@@ -735,7 +735,7 @@ function writableOf(link) {
   });
 }
 
-/** Bytes in, outcomes out: `{message}`, `{broken: n}` or `{tooLong: true}` for each piece that a sentinel ends. */
+/** Takes bytes, and returns outcomes: `{message}`, `{broken: n}` or `{tooLong: true}` for each piece that a sentinel ends. */
 class FrameDecoderStream {
   #decoder;
 
@@ -761,7 +761,7 @@ class FrameDecoderStream {
   }
 }
 
-/** Messages in, their frames out, each with a sentinel after it. */
+/** Takes messages, and returns their frames, each with a sentinel after it. */
 class FrameEncoderStream extends TransformStream {
   constructor(options) {
     loaded();

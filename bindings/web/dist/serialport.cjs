@@ -5,7 +5,7 @@
 const { Transform } = require("node:stream");
 const { FrameDecoder, encode, load } = require("./jcobs.cjs");
 
-/** Bytes in, outcomes out: `{message}`, `{broken: n}` or `{tooLong: true}` for each piece that a sentinel ends. */
+/** Takes bytes, and returns outcomes: `{message}`, `{broken: n}` or `{tooLong: true}` for each piece that a sentinel ends. */
 class FrameDecoderTransform extends Transform {
   #options;
   #decoder;
@@ -47,7 +47,7 @@ class FrameDecoderTransform extends Transform {
   }
 }
 
-/** Messages in, their frames out, each with a sentinel after it. */
+/** Takes messages, and returns their frames, each with a sentinel after it. */
 class FrameEncoderTransform extends Transform {
   #options;
 

@@ -610,7 +610,7 @@ jcobs_answer jcobs_encode_terminated(const void *message, size_t message_len, vo
     return jcobs_ok_answer(message_len, length + 1);
 }
 
-/* Takes the next byte of the message, for which there is room: the step of loops over bytes. */
+/* Takes the next byte of the message, for which there is room: the step of the loop that encodes in place. */
 static JCOBS_INLINE void jcobs_encoder_append_byte(jcobs_encoder *encoder, unsigned char *buffer, unsigned char byte)
 {
     unsigned char code = (unsigned char)(encoder->taken + 1);
@@ -864,8 +864,8 @@ jcobs_answer jcobs_encoder_finish_terminated(jcobs_encoder *encoder, void *buffe
     return jcobs_too_small_answer();
 }
 
-/* Returns how many bytes come before the first zero: all of them if there is none. Four bytes in a round take half
- * the instructions of one. */
+/* Returns how many bytes come before the first zero: all of them if there is none. With four bytes in a round it
+ * needs half the instructions. */
 static JCOBS_APART size_t jcobs_length_to_zero(const unsigned char *bytes, size_t len)
 {
     const unsigned char *rest = bytes;

@@ -187,8 +187,8 @@ typedef struct jcobs_encoder {
 
 /* GCC and Clang check that the result of a call is used and that its state isn't NULL. GCC also checks that the
  * pointers have room for the lengths. The numbers are those of a pointer and of its length among the arguments. The
- * calls that finish a message are marked as ones that write, though they read what was pushed: otherwise GCC would
- * warn of an empty message, whose buffer nothing has written before. */
+ * calls that finish a message are marked as calls that write the buffer, though they also read the pushed bytes:
+ * otherwise GCC would warn if nothing was pushed, because nothing has written the buffer then. */
 #ifdef __GNUC__
 #define JCOBS_CHECKED __attribute__((warn_unused_result))
 #define JCOBS_STATE __attribute__((nonnull(1)))
@@ -241,8 +241,8 @@ JCOBS_API jcobs_answer jcobs_encode_terminated_with_sentinel(const void *message
     JCOBS_READS(1, 2) JCOBS_WRITES(3, 4) JCOBS_CHECKED;
 /* returns: as jcobs_encode_terminated */
 
-/* Encodes a message in its own buffer, so that no second buffer is needed. The message_len bytes of the message lie in
- * the buffer from JCOBS_MAX_OVERHEAD(message_len) on; the bytes before them don't matter. Afterwards the buffer begins
+/* Encodes a message in its own buffer, so that no second buffer is needed. The message, which has message_len bytes, begins
+ * at index JCOBS_MAX_OVERHEAD(message_len) of the buffer; the bytes before it don't matter. Afterwards the buffer begins
  * with the frame that jcobs_encode writes. */
 #define JCOBS_MAX_OVERHEAD(message_len) (JCOBS_MAX_LENGTH(message_len) - sizeof(char) * (message_len))
 JCOBS_API jcobs_answer jcobs_encode_in_place(void *buffer, size_t buffer_size, size_t message_len)
@@ -282,7 +282,7 @@ JCOBS_API jcobs_answer jcobs_decode_in_place(void *buffer, size_t buffer_len) JC
  * the sentinel and what follows it aren't changed, so that the next frame begins at buffer + consumed. */
 JCOBS_API jcobs_answer jcobs_decode_in_place_with_sentinel(void *buffer, size_t buffer_len, unsigned char sentinel)
     JCOBS_CHANGES(1, 2) JCOBS_CHECKED;
-/* returns: as jcobs_decode_in_place, with the sentinel for the zero */
+/* returns: as jcobs_decode_in_place, with the sentinel instead of the zero */
 
 /* Returns whether the bytes are a frame for the sentinel 0, and whether they are the one that encoders write. */
 JCOBS_API unsigned int jcobs_frame_kind(const void *bytes, size_t len) JCOBS_READS(1, 2) JCOBS_CHECKED;
@@ -316,7 +316,7 @@ JCOBS_API jcobs_answer jcobs_decoder_push_with_sentinel(jcobs_decoder *decoder, 
                                                         const void *bytes, size_t len,
                                                         unsigned char sentinel) JCOBS_STATE JCOBS_WRITES(2, 3)
     JCOBS_READS(4, 5) JCOBS_CHECKED;
-/* returns: as jcobs_decoder_push, with the sentinel for the zero */
+/* returns: as jcobs_decoder_push, with the sentinel instead of the zero */
 
 /* Returns whether no frame is open, that is, whether every pushed byte belongs to a frame that has been reported. At
  * the end of a stream, 0 says that the last frame has no sentinel. */

@@ -1,4 +1,5 @@
-// jcobs.hpp: jcobs.h for C++17. It has only inline functions, allocates nothing, and throws only what a callback throws.
+// jcobs.hpp: jcobs.h for C++17. It has only inline functions, allocates nothing, and throws only the exceptions of a
+// callback.
 //
 // To receive, in reads of any size:
 //
@@ -32,8 +33,9 @@
 //         sender.reset();
 //     }
 //
-// In jcobs.h the lines below each prototype say what status, consumed and length are, and its preconditions hold here too,
-// but that a view always has a length. Buffers must not overlap, and nothing else may change them while a call runs.
+// In jcobs.h the lines below each prototype describe status, consumed and length. The preconditions of jcobs.h hold here too,
+// except those about lengths, because a view has its length. Buffers must not overlap, and nothing else may change them while
+// a call runs.
 #ifndef JCOBS_HPP
 #define JCOBS_HPP
 
@@ -46,7 +48,7 @@
 #include <type_traits>
 #include <utility>
 
-// Clang then warns of a view of a temporary that has bytes of its own, which outlives it.
+// With this attribute Clang warns of a view that outlives the temporary that has its bytes.
 #if defined(__has_cpp_attribute)
 #if __has_cpp_attribute(gsl::Pointer)
 #define JCOBS_POINTER [[gsl::Pointer]]
@@ -62,7 +64,8 @@ namespace jcobs
 namespace detail
 {
 
-// Whether a range's elements are contiguous bytes of any type. An array of char isn't taken, since it would be with its '\0'.
+// Whether a range's elements are contiguous bytes of any type. An array of char isn't accepted, because its '\0' would be part
+// of the bytes.
 template <class Range, class Byte, class = void> struct is_bytes : std::false_type {
 };
 template <class Range, class Byte>
@@ -76,8 +79,8 @@ struct is_bytes<
                                                                 std::is_same_v<std::remove_const_t<element>, char>);
 };
 
-// Whether a range is a temporary that has bytes of its own, which end with it, unlike a view's: a view that is const still
-// gives bytes that aren't.
+// Whether a range is a temporary that has bytes of its own, which end with it. A range has bytes of its own if those of a const
+// range of this type are const. A const view can still return bytes that aren't const.
 template <class Range, class = void> struct is_temporary : std::false_type {
 };
 template <class Range>
@@ -87,9 +90,10 @@ struct is_temporary<Range, std::enable_if_t<!std::is_lvalue_reference_v<Range> &
 
 } // namespace detail
 
-// Bytes that are elsewhere, by a pointer and a length, as std::span of C++20. A view is made of any container or view
-// of bytes: unsigned char, char, std::byte; but of an array of char, which may end with a '\0', by its pointer and a length.
-// A temporary can be read, for as long as it lives; a buffer to write to isn't made of one, since what is written ends with it.
+// A pointer to bytes and their number, like std::span of C++20. A view can be made from any container or view of bytes:
+// unsigned char, char, std::byte. For an array of char, which may end with a '\0', pass a pointer and a length. A
+// temporary can be read as long as it lives. A buffer to write to can't be made from a temporary, because the written bytes
+// would end with it.
 template <class Byte> class JCOBS_POINTER basic_view
 {
     using anything = std::conditional_t<std::is_const_v<Byte>, const void, void>;
@@ -172,7 +176,7 @@ constexpr std::size_t max_overhead(std::size_t message_len) noexcept
     return jcobs_encode_terminated_with_sentinel(message.data(), message.size(), frame.data(), frame.size(), sentinel);
 }
 
-// Encodes the message that lies in the buffer from max_overhead(message_len) on, to the front of the buffer.
+// Encodes the message that begins at index max_overhead(message_len) of the buffer, to the front of the buffer.
 [[nodiscard]] inline jcobs_answer encode_in_place(buffer bytes, std::size_t message_len) noexcept
 {
     return jcobs_encode_in_place(bytes.data(), bytes.size(), message_len);
@@ -200,15 +204,15 @@ constexpr std::size_t max_overhead(std::size_t message_len) noexcept
     return jcobs_decode_in_place_with_sentinel(bytes.data(), bytes.size(), sentinel);
 }
 
-// Returns what bytes without sentinels around them are.
+// Returns whether bytes are a frame, and whether they are the shortest one of its message. They have no sentinel around them.
 [[nodiscard]] inline jcobs_kind frame_kind(view bytes) noexcept
 {
     return static_cast<jcobs_kind>(jcobs_frame_kind(bytes.data(), bytes.size()));
 }
 
 // Receives a stream of frames in pieces of any size, and keeps the open message in a buffer, which must outlive it. Each
-// frame is followed by the sentinel. It can be moved, but not by a callback of its push: the one that is moved from is idle,
-// and has no buffer.
+// frame is followed by the sentinel. It can be moved, but not by a callback of its push. A receiver that was moved from is
+// idle, and has no buffer.
 class receiver
 {
   public:
@@ -233,7 +237,7 @@ class receiver
 
     // Calls on_message(view) for each message that ends in these bytes, and on_error(jcobs_answer) for each frame that
     // is broken or too long. The message is in the buffer until the next push. If one of the two throws, the bytes through
-    // that frame are taken, and those after it are not; the receiver is idle, and a next push begins a new frame.
+    // that frame are taken, and those after it are not. The receiver is then idle, and the next push begins a new frame.
     template <class OnMessage, class OnError> void push(view bytes, OnMessage &&on_message, OnError &&on_error)
     {
         consumed_ = 0;
@@ -280,7 +284,8 @@ class receiver
     }
 
   private:
-    // Takes bytes, at least one, through the sentinel that ends a frame. Archives for devices have no call for sentinels.
+    // Takes at least one byte, through the sentinel that ends a frame. For another sentinel than 0 it feeds
+    // the bytes one by one, because the archives for devices have no call for that.
     jcobs_answer next(const unsigned char *bytes, std::size_t len) noexcept
     {
         if (sentinel_ == 0)
@@ -300,8 +305,8 @@ class receiver
     unsigned char sentinel_;
 };
 
-// Encodes messages that come in pieces, each to the front of a buffer, which must outlive it. It can be moved: the one that
-// is moved from has taken nothing, and has no buffer.
+// Encodes messages that come in pieces, each to the front of a buffer, which must outlive it. It can be moved. A sender
+// that was moved from has taken nothing, and has no buffer.
 class sender
 {
   public:
@@ -321,8 +326,8 @@ class sender
         return *this;
     }
 
-    // Takes the next bytes of the message, or one. Returns false if the frame with them doesn't fit; then nothing has
-    // changed.
+    // Takes the next bytes, or the next byte, of the message. Returns false if the frame with them doesn't fit; then nothing
+    // has changed.
     [[nodiscard]] bool push(view bytes) noexcept
     {
         return jcobs_encoder_push(&encoder_, buffer_.data(), buffer_.size(), bytes.data(), bytes.size()).status ==
@@ -334,8 +339,8 @@ class sender
     }
 
     // End the message and return its frame, without a terminator or with one, for the sentinel. The frame is in the buffer
-    // until the next push. It is empty if it doesn't fit, without a terminator only if the buffer is empty: then nothing has
-    // changed, and reset forgets the message.
+    // until the next push. If it doesn't fit, an empty view is returned, and nothing has changed; reset forgets the message.
+    // Without a terminator that happens only if the buffer is empty.
     [[nodiscard]] view finish(unsigned char sentinel = 0) noexcept
     {
         return for_sentinel(jcobs_encoder_finish(&encoder_, buffer_.data(), buffer_.size()), sentinel);
@@ -352,7 +357,8 @@ class sender
     }
 
   private:
-    // The frame of this length, for the sentinel. Archives for devices have no call for sentinels.
+    // Returns the frame of this length, for the sentinel. Its bytes are XORed here, because the archives for devices have no
+    // call for that.
     view for_sentinel(jcobs_answer answer, unsigned char sentinel) noexcept
     {
         for (std::size_t i = 0; sentinel != 0 && i < answer.length; i++)

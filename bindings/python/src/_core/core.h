@@ -13,8 +13,8 @@
 
 #include "jcobs.h"
 
-/* Reference counts are changed by calls. Headers before 3.12 do it inline, and know nothing of the objects that never
- * die, which 3.12 shares between interpreters: with a GIL for each interpreter two of them would count at once. */
+/* Reference counts are changed by calls. Headers before 3.12 change them inline, and know nothing of the objects that
+ * never die, which 3.12 shares between interpreters. If each interpreter has a GIL, two could change such a count at once. */
 #undef Py_INCREF
 #undef Py_DECREF
 #undef Py_XDECREF
@@ -27,7 +27,7 @@
 /* From this length on a call releases the GIL. A shorter one takes a few microseconds. */
 #define LONG 32768
 
-/* How many bytes of a chunk a decoder takes before it asks whether others have their turn: signal handlers, and threads. */
+/* How many bytes of a chunk a decoder takes before it lets signal handlers and other threads run. */
 #define TURN 65536
 
 /* A call that is passed its arguments as an array. The stable ABI names it from 3.10 on; 3.9 has it too. */
@@ -69,7 +69,7 @@ PyThreadState *release(size_t len);
 /* Takes the GIL back if it was released. */
 void restore(PyThreadState *thread);
 
-/* Returns a new bytes object of this length, to be written to, or NULL with MemoryError. */
+/* Returns a new bytes object of this length, for writing, or NULL with MemoryError. */
 PyObject *room_of(size_t len);
 
 /* Shortens a bytes object that room_of returned, and returns it. The stable ABI has no call for that, but it has the
@@ -83,7 +83,7 @@ void xor_each(unsigned char *to, const unsigned char *from, size_t len, unsigned
 jcobs_answer push(jcobs_decoder *decoder, unsigned char *buffer, size_t room, const unsigned char *bytes, size_t len,
                   unsigned char sentinel);
 
-/* Returns the object's memory, and then what it held of its class. */
+/* Frees the object's memory, and then its reference to its class. */
 void free_object(PyObject *self);
 
 /* Returns a new object of the class, zeroed, or NULL with MemoryError. */

@@ -37,7 +37,7 @@ static void decoder_dealloc(PyObject *self)
     free_object(self);
 }
 
-/* Pushes bytes through the next sentinel, without the GIL if that is far. */
+/* Pushes bytes through the next sentinel, without the GIL if it is far away. */
 static jcobs_answer decoder_step(Decoder *self, const unsigned char *bytes, size_t len)
 {
     int far = len >= LONG && memchr(bytes, self->sentinel, LONG) == NULL;
@@ -64,9 +64,9 @@ static int decoder_append(Decoder *self, PyObject *list, PyObject *classes, jcob
     return done;
 }
 
-/* Lets the handlers of signals run, or returns -1 with the error that one raised; and other threads, 10 ms after `turn`. One that
- * waits asks for the GIL after 5 ms (sys.getswitchinterval), and again 5 ms after each time that it was released. So more
- * often would be too often: none would have asked, and this thread would get it back at once. */
+/* Runs signal handlers, or returns -1 with the error that one raised. Lets other threads run if 10 ms have passed since `turn`. A
+ * thread that waits asks for the GIL after 5 ms (sys.getswitchinterval), and again 5 ms after each time that it was released.
+ * If this thread released it more often, no other thread would have asked, and this one would get it back at once. */
 static int have_turn(clock_t *turn)
 {
     clock_t now = clock();

@@ -183,7 +183,7 @@ static PyObject *core_max_length(PyObject *module, PyObject *const *args, Py_ssi
     return PyLong_FromSize_t(jcobs_max_length(len));
 }
 
-/* The documents of the functions, after a line from which inspect.signature takes the arguments. Those in _plain.py are
+/* The documentation of the functions, after a line from which inspect.signature takes the arguments. Those in _plain.py are
  * the same; the tests compare them. */
 static const char encode_document[] =
     "encode(data, *, sentinel=0, terminated=False)\n--\n\n"
@@ -256,7 +256,7 @@ static int fill(PyObject *module)
 }
 
 /* CPython 3.12 has a slot by which a module says that it may be imported under each interpreter's own GIL. Older
- * versions raise an error at it, and headers for the stable ABI of 3.9 don't name it. */
+ * versions raise an error for it, and headers for the stable ABI of 3.9 don't name it. */
 #define MULTIPLE_INTERPRETERS 3
 #define PER_INTERPRETER_GIL_SUPPORTED ((void *)2)
 
@@ -271,7 +271,7 @@ static PyModuleDef definition_of_312 = {
     PyModuleDef_HEAD_INIT, "jcobs._core", NULL, 0, functions, slots_of_312, NULL, NULL, NULL,
 };
 
-/* Whether the processor has what the library was built for. */
+/* Returns whether the processor has the instructions that the library was built for. */
 static int has_processor(void)
 {
 #if defined(__x86_64__) && !defined(JCOBS_COMPILED)

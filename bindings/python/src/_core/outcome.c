@@ -1,7 +1,7 @@
 /* The type jcobs._core.Outcome. */
 #include "core.h"
 
-/* What a piece of a stream came to: the base of Message, Broken and TooLong. */
+/* The outcome of a piece of a stream: the base of Message, Broken and TooLong. */
 typedef struct {
     PyObject_HEAD PyObject *data;
 } Outcome;
@@ -17,7 +17,7 @@ static PyObject *outcome_make(PyTypeObject *type, PyObject *data)
     return (PyObject *)self;
 }
 
-/* Raises TypeError for the argument, or for want of it, with the names of the classes. */
+/* Raises TypeError because the argument is missing or of another class. The text names the classes. */
 static PyObject *outcome_wrong(PyTypeObject *type, PyObject *data)
 {
     PyObject *name = PyObject_GetAttrString((PyObject *)type, "__name__"), *given = NULL;
@@ -45,7 +45,7 @@ static PyObject *outcome_new(PyTypeObject *type, PyObject *args, PyObject *kwarg
 
 PyObject *outcome_of(PyObject *class, PyObject *data)
 {
-    /* A class with this way to make objects and no other has no other way to begin them: see _streams.py. */
+    /* A class that makes its objects by outcome_new has no __init__ of its own (see _streams.py), so none is called. */
     if (PyType_Check(class) && (PyType_GetFlags((PyTypeObject *)class) & Py_TPFLAGS_HEAPTYPE) &&
         PyType_GetSlot((PyTypeObject *)class, Py_tp_new) == (void *)outcome_new)
         return outcome_make((PyTypeObject *)class, data);
@@ -82,7 +82,7 @@ static PyObject *outcome_compare(PyObject *self, PyObject *other, int operation)
     return PyObject_RichCompare(((Outcome *)self)->data, ((Outcome *)other)->data, operation);
 }
 
-/* What makes a copy, for copy and pickle: the class, its argument, and what a subclass may have added. */
+/* Returns the class, its argument and the attributes that a subclass has added: copy and pickle make a copy from them. */
 static PyObject *outcome_reduce(PyObject *self, PyObject *none)
 {
     PyObject *added = PyObject_GetAttrString(self, "__dict__");

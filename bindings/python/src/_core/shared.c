@@ -1,8 +1,8 @@
-/* What the functions and the types share. */
+/* The code that the functions and the types share. */
 #include "core.h"
 
-/* Says of a TypeError which argument was wrong, if it is Python's own: its text begins so. One that a method of the
- * argument has raised stays. */
+/* Adds to a TypeError of Python's own which argument was wrong; `text` is in the text of such an error. A TypeError that a
+ * method of the argument has raised stays as it is. */
 static void wrong_type(const char *name, const char *wanted, PyObject *given, const char *text)
 {
     PyObject *type, *value, *trace, *said = NULL, *begin = NULL, *class = NULL;

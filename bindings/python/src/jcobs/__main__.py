@@ -19,7 +19,7 @@ NAMES = {jcobs.Message: "message", jcobs.Broken: "broken", jcobs.TooLong: "too l
 
 
 class Fault(Exception):
-    """What the user reads before the program ends with status 1."""
+    """An error that the user reads before the program ends with status 1."""
 
 
 def arguments() -> argparse.ArgumentParser:
@@ -52,7 +52,7 @@ def open_port(name: str, baud: int) -> Any:
 
 
 def text_of(message: bytes) -> str:
-    """Returns a message as text if it is UTF-8 without control characters, or else as hexadecimal digits."""
+    """Returns a message as text if it is UTF-8 without control characters, and otherwise as hexadecimal digits."""
     try:
         text = message.decode()
     except UnicodeDecodeError:

@@ -1,4 +1,4 @@
-"""A lock for methods that nobody waits for: a second call raises."""
+"""A lock for methods that nobody waits for: a second call raises an error."""
 
 from __future__ import annotations
 
@@ -15,7 +15,7 @@ Calls = Dict[str, List[FrameType]]
 
 
 def is_at_work(frame: FrameType) -> bool:
-    """Returns whether the call of a frame hasn't ended: only then its variables can't be cleared."""
+    """Returns whether the call of a frame is still at work. As long as it is, its variables can't be cleared."""
     try:
         frame.clear()
     except RuntimeError:

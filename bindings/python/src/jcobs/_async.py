@@ -17,7 +17,7 @@ if TYPE_CHECKING:
 
     from _typeshed import ReadableBuffer
 
-# The shortest wait in seconds for a stream of trio or anyio. These look for a cancellation before they look for bytes.
+# The shortest wait in seconds for a stream of trio or anyio. Both look for a cancellation before they look for bytes.
 SHORTEST = 0.01
 
 
@@ -42,9 +42,9 @@ class AsyncFrameReader(Frames):
     its frame ends, until the stream ends. If a read is cancelled, as by a timeout, no byte is lost, and the next call
     continues there.
 
-    The stream is an `asyncio.StreamReader`, and `writer` its `StreamWriter`; or an object with `receive_some`, as those
-    of trio; or one with `receive`, as those of anyio. Messages to a stream of trio or anyio are sent by its `send_all` or
-    `send`, or by that of `writer`.
+    The stream is an `asyncio.StreamReader`, an object with `receive_some`, such as a stream of trio, or one with
+    `receive`, such as a stream of anyio. For asyncio `writer` is the `StreamWriter`. For trio and anyio messages are sent
+    by `send_all` or `send` of the stream, or of `writer` if it is passed.
 
     With `sync` a sentinel is sent before the first frame. It ends the bytes of an earlier sender, or of noise on the
     line.
@@ -103,7 +103,7 @@ class AsyncFrameReader(Frames):
             await self._stream.aclose()
 
     async def _receive(self) -> bytes:
-        """Reads what the stream has, or waits for it."""
+        """Reads the bytes that the stream has, or waits for some."""
         if self._name != "receive":
             chunk: bytes = await getattr(self._stream, self._name)(CHUNK)
             return chunk
@@ -172,10 +172,10 @@ class AsyncFrameReader(Frames):
         return AsyncMessages(self)
 
     async def discard(self, quiet: float = 0.05) -> None:
-        """Drops what was sent so far: outcomes that weren't read, the frame that has begun, and the bytes that wait.
+        """Drops the outcomes that weren't read, and all bytes that have arrived.
 
-        If those end inside a frame, its rest is dropped too, until nothing has come for `quiet` seconds. On a line that
-        never rests this ends after a second, and the next outcome is that of the frame that has begun then.
+        If the bytes end inside a frame, it also drops the bytes that follow, until none has arrived for `quiet` seconds.
+        On a line that never rests it stops after a second, and the next outcome is that of the frame that is open then.
         """
         end = time.monotonic() + LONGEST_DISCARD
         while await self._take_within(Deadline(quiet).left() or 0.0 if self.unfinished else 0.0):
@@ -202,7 +202,7 @@ class AsyncFrameReader(Frames):
         await self._writer.drain()
 
     async def _send(self, message: ReadableBuffer) -> None:
-        """Sends a message to a stream of trio or anyio. Whether a call is at work is known by its coroutine."""
+        """Sends a message to a stream of trio or anyio. The coroutine of a call shows whether it is at work."""
         if self._sending is not None and (self._sending.cr_running or self._sending.cr_await is not None):
             raise RuntimeError("the writer is in use by another call")
         self._sending = self._send_alone(message)

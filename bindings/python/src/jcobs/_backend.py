@@ -15,7 +15,7 @@ from jcobs import __version__
 
 
 def is_other(found: object) -> bool:
-    """Whether an extension is of another version of the package, and warns of it."""
+    """Returns whether an extension is of another version of the package, and warns if it is."""
     version = getattr(found, "version", "an older version")
     if version == __version__:
         return False

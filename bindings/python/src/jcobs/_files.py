@@ -15,20 +15,20 @@ CHUNK = 65536
 GAP = bytes(bytearray(b"gap"))
 
 Kept = Deque[bytes]
-# Reads what a file has, or waits for it up to a number of seconds, and keeps the bytes: none at the end of the stream.
-# Returns whether it did. If not, that time is over, or without one the timeout of the file itself.
+# Reads the bytes that a file has, or waits for some, and keeps them: none at the end of the stream. Returns False if it has
+# kept nothing because none has arrived in time: in this number of seconds, or in the file's own timeout if it is None.
 Read = Callable[[Any, Optional[float], Kept], bool]
 
 
 class Readable(Protocol):
-    """An object with `read`, as a binary file or a `serial.Serial`."""
+    """An object with `read`, such as a binary file or a `serial.Serial`."""
 
     def read(self, size: int, /) -> Optional[bytes]:
         """Returns at most `size` bytes: none at the end, or None if there are none now."""
 
 
 class Receivable(Protocol):
-    """An object with `recv`, as a socket."""
+    """An object with `recv`, such as a socket."""
 
     def recv(self, size: int, /) -> bytes:
         """Returns at most `size` bytes, or none at the end."""
@@ -38,7 +38,7 @@ def keep(kept: Kept, read: Callable[[int], Optional[bytes]], size: int, in_pytho
     """Reads, and keeps the bytes, unless there are none now.
 
     No bytecode runs between the two if `read` is a function in C. So a signal handler that raises an exception can't
-    make bytes vanish that were read. One `in_python` may have dropped them: then a GAP is kept.
+    make bytes vanish that were read. A `read` in Python may have dropped them (`in_python`): then a GAP is kept.
     """
     try:
         kept.extend(map(read, (size,)))  # type: ignore[arg-type]
@@ -63,7 +63,7 @@ def descriptor_of(file: Any) -> Optional[int]:
 
 
 def wait(descriptors: Iterable[int], timeout: Optional[float]) -> bool:
-    """Waits until one of the descriptors has bytes or has ended, and returns whether that came in time."""
+    """Waits until one of the descriptors has bytes or has ended, and returns whether that happened in time."""
     if not hasattr(select, "poll"):
         return bool(select.select(list(descriptors), [], [], timeout)[0])
     poll = select.poll()
@@ -73,7 +73,7 @@ def wait(descriptors: Iterable[int], timeout: Optional[float]) -> bool:
 
 
 def is_ready(file: Any, timeout: float) -> bool:
-    """Waits until a file or socket has bytes or has ended, and returns whether that came in time."""
+    """Waits until a file or socket has bytes or has ended, and returns whether that happened in time."""
     if not hasattr(file, "fileno"):
         kind = type(file).__name__
         raise TypeError(f"a timeout needs a serial port, a socket or a file: {kind} has no fileno")
@@ -86,9 +86,9 @@ def is_ready(file: Any, timeout: float) -> bool:
 
 
 def read_port(port: Any, timeout: Optional[float], kept: Kept) -> bool:
-    """Reads what a serial port has, or waits for the next byte.
+    """Reads the bytes that a serial port has, or waits for the next one.
 
-    It waits for the descriptor. To set the port's own timeout would configure the port anew, while bytes come in.
+    It waits for the descriptor. Setting the port's own timeout would configure the port anew, while bytes come in.
     """
     waiting = port.in_waiting
     if not waiting:
@@ -101,7 +101,7 @@ def read_port(port: Any, timeout: Optional[float], kept: Kept) -> bool:
 
 
 def read_port_by_its_timeout(port: Any, timeout: Optional[float], kept: Kept) -> bool:
-    """Reads what a serial port without a descriptor has, or waits for the next byte: on Windows, or by rfc2217://."""
+    """Reads the bytes that a port without a descriptor has, or waits for the next one: on Windows, or by rfc2217://."""
     waiting = port.in_waiting
     if waiting or timeout is None:
         return keep_some(kept, port, waiting)
@@ -114,7 +114,7 @@ def read_port_by_its_timeout(port: Any, timeout: Optional[float], kept: Kept) ->
 
 
 def read_port_at_a_socket(port: Any, timeout: Optional[float], kept: Kept) -> bool:
-    """Reads what a port by socket:// has, or waits for it. Its `in_waiting` is 1 for any number of bytes."""
+    """Reads the bytes that a port by socket:// has, or waits for some. Its `in_waiting` is 1 for any number of bytes."""
     own = port.timeout
     if not wait([port.fileno()], own if timeout is None else timeout):
         return False
@@ -135,7 +135,7 @@ def keep_some(kept: Kept, port: Any, waiting: int) -> bool:
 
 
 def read_socket(sock: Any, timeout: Optional[float], kept: Kept) -> bool:
-    """Reads what a socket has, or waits for it."""
+    """Reads the bytes that a socket has, or waits for some."""
     if timeout is not None and not is_ready(sock, timeout):
         return False
     try:
@@ -149,7 +149,7 @@ def read_socket(sock: Any, timeout: Optional[float], kept: Kept) -> bool:
 
 
 def read_ssl(sock: Any, timeout: Optional[float], kept: Kept) -> bool:
-    """Reads what an SSL socket has, or waits for it: what makes it readable may be a record without data."""
+    """Reads the bytes that an SSL socket has, or waits for some. It may be readable because of a record without data."""
     from ssl import SSLWantReadError
 
     own = sock.gettimeout()
@@ -173,13 +173,13 @@ def waits(file: Any) -> bool:
 
 
 def read_file(file: Any, timeout: Optional[float], kept: Kept) -> bool:
-    """Reads what a file has, or waits for it."""
+    """Reads the bytes that a file has, or waits for some."""
     if timeout is not None and not is_ready(file, timeout):
         return False
     of_socket = isinstance(getattr(file, "raw", file), socket.SocketIO)
     found = keep(kept, getattr(file, "read1", file.read), CHUNK, in_python=of_socket)
     if (not found or not kept[-1]) and hasattr(file, "raw") and not waits(file):
-        # no bytes from `read1` are the end, or up to Python 3.13 none now; then the buffer is empty
+        # if `read1` returns no bytes, it is the end, or up to Python 3.13 there are none now; the buffer is then empty
         if found:
             kept.pop()
         return keep(kept, file.raw.read, CHUNK)
@@ -187,7 +187,7 @@ def read_file(file: Any, timeout: Optional[float], kept: Kept) -> bool:
 
 
 def read_of(file: Any) -> Read:
-    """Returns the read for what a file is, or raises TypeError if it can't be one."""
+    """Returns the function that reads this kind of file, or raises TypeError if it is none."""
     if isinstance(file, io.TextIOBase):
         raise TypeError(f'file must be binary, as by open(path, "rb"), not {type(file).__name__}')
     if hasattr(file, "in_waiting"):

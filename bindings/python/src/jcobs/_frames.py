@@ -53,8 +53,8 @@ max_length = core.max_length
 def encode_in_place(buffer: WriteableBuffer, length: int, *, sentinel: int = 0) -> int:
     """Encodes a message in its own buffer, and returns the length of its frame.
 
-    The message's `length` bytes are in `buffer` after the first `max_length(length) - length`, whose contents don't
-    matter. Then `buffer` begins with the frame, and its bytes after that stay as they were.
+    Before the call the message, which has `length` bytes, begins at index `max_length(length) - length` of `buffer`; the
+    bytes before it don't matter. Then `buffer` begins with the frame, and the bytes after the frame stay as they were.
 
     This is no faster than `encode`, which it calls for a copy of the message. It remains for scripts that use it.
 

@@ -93,7 +93,7 @@ def frame_of(message: bytes) -> bytes:
 
 
 def output(piece: bytes) -> Tuple[bool, bytes]:
-    """Returns whether a piece breaks off inside a block, and what it decodes to."""
+    """Returns whether a piece breaks off inside a block, and the bytes it decodes to."""
     data, at, size = bytearray(), 0, len(piece)
     while at < size:
         code = piece[at]
@@ -241,7 +241,7 @@ class Decoder:
         self._too_long = self._too_long or len(data) > room
 
     def _end(self) -> Tuple[int, bytes]:
-        """Ends the piece, and returns the number of its class, and what was decoded."""
+        """Ends the piece, and returns the number of its class, and the decoded bytes."""
         found = 2 if self._too_long else 1 if self._missing else 0, bytes(self._buffer[: self._written])
         self._clear()
         return found

@@ -21,7 +21,7 @@ if TYPE_CHECKING:
 
     from _typeshed import ReadableBuffer
 
-# A wait in seconds that every system takes.
+# A wait in seconds that every system accepts.
 LONGEST = 2_000_000.0
 IN_USE = "the reader is in use by another call"
 # How long `discard` takes at most, in seconds, on a line that never rests.
@@ -32,16 +32,16 @@ def closing(count: int, sentinel: int) -> bytes:
     """Returns bytes that end a frame which was cut, and that no decoder takes for the end of a message.
 
     A single sentinel isn't enough: a frame that was cut between two of its blocks would be a shorter message. If k bytes
-    of a block are missing, fewer than `count`, the first k of these complete it. The next one is a code of 255, and fewer than
-    254 bytes follow it. Up to 254 bytes of a block can be missing: for a `count` of 255 the first of these is the code of
-    an empty block, as the code of a full one would be followed by 254 bytes.
+    of a block are missing (k is less than `count`), the first k of the returned bytes complete it. The next byte is a code of
+    255 with fewer than 254 bytes after it, so the frame is broken. Up to 254 bytes of a block can be missing. So for a `count`
+    of 255 the first returned byte is the code of an empty block, because 254 bytes would follow the code of a full one.
     """
     spoiling = b"\xff" * count if count < 255 else b"\x01" + b"\xff" * 254
     return bytes(byte ^ sentinel for byte in spoiling + b"\0")
 
 
 def reply_of(outcome: Optional[Outcome]) -> bytes:
-    """Returns the message that a request is replied with, or raises what came instead."""
+    """Returns the message of the reply to a request, or raises an error if there is none, or if it is damaged or too long."""
     if outcome is None:
         raise TimeoutError("no reply came in time")
     if not isinstance(outcome, Message):
@@ -50,7 +50,7 @@ def reply_of(outcome: Optional[Outcome]) -> bytes:
 
 
 class Deadline:
-    """The end of a time in seconds, if there is one."""
+    """The moment at which a call stops waiting, if there is one."""
 
     def __init__(self, timeout: Optional[float]) -> None:
         if isinstance(timeout, (str, bytes)) or not (timeout is None or hasattr(timeout, "__float__")):
@@ -85,12 +85,12 @@ class Frames(Coder):
         return EOFError("the stream ended inside a frame" if self.unfinished else "the stream ended")
 
     def _lose(self, begun: bool) -> None:
-        """Has the decoder begin anew. If a frame had begun, its rest is to be dropped."""
+        """Resets the decoder. If a frame had begun, its rest will be dropped."""
         self._decoder.reset()
         self._headless = self._headless or begun
 
     def _check_arrived(self) -> None:
-        """Drops what a read that ended by an exception left, unless it is bytes."""
+        """Drops the empty bytes, or the GAP, that a read left when an exception ended it."""
         if self._arrived and (not self._arrived[0] or self._arrived[0] is GAP):
             if self._arrived.popleft() is GAP:
                 self._lose(True)
@@ -107,9 +107,9 @@ class Frames(Coder):
     def _decode(self) -> bytes:
         """Decodes the chunk that has arrived, and returns it.
 
-        If an exception ends this, by a signal handler or if memory runs out, the chunk stays for the next call, with
-        all its frames but one that had begun before it. To decode, to keep the outcomes and to drop the chunk is one
-        step of C, as in `keep`.
+        If a signal handler raises an exception, or memory runs out, the chunk stays, and the next call decodes it. Only a
+        frame that had begun before the chunk is lost. One step of C decodes the chunk, keeps the outcomes and drops the
+        chunk, as in `keep`.
         """
         chunk = self._arrived[0]
         left = self._without_rest(chunk) if self._headless else chunk
@@ -126,15 +126,15 @@ class Frames(Coder):
         return chunk
 
     def _out(self, message: ReadableBuffer) -> bytes:
-        """Returns what to send of a message. Until `_sent` it is taken for cut."""
+        """Returns the bytes to send for a message. Until `_sent` is called, the reader assumes that they were cut."""
         frame = encode(message, sentinel=self._sentinel, terminated=True)
         lead = closing(self._cut, self._sentinel) if self._cut else self._lead
-        # of a block fewer bytes are missing than the frame has; of one that was cut before, any number up to 254
+        # fewer bytes of a block are missing than the frame has; if an earlier frame was cut, any number up to 254
         self._cut = 255 if lead else min(len(frame), 255)
         return lead + frame
 
     def _sent(self) -> None:
-        """The last message was sent whole."""
+        """Records that the last message was sent whole."""
         self._lead, self._cut = b"", 0
 
 
@@ -142,8 +142,8 @@ class FrameReader(Frames):
     """Reads frames from a serial port, a socket, a pipe or a file, and sends messages to it.
 
     `read` returns the outcome of one frame: a `Message`, `Broken` or `TooLong`. Iterating yields each one, as soon as
-    its frame ends, until the stream ends or a timeout of the port or socket passes. Reading can go on after that, and no
-    byte is lost if the read of the file raises an exception.
+    its frame ends, until the stream ends or a timeout of the port or socket passes. Reading can continue after that, and
+    no byte is lost if the read of the file raises an exception.
 
     If a signal handler raises an exception, no byte of a socket, a pipe or a file is lost. Bytes may be lost in pyserial
     and in the `makefile` of a socket: then the frames that they belong to are reported as one `Broken`.
@@ -163,9 +163,9 @@ class FrameReader(Frames):
     >>> reader.unfinished
     True
 
-    It never waits for more bytes than there are. It asks a serial port for what it has, `in_waiting`, or for 1 byte, and
-    calls `recv` of a socket, `read1` of a buffered file, or `read` of any other object with 65536. That must return
-    what there is, none at the end, and None if there is nothing now.
+    It never waits for more bytes than have arrived. From a serial port it reads `in_waiting` bytes, or 1 byte. It calls
+    `recv` of a socket, `read1` of a buffered file, or `read` of any other object, with 65536. Such a call must return the
+    bytes that have arrived, no bytes at the end, or None if there are none now.
     """
 
     def __init__(
@@ -210,7 +210,7 @@ class FrameReader(Frames):
         Without `timeout` it waits as the object does: None means that a timeout of its own has passed, or that it has
         nothing now and doesn't wait. Raises EOFError at the end of the stream.
 
-        A timeout doesn't count what something else has read into a file's own buffer, as `readline` does: open the file
+        With a timeout, bytes that other code such as `readline` has left in a file's own buffer aren't seen: open the file
         with `buffering=0`, or give such bytes to a `Decoder`. If a socket has a timeout, pass the socket itself: its
         `makefile` raises TimeoutError, and can't be read any more then.
 
@@ -224,7 +224,7 @@ class FrameReader(Frames):
         EOFError: the stream ended
         """
         deadline = Deadline(timeout)
-        # as in `alone`, by which the outcome would be the value of a call: see below
+        # as `alone` does it; `alone` itself would make the outcome the value of a call, which can be lost: see below
         calls, mine = self._calls.setdefault("reader", []), sys._getframe()
         try:
             if not begins(calls, mine):
@@ -281,10 +281,10 @@ class FrameReader(Frames):
 
     @alone("reader")
     def discard(self, quiet: float = 0.05) -> None:
-        """Drops what was sent so far: outcomes that weren't read, the frame that has begun, and the bytes that wait.
+        """Drops the outcomes that weren't read, and all bytes that have arrived.
 
-        If those end inside a frame, its rest is dropped too, until nothing has come for `quiet` seconds. On a line that
-        never rests this ends after a second, and the next outcome is that of the frame that has begun then.
+        If the bytes end inside a frame, it also drops the bytes that follow, until none has arrived for `quiet` seconds.
+        On a line that never rests it stops after a second, and the next outcome is that of the frame that is open then.
 
         A file in memory or on a disk is read to its end.
 
@@ -342,7 +342,7 @@ class FrameReader(Frames):
 def frames(
     source: Union[Readable, Receivable, ReadableBuffer], max_length: int = 65536, sentinel: int = 0
 ) -> FrameReader:
-    """Returns an iterator over the outcomes of the frames in bytes, or in a binary file, as a log.
+    """Returns an iterator over the outcomes of the frames in bytes, or in a binary file such as a log.
 
     They are decoded as they are asked for. It is a `FrameReader`, so `unfinished` says at the end whether the last frame
     was cut off, and `messages` skips damaged ones.

@@ -114,10 +114,10 @@ class Decoder(Coder):
 
 
 class Encoder(Coder):
-    """Encodes messages that arise in pieces.
+    """Encodes messages that come in pieces.
 
     `max_length` is the length of the longest message; the encoder allocates this much memory at once. It is for one
-    thread at a time, as a `Decoder`.
+    thread at a time, like a `Decoder`.
 
     >>> encoder = jcobs.Encoder()
     >>> encoder.feed(b"hel")
