@@ -155,7 +155,7 @@ pub fn try_encode_with_sentinel(
     proved::try_encode_with_sentinel(source, dest, sentinel)
 }
 
-/// Allocates zeros for the longest frame of the message, and this many bytes more.
+/// Returns a vector of zeros, as long as the longest frame of the message and `more` bytes.
 #[cfg(feature = "alloc")]
 fn room_for(source: &[u8], more: usize) -> alloc::vec::Vec<u8> {
     alloc::vec![0; crate::max_encoding_length(source.len()) + more]

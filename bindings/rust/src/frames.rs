@@ -48,8 +48,8 @@ pub struct Frames<'a> {
 }
 
 impl<'a> Frames<'a> {
-    /// Returns the bytes after the zero of the last frame that was returned. After the end these are the bytes that no
-    /// zero has ended.
+    /// Returns the bytes after the zero of the last frame that was returned. Once `next` has returned `None`, these are the
+    /// bytes after the last zero of the stream.
     #[inline]
     #[must_use]
     pub const fn remainder(&self) -> &'a [u8] {
@@ -87,8 +87,8 @@ const fn most_frames(stream: &[u8]) -> (usize, Option<usize>) {
     (0, Some(stream.len() / 2))
 }
 
-/// Returns an iterator over the messages of a recorded stream. Each is decoded at the place of its frame, so no other
-/// memory is used.
+/// Returns an iterator over the messages of a recorded stream. Each message is decoded in place, over its frame, so no
+/// other memory is used.
 ///
 /// An item is the message of a nonempty piece that a zero ends, or the error for it. A broken piece never affects
 /// another one. The crate `cobs` doesn't have this call.

@@ -37,8 +37,8 @@ use portable as way;
 ))]
 use sse2 as way;
 
-/// Whether the calls use vectors and slices: if the target has SSE2, NEON, or SIMD of WebAssembly, and the feature `small` doesn't
-/// ask for the other bodies, which take one byte at a time. translate.py writes this as the result of `has_vectors`.
+/// Whether the calls use vectors and slices. They do if the target has SSE2, NEON or the SIMD of WebAssembly, and the
+/// feature `small` is off. Otherwise they take one byte at a time. `translate.py` makes this the result of `has_vectors`.
 pub const HAS_VECTORS: bool = !cfg!(feature = "small")
     && (way::HAS_VECTORS || cfg!(all(target_feature = "simd128", target_family = "wasm")));
 

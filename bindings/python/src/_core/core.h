@@ -47,7 +47,8 @@ typedef struct {
     const char *names[3];
 } Signature;
 
-/* Sorts the arguments of a call into `found`, NULL for each one that isn't passed, or returns 0 with TypeError. */
+/* Sorts the arguments of a call into `found`, with NULL for each one that isn't passed. Returns 1, or 0 with
+ * TypeError. */
 int arguments_of(const Signature *signature, PyObject *const *args, Py_ssize_t count, PyObject *names,
                  PyObject **found);
 

@@ -189,8 +189,9 @@ class AsyncFrameReader(Frames):
     async def write(self, message: ReadableBuffer) -> None:
         """Sends a message: its frame, and the sentinel after it. Raises TypeError if there is no `writer`.
 
-        If this is cancelled, or fails, a stream of trio or anyio may have sent a part of the frame. The next message is
-        then sent after bytes that end it, and the receiver reports at most one `Broken` or `TooLong` for both.
+        If this is cancelled, or fails, a stream of trio or anyio may have sent a part of the frame. The next write
+        then first sends bytes that end this frame, and the receiver reports at most one `Broken` or `TooLong` for that
+        frame and these bytes.
         """
         if self._writer is None:
             raise TypeError("to write, pass the stream's writer: AsyncFrameReader(stream, writer=writer)")
@@ -213,7 +214,7 @@ class AsyncFrameReader(Frames):
         self._sent()
 
     async def request(self, message: ReadableBuffer, timeout: Optional[float], *, discard: bool = False) -> bytes:
-        """Sends a message, and returns the next one that comes, its reply.
+        """Sends a message, and returns the next message that is received, as its reply.
 
         Raises TimeoutError if none has come after `timeout` seconds, and `DecodeError` if it is damaged or too long.
         With `discard` the bytes that have come so far are dropped first, such as a late reply to another request.

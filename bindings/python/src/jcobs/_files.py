@@ -37,8 +37,8 @@ class Receivable(Protocol):
 def keep(kept: Kept, read: Callable[[int], Optional[bytes]], size: int, in_python: bool = False) -> bool:
     """Reads, and keeps the bytes, unless there are none now.
 
-    No bytecode runs between the two if `read` is a function in C. So a signal handler that raises an exception can't
-    make bytes vanish that were read. A `read` in Python may have dropped them (`in_python`): then a GAP is kept.
+    No bytecode runs between the two if `read` is a function in C. So an exception that a signal handler raises can't lose
+    bytes that were read. A `read` in Python may have dropped them (`in_python`): then a GAP is kept.
     """
     try:
         kept.extend(map(read, (size,)))  # type: ignore[arg-type]

@@ -1,4 +1,4 @@
-"""The calls of the extension `_core`, in Python, if that isn't built or can't be loaded.
+"""The calls of the extension `_core`, written in Python, for use without the extension.
 
 Frames for another sentinel are XORed with it, so all loops are about the sentinel 0.
 """

@@ -198,7 +198,7 @@ class FrameReader(Frames):
         self._file.close()
 
     def _take(self, timeout: Optional[float]) -> Optional[bytes]:
-        """Decodes the bytes of one read, and returns them: none at the end, or None at a timeout."""
+        """Decodes the bytes of one read, and returns these bytes: b"" at the end of the stream, None at a timeout."""
         self._check_arrived()
         if not self._arrived and not self._read(self._file, timeout, self._arrived):
             return None
@@ -308,8 +308,8 @@ class FrameReader(Frames):
         """Sends a message: its frame, and the sentinel after it.
 
         If this fails, or ends by an exception of a signal handler, a part of the frame may have been sent. The next
-        message is then sent after bytes that end it, and the receiver reports at most one `Broken` or `TooLong` for
-        both. A port may still be sending when this returns: its own `flush` waits for it.
+        write then first sends bytes that end this frame, and the receiver reports at most one `Broken` or `TooLong` for
+        that frame and these bytes. A port may still be sending when this returns: its own `flush` waits for it.
 
         >>> import io
         >>> file = io.BytesIO()
