@@ -206,7 +206,7 @@ if has arm-none-eabi-gcc gcc-arm-none-eabi 'Cortex-M' && has /usr/lib/arm-none-e
     target arm cortex-m0plus
     target arm cortex-m4
     for cpu in cortex-m0plus cortex-m3 cortex-m4 cortex-m33; do source_target arm $cpu 30000; done
-    part 'instructions: the archive for cortex-m4' instructions 200 120 arm cortex-m4 "$(archive cortex-m4)"
+    part 'instructions: the archive for cortex-m4' instructions 200 130 arm cortex-m4 "$(archive cortex-m4)"
     part 'instructions: jcobs.c on cortex-m4' instructions 120 50 arm cortex-m4 "$source"
     part 'instructions: jcobs.c on cortex-m0plus' instructions 120 60 arm cortex-m0plus "$source"
 fi
