@@ -7,7 +7,7 @@
 // chance decides where the memory of a process is and when its code is compiled. It counts as slower if it is slower in PROCESSES.
 //
 // Messages of more than 64 bytes without zeros are left out. For plain JavaScript they are one search and a few copies, which the
-// engine does in vectors. The module has none: it is about as fast at 250 bytes, and slower from 1,500 bytes on, as PAGE.md says.
+// engine does in vectors. The module has none: it is faster at 250 bytes, and slower from 1,500 bytes on, as PAGE.md says.
 import { execFile } from "node:child_process";
 import { readFile } from "node:fs/promises";
 import { fileURLToPath } from "node:url";
