@@ -64,19 +64,17 @@ MORE_DERIVES = {
 STORED = set("DecodeError DestBufTooSmallError DecodeReport PushError FrameKind PieceEnd Next ReadFault FrameOutcome".split())
 # What the docs say otherwise here, where the decoders have the signatures of the crate `cobs`, and no reader sees a contract.
 REWORDED = {
-    "Its results are those of [`CobsDecoder`](crate::CobsDecoder). It has no buffer": "The results of its `feed` are those of\n"
-    "[`CobsDecoder`](crate::CobsDecoder). It has no buffer",
-    ", as [`CobsDecoder::push`](crate::CobsDecoder::push) does: it stops after the first byte for which `feed` doesn't return"
-    " `Ok(None)`. The errors are those of that call.": ".\nIt stops after the first byte for which `feed` doesn't return"
-    " `Ok(None)`. The error says how many bytes were taken.",
+    "This decoder returns the same results as [`CobsDecoder`](crate::CobsDecoder).": "The `feed` of this decoder returns the same"
+    " results as that of [`CobsDecoder`](crate::CobsDecoder).",
+    "The results and errors are those of [`CobsDecoder::push`](crate::CobsDecoder::push).": "The error says how many bytes were taken.",
     "CobsDecoder::new(&mut buffer); let rejected = PushError": "UnbufferedDecoder::new();\nlet rejected = PushError",
     "decoder.push(&[3, 7, 0, 2, 9, 0]), Err(rejected)": "decoder.push(&mut buffer, &[3, 7, 0, 2, 9, 0]), Err(rejected)",
-    "Contracts describe a source by a relation, `step`, between two states of the source and the result of a read. It holds if a"
-    " read with this result may change the source from the first state to the second. The result is a failure, or the bytes that"
-    " the read returned.": "[`FrameReader::next_frame`] panics"
+    "Contracts describe a source by a relation, `step`, between two states of the source and the result of a read. `step` holds"
+    " if a read with this result may change the source from the first state to the second. The result of a read is a failure, or the"
+    " bytes that the read returned.": "[`FrameReader::next_frame`] panics"
     " if a read returns a number above 64.",
-    " Contracts describe a reader by its decoder, and by the bytes that it has read and not yet fed to the decoder.": "",
-    "Contracts describe it by the bytes of its buffer and by its phase. ": "",
+    " Contracts describe a reader by its decoder, and by the bytes that the reader has read and not yet fed to the decoder.": "",
+    "Contracts describe a decoder by the bytes of its buffer and by its phase. ": "",
     "[`decode_short`](crate::decode_short)": "`decode_short`",
     "[`len_to_zero`](crate::len_to_zero)": "`len_to_zero`",
     " (A choice of this library.)": "",

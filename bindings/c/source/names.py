@@ -88,10 +88,11 @@ COMMENTS = {
     "": [(" (A choice of this library.)", "")],
     "UnbufferedDecoder::end": [("`len` is the buffer's length.", "It returns how the piece ended. The buffer has buffer_size bytes.")],
     "UnbufferedDecoder::feed_each": [(
-        " For the sentinel 0 it does what [`feed_piece`](Self::feed_piece) does. It has no search and no copy of slices, so it is"
-        " small, and fast for a few bytes.",
+        " For the sentinel 0 it does what [`feed_piece`](Self::feed_piece) does. This function searches for nothing and copies"
+        " no slices, so it is small, and fast for a few bytes.",
         "",
-    ), ("One by one: with an assignment of the whole, rustc needs 24 bytes more for a push on a Cortex-M4.", "")],
+    ), (
+        "The fields are assigned one by one: if the whole decoder is assigned, rustc needs 24 bytes more for a push on a Cortex-M4.", "")],
     "UnbufferedDecoder::step": [(
         ", and writes its output to the buffer.",
         ", and writes its output to the buffer. It returns JCOBS_END_TOO_LONG at each byte of a piece that is too long.",
@@ -111,15 +112,15 @@ COMMENTS = {
         "Ends the message, and returns",
         "Ends the message, if the state is possible in a buffer of this size, and returns",
     )],
-    "UnbufferedEncoder::is_within": [("this progress is possible in a buffer of this length", "the state is possible in a buffer of this size")],
+    "UnbufferedEncoder::is_within": [("the encoder's progress is possible in a buffer of `len` bytes", "the state is possible in a buffer of this size")],
     "UnbufferedEncoder::push_each": [(", one at a time.", ", if the frame of all bytes so far fits the buffer, and returns whether it does.")],
     "decode_blocks_each": [(
-        " It is small, and uses no vectors.",
+        " This function is small, and uses no vectors.",
         " No byte of the frame is a zero. If the last block is cut off, it returns JCOBS_END_BROKEN, with the length of the message of the"
         " blocks before.",
     )],
     "decode_each": [(", and the counts are within the bytes and the buffer.", ".")],
-    "decode_piece": [("Returns `None` if there is no piece.", "It returns JCOBS_END_NONE if there is no piece.")],
+    "decode_piece": [("Returns `None` if the source has no piece.", "It returns JCOBS_END_NONE if there is no piece.")],
     "encode_each": [(", and the counts are within the bytes and the buffer.", ".")],
     "encode_in_place": [(
         "in its own buffer, and returns the length of its frame in bytes.",
@@ -128,22 +129,22 @@ COMMENTS = {
     )],
     "end_of": [("the frame that an encoder has written so far", "the frame, if the message ends with the bytes that were taken")],
     "ended": [(
-        "the result for a piece that ended after this many bytes of output, with this many bytes of its last block missing, and after"
-        " `at` bytes of the source",
+        "the result of `decode_piece` for a piece with `written` bytes of output, if `missing` bytes of its last block are missing and"
+        " `at` bytes of the source were consumed",
         "the piece that ended, with this many bytes of output, with this many bytes of its last block missing, and with this many bytes"
         " consumed",
     )],
     "has_room": [(
-        "It reads the bytes only if their number doesn't decide that.",
-        "It reads the bytes only if their number doesn't decide that. data_len is how many bytes of the message the open block and those"
+        "The bytes are read only if their number doesn't decide this.",
+        "The bytes are read only if their number doesn't decide this. data_len is how many bytes of the message the open block and those"
         " after it then have.",
     )],
     "kind_by_blocks": [(
-        ", as [`frame_kind`] does. It goes from one code to the next, and doesn't search the bytes for a zero.",
+        ", as [`frame_kind`] does. This function goes from one code to the next, and doesn't search the bytes for a zero.",
         ", given bytes without a zero. It goes from one code to the next.",
     )],
-    "leading_zeros": [(", which [`decode`](crate::decode) skips before a frame.", ".")],
-    "len_to_zero": [(" It uses no vectors, so that it is small.", " With four bytes in a round it needs half the instructions.")],
+    "leading_zeros": [(" [`decode`](crate::decode) skips these zeros before a frame.", "")],
+    "len_to_zero": [(" The function uses no vectors, so that it is small.", " With four bytes in a round it needs half the instructions.")],
     "result_by": [(
         "a decoding call that took this many bytes, into a buffer of `room` bytes, given the message's length or the error.",
         "a call that decodes in place, and took this many bytes of the `room` bytes of a buffer, given how the frame ended."
@@ -154,7 +155,7 @@ COMMENTS = {
         "a call that took these of `len` bytes, into a buffer of `room` bytes",
         "a call that took `len` bytes or those through this piece's end, if it has ended. The buffer has `room` bytes",
     )],
-    "through_piece": [("whose next byte is at `at`: after", "that source[at] belongs to: after")],
+    "through_piece": [("the piece ends whose next byte is at index `at`:", "the piece ends that source[at] belongs to:")],
     "write_each": [(
         "Does what [`encode`](crate::encode) does, one byte at a time.",
         "Writes the frame of the message, and returns its length. index is where the code of the open block belongs, and next where the"

@@ -32,7 +32,8 @@ pub enum DecodeError {
     /// The frame breaks off inside a block, or the source has no frame.
     #[error("frame with invalid format, written {decoded_bytes} to decoded buffer")]
     InvalidFrame {
-        /// How many bytes were decoded. They are at the front of the buffer, if the caller passed one.
+        /// How many bytes were decoded. The decoded bytes are at the front of the buffer, if the caller passed a
+        /// buffer.
         decoded_bytes: usize,
     },
 
@@ -44,7 +45,8 @@ pub enum DecodeError {
 /// The error of a `push` to a streaming decoder, with the number of bytes that were consumed. (A choice of this
 /// library.)
 ///
-/// The decoder has consumed these bytes and no others. To continue, the caller pushes the bytes after them.
+/// The decoder has consumed the first `parsed_size` bytes, and no others. To continue, the caller pushes the remaining
+/// bytes.
 ///
 /// ```
 /// let mut buffer = [0; 4];
@@ -61,7 +63,7 @@ pub struct PushError {
     /// The result for the last byte that was consumed.
     pub error: DecodeError,
 
-    /// How many bytes were consumed, including the one that raised the error.
+    /// How many bytes were consumed, including the byte that raised the error.
     pub parsed_size: usize,
 }
 

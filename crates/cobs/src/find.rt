@@ -6,7 +6,8 @@ ghost use Rattle.cobs.specs.Grammar.{HasNoZero};
 use cobs_bytes::window::{WIDE_WINDOW, WINDOW, first_zero, has_vectors, zeros_at};
 use memchr::memchr;
 
-/// Returns how many zeros the source begins with, which [`decode`](crate::decode) skips before a frame. (A choice of this library.)
+/// Returns how many zeros the source begins with. [`decode`](crate::decode) skips these zeros before a frame. (A choice
+/// of this library.)
 ///
 /// ```
 /// assert_eq!(rt; leading_zeros(&[0, 0, 2, 7, 0]), 2);
@@ -34,16 +35,16 @@ pub(crate) fn position_or_len(source: &[u8], byte: u8) -> usize
     memchr(byte, source).unwrap_or(source.len())
 }
 
-/// Returns how many bytes come before the first zero: all of them if there is none. It uses no vectors, so that it is small. (A
-/// choice of this library.)
+/// Returns how many bytes come before the first zero, or the number of all bytes if there is no zero. The function uses
+/// no vectors, so that it is small. (A choice of this library.)
 ///
 /// ```
 /// assert_eq!(rt; len_to_zero(&[3, 7, 8, 0, 2]), 3);
 /// assert_eq!(rt; len_to_zero(&[3, 7]), 2);
 /// ```
-// A function of its own, so that its loops have all registers of a small processor. The loops advance the address of
-// the remaining bytes, so that no address is computed from an index. With four bytes per iteration, a byte costs half
-// as many instructions as with one.
+// Not inlined, so that its loops can use all registers of a small processor. The loops advance the address of the
+// remaining bytes, so that no address is computed from an index. With four bytes per iteration, a byte costs half as
+// many instructions as with one byte per iteration.
 #[inline(never)]
 pub fn len_to_zero(bytes: &[u8]) -> usize
     ensures within { result ≤ length bytes.now }
@@ -63,7 +64,8 @@ pub fn len_to_zero(bytes: &[u8]) -> usize
     bytes.len() - rest.len()
 }
 
-/// Returns how many bytes come before the first one that equals `byte`: all of them if there is none. It uses no vectors.
+/// Returns how many bytes come before the first byte that equals `byte`, or the number of all bytes if no byte does.
+/// The function uses no vectors.
 #[inline(always)]
 pub(crate) fn len_to(bytes: &[u8], byte: u8) -> usize
     ensures within { result ≤ length bytes.now }
@@ -126,13 +128,13 @@ pub(crate) fn front_len(source: &[u8]) -> usize
     if zeros != 0 {
         return zeros.trailing_zeros() as usize;
     }
-    // The two windows overlap if the source is shorter than both.
+    // The two windows overlap if the source is shorter than two windows.
     let at = WINDOW.min(source.len() - WINDOW);
     let later = zeros_at::<32>(source, at);
     if later != 0 {
         return at + later.trailing_zeros() as usize;
     }
-    // The frames of messages of 63 and 64 bytes end here.
+    // The frame of a message of 63 or 64 bytes has its zero here.
     if WIDE_WINDOW < source.len() && source[WIDE_WINDOW] == 0 {
         return WIDE_WINDOW;
     }

@@ -1,10 +1,10 @@
 //! A reader of frames over any source of bytes.
 //!
-//! `FrameReader` reads chunks of 64 bytes from a `FrameSource`: a file, a socket, a serial port or any other source.
-//! Each call returns one outcome. The reader reads only if no piece ends in the bytes that it has kept. No byte is
-//! lost, not even after a fault: the next call first uses the bytes that were read but not used yet. No call here
-//! allocates. (Ending each piece with a zero is from Cheshire and Baker's paper; the rest of this module is a choice of
-//! this library.)
+//! `FrameReader` reads chunks of up to 64 bytes from a `FrameSource`: a file, a socket, a serial port or any other
+//! source. Each call of `next_frame` returns one outcome. The reader reads only if no piece ends in the bytes that it
+//! has kept. No byte is lost: the bytes after the end of a piece are kept for the next call, and after a fault the
+//! decoder has taken all bytes that were read. No call of this module allocates. (The rule that a zero ends each piece
+//! is from Cheshire and Baker's paper; the rest of this module is a choice of this library.)
 ghost use Rattle.std.specs.Prelude.{◌≡◌, ℕ, ◌≤◌, List, [], ◌∷◌, ◌++◌, length, take, drop, Option, option_map, IfOk, IfNone, IfSome, OnSome, MatchOption};
 ghost use Rattle.cobs.specs.Grammar.{HasNoZero};
 ghost use Rattle.cobs.specs.Stream.{Outcome, stream_outcomes, unended, is_nonempty};
@@ -24,11 +24,12 @@ use std::io::Read;
 /// ```
 #[derive(Debug, PartialEq, Eq, Drop)]
 pub enum Next {
-    /// A piece ended, and it is a frame. Its message is this many bytes at the front of the decoder's buffer.
+    /// A piece ended, and it is a frame whose message has this many bytes. The message is at the front of the decoder's
+    /// buffer.
     Message(usize),
 
-    /// A piece ended, and it breaks off inside a block. It decodes to this many bytes, those of the broken block
-    /// included. They are at the front of the decoder's buffer.
+    /// A piece ended, and it breaks off inside a block. The piece decodes to this many bytes, including those of the
+    /// broken block. The decoded bytes are at the front of the decoder's buffer.
     Broken(usize),
 
     /// A piece ended, and it decodes to more bytes than the decoder's buffer holds.
@@ -41,7 +42,8 @@ pub enum Next {
     },
 }
 
-/// The reason why a call of `next_frame` found no outcome. No byte is lost: a later call continues from there.
+/// The reason why a call of `next_frame` found no outcome. No byte is lost: a later call continues after the bytes that
+/// were read.
 ///
 /// ```
 /// fn next_or_more<D: FrameDecoder, S: FrameSource>(
@@ -66,9 +68,9 @@ pub enum ReadFault {
 
 /// A source of the bytes of a stream.
 ///
-/// Contracts describe a source by a relation, `step`, between two states of the source and the result of a read. It
-/// holds if a read with this result may change the source from the first state to the second. The result is a failure,
-/// or the bytes that the read returned.
+/// Contracts describe a source by a relation, `step`, between two states of the source and the result of a read. `step`
+/// holds if a read with this result may change the source from the first state to the second. The result of a read is a
+/// failure, or the bytes that the read returned.
 ///
 /// ```
 /// let mut source = Recorded::new([2, 7].as_slice());
@@ -97,7 +99,7 @@ pub trait FrameSource {
         ensures step { step self.old (option_map (λ n. take n chunk.new) result) self.new };
 }
 
-/// Any reader as a source of bytes. Each call reads once, and each error of the reader is a failed read.
+/// A source of bytes that reads from any reader. Each call reads once, and each error of the reader is a failed read.
 ///
 /// ```
 /// let mut source = Recorded::new([1, 0, 2].as_slice());
@@ -166,7 +168,8 @@ fn next_at(end: PieceEnd) -> Next
     }
 }
 
-/// Returns whether a piece is unfinished after these bytes. `before` says whether one was unfinished before them.
+/// Returns whether a piece is unfinished after these bytes. `before` says whether a piece was unfinished before these
+/// bytes.
 fn is_unfinished(before: bool, bytes: &[u8]) -> bool
     ensures unfinished { (p : List ℕ) → before ≡ is_nonempty p → HasNoZero p →
         result ≡ is_nonempty (unended (p ++ bytes.now)) }
@@ -177,13 +180,14 @@ fn is_unfinished(before: bool, bytes: &[u8]) -> bool
     }
 }
 
-/// The most reads that a call makes.
+/// The greatest number of reads that one call of `next_frame` makes.
 const MOST_READS: usize = 65536;
 
-/// Reads the frames of a stream, one for each call, with a decoder of its own.
+/// Reads the frames of a stream, one frame for each call, with a decoder of its own.
 ///
-/// The source isn't part of the reader. It is passed to each call, so a stream may continue in another source.
-/// Contracts describe a reader by its decoder, and by the bytes that it has read and not yet fed to the decoder.
+/// The source isn't part of the reader: the caller passes a source to each call, so a stream may continue in another
+/// source. Contracts describe a reader by its decoder, and by the bytes that the reader has read and not yet fed to the
+/// decoder.
 ///
 /// ```
 /// let mut source = Recorded::new(b"\x06hello\0\x03h".as_slice());
@@ -195,12 +199,12 @@ const MOST_READS: usize = 65536;
 pub struct FrameReader<D: FrameDecoder> {
     decoder: D,
 
-    /// The bytes of the last read. Those from `start` to `end` haven't been fed to the decoder yet.
+    /// The bytes of an earlier read. The bytes at indices `start` to `end - 1` haven't been fed to the decoder yet.
     chunk: [u8; 64],
     start: usize,
     end: usize,
 
-    /// Whether a piece has begun, in the bytes fed so far, that no zero has ended yet.
+    /// Whether a piece has begun in the bytes fed so far, and no zero has ended it yet.
     unfinished: bool,
     ghost ordered: { start ≤ end },
     ghost in_chunk: { end ≤ 64 },
@@ -240,7 +244,7 @@ impl<D: FrameDecoder> FrameReader<D> {
         }
     }
 
-    /// Returns the decoder. After a `Next::Message(n)` the message is the first n bytes of its buffer.
+    /// Returns the decoder. After a `Next::Message(n)` the message is the first `n` bytes of the decoder's buffer.
     ///
     /// ```
     /// let reader = FrameReader::new(CobsDecoderHeapless::<2>::new());
@@ -252,7 +256,8 @@ impl<D: FrameDecoder> FrameReader<D> {
         &self.decoder
     }
 
-    /// Feeds bytes until a piece ends. Returns its outcome and the number of bytes consumed.
+    /// Feeds `bytes` to the decoder until a piece ends. Returns the outcome of this piece and the number of bytes
+    /// consumed, or `None` if no piece ended.
     fn feed_through_end(&mut self, bytes: &[u8]) -> Option<(Next, usize)>
         ensures none { IfNone result ((p : List ℕ)
             → ReaderAfter (reader_state D.bytes D.phase self.old) p
@@ -283,7 +288,8 @@ impl<D: FrameDecoder> FrameReader<D> {
         }
     }
 
-    /// Returns the outcome of the next piece of the stream once a zero has ended it, or the end of the source.
+    /// Returns the outcome of the next piece of the stream once a zero has ended the piece, or `Next::End` if the
+    /// source ends first.
     ///
     /// Bytes that earlier calls have kept are used first. The bytes after the zero that ends the piece are kept for the
     /// next call. As long as no piece ends, the source is read, at most 65,536 times. Nothing is read after the end of
@@ -292,8 +298,8 @@ impl<D: FrameDecoder> FrameReader<D> {
     ///
     /// # Errors
     /// `Io` if the last read of this call failed, and `TooManyReads` if this call made 65,536 reads that all returned
-    /// bytes. In both cases no piece ended, the decoder has taken all bytes that were read, and the next call
-    /// continues.
+    /// bytes. In both cases no piece ended, the decoder has taken all bytes that were read, and the next call continues
+    /// after these bytes.
     ///
     /// ```
     /// let mut reader = FrameReader::new(CobsDecoderHeapless::<8>::new());

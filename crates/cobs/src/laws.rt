@@ -1,7 +1,7 @@
-//! The laws of messages, frames, pieces and streams. These functions do nothing when they run: their contracts are the
-//! laws, and a caller that calls one may use it in its own proof. Each law has such a caller as its example. Some
-//! examples call `reads_as`, the caller that CALLING.md shows. Lines after an example are its proof: the caller's
-//! `Answers.antt`, without the line `use Rattle.CRATE.proofs.CALLER.Goals as goal`. Other examples need none.
+//! The laws of messages, frames, pieces and streams. Each law is a function that does nothing when it runs: its contract is the
+//! law, and a function that calls it may use the law in its own proof. The example of each law is such a caller. Some examples
+//! call `reads_as`, the caller that CALLING.md shows. The lines after an example are its proof: the caller's `Answers.antt`,
+//! without the line `use Rattle.CRATE.proofs.CALLER.Goals as goal`. An example without such lines needs no proof.
 //!
 //! ```
 //! fn encode_by_longest(source: &[u8], dest: &mut [u8]) -> usize
@@ -30,12 +30,12 @@ pub use coders::{law_15, law_16, law_17, law_18, law_19, law_20, law_21};
 
 /// A frame reads as its output.
 ///
-/// Bytes read as a message exactly if there is at least one byte, none is a zero, the last block has all bytes that its
-/// code counts, and the message is their output. An output is never longer than its piece, and it never gets shorter if
-/// a byte is added to the piece.
+/// Bytes read as a message exactly if there is at least one byte, none is a zero, the last block has all bytes that its code
+/// counts, and the message is the output of the bytes. An output is never longer than its piece, and never gets shorter if a
+/// byte is added to the piece.
 ///
-/// Each decoder cuts bytes at their codes. So it finds out whether they are a frame, and of which message. This law
-/// says that it accepts exactly the frames.
+/// Each decoder cuts bytes at their codes, and so finds out whether the bytes are a frame, and of which message. This law says
+/// that a decoder accepts exactly the frames.
 ///
 /// ```
 /// fn is_output(piece: &[u8], message: &[u8], buffer: &mut [u8]) -> bool
@@ -57,9 +57,10 @@ pub fn law_1()
 
 /// Each message has one encoded frame.
 ///
-/// Each message has exactly one, and if the message consists of bytes, so does its frame. So two encoded frames can be
-/// compared byte by byte, for example to find a message in a store or to check a signature. All encoders that follow
-/// the definition write this frame. Its length decides whether `try_encode` and `CobsEncoder` accept the message.
+/// Each message has exactly one encoded frame, and if the message consists of bytes, so does its encoded frame. So two encoded
+/// frames can be compared byte by byte, for example to find a message in a store or to check a signature. All encoders that
+/// follow the definition write the encoded frame. The length of this frame decides whether `try_encode` and `CobsEncoder`
+/// accept the message.
 ///
 /// ```
 /// fn encode_again(message: &[u8], frame: &[u8], dest: &mut [u8]) -> usize
@@ -86,10 +87,10 @@ pub fn law_2()
 
 /// All frames of a message.
 ///
-/// One frame of a message is its encoded frame. Only if the message ends in a full run (of nonzero bytes, as many as a
-/// positive multiple of 254), there is a second frame, one byte longer: the encoded frame followed by 01. A receiver
-/// that may accept only one frame for each message, for example because its protocol compares frames, rejects the
-/// longer one: [`frame_kind`](crate::frame_kind) distinguishes them.
+/// One frame of a message is its encoded frame. There is a second frame only if the message ends in a full run, that is, a run
+/// of nonzero bytes whose length is a positive multiple of 254. The second frame is one byte longer: it is the encoded frame
+/// followed by 01. A receiver that may accept only one frame for each message, for example because its protocol compares
+/// frames, rejects the longer one: [`frame_kind`](crate::frame_kind) distinguishes them.
 ///
 /// ```
 /// fn is_frame_for(piece: &[u8], message: &[u8], buffer: &mut [u8]) -> bool
@@ -108,9 +109,9 @@ pub fn law_3()
 
 /// The length of a frame, and its bound.
 ///
-/// An encoded frame is longer than its message, and at most as long as
-/// [`max_encoding_length`](crate::max_encoding_length) says. A message without zeros reaches that bound, so it is
-/// reached at every length. If bytes are added to a message, its frame never gets shorter.
+/// An encoded frame is longer than its message, and at most as long as [`max_encoding_length`](crate::max_encoding_length)
+/// says. A message without zeros reaches this bound, so the bound is reached at every length. If bytes are appended to a
+/// message, its frame never gets shorter.
 ///
 /// ```
 /// fn encode_nonzero(source: &[u8], dest: &mut [u8]) -> usize
@@ -133,8 +134,8 @@ pub fn law_4()
 
 /// Equal frames, equal messages.
 ///
-/// Messages with equal encoded frames are equal, and a frame has only one message. So a frame keeps all information of
-/// its message, and a receiver can't read another message from it.
+/// Messages with equal encoded frames are equal, and a frame has only one message. So a frame keeps all information of its
+/// message, and a receiver can't read another message from the frame.
 ///
 /// ```
 /// fn are_equal(alloc: Global, first: &[u8], second: &[u8]) -> Result<bool, AllocError>
@@ -153,12 +154,13 @@ pub fn law_5()
 
 /// No frame contains its sentinel; a second XOR restores the frame.
 ///
-/// A frame for a sentinel is a frame for 0 with each byte XORed with the sentinel. It doesn't contain the sentinel, and
-/// XORing it again restores the frame for 0.
+/// A frame for a sentinel is a frame for 0 with each byte XORed with the sentinel. A frame for a sentinel doesn't contain the
+/// sentinel, and another XOR restores the frame for 0.
 ///
-/// This is the purpose of COBS: if sentinels are put between frames, a receiver finds the ends of frames by searching
-/// for the sentinel. The clause `free` is about a frame that is sent, `received` about bytes that were received. Bytes
-/// without the sentinel contain no zero after the XOR (`coded`), and an XOR with 0 changes nothing (`zero`).
+/// That frames don't contain the sentinel is the purpose of COBS: if sentinels are put between frames, a receiver finds the
+/// ends of frames by searching for the sentinel. The clause `free` is about a frame that is sent, and the clause `received` is
+/// about bytes that were received. Bytes without the sentinel contain no zero after the XOR (`coded`), and an XOR with 0
+/// changes nothing (`zero`).
 ///
 /// ```
 /// fn as_received<'a>(frame: &'a [u8], sentinel: u8) -> &'a [u8]
@@ -183,11 +185,11 @@ pub fn law_6()
 
 /// The fronts of a frame.
 ///
-/// A front of a frame is its first bytes, any number of them. If it isn't empty, it is a frame exactly if it ends at
-/// the end of a block. Its message is then a front of the frame's message.
+/// A front of a frame is its first bytes, any number of them. A front that isn't empty is a frame exactly if it ends at the end
+/// of a block. The front's message is then a front of the frame's message.
 ///
-/// So a frame that was cut short, for example because a connection was lost, is noticed unless it was cut between two
-/// blocks. In that case the message that is read is the beginning of the message that was sent.
+/// So a frame that was cut short, for example because a connection was lost, is noticed unless it was cut between two blocks. A
+/// receiver reads a frame that was cut between two blocks as the beginning of the message that was sent.
 ///
 /// ```
 /// fn is_begun(received: &[u8], message: &[u8], buffer: &mut [u8]) -> bool
@@ -215,8 +217,8 @@ pub fn law_7()
 /// Two frames without a sentinel between them read as their two messages joined, with a zero between them unless the
 /// first frame ends in a full block.
 ///
-/// So if the sentinel between two frames is lost, a receiver reads one message, and can't know that two were sent. To
-/// notice that, put a checksum of your own into each message.
+/// So if the sentinel between two frames is lost, a receiver reads one message, and can't know that two were sent. To notice a
+/// lost sentinel, put a checksum of your own into each message.
 ///
 /// ```
 /// fn join(alloc: Global, first: &[u8], second: &[u8]) -> Result<Vec<u8>, AllocError>
@@ -245,14 +247,14 @@ pub fn law_8()
 
 /// A stream may be cut anywhere.
 ///
-/// Suppose that a stream is cut in two, and that the unended bytes of the first part are put before the second part.
-/// Then the outcomes of the whole stream are those of the first part, followed by those of this extended second part;
-/// the pieces are joined in the same way. The unended bytes of the whole stream are those of the extended part. A
-/// stream that ends in a zero has no unended bytes. In a stream without a zero all bytes are unended, and there is no
-/// outcome. Nonzero bytes with a zero after them are one piece.
+/// If a stream is cut in two parts, and the unended bytes of the first part are put before the second part, the pieces and the
+/// outcomes of the whole stream are those of the first part, followed by those of the extended second part. The unended bytes
+/// of the whole stream are those of the extended second part. A stream that ends in a zero has no unended bytes. In a stream
+/// without a zero all bytes are unended, and there is no outcome. One or more nonzero bytes with a zero after them are one
+/// piece.
 ///
-/// So a receiver may get a stream in parts of any length, as reads return them. Its results are those of one call over
-/// the whole stream: `decode_stream`, `push` and `FrameReader` rely on this.
+/// So a receiver may get a stream in parts of any length, as reads return them. The results are those of one call over the
+/// whole stream: `decode_stream`, `push` and `FrameReader` rely on this law.
 ///
 /// ```
 /// fn decode_in_two<D: FrameDecoder>(
@@ -287,12 +289,11 @@ pub fn law_9()
 
 /// Damage stays between its sentinels.
 ///
-/// Suppose that bytes between two sentinels are changed, lost or added, even other sentinels. Then the outcomes before
-/// the first of the two and the outcomes after the second are unchanged. If no other sentinel is between the two, they
-/// enclose one piece, with one outcome, or nothing if they are adjacent.
+/// If bytes between two sentinels are changed, lost or added, even other sentinels, the outcomes before the first sentinel and
+/// after the second sentinel are unchanged. If no other sentinel is between the two sentinels, they enclose one piece, with one
+/// outcome, or nothing if they are adjacent.
 ///
-/// So a receiver on a noisy line, or a reader of a damaged file of records, loses only the messages that the damage
-/// touches.
+/// So a receiver on a noisy line, or a reader of a damaged file of records, loses only the messages that the damage touches.
 ///
 /// ```
 /// fn one_outcome<D: FrameDecoder>(
@@ -321,9 +322,9 @@ pub fn law_10()
 
 /// A frame in a stream is decoded as its message.
 ///
-/// This holds for each buffer that has room for the message. So messages that were sent as frames, with a sentinel
-/// after each, are decoded as exactly these messages. No frame is reported as broken or too long, not even the longer
-/// frame of a message that has two.
+/// A frame is decoded as its message in each buffer that has room for the message. So messages that were sent as frames, with a
+/// sentinel after each frame, are decoded as exactly these messages. No frame is reported as broken or too long, not even the
+/// longer frame of a message that has two frames.
 ///
 /// ```
 /// fn encode_for_stream(message: &[u8], dest: &mut [u8]) -> usize
@@ -347,15 +348,14 @@ pub fn law_11()
 
 /// A stream's first piece, and its last.
 ///
-/// If a stream begins with a nonzero byte, its first piece is the bytes before the first zero. In a buffer of the
-/// stream's length, this piece is decoded as a message exactly if it reads as that message. Zeros before the first
-/// piece are skipped: the first piece after them ends at the next zero. A stream that has only zeros, or is empty, has
-/// no piece. Suppose that the first n bytes contain no zero, and that a zero or the end of the stream follows. Then
-/// these n bytes are the bytes before the first zero; the same holds for any sentinel. As long as no piece has ended,
-/// the unended bytes are the last piece, and a zero then ends it.
+/// If a stream begins with a nonzero byte, its first piece is the bytes before the first zero. In a buffer of the stream's
+/// length, the first piece is decoded as a message exactly if it reads as that message. Zeros before the first piece are
+/// skipped: the first piece after them ends at the next zero. A stream that has only zeros, or is empty, has no piece. If the
+/// first n bytes contain no zero, and a zero or the end of the stream follows, these n bytes are the bytes before the first
+/// zero; the same holds for any sentinel. As long as no piece has ended, the unended bytes are the last piece, and the next
+/// zero ends this piece.
 ///
-/// So `decode`, into a buffer as long as its source, and `decode_in_place` return the same message, or both return an
-/// error.
+/// So `decode`, into a buffer as long as its source, and `decode_in_place` return the same message, or both return an error.
 ///
 /// ```
 /// fn begins_with_piece(stream: &[u8]) -> bool
@@ -391,12 +391,12 @@ pub fn law_12()
 
 /// The open frame of a streaming encoder.
 ///
-/// Says at which index the frame so far ends, and how the open frame of an [`EncoderState`](crate::EncoderState) differs
-/// from the encoded one.
+/// This law says at which index the frame so far ends, and how the open frame of an [`EncoderState`](crate::EncoderState)
+/// differs from the encoded frame.
 ///
-/// So if a caller carries out each [`PushResult`](crate::PushResult), the byte reserved for the next code (the
-/// placeholder) is always within the output. The caller's frame is the encoded one, unless the message ends in a full
-/// run: then it is the encoded one followed by 01.
+/// So if a caller carries out each [`PushResult`](crate::PushResult), the byte reserved for the next code (the placeholder) is
+/// always within the output. The caller's frame is the encoded frame, unless the message ends in a full run: then it is the
+/// encoded frame followed by 01.
 ///
 /// ```
 /// fn as_encoded<'a>(frame: &'a [u8], message: &[u8], index: usize, code: u8) -> &'a [u8]

@@ -1,15 +1,15 @@
 //! Consistent Overhead Byte Stuffing (COBS), after the crate `cobs` 0.5.1.
 //!
-//! COBS turns a message, which may be any bytes, into a frame that never contains one byte value, usually 0. That byte
-//! is the delimiter; this library calls it the sentinel. It marks the end of each frame on a serial line, in a stream
-//! or in a file, so after damage a receiver finds the next frame after the next sentinel. A frame is a list of blocks.
-//! A block is a code, which counts the block's bytes including itself, and then nonzero bytes. Between two blocks the
-//! message has a zero, unless the first is a full block, with the code 255. So the frame of a message of up to 254
-//! bytes is one byte longer than the message. A longer message costs at most one more byte for each further 254 bytes,
-//! or part of 254. The format is that of the paper "Consistent Overhead Byte Stuffing" by Stuart Cheshire and Mary
-//! Baker.
+//! COBS turns a message, which may be any bytes, into a frame that never contains a chosen byte value, usually 0. This
+//! byte value is the delimiter; this library calls it the sentinel. The sentinel marks the end of each frame on a
+//! serial line, in a stream or in a file, so after damage a receiver finds the next frame after the next sentinel. A
+//! frame is a list of blocks. A block is a code, which counts the block's bytes including itself, and then nonzero
+//! bytes. Between two blocks the message has a zero, unless the first of the two is a full block, whose code is 255. So
+//! the frame of a message of up to 254 bytes is one byte longer than the message. In a longer message, each further 254
+//! bytes, and the rest of fewer than 254 bytes, cost at most one more byte. The format is that of the paper "Consistent
+//! Overhead Byte Stuffing" by Stuart Cheshire and Mary Baker.
 //!
-//! A message, there and back:
+//! This example encodes a message, and decodes it again:
 //!
 //! ```
 //! use cobs::{decode, encode};
@@ -24,7 +24,7 @@
 //! assert!(rt; message.starts_with(b"hello"));
 //! ```
 //!
-//! A stream of two frames, byte by byte, as it comes from a line:
+//! This example decodes a stream of two frames byte by byte, as bytes come from a line:
 //!
 //! ```
 //! use cobs::CobsDecoder;
@@ -41,18 +41,21 @@
 //!
 //! # Which call for what
 //!
-//! - A whole message: [`encode`] into a slice with room, [`try_encode`] if it may not fit, [`encode_vec`] into a
-//!   vector, [`encode_in_place`] in its own buffer. The forms `.._with_sentinel` use another sentinel than 0, and
-//!   the forms `.._including_sentinels` write a sentinel on each side.
-//! - A message that comes in pieces: [`CobsEncoder`] over a slice, [`UnbufferedEncoder`] with a buffer that is passed
-//!   to each call, [`EncoderState`] into a container of your own.
-//! - A whole frame: [`decode`] into a slice, [`decode_vec`] into a vector, [`decode_in_place`] in its own buffer.
-//! - Frames from a line: [`CobsDecoder`] over a slice, [`CobsDecoderOwned`] over a vector that is allocated once,
-//!   [`CobsDecoderHeapless`] with its buffer inside, [`UnbufferedDecoder`] with a buffer that is passed to each call,
-//!   [`DecoderState`] into a container of your own. [`FrameReader`] reads them from any reader.
-//! - A recorded stream: [`decode_stream`], and [`encode_frames`] to make one.
-//! - The size of a buffer: [`max_encoding_length`]. Whether bytes are a frame: [`frame_kind`].
-//! - A fact to cite in a proof of your own: [`laws`].
+//! - To encode a whole message, call [`encode`] if the slice has room for the frame, [`try_encode`] if the frame may
+//!   not fit, [`encode_vec`] for a new vector, or [`encode_in_place`] for a frame in the message's own buffer. The
+//!   forms `.._with_sentinel` use a sentinel other than 0, and the forms `.._including_sentinels` write a sentinel on
+//!   each side of the frame.
+//! - To encode a message that comes in pieces, use [`CobsEncoder`] over a slice, [`UnbufferedEncoder`] with a buffer
+//!   that you pass to each call, or [`EncoderState`] with a container of your own.
+//! - To decode a whole frame, call [`decode`] for a message in a slice, [`decode_vec`] for a new vector, or
+//!   [`decode_in_place`] for a message in the frame's own buffer.
+//! - To decode frames from a line, use [`CobsDecoder`] over a slice, [`CobsDecoderOwned`] with a vector that is
+//!   allocated once, [`CobsDecoderHeapless`] with its buffer inside, [`UnbufferedDecoder`] with a buffer that you pass
+//!   to each call, or [`DecoderState`] with a container of your own. [`FrameReader`] reads frames from any reader.
+//! - To decode a recorded stream, call [`decode_stream`]. To make a stream, call [`encode_frames`].
+//! - [`max_encoding_length`] returns how long a buffer for a frame has to be. [`frame_kind`] returns whether bytes are
+//!   a frame.
+//! - [`laws`] has facts that a proof of your own can cite.
 //!
 //! A call that allocates has an allocator as its first argument and returns a `Result`. Each call is proved to meet its contract, to
 //! be safe and to end. In the examples `rt` is the argument of `main`, and `alloc` is `rt.alloc()`.
@@ -93,9 +96,9 @@ pub use stream::{FrameOutcome, decode_stream, encode_frames, encode_frames_room}
 /// Returns the greatest overhead of an encoded frame, for a message of `source_len` bytes: by how many bytes the frame
 /// may be longer than the message.
 ///
-/// This is `source_len / 254` rounded up, and 1 for the empty message: each block of 254 bytes has a code of its own,
-/// and a frame has at least one block. A message without zeros reaches it. Sentinels around the frame aren't counted.
-/// The bound is that of the paper by Cheshire and Baker.
+/// The greatest overhead is `source_len / 254` rounded up, and 1 for the empty message: each block of 254 bytes has a
+/// code of its own, and a frame has at least one block. A message without zeros reaches this overhead. Sentinels around
+/// the frame aren't counted. The bound is that of the paper by Cheshire and Baker.
 ///
 /// ```
 /// assert_eq!(rt; max_encoding_overhead(0), 1);
@@ -112,9 +115,9 @@ pub fn max_encoding_overhead(source_len: usize) -> usize
 }
 
 /// Returns the length of the longest encoded frame of a message of `source_len` bytes, without sentinels: a buffer of
-/// this length has room for the frame of each such message.
+/// this length has room for the frame of each message of `source_len` bytes.
 ///
-/// Precondition: this number fits a `usize`, as it does for each `source_len` up to `isize::MAX`.
+/// Precondition: this length fits a `usize`, which is so for each `source_len` up to `isize::MAX`.
 ///
 /// ```
 /// assert_eq!(rt; max_encoding_length(0), 1);

@@ -1,9 +1,9 @@
-//! Whole streams: decodes all pieces that end in a part of a stream, and encodes several messages.
+//! Whole streams: one call decodes all pieces that end in a part of a stream, and one call encodes several messages.
 //!
-//! A stream is cut at its zeros. The bytes between two zeros are a piece, unless there are none. Each piece is decoded
-//! separately: it is a message, it breaks off inside a block, or it decodes to more bytes than the buffer holds. So
-//! damage to one piece has no effect after the next zero. (Ending each frame with a zero is from Cheshire and Baker's
-//! paper; how broken and too long pieces are reported is a choice of this library.)
+//! A stream is cut at its zeros. The bytes between two zeros are a piece, unless the zeros are adjacent. Each piece is
+//! decoded separately: a piece is a frame, breaks off inside a block, or decodes to more bytes than the buffer holds.
+//! So damage to one piece has no effect after the next zero. (The rule that a zero ends each frame is from Cheshire and
+//! Baker's paper; how broken and too long pieces are reported is a choice of this library.)
 ghost use Rattle.std.specs.Prelude.{◌≡◌, ℕ, ◌+◌, ◌<◌, ◌≤◌, ◌^◌, List, [], ◌++◌, All, length, map, take, option_to_list, IfOk, IfSome, IsOk, IsSome, ◌↔◌, OnOk, OnErr, Contains};
 ghost use Rattle.cobs.specs.Feed.{DecoderAfter, PhaseAfter};
 ghost use Rattle.cobs.specs.Length.{max_encoded_len};
@@ -29,7 +29,7 @@ pub enum FrameOutcome {
     /// The piece is a frame, and these are the bytes of its message.
     Message(Vec<u8>),
 
-    /// The piece breaks off inside a block. It decodes to this many bytes, those of the broken block included.
+    /// The piece breaks off inside a block. The piece decodes to this many bytes, including those of the broken block.
     Broken(usize),
 
     /// The piece decodes to more bytes than the decoder's buffer holds.
@@ -50,16 +50,18 @@ fn frame_outcome(alloc: Global, end: PieceEnd, buffer: &[u8]) -> Result<FrameOut
 
 /// Decodes a part of a stream, and returns one outcome for each piece that ends in it, in order.
 ///
-/// The first of these pieces may have begun in an earlier call. A piece that hasn't ended is continued by the next
-/// call, because the decoder keeps its state. So a stream can be passed in parts, cut anywhere, and the joined results
-/// are those of the whole stream. Leading and doubled zeros make no piece.
+/// The first piece may have begun in an earlier call. The next call continues a piece that hasn't ended, because the
+/// decoder keeps its state. So a stream can be passed in parts, cut anywhere, and the joined results of the calls are
+/// those of the whole stream. Leading and repeated zeros make no piece.
 ///
 /// If the caller wrote to the decoder's buffer while a piece was open, the bytes of that piece's message are
-/// unspecified. This message is the first outcome. Its length and all later outcomes aren't affected.
+/// unspecified. The message of that piece is the first outcome. The length of this message and all later outcomes
+/// aren't affected.
 ///
 /// # Errors
 /// `AllocError` if memory for an outcome runs out. Then the outcomes are lost, and the decoder is idle, so the next
-/// byte begins a new piece. Only messages and the list of outcomes need memory: if no piece ends, the result is `Ok`.
+/// nonzero byte begins a new piece. Only messages and the list of outcomes need memory: if no piece ends, the result is
+/// `Ok`.
 ///
 /// ```
 /// let mut buffer = [0; 4];
@@ -75,8 +77,8 @@ pub fn decode_stream<D: FrameDecoder>(
     decoder: &mut D,
     bytes: &[u8],
 ) -> Result<Vec<FrameOutcome>, AllocError>
-    // If the decoder has taken the front p of a piece, the outcomes are those of the stream that is p and then the
-    // bytes.
+    // If the decoder has taken the front p of a piece, the outcomes are those of the stream that consists of p and then
+    // the bytes.
     ensures outcomes { (p : List ℕ) → DecoderAfter (D.bytes decoder.old) (D.phase decoder.old) p
         → IfOk result (λ found. outcomes_in found.items
         ≡ stream_outcomes (p ++ bytes.now) (length (D.bytes decoder.old))) }
@@ -102,7 +104,7 @@ pub fn decode_stream<D: FrameDecoder>(
         → Contains bytes.now 0 → OnOk result
         (DecoderAfter (D.bytes decoder.new) (D.phase decoder.new) (unended (p ++ bytes.now))) }
 
-    // These hold for a decoder in any phase.
+    // The clauses below hold for a decoder in any phase.
     ensures out_of_memory { OnErr result (DecoderAfter (D.bytes decoder.new) (D.phase decoder.new) []) }
     ensures len { length (D.bytes decoder.new) ≡ length (D.bytes decoder.old) }
     ensures same_loan { D.loan decoder.new ≡ D.loan decoder.old }
@@ -116,16 +118,16 @@ pub fn decode_stream<D: FrameDecoder>(
     Ok(outcomes)
 }
 
-/// Makes a stream of these messages: the encoded frame of each one and a zero after it, in order.
+/// Makes a stream of these messages: in order, the encoded frame of each message and a zero after the frame.
 ///
-/// An idle decoder whose buffer has room for each message decodes these bytes to exactly these messages. For no
-/// messages the stream is empty.
+/// An idle decoder whose buffer has room for each message decodes this stream to exactly these messages. If there are
+/// no messages, the stream is empty.
 ///
-/// Precondition: [`encode_frames_room`] of the messages isn't `None`. Memory is allocated once, for as many bytes as it
-/// says.
+/// Precondition: [`encode_frames_room`] of the messages isn't `None`. Memory is allocated once, for as many bytes as
+/// [`encode_frames_room`] returns.
 ///
 /// # Errors
-/// `AllocError` if that memory runs out.
+/// `AllocError` if memory runs out.
 ///
 /// ```
 /// let messages = [b"hi".to_vec(alloc)?, Vec::new(alloc)];
@@ -149,12 +151,12 @@ pub fn encode_frames(alloc: Global, messages: &[Vec<u8>]) -> Result<Vec<u8>, All
     Ok(frames)
 }
 
-/// Returns a number of bytes that is enough for the frames of the messages, each with a zero after it. It is the sum of
-/// [`max_encoding_length`](crate::max_encoding_length) plus 1, for each message. Returns `None` if the sum doesn't fit
-/// a `usize`.
+/// Returns a number of bytes that is enough for the frames of the messages, with a zero after each frame. The number is
+/// a sum over all messages: [`max_encoding_length`](crate::max_encoding_length) of the message's length, plus 1.
+/// Returns `None` if the sum doesn't fit a `usize`.
 ///
-/// [`encode_frames`] requires that there is such a number, and allocates that many bytes. This function allocates
-/// nothing.
+/// [`encode_frames`] requires that this function returns a number, and allocates that many bytes. This function
+/// allocates nothing.
 ///
 /// ```
 /// let messages = [b"hi".to_vec(alloc)?, Vec::new(alloc)];
@@ -171,7 +173,8 @@ pub fn encode_frames_room(messages: &[Vec<u8>]) -> Option<usize>
     Some(room)
 }
 
-/// Writes the frames of the messages and their zeros to the front of `dest`, and returns their length in bytes.
+/// Writes the frames of the messages, with a zero after each frame, to the front of `dest`, and returns how many bytes
+/// it wrote.
 fn write_frames(messages: &[Vec<u8>], dest: &mut [u8]) -> usize
     requires { room_for_frames (messages_in messages.now) ≤ length dest.old }
     ensures frames { AreFrames (messages_in messages.now) (take result dest.new) }

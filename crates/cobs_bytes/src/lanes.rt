@@ -1,13 +1,14 @@
-//! Functions over any number of bytes. They copy bytes, copy them only if none is the sentinel, or move them within one
-//! buffer, in which the old place and the new one may overlap. All bytes of a vector are loaded before any of them is
-//! stored.
+//! Functions over any number of bytes. They copy bytes, copy bytes only if none of them is the sentinel, or move bytes
+//! within one buffer. The old place and the new place of moved bytes may overlap. All bytes of a vector are loaded
+//! before any of them is stored.
 ghost use Rattle.std.specs.Prelude.{◌≡◌, ◌<◌, ◌≤◌, ◌+◌, ◌++◌, length, take, drop, IsTrue, false};
 ghost use Rattle.cobs_bytes.specs.Bytes.{HasNoZero, xor_each};
 
 use crate::window::{WIDE_WINDOW, WINDOW, by_width};
 use std::simd::prelude::*;
 
-/// Moves `N` to `2 * N` bytes, as two parts that may overlap.
+/// Moves `len` bytes, which are `N` to `2 * N` bytes, from index `from` to the front of the buffer, as two vectors that
+/// may overlap.
 #[inline(always)]
 fn move_two<const N: usize>(buffer: &mut [u8], from: usize, len: usize)
     requires within { from + len ≤ length buffer.old }
@@ -21,9 +22,9 @@ fn move_two<const N: usize>(buffer: &mut [u8], from: usize, len: usize)
     back.copy_to_slice(&mut buffer[len - N..]);
 }
 
-/// Moves the `len` bytes from index `from` on to the front of the buffer. Bytes that no moved byte overwrites stay as
-/// they are.
-// A call of `copy_within` costs more than the moves themselves if these are a few windows.
+/// Moves the `len` bytes that begin at index `from` to the front of the buffer. Bytes that no moved byte overwrites
+/// stay as they are.
+// For up to two windows, a call of `copy_within` costs more than the moves themselves.
 #[inline(always)]
 pub fn move_to_front(buffer: &mut [u8], from: usize, len: usize)
     requires { from + len ≤ length buffer.old }
@@ -36,7 +37,8 @@ pub fn move_to_front(buffer: &mut [u8], from: usize, len: usize)
     }
 }
 
-/// Copies `N` to `2 * N` bytes, as two parts that may overlap, if none is the sentinel, and returns whether it did.
+/// Copies `N` to `2 * N` bytes, each XORed with the sentinel, as two vectors that may overlap, if none of the bytes is
+/// the sentinel. Returns whether it did.
 #[inline(always)]
 fn copy_xored_two<const N: usize>(source: &[u8], dest: &mut [u8], sentinel: u8) -> bool
     requires lanes { N ≤ 64 }
@@ -76,8 +78,9 @@ pub fn copy_xored_short(source: &[u8], dest: &mut [u8], sentinel: u8) -> bool
 }
 
 /// Copies all bytes as one slice.
-// A function of its own. Compilers that can't see that two slices don't overlap add a loop for slices that do, and this loop
-// would cost each caller registers. The parameters have the order of `memmove`, which it then only jumps to.
+// Not inlined: compilers that can't see that two slices don't overlap add a loop for slices that do, and this loop
+// would cost each caller registers. The parameters have the order of those of `memmove`, so that this function only
+// jumps to `memmove`.
 #[inline(never)]
 fn copy_slice(dest: &mut [u8], source: &[u8])
     requires { length source.now ≡ length dest.old }
@@ -99,8 +102,9 @@ fn copy_xored_slice(source: &[u8], dest: &mut [u8], sentinel: u8)
     }
 }
 
-/// Copies all bytes, each XORed with the sentinel, to the front of `dest`: as one slice if they are more than 32.
-// For up to 32 bytes a call costs more than the copy. If a sentinel is among them, they are copied as a slice too.
+/// Copies all bytes, each XORed with the sentinel, to the front of `dest`. More than 32 bytes are copied as one slice.
+// For up to 32 bytes a call costs more than the copy. If one of these bytes is the sentinel, they are copied as a slice
+// too.
 #[inline(always)]
 pub fn copy_xored(source: &[u8], dest: &mut [u8], sentinel: u8)
     requires { length source.now ≤ length dest.old }

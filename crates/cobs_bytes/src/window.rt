@@ -11,8 +11,8 @@ pub const WINDOW: usize = 32;
 /// The number of bytes of two windows. Data of up to this length is copied or moved in vectors.
 pub const WIDE_WINDOW: usize = 64;
 
-/// Returns whether the target has vectors that make short data faster. If not, a loop over bytes is faster, and much
-/// smaller.
+/// Returns whether the target has vectors with which short data are copied faster. If it has none, a loop over bytes is
+/// faster, and its code is much smaller.
 // It has no clause, so that its callers are proved for both kinds of target.
 #[inline(always)]
 pub fn has_vectors() -> bool {
@@ -20,8 +20,8 @@ pub fn has_vectors() -> bool {
 }
 
 /// Calls a function over vectors of `N` bytes. `N` is the greatest of 1, 2, 4, 8, 16 and 32 that is at most `len`. If
-/// `len` is 1 to 64, two such vectors, which may overlap, cover `len` bytes. The tests are nested, so that each `N`
-/// needs two or three.
+/// `len` is 1 to 64, two such vectors, which may overlap, cover `len` bytes. The tests of `len` are nested, so that
+/// each `N` needs two or three tests.
 macro_rules! by_width {
     ($len:expr, $call:ident($($value:expr),*)) => {{
         let len = $len;
@@ -57,8 +57,8 @@ pub fn zeros_at<const N: usize>(bytes: &[u8], at: usize) -> u64
         .to_bitmask()
 }
 
-/// Copies the `N` bytes of `source` from `read` on to `dest`, from `at` on. Returns which of them are zeros, as [`zeros_at`]
-/// does.
+/// Copies the `N` bytes of `source` that begin at index `read` to `dest`, from index `at` on. Returns which of these
+/// bytes are zeros, as [`zeros_at`] does.
 #[inline(always)]
 pub fn copy_at<const N: usize>(source: &[u8], read: usize, dest: &mut [u8], at: usize) -> u64
     requires lanes { N ≤ 64 }
@@ -72,7 +72,7 @@ pub fn copy_at<const N: usize>(source: &[u8], read: usize, dest: &mut [u8], at: 
     bytes.simd_eq(Simd::splat(0)).to_bitmask()
 }
 
-/// Returns which of `N` to `2 * N` bytes are zeros. It reads them as two parts that may overlap.
+/// Returns which of `N` to `2 * N` bytes are zeros. The bytes are read as two vectors that may overlap.
 #[inline(always)]
 fn zeros_of_two<const N: usize>(source: &[u8]) -> u64
     requires lanes { N ≤ 32 }
@@ -108,7 +108,8 @@ pub fn first_zero(bytes: &[u8]) -> usize
     (zeros_of(bytes).trailing_zeros() as usize).min(bytes.len())
 }
 
-/// Copies `N` to `2 * N` bytes, as two parts that may overlap, and returns which of them are zeros.
+/// Copies `N` to `2 * N` bytes to `dest`, from index `at` on, as two vectors that may overlap, and returns which of
+/// them are zeros.
 #[inline(always)]
 fn copy_two<const N: usize>(source: &[u8], dest: &mut [u8], at: usize) -> u64
     requires lanes { N ≤ 32 }
@@ -143,7 +144,7 @@ pub fn copy_window(source: &[u8], dest: &mut [u8], at: usize) -> u64
     }
 }
 
-/// Returns whether the 32 bytes from `at` on are all equal to this one.
+/// Returns whether each of the 32 bytes from index `at` on equals `byte`.
 #[inline(always)]
 pub fn is_all(bytes: &[u8], at: usize, byte: u8) -> bool
     requires { at + 32 ≤ length bytes.now }
@@ -155,7 +156,7 @@ pub fn is_all(bytes: &[u8], at: usize, byte: u8) -> bool
         == 0
 }
 
-/// Writes this byte 32 times, from `at` on.
+/// Writes `byte` 32 times to `dest`, from index `at` on.
 #[inline(always)]
 pub fn write_row(dest: &mut [u8], at: usize, byte: u8)
     requires { at + 32 ≤ length dest.old }

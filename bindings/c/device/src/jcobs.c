@@ -131,7 +131,7 @@ static size_t jcobs_sum_or(size_t a, size_t b, size_t other)
 }
 
 enum {
-    JCOBS_FULL_BLOCK_BYTES = 254, /* the number of bytes of a full block after its code */
+    JCOBS_FULL_BLOCK_BYTES = 254, /* the number of bytes that a full block has after its code */
     JCOBS_FULL_CODE = 255         /* the code of a full block */
 };
 
@@ -180,8 +180,8 @@ static size_t jcobs_leading_zeros(const unsigned char *source, size_t source_len
     return source_len;
 }
 
-/* Returns the end of the piece that source[at] belongs to: after its zero if it has one, otherwise the end of the
- * source. */
+/* Returns the index at which the piece ends that source[at] belongs to: the index after the next zero, or the
+ * source's length if there is no zero. */
 static JCOBS_APART size_t jcobs_find_end(const unsigned char *source, size_t source_len, size_t at)
 {
     size_t end = at;
@@ -205,8 +205,8 @@ static JCOBS_INLINE jcobs_piece jcobs_ended_piece(size_t written, size_t missing
     return jcobs_make_piece(JCOBS_END_BROKEN, written, consumed);
 }
 
-/* Decodes the first piece of the source into message, one byte after another, and returns how it ended, and how
- * many bytes were consumed: leading zeros, the piece, and the zero after it if there is one. It returns
+/* Decodes the first piece of the source into message, one byte after another. Returns how the piece ended, and how
+ * many bytes were consumed: the leading zeros, the piece, and the zero after the piece if there is one. It returns
  * JCOBS_END_NONE if there is no piece. */
 static JCOBS_INLINE jcobs_piece jcobs_decode_piece(const unsigned char *source, size_t source_len,
                                                    unsigned char *message, size_t message_size)
@@ -304,7 +304,7 @@ static JCOBS_INLINE void jcobs_decoder_take_byte(jcobs_decoder *decoder, unsigne
         return;
     }
     /* written is read once here, because compilers would read it again after each write to the buffer. Each case
-     * has a write of its own: that is faster than to choose a byte first, and to write it in one place. */
+     * has a write of its own: that is faster than choosing a byte first and writing it in one place. */
     size_t at = decoder->written;
     if (decoder->missing != 0) {
         if (buffer_size <= at) {
@@ -357,8 +357,8 @@ static JCOBS_INLINE jcobs_end jcobs_decoder_end_piece(jcobs_decoder *decoder, si
 static JCOBS_INLINE jcobs_piece jcobs_decoder_take(jcobs_decoder *decoder, unsigned char *buffer, size_t buffer_size,
                                                    const unsigned char *bytes, size_t len, unsigned char sentinel)
 {
-    /* A copy, so that it stays in registers: otherwise compilers read the fields again after each byte that is
-     * written. */
+    /* state is a copy of the decoder, so that it stays in registers: otherwise compilers read the fields again
+     * after each byte that is written. */
     jcobs_decoder state = *decoder;
     size_t taken = 0;
     if (state.too_long == 0) {
@@ -379,7 +379,7 @@ static JCOBS_INLINE jcobs_piece jcobs_decoder_take(jcobs_decoder *decoder, unsig
             }
         }
     }
-    /* If a piece is too long, only its end matters. */
+    /* If the piece is too long, only the sentinel that ends it matters. */
     while (taken < len) {
         unsigned char byte = (unsigned char)(bytes[taken] ^ sentinel);
         taken++;
@@ -482,16 +482,17 @@ size_t jcobs_max_length(size_t message_len)
 }
 
 /* Returns whether spare bytes cover the overhead of every message of len bytes: whether len is at most 254 times
- * spare. That is so exactly if half of len, rounded up, and spare are together at most 128 times spare. So it
- * divides by powers of two only, because small processors have no instruction for other divisions, and no sum is
- * too large. */
+ * spare. The formula halves both sides, so that half of len, rounded up, is compared with 127 times spare, and
+ * then adds spare to both sides. So the function divides only by powers of two, because small processors have no
+ * instruction for other divisions, and no sum overflows. */
 static JCOBS_INLINE int jcobs_covers_overhead(size_t len, size_t spare)
 {
     return (len - len / 2 + spare - 1) / 128 < spare;
 }
 
-/* Returns whether fewer than spare blocks become full with another byte after them, if the open block has this
- * code and takes these bytes. Each such block makes the frame one byte longer, by the next code. */
+/* Counts the blocks that become full and are followed by another byte, if the open block has this code and takes
+ * these bytes. Returns whether there are fewer than spare such blocks. Each of these blocks makes the frame one
+ * byte longer, because the next block needs a code. */
 static int jcobs_extra_codes_fit(unsigned char code, const unsigned char *bytes, size_t len, size_t spare)
 {
     size_t left = spare;
@@ -511,7 +512,7 @@ static int jcobs_extra_codes_fit(unsigned char code, const unsigned char *bytes,
 }
 
 /* Returns whether room bytes, counted from the code of an open block, are enough for the frame if the block takes
- * these bytes. It reads the bytes only if their number doesn't decide that. data_len is how many bytes of the
+ * these bytes. The bytes are read only if their number doesn't decide this. data_len is how many bytes of the
  * message the open block and those after it then have. */
 static JCOBS_INLINE int jcobs_has_room(unsigned char code, const unsigned char *bytes, size_t len, size_t room)
 {
@@ -693,6 +694,7 @@ void jcobs_encoder_reset(jcobs_encoder *encoder)
 /* Returns whether the state is possible in a buffer of this size. */
 static JCOBS_INLINE int jcobs_encoder_is_within(const jcobs_encoder *encoder, size_t buffer_size)
 {
+    /* An open block has at most 253 bytes: other numbers don't come from these calls. */
     if (encoder->taken >= JCOBS_FULL_BLOCK_BYTES || buffer_size < encoder->index) {
         return 0;
     }
@@ -864,8 +866,8 @@ jcobs_answer jcobs_encoder_finish_terminated(jcobs_encoder *encoder, void *buffe
     return jcobs_too_small_answer();
 }
 
-/* Returns how many bytes come before the first zero: all of them if there is none. With four bytes in a round it
- * needs half the instructions. */
+/* Returns how many bytes come before the first zero, or the number of all bytes if there is no zero. With four
+ * bytes in a round it needs half the instructions. */
 static JCOBS_APART size_t jcobs_length_to_zero(const unsigned char *bytes, size_t len)
 {
     const unsigned char *rest = bytes;
@@ -885,7 +887,7 @@ static JCOBS_APART size_t jcobs_length_to_zero(const unsigned char *bytes, size_
     return len - rest_len;
 }
 
-/* Decodes in place the frame of frame_len bytes that the buffer begins with, one byte after another, and returns
+/* Decodes the frame in the first frame_len bytes of the buffer, in place and one byte after another, and returns
  * the message's length. Every byte after the message is as it was. No byte of the frame is a zero. If the last
  * block is cut off, it returns JCOBS_END_BROKEN, with the length of the message of the blocks before. */
 static JCOBS_APART jcobs_end jcobs_decode_blocks(unsigned char *buffer, size_t frame_len)
@@ -900,7 +902,8 @@ static JCOBS_APART jcobs_end jcobs_decode_blocks(unsigned char *buffer, size_t f
         }
         size_t next = read + code;
         read++;
-        /* The test is at the end of the loop, because compilers that keep code small leave it there. */
+        /* The inner loop tests at its end, because compilers that optimize for size leave the test where it is
+         * written. */
         if (read != next) {
             do {
                 buffer[written] = buffer[read];

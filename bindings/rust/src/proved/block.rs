@@ -1,11 +1,11 @@
 // Made by bindings/rust/translate.py from `crates/cobs/src/block.rt`: change that file, and run it again.
 //! Constants of blocks that encoders and decoders share.
 
-/// The code of a full block, which is the number of its bytes, the code included.
+/// The code of a full block, that is, the number of bytes that the block has, including the code.
 pub(crate) const FULL_CODE: usize = 255;
 
 /// The code of a full block, as a byte.
 pub(crate) const FULL: u8 = FULL_CODE as u8;
 
-/// The number of bytes of a full block after its code.
+/// The number of bytes that a full block has after its code.
 pub(crate) const FULL_BLOCK_BYTES: usize = FULL_CODE - 1;

@@ -26,15 +26,16 @@ pub use sentinel::{try_encode_including_sentinels, try_encode_with_sentinel};
 pub use state::{EncoderState, PushResult};
 pub use unbuffered::UnbufferedEncoder;
 
-/// Writes the encoded frame of `source` to the front of `dest`, and returns its length in bytes.
+/// Writes the encoded frame of `source` to the front of `dest`, and returns the frame's length in bytes.
 ///
 /// The frame consists of blocks, as in Cheshire and Baker's paper. If the message's last run of nonzero bytes has a
-/// positive length divisible by 254, the message has two frames, and the longer one has one more byte at its end, a
-/// `1`. This function writes the shorter one, which is a choice of this library. No byte of the frame is the sentinel
-/// 0, and no sentinel is written. The bytes of `dest` after the frame stay as they were.
+/// positive length divisible by 254, the message has two frames: the longer frame is the shorter frame followed by the
+/// byte `1`. This function writes the shorter frame, which is a choice of this library. No byte of the frame is the
+/// sentinel 0, and no sentinel is written before or after the frame. The bytes of `dest` after the frame stay as they
+/// were.
 ///
-/// Precondition: the frame fits `dest`. [`max_encoding_length`](crate::max_encoding_length) says how many bytes are
-/// always enough. [`try_encode`] tests itself whether the frame fits.
+/// Precondition: the frame fits `dest`. [`max_encoding_length`](crate::max_encoding_length) returns a length of `dest`
+/// that is always enough. If the frame may not fit, call [`try_encode`], which tests whether it fits.
 // Inlined, so that a short message is encoded in the caller's code, without a call.
 #[inline(always)]
 pub fn encode(source: &[u8], dest: &mut [u8]) -> usize {
@@ -48,8 +49,8 @@ pub fn encode(source: &[u8], dest: &mut [u8]) -> usize {
     encode_long(source, dest)
 }
 
-/// Does what [`encode`] does, for any length. It is a separate function, so that encoding a short message doesn't save
-/// registers for the loop.
+/// Does what [`encode`] does, for any length. This is a separate function, so that encoding a short message doesn't
+/// save registers for the loop.
 #[inline(never)]
 fn encode_long(source: &[u8], dest: &mut [u8]) -> usize {
     if source.is_empty() {
@@ -88,7 +89,7 @@ fn try_encode_any(source: &[u8], dest: &mut [u8]) -> Result<usize, DestBufTooSma
     Ok(close(dest, progress))
 }
 
-/// Encodes a message of up to 254 bytes for this sentinel. Its frame fits `dest`.
+/// Encodes a message of up to 254 bytes for this sentinel. The caller ensures that the frame fits `dest`.
 #[inline(always)]
 fn encode_block(source: &[u8], dest: &mut [u8], sentinel: u8) -> usize {
     // The frame's length is computed from the message's length, which a compiler may know.
@@ -98,8 +99,9 @@ fn encode_block(source: &[u8], dest: &mut [u8], sentinel: u8) -> usize {
     len
 }
 
-/// Encodes a message of 1 to 4 bytes for this sentinel if its frame fits. Otherwise it returns `None`, and nothing has changed.
-// It has a match arm for each length, so that compilers unroll the loops.
+/// Encodes a message of 1 to 4 bytes for this sentinel if its frame fits. If the message has another length, or its
+/// frame doesn't fit, the function returns `None` and changes nothing.
+// There is a match arm for each length, so that compilers unroll the loops.
 #[inline(always)]
 fn encode_few(source: &[u8], dest: &mut [u8], sentinel: u8) -> Option<usize> {
     if dest.len() <= source.len() {

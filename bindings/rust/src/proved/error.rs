@@ -42,7 +42,8 @@ pub enum DecodeError {
 
     /// The frame breaks off inside a block, or the source has no frame.
     InvalidFrame {
-        /// How many bytes were decoded. They are at the front of the buffer, if the caller passed one.
+        /// How many bytes were decoded. The decoded bytes are at the front of the buffer, if the caller passed a
+        /// buffer.
         decoded_bytes: usize,
     },
 
@@ -67,7 +68,8 @@ impl core::error::Error for DecodeError {}
 
 /// The error of a `push` to a streaming decoder, with the number of bytes that were consumed.
 ///
-/// The decoder has consumed these bytes and no others. To continue, the caller pushes the bytes after them.
+/// The decoder has consumed the first `parsed_size` bytes, and no others. To continue, the caller pushes the remaining
+/// bytes.
 ///
 /// ```
 /// use jcobs::{DecodeError, PushError, UnbufferedDecoder};
@@ -87,7 +89,7 @@ pub struct PushError {
     /// The result for the last byte that was consumed.
     pub error: DecodeError,
 
-    /// How many bytes were consumed, including the one that raised the error.
+    /// How many bytes were consumed, including the byte that raised the error.
     pub parsed_size: usize,
 }
 

@@ -1,11 +1,11 @@
 // Made by bindings/rust/translate.py from `crates/cobs/src/framed.rt`: change that file, and run it again.
 //! A reader of frames over any source of bytes.
 //!
-//! `FrameReader` reads chunks of 64 bytes from a `FrameSource`: a file, a socket, a serial port or any other source.
-//! Each call returns one outcome. The reader reads only if no piece ends in the bytes that it has kept. No byte is
-//! lost, not even after a fault: the next call first uses the bytes that were read but not used yet. No call here
-//! allocates. (Ending each piece with a zero is from Cheshire and Baker's paper; the rest of this module is a choice of
-//! this library.)
+//! `FrameReader` reads chunks of up to 64 bytes from a `FrameSource`: a file, a socket, a serial port or any other
+//! source. Each call of `next_frame` returns one outcome. The reader reads only if no piece ends in the bytes that it
+//! has kept. No byte is lost: the bytes after the end of a piece are kept for the next call, and after a fault the
+//! decoder has taken all bytes that were read. No call of this module allocates. (The rule that a zero ends each piece
+//! is from Cheshire and Baker's paper; the rest of this module is a choice of this library.)
 
 use crate::proved::dec::{FrameDecoder, PieceEnd};
 #[cfg(feature = "std")]
@@ -26,11 +26,12 @@ use std::io::Read;
 #[cfg_attr(feature = "serde", derive(serde::Serialize, serde::Deserialize))]
 #[cfg_attr(feature = "defmt", derive(defmt::Format))]
 pub enum Next {
-    /// A piece ended, and it is a frame. Its message is this many bytes at the front of the decoder's buffer.
+    /// A piece ended, and it is a frame whose message has this many bytes. The message is at the front of the decoder's
+    /// buffer.
     Message(usize),
 
-    /// A piece ended, and it breaks off inside a block. It decodes to this many bytes, those of the broken block
-    /// included. They are at the front of the decoder's buffer.
+    /// A piece ended, and it breaks off inside a block. The piece decodes to this many bytes, including those of the
+    /// broken block. The decoded bytes are at the front of the decoder's buffer.
     Broken(usize),
 
     /// A piece ended, and it decodes to more bytes than the decoder's buffer holds.
@@ -43,7 +44,8 @@ pub enum Next {
     },
 }
 
-/// The reason why a call of `next_frame` found no outcome. No byte is lost: a later call continues from there.
+/// The reason why a call of `next_frame` found no outcome. No byte is lost: a later call continues after the bytes that
+/// were read.
 ///
 /// ```
 /// use jcobs::{FrameDecoder, FrameReader, FrameSource, Next, ReadFault};
@@ -104,7 +106,7 @@ pub trait FrameSource {
     fn read_some(&mut self, chunk: &mut [u8; 64]) -> Option<usize>;
 }
 
-/// Any reader as a source of bytes. Each call reads once, and each error of the reader is a failed read.
+/// A source of bytes that reads from any reader. Each call reads once, and each error of the reader is a failed read.
 ///
 /// ```
 /// # #[cfg(feature = "std")] {
@@ -173,7 +175,8 @@ fn next_at(end: PieceEnd) -> Next {
     }
 }
 
-/// Returns whether a piece is unfinished after these bytes. `before` says whether one was unfinished before them.
+/// Returns whether a piece is unfinished after these bytes. `before` says whether a piece was unfinished before these
+/// bytes.
 fn is_unfinished(before: bool, bytes: &[u8]) -> bool {
     match bytes {
         [] => before,
@@ -181,12 +184,13 @@ fn is_unfinished(before: bool, bytes: &[u8]) -> bool {
     }
 }
 
-/// The most reads that a call makes.
+/// The greatest number of reads that one call of `next_frame` makes.
 const MOST_READS: usize = 65536;
 
-/// Reads the frames of a stream, one for each call, with a decoder of its own.
+/// Reads the frames of a stream, one frame for each call, with a decoder of its own.
 ///
-/// The source isn't part of the reader. It is passed to each call, so a stream may continue in another source.
+/// The source isn't part of the reader: the caller passes a source to each call, so a stream may continue in another
+/// source.
 ///
 /// ```
 /// # #[cfg(feature = "std")] {
@@ -202,12 +206,12 @@ const MOST_READS: usize = 65536;
 pub struct FrameReader<D: FrameDecoder> {
     decoder: D,
 
-    /// The bytes of the last read. Those from `start` to `end` haven't been fed to the decoder yet.
+    /// The bytes of an earlier read. The bytes at indices `start` to `end - 1` haven't been fed to the decoder yet.
     chunk: [u8; 64],
     start: usize,
     end: usize,
 
-    /// Whether a piece has begun, in the bytes fed so far, that no zero has ended yet.
+    /// Whether a piece has begun in the bytes fed so far, and no zero has ended it yet.
     unfinished: bool,
 }
 
@@ -237,7 +241,7 @@ impl<D: FrameDecoder> FrameReader<D> {
         }
     }
 
-    /// Returns the decoder. After a `Next::Message(n)` the message is the first n bytes of its buffer.
+    /// Returns the decoder. After a `Next::Message(n)` the message is the first `n` bytes of the decoder's buffer.
     ///
     /// ```
     /// use jcobs::{CobsDecoderHeapless, FrameReader};
@@ -249,7 +253,8 @@ impl<D: FrameDecoder> FrameReader<D> {
         &self.decoder
     }
 
-    /// Feeds bytes until a piece ends. Returns its outcome and the number of bytes consumed.
+    /// Feeds `bytes` to the decoder until a piece ends. Returns the outcome of this piece and the number of bytes
+    /// consumed, or `None` if no piece ended.
     fn feed_through_end(&mut self, bytes: &[u8]) -> Option<(Next, usize)> {
         match self.decoder.feed_piece(bytes) {
             None => {
@@ -263,7 +268,8 @@ impl<D: FrameDecoder> FrameReader<D> {
         }
     }
 
-    /// Returns the outcome of the next piece of the stream once a zero has ended it, or the end of the source.
+    /// Returns the outcome of the next piece of the stream once a zero has ended the piece, or `Next::End` if the
+    /// source ends first.
     ///
     /// Bytes that earlier calls have kept are used first. The bytes after the zero that ends the piece are kept for the
     /// next call. As long as no piece ends, the source is read, at most 65,536 times. Nothing is read after the end of
@@ -272,8 +278,8 @@ impl<D: FrameDecoder> FrameReader<D> {
     ///
     /// # Errors
     /// `Io` if the last read of this call failed, and `TooManyReads` if this call made 65,536 reads that all returned
-    /// bytes. In both cases no piece ended, the decoder has taken all bytes that were read, and the next call
-    /// continues.
+    /// bytes. In both cases no piece ended, the decoder has taken all bytes that were read, and the next call continues
+    /// after these bytes.
     ///
     /// ```
     /// # #[cfg(feature = "std")] {

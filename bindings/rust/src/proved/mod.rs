@@ -31,9 +31,9 @@ pub use stream::{FrameOutcome, decode_stream};
 /// Returns the greatest overhead of an encoded frame, for a message of `source_len` bytes: by how many bytes the frame
 /// may be longer than the message.
 ///
-/// This is `source_len / 254` rounded up, and 1 for the empty message: each block of 254 bytes has a code of its own,
-/// and a frame has at least one block. A message without zeros reaches it. Sentinels around the frame aren't counted.
-/// The bound is that of the paper by Cheshire and Baker.
+/// The greatest overhead is `source_len / 254` rounded up, and 1 for the empty message: each block of 254 bytes has a
+/// code of its own, and a frame has at least one block. A message without zeros reaches this overhead. Sentinels around
+/// the frame aren't counted. The bound is that of the paper by Cheshire and Baker.
 pub const fn max_encoding_overhead(source_len: usize) -> usize {
     if source_len == 0 {
         return 1;
@@ -42,9 +42,9 @@ pub const fn max_encoding_overhead(source_len: usize) -> usize {
 }
 
 /// Returns the length of the longest encoded frame of a message of `source_len` bytes, without sentinels: a buffer of
-/// this length has room for the frame of each such message.
+/// this length has room for the frame of each message of `source_len` bytes.
 ///
-/// Precondition: this number fits a `usize`, as it does for each `source_len` up to `isize::MAX`.
+/// Precondition: this length fits a `usize`, which is so for each `source_len` up to `isize::MAX`.
 pub const fn max_encoding_length(source_len: usize) -> usize {
     source_len + max_encoding_overhead(source_len)
 }

@@ -1,10 +1,10 @@
 // Made by bindings/rust/translate.py from `crates/cobs/src/stream.rt`: change that file, and run it again.
-//! Whole streams: decodes all pieces that end in a part of a stream, and encodes several messages.
+//! Whole streams: one call decodes all pieces that end in a part of a stream, and one call encodes several messages.
 //!
-//! A stream is cut at its zeros. The bytes between two zeros are a piece, unless there are none. Each piece is decoded
-//! separately: it is a message, it breaks off inside a block, or it decodes to more bytes than the buffer holds. So
-//! damage to one piece has no effect after the next zero. (Ending each frame with a zero is from Cheshire and Baker's
-//! paper; how broken and too long pieces are reported is a choice of this library.)
+//! A stream is cut at its zeros. The bytes between two zeros are a piece, unless the zeros are adjacent. Each piece is
+//! decoded separately: a piece is a frame, breaks off inside a block, or decodes to more bytes than the buffer holds.
+//! So damage to one piece has no effect after the next zero. (The rule that a zero ends each frame is from Cheshire and
+//! Baker's paper; how broken and too long pieces are reported is a choice of this library.)
 
 use crate::memory::AllocError;
 use crate::proved::dec::{FrameDecoder, PieceEnd};
@@ -32,7 +32,7 @@ pub enum FrameOutcome {
     /// The piece is a frame, and these are the bytes of its message.
     Message(Vec<u8>),
 
-    /// The piece breaks off inside a block. It decodes to this many bytes, those of the broken block included.
+    /// The piece breaks off inside a block. The piece decodes to this many bytes, including those of the broken block.
     Broken(usize),
 
     /// The piece decodes to more bytes than the decoder's buffer holds.
@@ -51,16 +51,18 @@ fn frame_outcome(end: PieceEnd, buffer: &[u8]) -> Result<FrameOutcome, AllocErro
 
 /// Decodes a part of a stream, and returns one outcome for each piece that ends in it, in order.
 ///
-/// The first of these pieces may have begun in an earlier call. A piece that hasn't ended is continued by the next
-/// call, because the decoder keeps its state. So a stream can be passed in parts, cut anywhere, and the joined results
-/// are those of the whole stream. Leading and doubled zeros make no piece.
+/// The first piece may have begun in an earlier call. The next call continues a piece that hasn't ended, because the
+/// decoder keeps its state. So a stream can be passed in parts, cut anywhere, and the joined results of the calls are
+/// those of the whole stream. Leading and repeated zeros make no piece.
 ///
 /// If the caller wrote to the decoder's buffer while a piece was open, the bytes of that piece's message are
-/// unspecified. This message is the first outcome. Its length and all later outcomes aren't affected.
+/// unspecified. The message of that piece is the first outcome. The length of this message and all later outcomes
+/// aren't affected.
 ///
 /// # Errors
 /// `AllocError` if memory for an outcome runs out. Then the outcomes are lost, and the decoder is idle, so the next
-/// byte begins a new piece. Only messages and the list of outcomes need memory: if no piece ends, the result is `Ok`.
+/// nonzero byte begins a new piece. Only messages and the list of outcomes need memory: if no piece ends, the result is
+/// `Ok`.
 ///
 /// ```
 /// # #[cfg(feature = "alloc")] {

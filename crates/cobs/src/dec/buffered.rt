@@ -1,4 +1,4 @@
-//! The streaming decoders over a borrowed buffer, and over a buffer of their own.
+//! Two streaming decoders: `CobsDecoder` borrows its buffer, and `CobsDecoderOwned` owns a vector.
 ghost use Rattle.std.specs.Prelude.{◌≡◌, [], ◌≤◌, ◌∷◌, ◌++◌, List, length, ℕ, replicate, IfOk};
 ghost use Rattle.std.specs.Borrow.{sem};
 ghost use Rattle.cobs.specs.Feed.{DecoderAfter, Feeds, Idle};
@@ -16,10 +16,11 @@ use std::alloc::{AllocError, Global};
 
 /// Decodes a stream of frames, each ended by a zero, into a slice that it borrows.
 ///
-/// Each call takes any number of bytes of the stream. When a frame ends, its message is at the front of the slice,
-/// until the next frame begins. A piece of the stream is the bytes between two zeros. Its outcome depends only on these
-/// bytes and on the length of the slice: the decoder is idle after every zero, so a broken frame never affects another.
-/// Ending each frame with a zero is from Cheshire and Baker's paper.
+/// `feed` takes one byte of the stream, and `push` takes any number of bytes. When a frame ends, its message is at the
+/// front of the slice, and stays there until the next frame begins. A piece of the stream is the bytes between two
+/// zeros. The outcome of a piece depends only on the bytes of the piece and on the length of the slice: the decoder is
+/// idle after every zero, so a broken frame never affects another frame. The rule that a zero ends each frame is from
+/// Cheshire and Baker's paper.
 ///
 /// ```
 /// let mut buffer = [0; 8];
@@ -37,7 +38,7 @@ pub struct CobsDecoder<'a> {
 }
 
 impl<'a> CobsDecoder<'a> {
-    /// Makes an idle decoder over the slice, which may have any length, even 0. No byte of it is changed.
+    /// Makes an idle decoder over the slice `dest`, which may have any length, even 0. No byte of the slice is changed.
     ///
     /// ```
     /// let mut decoder = CobsDecoder::new(&mut []);
@@ -58,18 +59,20 @@ impl<'a> CobsDecoder<'a> {
 
     /// Takes the next byte of the stream.
     ///
-    /// - `Ok(None)`: no piece has ended, and the output of this piece so far fits the slice, which begins with it.
+    /// - `Ok(None)`: the byte ended no piece, and the slice begins with the output of the piece so far.
     /// - `Ok(Some(n))`: the byte was the zero after a whole frame, and the message is the slice's first `n` bytes.
     ///
-    /// All other bytes of the slice are as they were.
+    /// The bytes of the slice after the output are as they were.
     ///
     /// # Errors
     /// - `InvalidFrame`: the byte was a zero inside a block. `decoded_bytes` is the length of the piece's output, which
     ///   is at the front of the slice.
-    /// - `TargetBufTooSmall`: the output of the piece is longer than the slice, which holds its first bytes. This is
-    ///   the result for the first byte that has no room, and for each byte after it, through the zero.
+    /// - `TargetBufTooSmall`: the output of the piece is longer than the slice, and the slice holds the first bytes of
+    ///   the output. `feed` returns this error for the first byte that has no room, and for each byte after that,
+    ///   through the zero that ends the piece.
     ///
-    /// After every zero the decoder is idle. (The result after an overflow is a choice of this library.)
+    /// After every zero the decoder is idle. (The results for the bytes after an overflow are a choice of this
+    /// library.)
     ///
     /// ```
     /// let mut buffer = [0; 2];
@@ -89,18 +92,18 @@ impl<'a> CobsDecoder<'a> {
         self.inner.feed(self.dest, byte)
     }
 
-    /// Takes the next bytes of the stream, and stops after the first one for which `feed` doesn't return `Ok(None)`.
+    /// Takes the next bytes of the stream, and stops after the first byte for which `feed` doesn't return `Ok(None)`.
     ///
     /// - `Ok(None)`: all bytes were taken, and no piece has ended in them.
-    /// - `Ok(Some(report))`: a whole frame has ended. `frame_size` is the length of its message, which is at the front
-    ///   of the slice. `parsed_size` is the number of bytes taken, including the zero after the frame. The bytes after
-    ///   them have no effect: push them next.
+    /// - `Ok(Some(report))`: a whole frame has ended. `frame_size` is the length of the frame's message, which is at
+    ///   the front of the slice. `parsed_size` is the number of bytes taken, including the zero after the frame. The
+    ///   bytes after the first `parsed_size` bytes had no effect: push them next.
     ///
     /// # Errors
-    /// A `PushError` has the error of `feed` and the number of bytes taken, including the one that raised the error. To
-    /// continue with the stream, push the bytes after these. If a zero raised the error, its piece has ended. If a
-    /// piece is too long for the slice, each push takes one byte of it and returns the error again, until its zero is
-    /// taken.
+    /// A `PushError` has the error of `feed` and the number of bytes taken, including the byte that raised the error.
+    /// To continue with the stream, push the bytes that weren't taken. If a zero raised the error, the piece before
+    /// this zero has ended. If a piece is too long for the slice, each push takes one more byte of the piece and
+    /// returns the error again, until a push takes the zero that ends the piece.
     ///
     /// ```
     /// let mut buffer = [0; 2];
@@ -139,10 +142,10 @@ impl<'a> CobsDecoder<'a> {
 
     /// Returns the whole slice, for writing.
     ///
-    /// Writing while a piece is open changes no result of this piece; only the bytes of its message are then
-    /// unspecified. A proof about a caller of this function knows the bytes of the slice while it is borrowed, but it
-    /// doesn't know the decoder's state after the write. With [`write_dest`](crate::WriteBuffer::write_dest) it knows
-    /// the state too.
+    /// Writing while a piece is open changes no result for this piece; only the bytes of its message are then
+    /// unspecified. A proof about a caller of `dest_mut` knows the bytes of the slice while the slice is borrowed, but
+    /// it doesn't know the decoder's state after the write. If the caller writes with
+    /// [`write_dest`](crate::WriteBuffer::write_dest) instead, the proof knows the state too.
     ///
     /// ```
     /// let mut buffer = [7; 2];
@@ -199,9 +202,9 @@ impl WriteBuffer for CobsDecoder<'_> {
 
 /// Decodes a stream of frames, each ended by a zero, into a buffer of its own.
 ///
-/// Its results are those of [`CobsDecoder`](crate::CobsDecoder). Memory is allocated once, by `new`, and the buffer
-/// keeps its length. Ending each frame with a zero is from Cheshire and Baker's paper; the calls are those of the crate
-/// `cobs`.
+/// This decoder returns the same results as [`CobsDecoder`](crate::CobsDecoder). Memory is allocated once, by `new`,
+/// and the buffer keeps its length. The rule that a zero ends each frame is from Cheshire and Baker's paper; the calls
+/// are those of the crate `cobs`.
 ///
 /// ```
 /// let mut decoder = CobsDecoderOwned::new(alloc, 8)?;
@@ -236,8 +239,8 @@ impl CobsDecoderOwned {
         })
     }
 
-    /// Takes the next byte of the stream, as [`CobsDecoder::feed`](crate::CobsDecoder::feed) does. The errors are those
-    /// of that call.
+    /// Takes the next byte of the stream, with the results and errors of
+    /// [`CobsDecoder::feed`](crate::CobsDecoder::feed).
     ///
     /// ```
     /// let mut decoder = CobsDecoderOwned::new(alloc, 0)?;
@@ -254,8 +257,9 @@ impl CobsDecoderOwned {
         self.inner.feed(&mut self.dest, byte)
     }
 
-    /// Takes the next bytes of the stream, as [`CobsDecoder::push`](crate::CobsDecoder::push) does: it stops after the
-    /// first byte for which `feed` doesn't return `Ok(None)`. The errors are those of that call.
+    /// Takes the next bytes of the stream, with the results and errors of
+    /// [`CobsDecoder::push`](crate::CobsDecoder::push): it stops after the first byte for which `feed` doesn't return
+    /// `Ok(None)`.
     ///
     /// ```
     /// let mut decoder = CobsDecoderOwned::new(alloc, 8)?;
@@ -277,7 +281,7 @@ impl CobsDecoderOwned {
         self.inner.push(&mut self.dest, bytes)
     }
 
-    /// Makes the decoder idle, so that the next byte begins a new piece. The buffer is as it was.
+    /// Makes the decoder idle, so that the next nonzero byte begins a new piece. The buffer keeps its bytes.
     ///
     /// ```
     /// let mut decoder = CobsDecoderOwned::new(alloc, 8)?;

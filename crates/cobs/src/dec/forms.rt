@@ -1,4 +1,4 @@
-//! The forms of `decode` for any sentinel, and into a vector.
+//! The forms of `decode`: for any sentinel, and into a vector.
 ghost use Rattle.std.specs.Prelude.{◌≡◌, ◌≢◌, ◌≤◌, length, List, ℕ, [], IfOk, IfErr, IsOkAnd};
 ghost use Rattle.cobs.specs.Overwritten.{overwritten};
 ghost use Rattle.cobs.specs.Decode.{head_result_within, result_of_sentinel_decode, decoded, decoded_head, IsErrorFor};
@@ -19,7 +19,7 @@ use crate::find::{len_without_end, position_or_len};
 use cobs_bytes::window::{WIDE_WINDOW, has_vectors};
 use std::alloc::Global;
 
-/// Decodes the blocks of a source that has no sentinel, and returns the length of their output.
+/// Decodes a source that contains no sentinel, and returns the message's length.
 fn decode_blocks(source: &[u8], dest: &mut [u8], sentinel: u8) -> Result<usize, DecodeError>
     requires { HasNoZero (xor_each sentinel source.now) }
     ensures returned { result ≡ head_result_within (xor_each sentinel source.now) (length dest.old) }
@@ -40,21 +40,23 @@ fn decode_blocks(source: &[u8], dest: &mut [u8], sentinel: u8) -> Result<usize, 
 
 /// Decodes the frame at the front of the source, for any sentinel, and returns the message's length.
 ///
-/// The frame ends at the source's first sentinel, or with the source; each byte is XORed with the sentinel.
-/// The message is then at the front of `dest`, and every byte after it is as it was. Unlike `decode`, this reads a
-/// leading sentinel as an empty message, and returns 0.
+/// The frame ends at the source's first sentinel, or at the end of the source. Each byte of the frame is XORed with the
+/// sentinel before it is decoded. The message is then at the front of `dest`, and every byte of `dest` after the
+/// message is as it was. Unlike [`decode`](crate::decode), this function reads a leading sentinel as an empty message,
+/// and returns 0.
 ///
 /// # Errors
 ///
 /// - `EmptyFrame` if the source is empty; `dest` is as it was.
 /// - `TargetBufTooSmall` if the message is longer than `dest`, or if the frame breaks off and the output of its whole
-///   blocks is longer than `dest`. The buffer then holds the first bytes of that message or output.
-/// - `InvalidFrame` if the frame breaks off inside a block and the output of its whole blocks fits. Then `dest` begins
-///   with that output, `decoded_bytes` is its length, and every byte after it is as it was. The output ends with the
-///   zero that joins the whole blocks to the broken one, unless the last whole block is full.
+///   blocks is longer than `dest`. `dest` then holds the first bytes of that message or output.
+/// - `InvalidFrame` if the frame breaks off inside a block and the output of its whole blocks fits `dest`. Then `dest`
+///   begins with that output, `decoded_bytes` is the length of the output, and every byte of `dest` after the output is
+///   as it was. The output ends with the zero that joins the last whole block to the broken block, unless the last
+///   whole block is full.
 ///
-/// Frames for another sentinel than 0 are from Cheshire and Baker's paper; the results for broken ones are a choice of
-/// this library.
+/// Frames for a sentinel other than 0 are from Cheshire and Baker's paper; the results for broken frames are a choice
+/// of this library.
 ///
 /// ```
 /// let mut dest = [170; 5];
@@ -91,15 +93,15 @@ pub fn decode_with_sentinel(
     decode_blocks(&source[..end], dest, sentinel)
 }
 
-/// Returns the message of the first frame of the source, in a vector of exactly its bytes.
+/// Returns the message of the first frame of the source, in a vector that has exactly the bytes of the message.
 ///
-/// The frame is found and read as in [`decode`]. Memory is allocated once, for as many bytes as the source has, so a
-/// message always fits and `TargetBufTooSmall` is never returned.
+/// This function finds and reads the frame as [`decode`] does. Memory is allocated once, for as many bytes as the
+/// source has, so a message always fits and `TargetBufTooSmall` is never returned.
 ///
 /// # Errors
 ///
-/// `Decode(EmptyFrame)` if the source is empty, and then nothing is allocated. Otherwise `Memory` if memory ran out, or
-/// `Decode` with the error of [`decode`].
+/// `Decode(EmptyFrame)` if the source is empty; nothing is allocated then. `Memory` if memory runs out. `Decode` with
+/// the error of [`decode`] if the source can't be decoded.
 ///
 /// ```
 /// let message = decode_vec(alloc, b"\x06hello\0")?;
@@ -124,10 +126,12 @@ pub fn decode_vec(alloc: Global, source: &[u8]) -> Result<Vec<u8>, DecodeVecErro
     Ok(message)
 }
 
-/// Returns the message of the frame at the front of the source, for any sentinel, in a vector of exactly its bytes.
+/// Returns the message of the frame at the front of the source, for any sentinel, in a vector that has exactly the
+/// bytes of the message.
 ///
-/// The frame is read as in [`decode_with_sentinel`], up to the first sentinel or the source's end; a leading sentinel
-/// returns an empty vector. Memory is allocated, and errors are returned, as in [`decode_vec`].
+/// This function reads the frame as [`decode_with_sentinel`] does, up to the first sentinel or the source's end. If the
+/// source begins with a sentinel, it returns an empty vector. Memory is allocated, and errors are returned, as in
+/// [`decode_vec`].
 ///
 /// ```
 /// let message = decode_vec_with_sentinel(alloc, &[252, 245, 244, 253, 243], 255)?;

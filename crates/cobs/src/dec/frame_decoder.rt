@@ -19,10 +19,10 @@ use crate::error::DecodeError;
 /// ```
 #[derive(Debug, Clone, Copy, PartialEq, Eq)]
 pub enum PieceEnd {
-    /// The piece is a frame. Its message is this many bytes at the front of the decoder's buffer.
+    /// The piece is a frame whose message has this many bytes. The message is at the front of the decoder's buffer.
     Message(usize),
 
-    /// The piece breaks off inside a block. It decodes to this many bytes, those of the broken block included.
+    /// The piece breaks off inside a block. The piece decodes to this many bytes, including those of the broken block.
     Broken(usize),
 
     /// The piece decodes to more bytes than the decoder's buffer holds.
@@ -30,7 +30,8 @@ pub enum PieceEnd {
 }
 
 impl PieceEnd {
-    /// Returns how a piece has ended, given the result of `feed` for its zero. Returns `None` if no piece had begun.
+    /// Returns how a piece ended, given the result of `feed` for the zero that ended the piece. Returns `None` if no
+    /// piece had begun.
     ///
     /// ```
     /// let mut decoder = UnbufferedDecoder::new();
@@ -56,7 +57,7 @@ impl PieceEnd {
 
 /// A decoder that takes a stream byte by byte or piece by piece, and owns or borrows the buffer for its output.
 ///
-/// Contracts describe it by the bytes of its buffer and by its phase. (The trait is this library's own.)
+/// Contracts describe a decoder by the bytes of its buffer and by its phase. (The trait is this library's own.)
 ///
 /// ```
 /// let mut decoder = CobsDecoderHeapless::<4>::new();
@@ -64,17 +65,17 @@ impl PieceEnd {
 /// assert_eq!(rt; decoder.feed_piece(&stream), Some((PieceEnd::Broken(1), 3)));
 /// ```
 pub trait FrameDecoder {
-    /// The bytes of its buffer.
+    /// The bytes of the decoder's buffer.
     ghost bytes: { Self → List ℕ };
 
-    /// Its phase.
+    /// The decoder's phase.
     ghost phase: { Self → Phase };
 
-    /// A number for the slice that it borrows as its buffer, if it borrows one.
+    /// A number that identifies the slice that the decoder borrows as its buffer, if it borrows one.
     ghost loan: { Self → ℕ };
 
-    /// Takes the next byte of the stream, as [`CobsDecoder::feed`](crate::CobsDecoder::feed) does. The errors are those
-    /// of that call.
+    /// Takes the next byte of the stream, with the results and errors of
+    /// [`CobsDecoder::feed`](crate::CobsDecoder::feed).
     ///
     /// ```
     /// let mut decoder = CobsDecoderHeapless::<1>::new();
@@ -88,13 +89,13 @@ pub trait FrameDecoder {
 
     /// Takes the next bytes of the stream, and stops after the first zero that ends a piece.
     ///
-    /// Returns `None` if no piece ended in these bytes, and then all of them were taken. Returns `Some((end, count))`
-    /// if a piece ended with the byte at index `count - 1`; `end` says how. The bytes after that one had no effect, and
-    /// the bytes of the buffer after the output are as they were. A piece that is too long for the buffer ends at its
-    /// zero, like every other, so the caller never has to feed single bytes.
+    /// Returns `None` if no piece ended in these bytes; the decoder has then taken all of them. Returns `Some((end,
+    /// count))` if the zero at index `count - 1` ended a piece; `end` says how the piece ended. The bytes after that
+    /// zero had no effect. The bytes of the buffer after the piece's output are as they were. A piece that is too long
+    /// for the buffer ends at its zero, like every other piece, so the caller never has to feed single bytes.
     ///
-    /// An implementation doesn't have to define this method: the provided one feeds one byte after another. The decoders of
-    /// this library copy whole blocks instead.
+    /// An implementation doesn't have to define this method: the provided method feeds one byte after another. The
+    /// decoders of this library copy whole blocks instead.
     ///
     /// ```
     /// let mut decoder = CobsDecoderHeapless::<1>::new();
@@ -129,14 +130,15 @@ pub trait FrameDecoder {
 
 /// A decoder that lends its buffer for writing.
 ///
-/// Writing replaces the bytes of the buffer. It changes neither the decoder's state nor which slice the buffer is. So
-/// if a decoder has taken the front of a piece (`PhaseAfter`), the results of this piece stay the same; only the bytes
-/// of its message are then unspecified.
+/// Writing replaces the bytes of the buffer. The decoder's state stays the same, and the buffer stays the same slice.
+/// So if a decoder has taken the front of a piece (`PhaseAfter`), the results for this piece stay the same; only the
+/// bytes of its message are then unspecified.
 ///
-/// Each streaming decoder also has a method `dest_mut` of its own. The slice of a `CobsDecoder` is itself borrowed, so
-/// a caller of its `dest_mut` knows only the bytes of the slice, and only while it is borrowed. A caller that has to
-/// know the decoder's state too writes with [`write_dest`](WriteBuffer::write_dest), or in code that is generic over
-/// this trait. (The trait is this library's own.)
+/// Each decoder that has this trait also has a method `dest_mut` of its own. The slice of a `CobsDecoder` is itself
+/// borrowed, so the proof of a caller of `CobsDecoder::dest_mut` knows only the bytes of the slice, and only while the
+/// slice is borrowed. A caller whose proof needs the decoder's state too writes with
+/// [`write_dest`](WriteBuffer::write_dest), or in code that is generic over this trait. (The trait is this library's
+/// own.)
 ///
 /// ```
 /// let mut buffer = [0; 3];
@@ -151,7 +153,7 @@ pub trait WriteBuffer: FrameDecoder {
     /// The decoder with other bytes in its buffer.
     ghost with_bytes: { Self → List ℕ → Self };
 
-    /// Returns the whole buffer, for writing. Its bytes are then those that the caller has written.
+    /// Returns the whole buffer, for writing. The buffer then keeps the bytes that the caller writes.
     ///
     /// ```
     /// let mut decoder = CobsDecoderHeapless::<2>::new();
@@ -162,9 +164,9 @@ pub trait WriteBuffer: FrameDecoder {
         ensures* writes_back { sem 𝓛 (LendsBytes Self.row self.entry result with_bytes) }
         ensures value { result.now ≡ Self.bytes self.old };
 
-    /// Writes the bytes of `source` over those of the buffer, from index `at` on.
+    /// Writes the bytes of `source` to the buffer, from index `at` on.
     ///
-    /// Precondition: they fit, that is, `at` plus their number is at most the length of the buffer.
+    /// Precondition: the bytes fit, that is, `at` plus the length of `source` is at most the length of the buffer.
     ///
     /// ```
     /// let mut decoder = CobsDecoderHeapless::<3>::new();
@@ -181,16 +183,16 @@ pub trait WriteBuffer: FrameDecoder {
         dest[at..at + source.len()].copy_from_slice(source);
     }
 
-    /// The buffer then has the bytes that were written.
+    /// After a write, the buffer has the bytes that were written.
     ghost bytes_are_written: { (decoder : Self) (written : List ℕ)
         → length written ≡ length (Self.bytes decoder)
         → Self.bytes (with_bytes decoder written) ≡ written };
 
-    /// The decoder's phase is unchanged.
+    /// A write doesn't change the decoder's phase.
     ghost phase_stays: { (decoder : Self) (written : List ℕ)
         → Self.phase (with_bytes decoder written) ≡ Self.phase decoder };
 
-    /// The buffer is still the same slice.
+    /// After a write, the buffer is still the same slice.
     ghost loan_stays: { (decoder : Self) (written : List ℕ)
         → Self.loan (with_bytes decoder written) ≡ Self.loan decoder };
 }

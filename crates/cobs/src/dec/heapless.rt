@@ -15,8 +15,8 @@ use arrayvec::ArrayVec;
 
 /// Decodes a stream of frames, each ended by a zero, into a buffer of `N` bytes that is part of the value itself.
 ///
-/// Its results are those of [`CobsDecoder`](crate::CobsDecoder), and it doesn't allocate. Ending each frame with a zero
-/// is from Cheshire and Baker's paper; the calls are those of the crate `cobs`.
+/// This decoder returns the same results as [`CobsDecoder`](crate::CobsDecoder), and it doesn't allocate. The rule that
+/// a zero ends each frame is from Cheshire and Baker's paper; the calls are those of the crate `cobs`.
 ///
 /// ```
 /// let mut decoder = CobsDecoderHeapless::<2>::new();
@@ -49,8 +49,8 @@ impl<const N: usize> CobsDecoderHeapless<N> {
         CobsDecoderHeapless::new_with_vec(ArrayVec::new())
     }
 
-    /// Makes an idle decoder whose buffer is the vector. It keeps the vector's bytes, and appends zeros up to the
-    /// capacity, `N` bytes.
+    /// Makes an idle decoder whose buffer is the vector `vec`. The vector keeps its bytes, and zeros are appended up to
+    /// its capacity of `N` bytes.
     ///
     /// ```
     /// let mut vec = ArrayVec::<u8, 3>::new();
@@ -73,8 +73,8 @@ impl<const N: usize> CobsDecoderHeapless<N> {
         }
     }
 
-    /// Takes the next byte of the stream, as [`CobsDecoder::feed`](crate::CobsDecoder::feed) does. The errors are those
-    /// of that call.
+    /// Takes the next byte of the stream, with the results and errors of
+    /// [`CobsDecoder::feed`](crate::CobsDecoder::feed).
     ///
     /// ```
     /// let mut decoder = CobsDecoderHeapless::<4>::new();
@@ -92,8 +92,9 @@ impl<const N: usize> CobsDecoderHeapless<N> {
         self.inner.feed(self.dest.as_mut_slice(), byte)
     }
 
-    /// Takes the next bytes of the stream, as [`CobsDecoder::push`](crate::CobsDecoder::push) does: it stops after the
-    /// first byte for which `feed` doesn't return `Ok(None)`. The errors are those of that call.
+    /// Takes the next bytes of the stream, with the results and errors of
+    /// [`CobsDecoder::push`](crate::CobsDecoder::push): it stops after the first byte for which `feed` doesn't return
+    /// `Ok(None)`.
     ///
     /// ```
     /// let mut decoder = CobsDecoderHeapless::<8>::new();
@@ -115,7 +116,7 @@ impl<const N: usize> CobsDecoderHeapless<N> {
         self.inner.push(self.dest.as_mut_slice(), bytes)
     }
 
-    /// Makes the decoder idle, so that the next byte begins a new piece. The buffer is as it was.
+    /// Makes the decoder idle, so that the next nonzero byte begins a new piece. The buffer keeps its bytes.
     ///
     /// ```
     /// let mut decoder = CobsDecoderHeapless::<8>::new();

@@ -21,7 +21,7 @@ use crate::find::{len_without_end, zero_or_len};
 use cobs_bytes::lanes::{copy_xored_short, move_to_front, xor_bytes};
 use cobs_bytes::window::{WIDE_WINDOW, WINDOW, has_vectors, is_all, write_row};
 
-/// Moves the `len` bytes from index `read` on to index `at`, which is at most `read`. Bytes that no moved byte
+/// Moves the `len` bytes that begin at index `read` to index `at`, which is at most `read`. Bytes that no moved byte
 /// overwrites stay as they are.
 #[inline(always)]
 fn move_back(buffer: &mut [u8], at: usize, read: usize, len: usize)
@@ -33,9 +33,9 @@ fn move_back(buffer: &mut [u8], at: usize, read: usize, len: usize)
 }
 
 impl UnbufferedDecoder {
-    /// Takes the bytes of one step from the buffer to which it also writes. They begin at index `read` and end before
-    /// index `end`. Returns how many it took. It does what `take_part` of `run.rt` does, but takes one row of codes of
-    /// 1 per step, and there is always room.
+    /// Takes one step over the bytes at indices `read` to `end - 1` of the buffer, and writes their output to the same
+    /// buffer. Returns how many bytes the step took. The steps are those of `take_part` in `run.rt`, except that a step
+    /// takes only one row of codes 1, and that the output always has room.
     #[inline(always)]
     fn take_part_in_place(&mut self, buffer: &mut [u8], read: usize, end: usize) -> usize
         requires going { self.old.too_long ≡ 0 }
@@ -75,7 +75,7 @@ impl UnbufferedDecoder {
         len
     }
 
-    /// Takes the bytes from index `read` on and before index `end`, from the buffer to which it also writes.
+    /// Takes the bytes at indices `read` to `end - 1` of the buffer, and writes their output to the same buffer.
     #[inline]
     fn take_in_place(&mut self, buffer: &mut [u8], read: usize, end: usize)
         requires going { self.old.too_long ≡ 0 }
@@ -97,7 +97,7 @@ impl UnbufferedDecoder {
     }
 }
 
-/// Decodes the blocks in the first `end` bytes of the buffer, and returns the length of their output.
+/// Decodes the first `end` bytes of the buffer, which contain no zero, and returns the message's length.
 fn decode_blocks_in_place(buffer: &mut [u8], end: usize) -> Result<usize, DecodeError>
     requires within { end ≤ length buffer.old }
     requires nonzero { HasNoZero (take end buffer.old) }
@@ -113,8 +113,9 @@ fn decode_blocks_in_place(buffer: &mut [u8], end: usize) -> Result<usize, Decode
     message_len(progress.written, whole)
 }
 
-/// Decodes the first `len` bytes of the buffer, if they are 2 to 65 bytes and a frame, and returns whether it did. Otherwise
-/// no byte changes: the bytes are copied before, and put back if the frame is broken.
+/// Decodes the first `len` bytes of the buffer if `len` is 2 to 65 and these bytes are a frame, and returns whether it
+/// did. Otherwise no byte of the buffer changes: the bytes are copied before they are decoded, and put back if the
+/// frame is broken.
 #[inline(always)]
 fn decode_span_in_place(buffer: &mut [u8], len: usize) -> bool
     requires within { len ≤ length buffer.old }
@@ -134,8 +135,8 @@ fn decode_span_in_place(buffer: &mut [u8], len: usize) -> bool
         return false;
     }
     coded[0] = buffer[0];
-    // The frame is decoded within the buffer: a load from the copy `coded` would wait until the copy's vectors are
-    // stored.
+    // The frame is decoded within the buffer: a load from the copy `coded` would have to wait until the copy's vectors
+    // are stored.
     move_to_front(buffer, 1, len - 1);
     let (_, left) = write_zeros_at_codes(&mut buffer[..len - 1], coded[0] as usize);
     if left != 0 {
@@ -145,22 +146,23 @@ fn decode_span_in_place(buffer: &mut [u8], len: usize) -> bool
     true
 }
 
-/// Decodes the frame at the front of the buffer in its own place, up to the first zero or the buffer's end, and returns
-/// how many bytes the frame and the message have.
+/// Decodes the frame at the front of the buffer in place, up to the first zero or the buffer's end, and returns how
+/// many bytes the frame has and how many bytes the message has.
 ///
-/// The first `frame_size` bytes of the buffer are then the message, and every other byte is as it was. `parsed_size`
-/// counts the bytes before the zero or the end; the zero isn't counted. Unlike `decode`, this reads a leading zero as
-/// an empty message, and returns the sizes 0 and 0. It never returns `TargetBufTooSmall`, since a message is shorter than
-/// its frame.
+/// The first `frame_size` bytes of the buffer are then the message, and every other byte is as it was. `parsed_size` is
+/// the number of bytes before the first zero, or the length of the buffer if it has no zero. Unlike
+/// [`decode`](crate::decode), this function reads a leading zero as an empty message, and returns 0 for both sizes.
+/// This function never returns `TargetBufTooSmall`, since a message is shorter than its frame.
 ///
 /// # Errors
 ///
 /// - `EmptyFrame` if the buffer is empty.
 /// - `InvalidFrame` if the frame breaks off inside a block. The buffer then begins with the output of the whole blocks
-///   before that block. This output ends with the zero that joins them to the broken block, unless the last whole block
-///   is full. `decoded_bytes` is the length of this output, and every other byte is as it was.
+///   before the broken block. The output ends with the zero that joins the last whole block to the broken block, unless
+///   the last whole block is full. `decoded_bytes` is the length of the output, and every byte of the buffer after the
+///   output is as it was.
 ///
-/// The bytes after the decoded ones are kept, after an error too. (A choice of this library.)
+/// (That an error leaves the bytes after the output as they were is a choice of this library.)
 ///
 /// ```
 /// let mut buf = [3, 10, 11, 2, 12, 0];
@@ -197,9 +199,9 @@ pub fn decode_in_place_report(buf: &mut [u8]) -> Result<DecodeReport, DecodeErro
 
 /// Decodes a short frame as [`decode_in_place_report`] does, or returns `None` and leaves the buffer as it was.
 ///
-/// It decodes a buffer if the 2 to 65 bytes before its first zero are a whole frame, and nothing follows that zero.
-/// If the target has vectors, [`decode_in_place_report`] calls it first. Like [`decode_short`](crate::decode_short), it
-/// calls nothing itself. (A choice of this library.)
+/// This function decodes a buffer that is a whole frame of 2 to 65 bytes, with or without a zero after it. If the
+/// target has vectors, [`decode_in_place_report`] calls this function first. Like
+/// [`decode_short`](crate::decode_short), this function calls no other function. (A choice of this library.)
 ///
 /// ```
 /// let mut buf = [3, 10, 11, 0];
@@ -226,11 +228,12 @@ pub fn decode_short_in_place(buf: &mut [u8]) -> Option<DecodeReport>
     })
 }
 
-/// Decodes the frame at the front of the buffer in its own place, up to the first zero or the buffer's end, and returns
-/// the message's length.
+/// Decodes the frame at the front of the buffer in place, up to the first zero or the buffer's end, and returns the
+/// message's length.
 ///
-/// The message is then at the front of the buffer, and every byte after it is as it was. Unlike `decode`, this
-/// reads a leading zero as an empty message. The errors are those of [`decode_in_place_report`].
+/// The message is then at the front of the buffer, and every byte after the message is as it was. Unlike
+/// [`decode`](crate::decode), this function reads a leading zero as an empty message. The errors are those of
+/// [`decode_in_place_report`].
 ///
 /// ```
 /// let mut buff = [3, 10, 11, 2, 12, 0];
@@ -252,9 +255,10 @@ pub fn decode_in_place(buff: &mut [u8]) -> Result<usize, DecodeError>
 
 /// Decodes the frame at the front of the buffer in place, for a sentinel other than 0.
 ///
-/// First every byte of the buffer is XORed with the sentinel, even those after the frame. Then [`decode_in_place`]
-/// decodes the buffer, with its errors. So the frame ends at the first sentinel or with the buffer, and a leading
-/// sentinel is read as an empty message. Frames for another sentinel than 0 are from Cheshire and Baker's paper.
+/// First every byte of the buffer is XORed with the sentinel, even the bytes after the frame. Then [`decode_in_place`]
+/// decodes the buffer, and its result is returned. So the frame ends at the first sentinel or at the buffer's end, and
+/// a leading sentinel is read as an empty message. Frames for a sentinel other than 0 are from Cheshire and Baker's
+/// paper.
 ///
 /// ```
 /// let mut buff = [252, 245, 244, 253, 243];

@@ -1,11 +1,12 @@
-//! The kind of a frame: whether bytes are a frame, and whether they are the one that encoders write for its message.
+//! The kind of a frame: whether bytes are a frame, and whether encoders write this frame for its message.
 ghost use Rattle.std.specs.Prelude.{◌≡◌, ◌↔◌};
 ghost use Rattle.cobs.specs.Grammar.{HasNoZero, IsCanonical, IsFrame};
 
 use crate::block::FULL_CODE;
 use crate::find::zero_or_len;
 
-/// Whether bytes are a frame, and whether they are the one that encoders write for its message. (The names are this library's own.)
+/// Whether bytes are a frame, and whether encoders write this frame for its message. (The names are this library's
+/// own.)
 ///
 /// ```
 /// assert_eq!(rt; frame_kind(&[]), FrameKind::NotAFrame);
@@ -13,24 +14,26 @@ use crate::find::zero_or_len;
 /// ```
 #[derive(Debug, Drop, PartialEq, Eq)]
 pub enum FrameKind {
-    /// The bytes are no frame: there are none, one of them is a zero, or they break off inside a block.
+    /// The bytes are no frame: there are no bytes, one of the bytes is a zero, or the bytes break off inside a block.
     NotAFrame,
 
-    /// The frame that encoders write for its message.
+    /// The bytes are a frame, and encoders write this frame for its message.
     Canonical,
 
-    /// The longer frame of its message: the one that encoders write, followed by a block without bytes, 01. Only a
-    /// message whose last run of nonzero bytes has a positive length divisible by 254 has such a frame.
+    /// The bytes are the longer frame of a message: the frame that encoders write for this message, followed by a block
+    /// without bytes, 01. Only a message whose last run of nonzero bytes has a positive length divisible by 254 has a
+    /// longer frame.
     Longer,
 }
 
-/// Returns whether the bytes are a frame, and whether they are the one that encoders write for its message.
+/// Returns whether the bytes are a frame, and whether encoders write this frame for its message.
 ///
-/// The bytes are those between two sentinels. They are the longer frame of their message exactly if their last two
-/// blocks are a full one and a block without bytes; decoders read the two frames alike. Nothing is allocated.
+/// `bytes` are the bytes between two sentinels. A frame is the longer frame of its message exactly if its last two
+/// blocks are a full block and a block without bytes; decoders read both frames of a message alike. Nothing is
+/// allocated.
 ///
-/// A frame is defined by its blocks, as in Cheshire and Baker's paper. Their encoder writes the shorter of two frames,
-/// so the shorter one is canonical.
+/// A frame is defined by its blocks, as in Cheshire and Baker's paper. The encoder of that paper writes the shorter one
+/// of a message's two frames, so the shorter frame is canonical.
 ///
 /// ```
 /// assert_eq!(rt; frame_kind(b"\x06hello"), FrameKind::Canonical);
@@ -52,8 +55,8 @@ pub fn frame_kind(bytes: &[u8]) -> FrameKind
     kind_by_blocks(bytes)
 }
 
-/// Returns the kind of a frame, as [`frame_kind`] does. It goes from one code to the next, and doesn't search the bytes
-/// for a zero. (A choice of this library.)
+/// Returns the kind of a frame, as [`frame_kind`] does. This function goes from one code to the next, and doesn't
+/// search the bytes for a zero. (A choice of this library.)
 ///
 /// Precondition: no byte is a zero.
 ///

@@ -19,13 +19,13 @@ use crate::error::DecodeError;
 /// ```
 #[derive(Debug, Drop)]
 pub enum DecoderState {
-    /// No nonzero byte has come since the last sentinel.
+    /// No nonzero byte has been taken since the last sentinel, or since the start.
     Idle,
 
-    /// Inside a block with a code from 1 to 254. This many of its bytes are missing.
+    /// Inside a block with a code from 1 to 254, of which this many bytes are missing.
     Grab(u8),
 
-    /// Inside a full block, whose code is 255. This many of its bytes are missing.
+    /// Inside a full block, whose code is 255, and of which this many bytes are missing.
     GrabChain(u8),
 }
 
@@ -39,16 +39,16 @@ pub enum DecoderState {
 /// ```
 #[derive(Debug, Drop)]
 pub enum DecodeResult {
-    /// This byte adds no byte to the message.
+    /// The byte that was fed adds no byte to the message.
     NoData,
 
-    /// This byte is the first code of a frame.
+    /// The byte that was fed is the first code of a frame.
     DataStart,
 
-    /// This byte ends a whole frame: the output so far is its message.
+    /// The byte that was fed ends a whole frame: the output so far is the message of this frame.
     DataComplete,
 
-    /// This byte is the next one of the message.
+    /// The message continues with this byte.
     DataContinue(u8),
 }
 
@@ -71,7 +71,7 @@ impl Default for DecoderState {
 }
 
 impl DecoderState {
-    /// Returns the state after a code: all the bytes that it counts are missing.
+    /// Returns the state after this code: all bytes of the block after the code are missing.
     fn opened(code: u8) -> DecoderState
         requires { code ≢ 0 }
         ensures opened { result ≡ opened_by code }
@@ -83,7 +83,7 @@ impl DecoderState {
         }
     }
 
-    /// Returns the table's row for this state and this byte: the result, and the state after it.
+    /// Returns the table's row for this state and this byte: the result, and the next state.
     fn row(&self, byte: u8) -> (Result<DecodeResult, DecodeError>, DecoderState)
         ensures returned { result.0 ≡ table_result self.now byte }
         ensures state { result.1 ≡ table_state self.now byte }
@@ -124,21 +124,21 @@ impl DecoderState {
         }
     }
 
-    /// Takes the next byte of a frame and returns its result.
+    /// Takes the next byte of a frame, and returns the result for this byte.
     ///
-    /// A sentinel, the byte 0, returns `DataComplete` if the last block has all the bytes that its code counts, and
-    /// `NoData` if no frame has begun. After each sentinel the state is `Idle`.
+    /// For a sentinel, the byte 0, the result is `DataComplete` if the last block has all the bytes that its code
+    /// counts, and `NoData` if no frame has begun. After each sentinel the state is `Idle`.
     ///
-    /// Any other byte is a code if no block is open. It returns `DataStart` if it is the first one, `NoData` after a
-    /// full block, and after any other block `DataContinue(0)`, the zero that joins the two blocks. Inside a block, a
-    /// byte returns `DataContinue` with itself.
+    /// Any other byte is a code if no block is open. For a code, the result is `DataStart` if the code is the first one
+    /// of a frame, `NoData` if it follows a full block, and otherwise `DataContinue(0)`, with the zero that joins the
+    /// two blocks. For a byte inside a block, the result is `DataContinue` with that byte.
     ///
-    /// Every state has a result for every byte. This includes states that no frame leads to, such as `Grab(255)`. The rules
-    /// for blocks are those of the paper by Cheshire and Baker; the names of the results are those of the crate `cobs`.
+    /// Every state has a result for every byte, even a state that no frame leads to, such as `Grab(255)`. The rules for
+    /// blocks are those of the paper by Cheshire and Baker; the names of the results are those of the crate `cobs`.
     ///
     /// # Errors
-    /// `InvalidFrame` for a sentinel inside a block. Its `decoded_bytes` is always 0 here, because the state doesn't
-    /// count the output.
+    /// `InvalidFrame` for a sentinel inside a block. The `decoded_bytes` of this error is always 0 here, because the
+    /// state doesn't count the output.
     ///
     /// ```
     /// let mut state = DecoderState::GrabChain(1);
@@ -149,8 +149,8 @@ impl DecoderState {
         ensures answer { result ≡ table_result self.old byte }
         ensures state { self.new ≡ table_state self.old byte }
 
-        // For a state that has taken the front p of a piece. `so_far` is the part of the message that the results had
-        // so far.
+        // The clauses `after` and `message` are about a state that has taken the front p of a piece. `so_far` has the
+        // bytes of the message in the results so far.
         ensures after { (p so_far : List ℕ) → StateAfter self.old p so_far → byte ≢ 0
             → StateAfter self.new (p ++ byte ∷ []) (so_far ++ data_of result) }
         ensures message { (p so_far m : List ℕ) → StateAfter self.old p so_far → byte ≡ 0

@@ -1,4 +1,4 @@
-//! The step of a streaming decoder for each byte, and the loop of such steps.
+//! The step of a streaming decoder for one byte, and a loop of such steps.
 ghost use Rattle.std.specs.Prelude.{◌≡◌, ◌≢◌, length};
 ghost use Rattle.cobs.specs.Feed.{Idle};
 ghost use Rattle.cobs.specs.FeedPiece.{TakesPiece};
@@ -59,8 +59,8 @@ impl UnbufferedDecoder {
         if self.too_long != 0 {
             return;
         }
-        // `written` is read once here, because compilers would read it again after each write to the buffer. Each case has a
-        // write of its own: that is faster than to choose a byte first, and to write it in one place.
+        // `written` is read once here, because compilers would read it again after each write to the buffer. Each case
+        // has a write of its own: that is faster than choosing a byte first and writing it in one place.
         let at = self.written;
         if self.missing != 0 {
             if dest.len() <= at {
@@ -101,9 +101,10 @@ impl UnbufferedDecoder {
         Ok(None)
     }
 
-    /// Takes bytes of a stream of frames for this sentinel, one step for each byte. It stops after the sentinel that ends the
-    /// first piece, or takes all bytes if no piece ends. For the sentinel 0 it does what [`feed_piece`](Self::feed_piece)
-    /// does. It has no search and no copy of slices, so it is small, and fast for a few bytes. (A choice of this library.)
+    /// Takes bytes of a stream of frames for this sentinel, one step for each byte. It stops after the sentinel that
+    /// ends the first piece, or takes all bytes if no piece ends. For the sentinel 0 it does what
+    /// [`feed_piece`](Self::feed_piece) does. This function searches for nothing and copies no slices, so it is small,
+    /// and fast for a few bytes. (A choice of this library.)
     ///
     /// ```
     /// let mut decoder = UnbufferedDecoder::new();
@@ -124,8 +125,8 @@ impl UnbufferedDecoder {
         ensures takes { TakesPiece dest.old (phase_of self.old) (xor_each sentinel bytes.now) result
             dest.new (phase_of self.new) }
     {
-        // A copy, so that it stays in registers: otherwise compilers read the fields again after each byte that is
-        // written.
+        // `here` is a copy of the decoder, so that it stays in registers: otherwise compilers read the fields again
+        // after each byte that is written.
         let mut here = *self;
         let mut taken = 0;
         if here.too_long == 0 {
@@ -143,7 +144,7 @@ impl UnbufferedDecoder {
                 }
             }
         }
-        // If a piece is too long, only its end matters.
+        // If the piece is too long, only the sentinel that ends it matters.
         'to_end: while taken < bytes.len() {
             let byte = bytes[taken] ^ sentinel;
             taken += 1;
@@ -152,7 +153,8 @@ impl UnbufferedDecoder {
                 return Some((PieceEnd::TooLong, taken));
             }
         }
-        // One by one: with an assignment of the whole, rustc needs 24 bytes more for a push on a Cortex-M4.
+        // The fields are assigned one by one: if the whole decoder is assigned, rustc needs 24 bytes more for a push on
+        // a Cortex-M4.
         self.written = here.written;
         self.missing = here.missing;
         self.joint = here.joint;

@@ -37,19 +37,20 @@ pub enum DecoderPhase {
         written: usize,
     },
 
-    /// The output of this piece was too long for the buffer.
+    /// The output of the piece is too long for the buffer.
     TooLong,
 }
 
 /// Decodes a stream of frames, each ended by a zero, into a buffer that the caller passes to each call.
 ///
-/// Its results are those of [`CobsDecoder`](crate::CobsDecoder). It has no buffer of its own, only a few numbers. So a
-/// program can use the buffer for other data between two pieces, and a decoder can be in a struct together with its
-/// buffer, or be passed to another language.
+/// This decoder returns the same results as [`CobsDecoder`](crate::CobsDecoder). An `UnbufferedDecoder` has no buffer
+/// of its own, only a few numbers. So a program can use the buffer for other data between two pieces, and a decoder can
+/// be in a struct together with its buffer, or be passed to another language.
 ///
-/// While a piece is open, that is from its first byte to the zero that ends it, the caller passes the same buffer to each call
-/// and doesn't change it between two calls. Any other buffer, of any length, is safe too: no call panics, or returns a message
-/// that is longer than the buffer. But then the results for that piece, and the bytes of the buffer, are unspecified.
+/// While a piece is open, that is from its first byte to the zero that ends it, the caller passes the same buffer to
+/// each call and doesn't change the buffer between two calls. If the caller passes another buffer, of any length, each
+/// call is still safe: no call panics, or returns a message that is longer than the buffer. But the results for that
+/// piece, and the bytes of the buffer, are then unspecified.
 ///
 /// ```
 /// let mut decoder = UnbufferedDecoder::new();
@@ -59,10 +60,11 @@ pub enum DecoderPhase {
 /// assert!(rt; buffer.starts_with(b"hello"));
 /// ```
 ///
-/// Its state is plain numbers with the layout of a C struct, and all of them are 0 before a piece begins. Every call is
-/// safe for any numbers.
-// No number says whether a piece has begun: a code at the front of a piece is read like one after a full block, with no
-// zero before it. So only `missing` is tested for a nonzero byte, and `joint` too if the byte is a code.
+/// The state of a decoder is plain numbers with the layout of a C struct. All numbers are 0 before a piece begins.
+/// Every call is safe, whatever the numbers are.
+// No number says whether a piece has begun: a code at the front of a piece is read like a code after a full block, with
+// no zero before it. So for a nonzero byte there is no test whether a piece has begun: only `missing` says whether the
+// byte is a code, and only `joint` says whether a zero comes before the code's block.
 #[repr(C)]
 #[derive(Debug, Clone, Copy, PartialEq, Eq)]
 pub struct UnbufferedDecoder {
@@ -70,16 +72,16 @@ pub struct UnbufferedDecoder {
     pub written: usize,
     /// How many bytes of the open block are missing.
     pub missing: u8,
-    /// Not 0 if a zero joins the open block to the next one, as it does unless the block is full.
+    /// Not 0 if a zero joins the open block to the next block, that is, unless the open block is full.
     pub joint: u8,
-    /// Not 0 if the output of this piece was too long for the buffer.
+    /// Not 0 if the output of this piece is too long for the buffer.
     pub too_long: u8,
 }
 
-/// Up to this many bytes, a step for each byte is faster than a search.
+/// For up to this many bytes, a step for each byte is faster than a search.
 const FEW: usize = 16;
 
-/// Up to this many bytes, a step for each byte is faster than the tests before a copy in vectors.
+/// For up to this many bytes, a step for each byte is faster than the tests before a copy in vectors.
 const VERY_FEW: usize = 3;
 
 /// No piece has begun.
@@ -105,8 +107,8 @@ impl UnbufferedDecoder {
         START
     }
 
-    /// Makes a decoder in this state. Any numbers in it are accepted. If its block is full and complete and nothing is
-    /// written, the state is the same as `Idle`.
+    /// Makes a decoder in the state `phase`. Any numbers in `phase` are accepted. If `phase` is `Within` with a full
+    /// block, no missing bytes and nothing written, the state is the same as `Idle`.
     ///
     /// ```
     /// let mut buffer = [0; 8];
@@ -160,7 +162,7 @@ impl UnbufferedDecoder {
         }
     }
 
-    /// Returns whether no piece has begun, so that the next byte that isn't a zero begins one.
+    /// Returns whether no piece has begun, so that the next nonzero byte begins a piece.
     ///
     /// ```
     /// let mut decoder = UnbufferedDecoder::new();
@@ -175,7 +177,7 @@ impl UnbufferedDecoder {
         self.written == 0 && self.missing == 0 && self.joint == 0 && self.too_long == 0
     }
 
-    /// Makes the decoder idle, so that the next byte begins a new piece.
+    /// Makes the decoder idle, so that the next nonzero byte begins a new piece.
     ///
     /// ```
     /// let mut decoder = UnbufferedDecoder::new();
@@ -190,8 +192,8 @@ impl UnbufferedDecoder {
         *self = UnbufferedDecoder::new();
     }
 
-    /// Takes the next byte of the stream, with this buffer, as [`CobsDecoder::feed`](crate::CobsDecoder::feed) does.
-    /// The errors are those of that call.
+    /// Takes the next byte of the stream, with `dest` as the buffer. The results and errors are those of
+    /// [`CobsDecoder::feed`](crate::CobsDecoder::feed).
     ///
     /// ```
     /// let mut buffer = [0; 2];
@@ -209,8 +211,8 @@ impl UnbufferedDecoder {
         self.step(dest, byte)
     }
 
-    /// Takes the next bytes of the stream, with this buffer, as [`CobsDecoder::push`](crate::CobsDecoder::push) does:
-    /// it stops after the first byte for which `feed` doesn't return `Ok(None)`. The errors are those of that call.
+    /// Takes the next bytes of the stream, with `dest` as the buffer, and stops after the first byte for which `feed`
+    /// doesn't return `Ok(None)`. The results and errors are those of [`CobsDecoder::push`](crate::CobsDecoder::push).
     ///
     /// ```
     /// let mut buffer = [0; 2];
@@ -228,7 +230,7 @@ impl UnbufferedDecoder {
         self.push_long(dest, bytes)
     }
 
-    /// Does what `push` does, without its test for a short piece.
+    /// Does what `push` does, without the test for a short piece that `push` begins with.
     pub(crate) fn push_long(
         &mut self,
         dest: &mut [u8],
@@ -256,8 +258,8 @@ impl UnbufferedDecoder {
         Ok(None)
     }
 
-    /// Takes the next bytes of the stream, with this buffer, and stops after the first zero that ends a piece, as
-    /// [`FrameDecoder::feed_piece`](crate::FrameDecoder::feed_piece) does. (A choice of this library.)
+    /// Takes the next bytes of the stream, with `dest` as the buffer, and stops after the first zero that ends a piece,
+    /// as [`FrameDecoder::feed_piece`](crate::FrameDecoder::feed_piece) does. (A choice of this library.)
     ///
     /// ```
     /// let mut decoder = UnbufferedDecoder::new();
@@ -274,8 +276,9 @@ impl UnbufferedDecoder {
         }
         if VERY_FEW < bytes.len() {
             if self.is_idle() {
-                // If a zero is near, the bytes before it are taken at once, and then the zero. If none is near, all
-                // bytes are taken at once if there are fewer than 32. For more bytes, a search by memchr is faster.
+                // If one of the first 66 bytes is a zero, the bytes before this zero are taken at once, and then the
+                // zero. Otherwise all bytes are taken at once if there are fewer than 32. For more bytes, a search by
+                // memchr is faster.
                 let front = front_len(bytes);
                 let is_all = front == bytes.len();
                 if (!is_all || front < WINDOW) && self.take_front(dest, &bytes[..front]) {
@@ -327,7 +330,7 @@ impl UnbufferedDecoder {
             }
             taken += self.take_run(dest, &bytes[taken..]);
             if taken < bytes.len() && bytes[taken] != 0 {
-                // This byte has no room.
+                // This byte has no room, so the piece is too long.
                 self.take_byte(dest, bytes[taken]);
                 taken += 1;
             }

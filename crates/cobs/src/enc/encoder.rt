@@ -11,7 +11,7 @@ use crate::error::DestBufTooSmallError;
 ///
 /// However the message is cut into pieces, the frame is the one that [`encode`](crate::encode) writes. After each push
 /// the slice begins with the frame of the bytes taken so far, except the code of the open block;
-/// [`finalize`](CobsEncoder::finalize) writes this last code. The encoder needs no more room than the frame.
+/// [`finalize`](CobsEncoder::finalize) writes this last code. The slice needs no more room than for the frame.
 ///
 /// The blocks are those of the paper by Cheshire and Baker; the calls are those of the crate `cobs`.
 ///
@@ -36,10 +36,10 @@ impl<'a> CobsEncoder<'a> {
     ghost use Rattle.cobs.specs.Length.{encoded_len};
     ghost use Rattle.cobs.specs.Fields.Encoders.{slice_of, HasTaken, WritesTo, IsOverSameSlice, IsUnchanged};
 
-    /// Makes an encoder that has taken nothing yet, and that will write to the front of `out_buf`. This call changes no
+    /// Makes an encoder that has taken no byte yet, and that will write to the front of `out_buf`. This call changes no
     /// byte of `out_buf`.
     ///
-    /// Precondition: the slice has at least one byte, because the frame of the empty message has one.
+    /// Precondition: the slice has at least one byte, because the frame of the empty message has one byte.
     ///
     /// ```
     /// let mut dest = [170; 1];
@@ -93,7 +93,7 @@ impl<'a> CobsEncoder<'a> {
     }
 
     /// Ends the message, and returns the length of its encoded frame in bytes. The slice begins with that frame, and
-    /// every byte after it is as it was before [`new`](CobsEncoder::new).
+    /// every byte after the frame is as it was before [`new`](CobsEncoder::new).
     ///
     /// ```
     /// let mut dest = [170; 3];

@@ -18,8 +18,8 @@ pub struct EncoderProgress {
     /// The code that the open block has so far: one more than the number of its bytes, from 1 to 254.
     pub code: u8,
 
-    /// Whether the frame's last block is full. Then the open block is empty, and `index` is the place after the full
-    /// block, where the frame ends if no byte follows.
+    /// Whether the frame's last block is full. If so, the open block is empty, and `index` is the index after the full
+    /// block, at which the frame ends if no byte follows.
     pub is_full: bool,
 }
 

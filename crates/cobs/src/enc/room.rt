@@ -11,8 +11,9 @@ use crate::enc::progress::EncoderProgress;
 use crate::find::position_or_len;
 use memchr::memrchr;
 
-/// Returns whether fewer than `spare` blocks become full with another byte after them, if the open block has this code
-/// and takes these bytes. Each such block makes the frame one byte longer, by the next code.
+/// Counts the blocks that become full and are followed by another byte, if the open block has this code and takes these
+/// bytes. Returns whether there are fewer than `spare` such blocks. Each of these blocks makes the frame one byte
+/// longer, because the next block needs a code.
 fn fits_each(code: u8, bytes: &[u8], spare: usize) -> bool
     requires some { 0 < code }
     requires open_block { code < 255 }
@@ -35,8 +36,9 @@ fn fits_each(code: u8, bytes: &[u8], spare: usize) -> bool
 }
 
 /// Returns whether `spare` bytes cover the overhead of every message of `len` bytes: whether `len` is at most 254 times
-/// `spare`. That is so exactly if half of `len`, rounded up, and `spare` are together at most 128 times `spare`. So it divides
-/// by powers of two only, because small processors have no instruction for other divisions, and no sum is too large.
+/// `spare`. The formula halves both sides, so that half of `len`, rounded up, is compared with 127 times `spare`, and
+/// then adds `spare` to both sides. So the function divides only by powers of two, because small processors have no
+/// instruction for other divisions, and no sum overflows.
 #[inline(always)]
 fn covers_overhead(len: usize, spare: usize) -> bool
     requires some { 0 < spare }
@@ -47,7 +49,7 @@ fn covers_overhead(len: usize, spare: usize) -> bool
 }
 
 /// Returns whether `room` bytes, counted from the code of an open block, are enough for the frame if the block takes
-/// these bytes. It reads the bytes only if their number doesn't decide that.
+/// these bytes. The bytes are read only if their number doesn't decide this.
 // Inlined, because the two lengths mostly decide: a call would cost a short message more than the comparisons.
 #[inline(always)]
 #[tactic(auto, using(crate::proofs::encoding::RoomLemmas::counted))]
@@ -65,14 +67,14 @@ pub(crate) fn has_room(code: u8, bytes: &[u8], room: usize) -> bool
     covers_overhead(len, spare) || fits_each(code, bytes, spare)
 }
 
-/// Returns whether `room` bytes, counted from the index of an open block with this code, are enough for the frame if
-/// the block takes `source`.
+/// Returns `Some` if `room` bytes, counted from the index of an open block with this code, are enough for the frame if
+/// the block takes `source`. Returns `None` if they aren't.
 ///
-/// It counts all full blocks except a last one. A block can't become full if one of its next 254 bytes is a zero, so
-/// the count continues after the last such zero. If there is none, the run fills the block. Then the run's end is
-/// searched for, because the run has a full block for each 254 of its bytes. Returns `None` if the frame doesn't fit.
-/// Otherwise returns the length of the first run if its end was searched for, so that the encoder needn't search again,
-/// and 0 if it wasn't.
+/// The function counts all full blocks except a full block at the end of the frame. If one of the next bytes that could
+/// fill a block is a zero, the block doesn't become full, and the count continues after the last zero among them. If
+/// none of them is a zero, the run fills the block. The function then searches for the end of the run, because the run
+/// fills a block with each 254 of its bytes. If the end of the first run was searched for, the `Some` has the length of
+/// this run, so that the encoder needn't search again. Otherwise it has 0.
 #[inline(never)]
 #[tactic(auto, using(crate::proofs::encoding::RoomLemmas::counted))]
 fn fits(code: usize, source: &[u8], room: usize) -> Option<usize>
@@ -116,9 +118,10 @@ fn fits(code: usize, source: &[u8], room: usize) -> Option<usize>
     None
 }
 
-/// Takes `source` as [`append`] does, if the frame then fits `dest`, and returns whether it does. Usually the two
-/// lengths decide, since a frame is longest without zeros; calling [`fits`] each time would be slower. A long run that
-/// [`fits`] has searched isn't searched again. It isn't inlined, so that a short push doesn't save registers for it.
+/// Takes `source` as [`append`] does if the frame then fits `dest`, and returns whether the frame fits. Usually the
+/// lengths of `source` and `dest` decide, since the frame of a message without zeros is the longest; calling [`fits`]
+/// each time would be slower. A long run that [`fits`] has searched isn't searched again. This function isn't inlined,
+/// so that a short push doesn't save registers for it.
 #[inline(never)]
 #[tactic(auto, using(crate::proofs::encoding::TakingLemmas::short_room))]
 pub(crate) fn try_append(source: &[u8], dest: &mut [u8], progress: &mut EncoderProgress) -> bool

@@ -1,4 +1,4 @@
-//! Frames for another sentinel than 0, and frames between sentinels.
+//! Frames for a sentinel other than 0, and frames between sentinels.
 ghost use Rattle.std.specs.Prelude.{◌≡◌, ◌≤◌, ◌+◌, ◌↔◌, length, take, drop, IsOk, IfOk, OnErr};
 ghost use Rattle.cobs.specs.Length.{encoded_len};
 ghost use Rattle.cobs.specs.Grammar.{HasNoZero};
@@ -9,13 +9,15 @@ use crate::error::DestBufTooSmallError;
 use cobs_bytes::lanes::xor_bytes;
 use cobs_bytes::window::has_vectors;
 
-/// Writes the encoded frame of `source` for this sentinel to the front of `dest`, and returns its length in bytes.
+/// Writes the encoded frame of `source` for this sentinel to the front of `dest`, and returns the frame's length in
+/// bytes.
 ///
-/// It is the frame that [`encode`] writes, each byte XORed with `sentinel`, so no byte of it is the
-/// sentinel. No sentinel is written, and the bytes of `dest` after the frame stay as they were.
+/// The frame is the one that [`encode`] writes, with each byte XORed with `sentinel`, so no byte of the frame is the
+/// sentinel. No sentinel is written before or after the frame, and the bytes of `dest` after the frame stay as they
+/// were.
 ///
-/// Precondition: the frame fits `dest`. [`max_encoding_length`](crate::max_encoding_length) says how many bytes are
-/// always enough. Frames for another sentinel than 0 are from Cheshire and Baker's paper.
+/// Precondition: the frame fits `dest`. [`max_encoding_length`](crate::max_encoding_length) returns a length of `dest`
+/// that is always enough. Frames for a sentinel other than 0 are from Cheshire and Baker's paper.
 ///
 /// ```
 /// let mut dest = [170; 6];
@@ -72,14 +74,14 @@ pub fn try_encode_with_sentinel(
     Ok(written)
 }
 
-/// Writes a 0, the encoded frame of `source` and another 0 to the front of `dest`, and returns the length of all three
-/// in bytes.
+/// Writes a 0, the encoded frame of `source` and another 0 to the front of `dest`, and returns how many bytes it wrote.
 ///
-/// The bytes of `dest` after them stay as they were. As in the crate `cobs`, there is a sentinel on each side of the frame.
+/// The bytes of `dest` after the second 0 stay as they were. As in the crate `cobs`, there is a sentinel on each side
+/// of the frame.
 ///
 /// Precondition: the frame and both sentinels fit `dest`. Two bytes more than
-/// [`max_encoding_length`](crate::max_encoding_length) says are always enough. [`try_encode_including_sentinels`] tests
-/// itself whether they fit.
+/// [`max_encoding_length`](crate::max_encoding_length) returns are always enough. If the frame and both sentinels may
+/// not fit, call [`try_encode_including_sentinels`], which tests whether they fit.
 ///
 /// ```
 /// let mut dest = [170; 8];
@@ -105,8 +107,8 @@ pub fn encode_including_sentinels(source: &[u8], dest: &mut [u8]) -> usize
 /// Does what [`encode_including_sentinels`] does, if the frame and both sentinels fit `dest`.
 ///
 /// # Errors
-/// `DestBufTooSmallError` exactly if the three together are longer than `dest`. Then no byte of `dest` has changed,
-/// which is a choice of this library.
+/// `DestBufTooSmallError` exactly if the frame and both sentinels together are longer than `dest`. Then no byte of
+/// `dest` has changed, which is a choice of this library.
 ///
 /// ```
 /// let mut dest = [170; 4];
@@ -127,7 +129,7 @@ pub fn try_encode_including_sentinels(
     ensures rest { IfOk result (λ n. drop n dest.new ≡ drop n dest.old) }
     ensures refused { OnErr result (dest.new ≡ dest.old) }
 {
-    // Both sentinels and the shortest frame.
+    // Both sentinels and the shortest frame need three bytes.
     if dest.len() < 3 {
         return Err(DestBufTooSmallError);
     }

@@ -14,13 +14,14 @@ use cobs_bytes::window::has_vectors;
 
 /// Encodes a message that comes in pieces, straight into a buffer that the caller passes to each call.
 ///
-/// It writes the frame that [`CobsEncoder`](crate::CobsEncoder) writes, and has no buffer of its own. Three numbers,
-/// which are all 0 at the start, say how much of the frame is in the buffer. So an encoder can be in a struct together
-/// with its buffer, or be passed to another language.
+/// This encoder writes the frame that [`CobsEncoder`](crate::CobsEncoder) writes, and has no buffer of its own. Three
+/// numbers, which are all 0 at the start, say how much of the frame is in the buffer. So an encoder can be in a struct
+/// together with its buffer, or be passed to another language.
 ///
-/// From the first push to the end of the message the caller passes the same buffer to each call and doesn't change it between
-/// two calls. Any other buffer, of any length, is safe too, and so are any numbers: no call panics, or returns a length that is
-/// greater than the buffer's. But then the bytes of the buffer are unspecified.
+/// From the first push to the end of the message the caller passes the same buffer to each call and doesn't change the
+/// buffer between two calls. If the caller passes another buffer, of any length, or sets the numbers to any values,
+/// each call is still safe: no call panics, or returns a length that is greater than the buffer's length. But the bytes
+/// of the buffer are then unspecified.
 ///
 /// ```
 /// let mut encoder = UnbufferedEncoder::new();
@@ -45,8 +46,8 @@ pub struct UnbufferedEncoder {
 }
 
 impl UnbufferedEncoder {
-    /// Makes an encoder that has taken nothing yet. Its buffer needs at least one byte, because the frame of the empty message
-    /// has one.
+    /// Makes an encoder that has taken no byte yet. The buffer that you pass to the encoder needs at least one byte,
+    /// because the frame of the empty message has one byte.
     ///
     /// ```
     /// let mut buffer = [170; 2];
@@ -64,7 +65,7 @@ impl UnbufferedEncoder {
         }
     }
 
-    /// Makes an encoder in this state, whatever the numbers are.
+    /// Makes an encoder with this progress. Any numbers in `progress` are accepted.
     ///
     /// ```
     /// let mut buffer = [0; 64];
@@ -101,7 +102,7 @@ impl UnbufferedEncoder {
         }
     }
 
-    /// Puts the encoder back to the start: it has then taken nothing.
+    /// Puts the encoder back to the start: it has then taken no byte.
     ///
     /// ```
     /// let mut buffer = [170; 2];
@@ -118,11 +119,12 @@ impl UnbufferedEncoder {
         *self = UnbufferedEncoder::new();
     }
 
-    /// Returns whether this progress is possible in a buffer of this length.
+    /// Returns whether the encoder's progress is possible in a buffer of `len` bytes.
     #[inline(always)]
     pub(crate) fn is_within(&self, len: usize) -> bool
         ensures { IsTrue result ↔ IsPlaceIn len (reached_by self.now) }
     {
+        // An open block has at most 253 bytes: other numbers don't come from these calls.
         if 253 < self.taken || len < self.index {
             return false;
         }
@@ -182,7 +184,7 @@ impl UnbufferedEncoder {
             *self = UnbufferedEncoder::from_progress(append_short(bytes, dest, at, true));
             return Ok(());
         }
-        // A copy, so that the encoder stays in registers.
+        // `reached` is a copy of the progress, so that the encoder stays in registers.
         let mut reached = at;
         if !try_append(bytes, dest, &mut reached) {
             return Err(DestBufTooSmallError);

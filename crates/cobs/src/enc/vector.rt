@@ -12,10 +12,10 @@ use std::alloc::{AllocError, Global};
 /// Returns the encoded frame of `source` as a vector, without a sentinel before or after it.
 ///
 /// Precondition: [`max_encoding_length`](crate::max_encoding_length) of the message's length fits a `usize`. Memory is
-/// allocated once, for that many bytes.
+/// allocated once, for a frame of this greatest length.
 ///
 /// # Errors
-/// `AllocError` if that memory runs out.
+/// `AllocError` if memory runs out.
 ///
 /// ```
 /// let frame = encode_vec(alloc, b"hello")?;
@@ -36,11 +36,11 @@ pub fn encode_vec(alloc: Global, source: &[u8]) -> Result<Vec<u8>, AllocError>
 /// Returns a 0, the encoded frame of `source` and another 0 as a vector.
 ///
 /// Precondition: [`max_encoding_length`](crate::max_encoding_length) of the message's length, plus 2, fits a `usize`.
-/// Memory is allocated once, for that many bytes. The vector has exactly both sentinels and the frame, which is a
-/// choice of this library.
+/// Memory is allocated once, for a frame of this greatest length and both sentinels. The vector then has no bytes other
+/// than the frame and both sentinels, which is a choice of this library.
 ///
 /// # Errors
-/// `AllocError` if that memory runs out.
+/// `AllocError` if memory runs out.
 ///
 /// ```
 /// let delimited = encode_vec_including_sentinels(alloc, b"hello")?;
@@ -62,10 +62,10 @@ pub fn encode_vec_including_sentinels(alloc: Global, source: &[u8]) -> Result<Ve
 /// with `sentinel`.
 ///
 /// Precondition: [`max_encoding_length`](crate::max_encoding_length) of the message's length fits a `usize`. Memory is
-/// allocated once, for that many bytes.
+/// allocated once, for a frame of this greatest length.
 ///
 /// # Errors
-/// `AllocError` if that memory runs out.
+/// `AllocError` if memory runs out.
 ///
 /// ```
 /// let frame = encode_vec_with_sentinel(alloc, &[10, 11, 0, 12], 255)?;

@@ -1,5 +1,5 @@
 //! Laws for your own coder: the length of a frame block by block, the states of an encoder and of a decoder after each
-//! byte, and the kind of a frame. They also say what the streaming decoders return for a frame.
+//! byte, and the kind of a frame. `law_18` says what the streaming decoders return for a frame.
 ghost use Rattle.std.specs.Prelude.{◌≡◌, ◌≢◌, ◌↔◌, ◌<◌, ◌+◌, ℕ, List, [], ◌∷◌, ◌++◌, length, drop, false, Some, None};
 ghost use Rattle.cobs.specs.Feed.{DecoderAfter, Idle, Phase};
 ghost use Rattle.cobs.specs.FeedPiece.{TakesPiece, outcome_at};
@@ -12,7 +12,7 @@ ghost use Rattle.cobs.specs.declared.dec.frame_decoder.PieceEnd.{PieceEnd};
 
 /// The length of a frame, counted block by block.
 ///
-/// Up to 254 nonzero bytes at the end of a message are one block. So are up to 253 nonzero bytes before a zero, and 254
+/// One block holds up to 254 nonzero bytes at the end of a message, up to 253 nonzero bytes before a zero, or 254
 /// nonzero bytes if the message continues after them. The values of the nonzero bytes don't matter.
 ///
 /// So one pass over the message decides whether its frame fits, before a byte is written.
@@ -40,13 +40,13 @@ pub fn law_15()
 
 /// An encoder of your own, byte by byte.
 ///
-/// The encoder writes to a slice, and at first it has taken no byte. It appends a nonzero byte to the open block. The
-/// 254th byte fills the block, and the encoder then writes the block's code. A zero ends the block, and the encoder
-/// writes its code too. At the end of the message it writes the code of the open block, unless the last block is full.
+/// The encoder writes to a slice. At first the encoder has taken no byte. The encoder appends a nonzero byte to the
+/// open block. The 254th byte fills the block, and a zero ends the block; then the encoder writes the block's code. At
+/// the end of the message the encoder writes the code of the open block, unless the last block is full.
 ///
-/// Suppose that more bytes follow. Encode the bytes of the open block together with them: the length of the whole frame
-/// is the index of the open block plus the length of that frame. The clause `goes_on` says this. In it `a` stands for
-/// any nonzero bytes, as many as the open block has.
+/// If more bytes of the message follow, the length of the whole frame is a sum: the index of the open block, plus the
+/// length of the encoded frame of the open block's bytes and the bytes that follow. The clause `goes_on` says this; its
+/// `a` stands for any nonzero bytes, as many as the open block has.
 ///
 /// So your own encoder with these steps writes the frames of [`encode`](crate::encode).
 ///
@@ -106,9 +106,11 @@ pub fn law_17()
 
 /// A frame is decoded as its message however it is streamed, and nothing else is.
 ///
-/// If all bytes of a frame have been fed, the zero after them returns the length of its message, if the buffer has room
-/// for it. `feed_piece` of an idle decoder ends with the first zero after a piece, and returns the message too. So does
-/// a push of the frame and its zero. The buffer then begins with the message. No other piece is decoded as a message.
+/// If all bytes of a frame have been fed, `feed` of the zero after them returns the length of the message, provided
+/// that the buffer has room for the message. `feed_piece` of an idle decoder stops after the zero that ends the first
+/// piece. If the piece is such a frame, `feed_piece` returns the length of the message too, and so does a push of the
+/// frame and its zero to an idle decoder. In each case the buffer then begins with the message. No other piece is
+/// decoded as a message.
 ///
 /// So a frame that [`encode`](crate::encode) wrote is read by each of these calls.
 ///
@@ -133,12 +135,11 @@ pub fn law_18()
 
 /// The kind of a frame, block by block.
 ///
-/// A single block is a canonical frame. Suppose that other bytes follow a block. Together they are a frame exactly if
-/// the other bytes are a frame. They are canonical exactly if the other bytes are canonical, with one exception: a full
-/// block followed by the lone block, 01, is not canonical. If there are fewer bytes than the first code says, they are
-/// no frame.
+/// A single block is a canonical frame. A block with other bytes after it is a frame exactly if the other bytes are a
+/// frame. This frame is canonical exactly if the other bytes are canonical, with one exception: a full block followed
+/// by the lone block, 01, is not canonical. Bytes are no frame if there are fewer of them than the first code says.
 ///
-/// So your own reader that goes from code to code learns whether it has a frame, and which one.
+/// So your own reader that goes from code to code learns whether it has a frame, and of which kind.
 ///
 /// ```
 /// fn is_canonical_behind(block: &[u8], frame: &[u8]) -> bool
@@ -163,10 +164,10 @@ pub fn law_19()
 
 /// The output of a piece, block by block.
 ///
-/// A block is whole, and its output is its bytes without the code. Suppose that other bytes follow a block. Together
-/// they are whole exactly if the other bytes are. Their kept output is the block's output, then a zero unless the block
-/// is full, then the kept output of the other bytes. If there are fewer bytes than the first of them says, they are
-/// broken, and their kept output is empty. The kept output of a whole piece is its output.
+/// A block is whole, and its output is its bytes without the code. A block with other bytes after it is whole exactly
+/// if the other bytes are whole. The kept output is then the block's output, a zero unless the block is full, and the
+/// kept output of the other bytes. Bytes are broken if there are fewer of them than the first code says, and their kept
+/// output is then empty. The kept output of a whole piece is its output.
 ///
 /// So your own decoder that goes from code to code writes the bytes that [`decode_in_place`](crate::decode_in_place)
 /// writes.
@@ -196,9 +197,9 @@ pub fn law_20()
 
 /// A loop over the pieces of a stream.
 ///
-/// If an idle decoder reads a piece by `feed_piece`, the outcomes of the stream are the outcome of that piece, and then
-/// those of the bytes after it. The unended bytes of the stream are the unended bytes of its part after that piece. If
-/// no piece ends, there is no outcome, and the decoder has taken the unended bytes.
+/// If an idle decoder reads a piece with `feed_piece`, the outcomes of the stream are the outcome of that piece, and
+/// then the outcomes of the bytes after the piece. The unended bytes of the stream are the unended bytes of its part
+/// after that piece. If no piece ends, the stream has no outcome, and the decoder has taken the unended bytes.
 ///
 /// So a loop over `feed_piece` is proved by one equation: the outcomes found so far, followed by those of the remaining
 /// bytes, are the outcomes of the stream.

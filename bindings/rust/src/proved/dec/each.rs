@@ -1,21 +1,22 @@
 // Made by bindings/rust/translate.py from `crates/cobs/src/dec/each.rt`: change that file, and run it again.
-//! Decoding one byte after another, for targets without vectors.
+//! Decoders that take one byte after another, for targets without vectors.
 
 use crate::proved::block::{FULL, FULL_CODE};
 use crate::proved::dec::frame_decoder::PieceEnd;
 use crate::proved::error::{DecodeError, DecodeReport};
 use crate::proved::find::{leading_zeros, len_to, len_to_zero};
 
-/// Decodes in place the frame of `end` bytes that the buffer begins with, one byte after another, and returns the message's
-/// length. Every byte after the message is as it was. It is small, and uses no vectors.
+/// Decodes the frame in the first `end` bytes of the buffer, in place and one byte after another, and returns the
+/// message's length. Every byte after the message is as it was. This function is small, and uses no vectors.
 ///
-/// Precondition: the buffer has `end` bytes, and none of them is a zero. `len_to_zero` counts such bytes.
+/// Precondition: the buffer has at least `end` bytes, and none of its first `end` bytes is a zero.
+/// `len_to_zero` returns the number of bytes before the first zero.
 ///
 /// # Errors
 ///
-/// `InvalidFrame` if the last block breaks off, with the `decoded_bytes` that [`decode_in_place`](crate::decode_in_place) returns.
-/// The bytes of that block aren't decoded.
-// A function of its own, so that its loops have all registers of a small processor.
+/// `InvalidFrame` if the last block breaks off, with the same `decoded_bytes` as
+/// [`decode_in_place`](crate::decode_in_place). The bytes of the broken block aren't decoded.
+// Not inlined, so that its loops can use all registers of a small processor.
 #[inline(never)]
 pub fn decode_blocks_each(buffer: &mut [u8], end: usize) -> Result<usize, DecodeError> {
     let mut read = 0;
@@ -29,7 +30,7 @@ pub fn decode_blocks_each(buffer: &mut [u8], end: usize) -> Result<usize, Decode
         }
         let next = read + code;
         read += 1;
-        // The test is at the end of the loop, because compilers that keep code small leave it there.
+        // The inner loop tests at its end, because compilers that optimize for size leave the test where it is written.
         if read != next {
             loop {
                 buffer[written] = buffer[read];
@@ -61,9 +62,9 @@ pub(crate) fn decode_in_place_each(buf: &mut [u8]) -> Result<DecodeReport, Decod
     })
 }
 
-/// Returns the end of the piece whose next byte is at `at`: after its zero if it has one, otherwise the end of the
-/// source.
-// A function of its own, so that the loops of its caller have all registers of a small processor.
+/// Returns the index at which the piece ends whose next byte is at index `at`: the index after the next zero, or the
+/// source's length if there is no zero.
+// Not inlined, so that the loops of its caller can use all registers of a small processor.
 #[inline(never)]
 fn through_piece(source: &[u8], at: usize) -> usize {
     let mut end = at;
@@ -76,8 +77,8 @@ fn through_piece(source: &[u8], at: usize) -> usize {
     end
 }
 
-/// Returns the result for a piece that ended after this many bytes of output, with this many bytes of its last block missing,
-/// and after `at` bytes of the source.
+/// Returns the result of `decode_piece` for a piece with `written` bytes of output, if `missing` bytes of its last
+/// block are missing and `at` bytes of the source were consumed.
 #[inline(always)]
 fn ended(written: usize, missing: usize, at: usize) -> Option<(PieceEnd, usize)> {
     if missing == 0 {
@@ -86,10 +87,12 @@ fn ended(written: usize, missing: usize, at: usize) -> Option<(PieceEnd, usize)>
     Some((PieceEnd::Broken(written), at))
 }
 
-/// Decodes the first piece of the source into `dest`, one byte after another, and returns how it ended, and how many bytes
-/// were consumed: leading zeros, the piece, and the zero after it if there is one. Returns `None` if there is no piece.
+/// Decodes the first piece of the source into `dest`, one byte after another. Returns how the piece ended, and how many
+/// bytes were consumed: the leading zeros, the piece, and the zero after the piece if there is one. Returns `None` if
+/// the source has no piece.
 ///
-/// It does what [`decode`](crate::decode) does, and counts the consumed bytes in each case. It is small, and uses no vectors.
+/// This function decodes as [`decode`](crate::decode) does, but it reports the number of consumed bytes for a broken or
+/// too long piece too. The function is small, and uses no vectors.
 #[inline(always)]
 pub fn decode_piece(source: &[u8], dest: &mut [u8]) -> Option<(PieceEnd, usize)> {
     let start = leading_zeros(source);

@@ -1,5 +1,5 @@
 // Made by bindings/rust/translate.py from `crates/cobs/src/dec/forms.rt`: change that file, and run it again.
-//! The forms of `decode` for any sentinel, and into a vector.
+//! The forms of `decode`: for any sentinel, and into a vector.
 
 use crate::proved::block::FULL_BLOCK_BYTES;
 use crate::proved::cobs_bytes::window::{WIDE_WINDOW, has_vectors};
@@ -9,7 +9,7 @@ use crate::proved::dec::unbuffered::START;
 use crate::proved::error::DecodeError;
 use crate::proved::find::{len_without_end, position_or_len};
 
-/// Decodes the blocks of a source that has no sentinel, and returns the length of their output.
+/// Decodes a source that contains no sentinel, and returns the message's length.
 fn decode_blocks(source: &[u8], dest: &mut [u8], sentinel: u8) -> Result<usize, DecodeError> {
     // A block that begins before the last 254 bytes is whole.
     let tail = source.len().saturating_sub(FULL_BLOCK_BYTES);
@@ -26,21 +26,23 @@ fn decode_blocks(source: &[u8], dest: &mut [u8], sentinel: u8) -> Result<usize, 
 
 /// Decodes the frame at the front of the source, for any sentinel, and returns the message's length.
 ///
-/// The frame ends at the source's first sentinel, or with the source; each byte is XORed with the sentinel.
-/// The message is then at the front of `dest`, and every byte after it is as it was. Unlike `decode`, this reads a
-/// leading sentinel as an empty message, and returns 0.
+/// The frame ends at the source's first sentinel, or at the end of the source. Each byte of the frame is XORed with the
+/// sentinel before it is decoded. The message is then at the front of `dest`, and every byte of `dest` after the
+/// message is as it was. Unlike [`decode`](crate::decode), this function reads a leading sentinel as an empty message,
+/// and returns 0.
 ///
 /// # Errors
 ///
 /// - `EmptyFrame` if the source is empty; `dest` is as it was.
 /// - `TargetBufTooSmall` if the message is longer than `dest`, or if the frame breaks off and the output of its whole
-///   blocks is longer than `dest`. The buffer then holds the first bytes of that message or output.
-/// - `InvalidFrame` if the frame breaks off inside a block and the output of its whole blocks fits. Then `dest` begins
-///   with that output, `decoded_bytes` is its length, and every byte after it is as it was. The output ends with the
-///   zero that joins the whole blocks to the broken one, unless the last whole block is full.
+///   blocks is longer than `dest`. `dest` then holds the first bytes of that message or output.
+/// - `InvalidFrame` if the frame breaks off inside a block and the output of its whole blocks fits `dest`. Then `dest`
+///   begins with that output, `decoded_bytes` is the length of the output, and every byte of `dest` after the output is
+///   as it was. The output ends with the zero that joins the last whole block to the broken block, unless the last
+///   whole block is full.
 ///
-/// Frames for another sentinel than 0 are from Cheshire and Baker's paper; the results for broken ones are a choice of
-/// this library.
+/// Frames for a sentinel other than 0 are from Cheshire and Baker's paper; the results for broken frames are a choice
+/// of this library.
 #[inline]
 pub fn decode_with_sentinel(
     source: &[u8],

@@ -17,10 +17,10 @@ use crate::proved::error::DecodeError;
 #[cfg_attr(feature = "serde", derive(serde::Serialize, serde::Deserialize))]
 #[cfg_attr(feature = "defmt", derive(defmt::Format))]
 pub enum PieceEnd {
-    /// The piece is a frame. Its message is this many bytes at the front of the decoder's buffer.
+    /// The piece is a frame whose message has this many bytes. The message is at the front of the decoder's buffer.
     Message(usize),
 
-    /// The piece breaks off inside a block. It decodes to this many bytes, those of the broken block included.
+    /// The piece breaks off inside a block. The piece decodes to this many bytes, including those of the broken block.
     Broken(usize),
 
     /// The piece decodes to more bytes than the decoder's buffer holds.
@@ -28,7 +28,8 @@ pub enum PieceEnd {
 }
 
 impl PieceEnd {
-    /// Returns how a piece has ended, given the result of `feed` for its zero. Returns `None` if no piece had begun.
+    /// Returns how a piece ended, given the result of `feed` for the zero that ended the piece. Returns `None` if no
+    /// piece had begun.
     ///
     /// ```
     /// use jcobs::{PieceEnd, UnbufferedDecoder};
@@ -63,8 +64,8 @@ impl PieceEnd {
 /// assert_eq!(decoder.feed_piece(&stream), Some((PieceEnd::Broken(1), 3)));
 /// ```
 pub trait FrameDecoder {
-    /// Takes the next byte of the stream, as [`CobsDecoder::feed`](crate::CobsDecoder::feed) does. The errors are those
-    /// of that call.
+    /// Takes the next byte of the stream, with the results and errors of
+    /// [`CobsDecoder::feed`](crate::CobsDecoder::feed).
     ///
     /// ```
     /// use jcobs::{CobsDecoderHeapless, FrameDecoder};
@@ -77,13 +78,13 @@ pub trait FrameDecoder {
 
     /// Takes the next bytes of the stream, and stops after the first zero that ends a piece.
     ///
-    /// Returns `None` if no piece ended in these bytes, and then all of them were taken. Returns `Some((end, count))`
-    /// if a piece ended with the byte at index `count - 1`; `end` says how. The bytes after that one had no effect, and
-    /// the bytes of the buffer after the output are as they were. A piece that is too long for the buffer ends at its
-    /// zero, like every other, so the caller never has to feed single bytes.
+    /// Returns `None` if no piece ended in these bytes; the decoder has then taken all of them. Returns `Some((end,
+    /// count))` if the zero at index `count - 1` ended a piece; `end` says how the piece ended. The bytes after that
+    /// zero had no effect. The bytes of the buffer after the piece's output are as they were. A piece that is too long
+    /// for the buffer ends at its zero, like every other piece, so the caller never has to feed single bytes.
     ///
-    /// An implementation doesn't have to define this method: the provided one feeds one byte after another. The decoders of
-    /// this library copy whole blocks instead.
+    /// An implementation doesn't have to define this method: the provided method feeds one byte after another. The
+    /// decoders of this library copy whole blocks instead.
     ///
     /// ```
     /// use jcobs::{CobsDecoderHeapless, FrameDecoder, PieceEnd};

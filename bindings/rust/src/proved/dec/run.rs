@@ -1,6 +1,7 @@
 // Made by bindings/rust/translate.py from `crates/cobs/src/dec/run.rt`: change that file, and run it again.
-//! The walk of every decoder over the bytes before a sentinel. A step takes a long block, 32 codes of blocks without bytes,
-//! or a *span*: bytes that are copied at once, with the codes among them, before a zero is written over each code.
+//! The walk of the decoders over the bytes before a sentinel, on targets with vectors. A step takes a long block, rows
+//! of 32 codes of blocks without bytes, or a *span*. A span is copied at once, together with the codes among its bytes;
+//! then a zero is written over each code.
 
 use crate::proved::block::FULL_BLOCK_BYTES;
 use crate::proved::cobs_bytes::lanes::{copy_xored, copy_xored_short};
@@ -12,13 +13,14 @@ use crate::proved::dec::step::joint_after;
 use crate::proved::dec::unbuffered::{START, UnbufferedDecoder};
 use crate::proved::find::zero_or_len;
 
-/// The most bytes of one span. They are fewer than a full block has, so no code in a span follows a full block that
+/// The greatest number of bytes in a span. A full block has more bytes, so no code in a span follows a full block that
 /// begins in the same span.
 pub(crate) const SPAN_MAX: usize = FULL_BLOCK_BYTES - 1;
 
 /// Takes rows of 32 bytes from the front of `bytes`, as long as each byte of a row is `byte`, and writes a row of zeros
-/// for each, from `at` on. It stops if there is no room for another row, and after seven rows, because the caller
-/// treats the rows as one span, and eight rows would be longer than a span. Returns how many zeros it wrote.
+/// to `dest` for each, from index `at` on. It stops if `dest` has no room for another row. It also stops after seven
+/// rows, because the caller treats the rows as one span, and eight rows would be longer than a span. Returns how many
+/// zeros it wrote.
 #[inline(always)]
 fn write_rows(dest: &mut [u8], at: usize, bytes: &[u8], byte: u8) -> usize {
     let most = bytes.len().min(dest.len().saturating_sub(at)).min(SPAN_MAX);
@@ -31,8 +33,8 @@ fn write_rows(dest: &mut [u8], at: usize, bytes: &[u8], byte: u8) -> usize {
 }
 
 impl UnbufferedDecoder {
-    /// Takes the code of a block that follows a whole block, and writes the zero that joins the two, unless the first
-    /// is full.
+    /// Takes the code of a block that follows a whole block, and writes the zero that joins the two blocks, unless the
+    /// first block is full.
     #[inline(always)]
     pub(crate) fn take_joint(&mut self, dest: &mut [u8], code: u8) {
         if self.joint != 0 {
@@ -43,8 +45,8 @@ impl UnbufferedDecoder {
         self.missing = code - 1;
     }
 
-    /// Returns how many of `len` bytes one span can have. If the open block is full, the span ends with it at the
-    /// latest.
+    /// Returns how many of `len` bytes one span can have. If the open block is full, the span ends no later than the
+    /// open block.
     #[inline(always)]
     pub(crate) fn span_len(&self, len: usize) -> usize {
         if self.joint == 0 {
@@ -55,8 +57,8 @@ impl UnbufferedDecoder {
     }
 
     /// Takes the code of a block that follows a whole block, and as many bytes of the new block as `bytes` has and
-    /// `dest` has room for. Returns how many bytes it took, the code included. This is 0 only if the zero that joins
-    /// the two blocks has no room.
+    /// `dest` has room for. Returns how many bytes it took, including the code: 0 only if the zero that joins the two
+    /// blocks has no room.
     #[inline(always)]
     fn take_block(&mut self, dest: &mut [u8], bytes: &[u8], sentinel: u8) -> usize {
         if self.joint != 0 && dest.len() <= self.written {
@@ -67,7 +69,8 @@ impl UnbufferedDecoder {
         let len = (self.missing as usize)
             .min(bytes.len() - 1)
             .min(dest.len().saturating_sub(at));
-        // The buffer may even be shorter than `written`, if the earlier calls had another buffer.
+        // `dest` may be shorter than `at` if earlier calls had a longer buffer. The slice of `dest` below would then be
+        // out of bounds.
         if len == 0 {
             return 1;
         }
@@ -77,7 +80,8 @@ impl UnbufferedDecoder {
         1 + len
     }
 
-    /// Makes the last block of a span the open block. `last` has its code, and how many of its bytes are missing.
+    /// Makes the last block of a span the open block. `last` has the code of this block, and the number of its missing
+    /// bytes.
     #[inline(always)]
     fn settle(&mut self, last: (u8, u8)) {
         let (code, missing) = last;
@@ -85,7 +89,8 @@ impl UnbufferedDecoder {
         self.missing = missing;
     }
 
-    /// Takes `len` bytes that were moved to the end of the output. None of them is a zero, and no full block ends in them.
+    /// Takes `len` bytes that were moved to the end of the output. None of these bytes is a zero, and no full block
+    /// ends before the last of them.
     #[inline(always)]
     pub(crate) fn take_moved(&mut self, dest: &mut [u8], len: usize) {
         let at = self.written;
@@ -95,12 +100,12 @@ impl UnbufferedDecoder {
             self.missing -= len as u8;
             return;
         }
-        // The open block is missing as many bytes as one that a code of one more opens.
+        // `missing` bytes of the open block are missing, as after a code of `missing + 1`.
         self.settle(write_zeros_at_codes(&mut dest[at..at + len], missing + 1));
     }
 
-    /// Takes these bytes, which were copied to the end of the output, each XORed with the sentinel. None of them is the
-    /// sentinel, and no full block ends in them.
+    /// Takes the bytes `copied`, which were copied to the end of the output, each XORed with the sentinel. None of
+    /// these bytes is the sentinel, and no full block ends before the last of them.
     #[inline(always)]
     fn take_copied(&mut self, dest: &mut [u8], copied: &[u8], sentinel: u8) {
         let at = self.written;
@@ -111,7 +116,7 @@ impl UnbufferedDecoder {
             self.missing -= len as u8;
             return;
         }
-        // The open block is missing as many bytes as one that a code of one more opens.
+        // `missing` bytes of the open block are missing, as after a code of `missing + 1`.
         self.settle(write_zeros_at_copied(
             &mut dest[at..at + len],
             copied,
@@ -120,7 +125,8 @@ impl UnbufferedDecoder {
         ));
     }
 
-    /// Takes up to 253 bytes, in which no full block ends. Returns how many it took: 0 if the first byte has no room.
+    /// Takes a span of up to 253 bytes, and returns how many bytes it took: 0 if the first byte has no room. No full
+    /// block ends before the last of these bytes.
     #[inline(always)]
     fn take_span(&mut self, dest: &mut [u8], bytes: &[u8], sentinel: u8) -> usize {
         let at = self.written;
@@ -135,8 +141,8 @@ impl UnbufferedDecoder {
         len
     }
 
-    /// Takes all bytes at once if they are fewer than 32, none is a zero, they have room and no full block ends in them.
-    /// Returns whether it did.
+    /// Takes all of `bytes` at once if they are 1 to 31 bytes, none of them is a zero, they have room, and no full
+    /// block ends before the last of them. Returns whether it took them.
     #[inline(always)]
     pub(crate) fn take_short(&mut self, dest: &mut [u8], bytes: &[u8]) -> bool {
         let at = self.written;
@@ -154,11 +160,11 @@ impl UnbufferedDecoder {
         true
     }
 
-    /// Takes the code at the front of a piece, and the bytes after it, which were copied to the front of `dest`. None of them
-    /// is a zero.
+    /// Takes the code at the front of a piece, and the bytes after the code, which were copied from `copied` to the
+    /// front of `dest`. None of these bytes is a zero.
     #[inline(always)]
     fn begin(&mut self, dest: &mut [u8], code: u8, copied: &[u8]) {
-        // It begins with `START` instead of `self`, which is equal, so that no field has to be loaded.
+        // The decoder is idle, so `self` equals `START`. Code that begins with `START` doesn't have to load the fields.
         let mut begun = START;
         begun.joint = joint_after(code);
         begun.missing = code - 1;
@@ -166,8 +172,8 @@ impl UnbufferedDecoder {
         *self = begun;
     }
 
-    /// Takes the first bytes of a piece at once, if there are at least 2 and `dest` has room for their output. None of
-    /// them may be a zero. Returns whether it did.
+    /// Takes `bytes`, the first bytes of a piece, at once if there are at least 2 of them and `dest` has room for their
+    /// output. Returns whether it took them. There must be at most 65 bytes, and none of them may be a zero.
     #[inline(always)]
     pub(crate) fn take_front(&mut self, dest: &mut [u8], bytes: &[u8]) -> bool {
         let len = bytes.len();
@@ -181,8 +187,8 @@ impl UnbufferedDecoder {
     }
 
     /// Takes the bytes of one step, and returns their number, which is 0 only if the first byte has no room. A step is
-    /// one of three: a block that has at least 64 bytes or follows a full block; rows of 32 codes of blocks without
-    /// bytes; or a span.
+    /// one of three: a block that has at least 64 bytes after its code, begins the piece or follows a full block; rows
+    /// of 32 codes of blocks without bytes; or a span.
     #[inline(always)]
     fn take_part(&mut self, dest: &mut [u8], bytes: &[u8], sentinel: u8) -> usize {
         if self.missing == 0 {
@@ -201,10 +207,10 @@ impl UnbufferedDecoder {
         self.take_span(dest, bytes, sentinel)
     }
 
-    /// Takes bytes that have no sentinel, as long as their output has room, and returns how many it took.
+    /// Takes bytes, none of which is the sentinel, as long as their output has room, and returns how many it took.
     #[inline(always)]
     pub(crate) fn take_blocks(&mut self, dest: &mut [u8], bytes: &[u8], sentinel: u8) -> usize {
-        // A copy of the numbers that change, so that they stay in registers.
+        // `here` is a copy of the numbers that change, so that they stay in registers.
         let mut here = UnbufferedDecoder {
             too_long: 0,
             ..*self
@@ -227,7 +233,7 @@ impl UnbufferedDecoder {
     /// the zero.
     #[inline(always)]
     pub(crate) fn take_run(&mut self, dest: &mut [u8], bytes: &[u8]) -> usize {
-        // If a piece is too long, each of its bytes returns an error, so none is taken here.
+        // If the piece is too long, `feed` returns an error for each of its bytes, so no byte is taken here.
         if self.too_long != 0 {
             return 0;
         }

@@ -5,12 +5,12 @@ use crate::proved::cobs_bytes::lanes::copy_xored_short;
 use crate::proved::cobs_bytes::window::{WIDE_WINDOW, WINDOW, is_all};
 use crate::proved::error::DecodeError;
 
-/// Writes a zero over each code in `dest`, which has the bytes that follow the code `first`. The caller ensures that no code
-/// among them follows a full block, since no zero belongs there. Returns the code of the last part, and how many of its
-/// bytes are missing.
+/// Writes a zero over each code in `dest`. The bytes of `dest` are those that follow the code `first`. The caller
+/// ensures that no code in `dest` follows a full block, since the output has no zero after a full block. Returns the
+/// code of the last block, and how many bytes of this block are missing.
 // Compilers turn this recursion into a loop that advances the address of the remaining bytes. A loop over an index
-// would add the index to an address before each load. Since the load of each code waits for the code before it, that
-// would cost a cycle per code.
+// would add the index to an address before each load. Since the load of each code waits for the preceding code, this
+// addition would cost a cycle per code.
 #[inline(always)]
 pub(crate) fn write_zeros_at_codes(dest: &mut [u8], first: usize) -> (u8, u8) {
     if dest.len() < first {
@@ -21,8 +21,8 @@ pub(crate) fn write_zeros_at_codes(dest: &mut [u8], first: usize) -> (u8, u8) {
     write_zeros_at_codes(&mut dest[first..], code as usize)
 }
 
-/// Does what [`write_zeros_at_codes`] does for bytes that were copied to `dest`, each XORed with the sentinel. It reads the codes
-/// from `copied`, because a load from `dest` would have to wait until the copy is stored.
+/// Does what [`write_zeros_at_codes`] does for bytes that were copied to `dest`, each XORed with the sentinel. The
+/// codes are read from `copied`, because a load from `dest` would have to wait until the copy is stored.
 #[inline(always)]
 pub(crate) fn write_zeros_at_copied(
     dest: &mut [u8],
@@ -46,7 +46,7 @@ pub(crate) fn write_zeros_at_copied(
 
 /// Decodes a source of 2 to 65 bytes for a sentinel, and returns how many bytes of its last block are missing. The
 /// bytes of `dest` after the output are unchanged. Returns `None` and changes nothing if the source has another length,
-/// if one of its bytes is the sentinel, or if `dest` is shorter than the output, which has one byte fewer than the
+/// if one of its bytes is the sentinel, or if `dest` is shorter than the output. The output has one byte fewer than the
 /// source.
 #[inline(always)]
 pub(crate) fn decode_span(source: &[u8], dest: &mut [u8], sentinel: u8) -> Option<u8> {
@@ -64,8 +64,8 @@ pub(crate) fn decode_span(source: &[u8], dest: &mut [u8], sentinel: u8) -> Optio
 
 /// Returns how many of `bytes`, the last bytes of a piece, have to be decoded, and whether the piece is whole. A whole
 /// piece is decoded to its end. A broken piece is decoded through the code of its last block, because the bytes of that
-/// block aren't kept. The first `left` bytes belong to a block that began before `bytes`. Each byte is XORed with the
-/// sentinel.
+/// block aren't kept. The first `left` bytes belong to a block that began before `bytes`. Each byte of `bytes` is XORed
+/// with the sentinel before it is read.
 pub(crate) fn kept_len(bytes: &[u8], left: usize, sentinel: u8) -> (usize, bool) {
     let mut at = left;
     while at < bytes.len() {
@@ -74,8 +74,8 @@ pub(crate) fn kept_len(bytes: &[u8], left: usize, sentinel: u8) -> (usize, bool)
         if rest < code {
             return (at + 1, false);
         }
-        // A row of codes of blocks without bytes is skipped at once. From code to code, each load would wait for the
-        // load before it.
+        // A row of codes of blocks without bytes is skipped at once. A walk from code to code would be slower: each
+        // load would wait for the preceding load.
         if code == 1 && WINDOW <= rest && is_all(bytes, at, 1 ^ sentinel) {
             at += WINDOW;
             continue;
@@ -85,7 +85,7 @@ pub(crate) fn kept_len(bytes: &[u8], left: usize, sentinel: u8) -> (usize, bool)
     (at, true)
 }
 
-/// Returns the result for a frame that was decoded to `len` bytes, and is whole or broken.
+/// Returns `len` as the message's length if the frame is whole, otherwise the error for a broken frame.
 #[inline(always)]
 pub(crate) fn message_len(len: usize, whole: bool) -> Result<usize, DecodeError> {
     if whole {

@@ -1,5 +1,5 @@
 // Made by bindings/rust/translate.py from `crates/cobs/src/dec/step.rt`: change that file, and run it again.
-//! The step of a streaming decoder for each byte, and the loop of such steps.
+//! The step of a streaming decoder for one byte, and a loop of such steps.
 
 use crate::proved::block::FULL;
 use crate::proved::dec::frame_decoder::PieceEnd;
@@ -44,8 +44,8 @@ impl UnbufferedDecoder {
         if self.too_long != 0 {
             return;
         }
-        // `written` is read once here, because compilers would read it again after each write to the buffer. Each case has a
-        // write of its own: that is faster than to choose a byte first, and to write it in one place.
+        // `written` is read once here, because compilers would read it again after each write to the buffer. Each case
+        // has a write of its own: that is faster than choosing a byte first and writing it in one place.
         let at = self.written;
         if self.missing != 0 {
             if dest.len() <= at {
@@ -82,9 +82,10 @@ impl UnbufferedDecoder {
         Ok(None)
     }
 
-    /// Takes bytes of a stream of frames for this sentinel, one step for each byte. It stops after the sentinel that ends the
-    /// first piece, or takes all bytes if no piece ends. For the sentinel 0 it does what [`feed_piece`](Self::feed_piece)
-    /// does. It has no search and no copy of slices, so it is small, and fast for a few bytes.
+    /// Takes bytes of a stream of frames for this sentinel, one step for each byte. It stops after the sentinel that
+    /// ends the first piece, or takes all bytes if no piece ends. For the sentinel 0 it does what
+    /// [`feed_piece`](Self::feed_piece) does. This function searches for nothing and copies no slices, so it is small,
+    /// and fast for a few bytes.
     ///
     /// ```
     /// use jcobs::{PieceEnd, UnbufferedDecoder};
@@ -104,8 +105,8 @@ impl UnbufferedDecoder {
         bytes: &[u8],
         sentinel: u8,
     ) -> Option<(PieceEnd, usize)> {
-        // A copy, so that it stays in registers: otherwise compilers read the fields again after each byte that is
-        // written.
+        // `here` is a copy of the decoder, so that it stays in registers: otherwise compilers read the fields again
+        // after each byte that is written.
         let mut here = *self;
         let mut taken = 0;
         if here.too_long == 0 {
@@ -123,7 +124,7 @@ impl UnbufferedDecoder {
                 }
             }
         }
-        // If a piece is too long, only its end matters.
+        // If the piece is too long, only the sentinel that ends it matters.
         while taken < bytes.len() {
             let byte = bytes[taken] ^ sentinel;
             taken += 1;
@@ -132,7 +133,8 @@ impl UnbufferedDecoder {
                 return Some((PieceEnd::TooLong, taken));
             }
         }
-        // One by one: with an assignment of the whole, rustc needs 24 bytes more for a push on a Cortex-M4.
+        // The fields are assigned one by one: if the whole decoder is assigned, rustc needs 24 bytes more for a push on
+        // a Cortex-M4.
         self.written = here.written;
         self.missing = here.missing;
         self.joint = here.joint;

@@ -8,20 +8,21 @@ use crate::proved::dec::unbuffered::START;
 use crate::proved::error::{DecodeError, DecodeReport};
 use crate::proved::find::{leading_zeros, len_without_end};
 
-/// Decodes the first frame of the source into `dest`, and returns how many bytes were consumed and how many the
-/// message has.
+/// Decodes the first frame of the source into `dest`, and returns how many bytes of the source were consumed and how
+/// many bytes the message has.
 ///
-/// Leading zeros are skipped. The frame ends at the next zero or with the source, and the bytes after that zero have no
-/// effect. The first `frame_size` bytes of `dest` are the message, and the others are as they were.
+/// Leading zeros are skipped. The frame ends at the next zero or at the source's end, and the bytes after that zero
+/// have no effect. The first `frame_size` bytes of `dest` are the message, and its other bytes are as they were.
 /// `parsed_size` counts the skipped zeros, the frame, and the zero after it if there is one.
 ///
 /// # Errors
 ///
 /// - `EmptyFrame` if the source is empty, and `InvalidFrame` with `decoded_bytes` 0 if it has only zeros; `dest` is as it
 ///   was.
-/// - `TargetBufTooSmall` if `dest` is shorter than the output; it then holds the output's first bytes.
-/// - `InvalidFrame` if the frame breaks off inside a block. `dest` begins with the decoded bytes, those of the broken
-///   block included, and `decoded_bytes` is their number. The other bytes of `dest` are as they were.
+/// - `TargetBufTooSmall` if `dest` is shorter than the output; `dest` then holds the first bytes of the output.
+/// - `InvalidFrame` if the frame breaks off inside a block. `dest` then begins with the decoded bytes, including those
+///   of the broken block, and `decoded_bytes` is the number of decoded bytes. The other bytes of `dest` are as they
+///   were.
 ///
 /// The format is that of Cheshire and Baker's paper; the results for a broken frame are a choice of this library.
 pub fn decode(source: &[u8], dest: &mut [u8]) -> Result<DecodeReport, DecodeError> {
@@ -60,9 +61,9 @@ fn decode_long(source: &[u8], dest: &mut [u8]) -> Result<DecodeReport, DecodeErr
 
 /// Decodes a short frame as [`decode`] does, or returns `None` and leaves `dest` as it was.
 ///
-/// It decodes a source that has 2 to 65 bytes before its first zero, and nothing after that zero, if `dest` has room
-/// for all bytes of the frame except one. [`decode`] calls it first. It calls nothing itself, so that it can be
-/// compiled into a function that decodes small frames.
+/// This function decodes a source of 2 to 65 nonzero bytes, with or without a zero after them, if `dest` has room for
+/// one byte fewer than these nonzero bytes. If the target has vectors, [`decode`] calls this function first.
+/// `decode_short` calls no other function, so that it can be compiled into a function that decodes small frames.
 #[inline(always)]
 pub fn decode_short(source: &[u8], dest: &mut [u8]) -> Option<Result<DecodeReport, DecodeError>> {
     if source.is_empty() {

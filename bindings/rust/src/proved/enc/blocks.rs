@@ -1,14 +1,15 @@
 // Made by bindings/rust/translate.py from `crates/cobs/src/enc/blocks.rt`: change that file, and run it again.
-//! How a message is cut into blocks: the core that every encoder into a slice is built on. A *window* is 32 bytes that
-//! are copied at once. Its *mask* is a number with a bit for each byte; a bit is 1 if the byte is a zero.
+//! How a message is cut into blocks: the core of the encoders into a slice on targets with vectors. A *window* is 32
+//! bytes that are copied at once. The *mask* of a window is a number with one bit for each byte of the window; the bit
+//! is 1 if the byte is a zero.
 
 use crate::proved::block::FULL_CODE;
 use crate::proved::cobs_bytes::window::{WINDOW, copy_at, copy_window, write_row, zeros_at};
 use crate::proved::enc::progress::EncoderProgress;
 use crate::proved::find::position_or_len;
 
-/// Fewer bytes than this are appended one by one: in the Rust crate that is faster than a window. `push_few` takes up
-/// to this number of bytes.
+/// Fewer bytes than this are appended one by one, because in the Rust crate that is faster than copying a window.
+/// `push_few` takes up to this number of bytes.
 pub(crate) const APPEND_EACH_BELOW: usize = 8;
 
 /// The mask of a window that has only zeros.
@@ -24,15 +25,15 @@ fn progress_at(index: usize, next: usize, is_full: bool) -> EncoderProgress {
     }
 }
 
-/// Returns whether `len` is from 1 to the length of a window, and this number of bytes can't fill the open block.
+/// Returns whether `len` is from 1 to the length of a window, and `len` more bytes can't fill the open block.
 #[inline(always)]
 pub(crate) fn fits_window_and_block(progress: EncoderProgress, len: usize) -> bool {
     0 < len && len <= WINDOW && progress.code as usize + len < FULL_CODE
 }
 
 /// Writes the code of the open block, which the mask's first zero closes. Returns the index of the next code, and the
-/// mask without that zero. No branch tests whether the mask has a zero. If it has none, the block stays open, and its
-/// code is written again later, so the byte that is written here doesn't matter.
+/// mask without that zero. No branch tests whether the mask has a zero. If the mask has no zero, the block stays open,
+/// and its code is written again later, so the byte that is written here doesn't matter.
 #[inline(always)]
 fn mark_first(dest: &mut [u8], index: usize, next: usize, zeros: u64) -> (usize, u64) {
     let place = next + zeros.trailing_zeros() as usize;
@@ -41,8 +42,8 @@ fn mark_first(dest: &mut [u8], index: usize, next: usize, zeros: u64) -> (usize,
     (index, zeros & zeros.wrapping_sub(1))
 }
 
-/// Writes the code of each block that a zero of the mask closes, two per iteration, because there may be many zeros.
-/// Returns the index of the next code.
+/// Writes the code of each block that a zero of the mask closes. Each iteration writes up to two codes, because there
+/// may be many zeros. Returns the index of the next code.
 #[inline(always)]
 fn mark_zeros(dest: &mut [u8], index: usize, next: usize, zeros: u64) -> usize {
     let mut index = index;
@@ -56,9 +57,9 @@ fn mark_zeros(dest: &mut [u8], index: usize, next: usize, zeros: u64) -> usize {
     index
 }
 
-/// Takes the first `len` bytes of a source one by one. They can't fill the open block. The code of the next block is written
-/// over each zero. No branch tests for zeros, since a processor may predict it wrong. So the open block's code is written
-/// after each byte.
+/// Takes the first `len` bytes of `source` one by one. The caller ensures that these bytes can't fill the open block.
+/// The code of the next block is written over each zero. No branch tests whether a byte is a zero, since a processor
+/// may predict the branch wrong. Instead, the code of the open block is written for each byte.
 #[inline(always)]
 pub(crate) fn append_few(
     source: &[u8],
@@ -78,9 +79,9 @@ pub(crate) fn append_few(
     progress_at(index, next, false)
 }
 
-/// Takes a `source` of up to 32 bytes that can't fill the open block. It has few branches that a processor could
-/// predict wrong: two zeros are marked before a branch depends on their number. With `test_for_none`, a branch first
-/// tests whether there is any zero.
+/// Takes a `source` of up to 32 bytes that can't fill the open block. The function has few branches that a processor
+/// could predict wrong: two zeros are marked before a branch depends on the number of zeros. If `test_for_none` is
+/// true, a branch first tests whether there is any zero.
 #[inline(always)]
 pub(crate) fn append_short(
     source: &[u8],
@@ -104,8 +105,8 @@ pub(crate) fn append_short(
     progress_at(index, next + len, false)
 }
 
-/// Writes a code for each zero at the front of a source, 32 at a time while more than 32 bytes are left, and returns
-/// how many codes it wrote.
+/// Writes the code 1 for each zero at the front of `source`, 32 codes at a time while more than 32 bytes are left, and
+/// returns how many codes it wrote.
 #[inline(always)]
 fn write_codes_of_zeros(source: &[u8], dest: &mut [u8], at: usize) -> usize {
     let mut len = 0;
@@ -116,13 +117,14 @@ fn write_codes_of_zeros(source: &[u8], dest: &mut [u8], at: usize) -> usize {
     len
 }
 
-/// Takes windows of 32 bytes while more bytes than one window are left. It stops earlier when a block is full. Returns
-/// how many bytes it took, and the progress after them.
+/// Takes windows of 32 bytes while more bytes than one window are left. The function stops earlier if the open block
+/// becomes full. Returns how many bytes it took, and the progress after them.
 ///
-/// Each window is copied to the place of the next byte. If the open block fills up before a zero comes, it is closed,
-/// and the caller copies the next bytes as slices, because a run that fills one block often fills more. Otherwise each
-/// zero of the window is replaced by the code of the block that it begins, and the last block stays open for the next
-/// window. A row of zeros needs no copy. Nothing is written after the frame.
+/// Each window is copied to the place of the next byte. If the window fills the open block before a zero comes, the
+/// block is closed, and the caller copies the next bytes as slices, because a run that fills one block often fills more
+/// blocks. Otherwise each zero of the window is replaced by the code of the block that the zero begins, and the last
+/// block stays open for the next window. If the window has only zeros, the rows of 32 zeros after it aren't copied:
+/// their codes are written at once. No byte after the frame is written.
 #[inline(always)]
 fn append_windows(
     source: &[u8],
@@ -170,8 +172,9 @@ fn append_windows(
     (read, progress_at(index, next, false))
 }
 
-/// Takes the first run of `source`, which has `run` bytes, and the zero after it. The run is cut into blocks of at most
-/// 254 bytes, each copied as one slice. Returns how many bytes it took, and the progress after them.
+/// Takes the first run of `source`, which has `run` bytes, and the zero after the run if there is one. The run is cut
+/// into blocks of at most 254 bytes, each copied as one slice. Returns how many bytes it took, and the progress after
+/// them.
 #[inline(always)]
 fn append_long_run(
     source: &[u8],
@@ -203,8 +206,8 @@ fn append_long_run(
     (read + 1, progress_at(next, next + 1, false))
 }
 
-/// Takes a `source` whose first run has `run` bytes: first that run, and then repeatedly windows up to the next long run, and
-/// that run.
+/// Takes all bytes of `source`, whose first run has `run` bytes: first this run, and then, until no byte is left,
+/// windows up to the next long run and that run.
 #[inline(never)]
 pub(crate) fn append_rest(
     source: &[u8],
@@ -224,10 +227,10 @@ pub(crate) fn append_rest(
     progress
 }
 
-/// Continues the frame in `dest` with `source`, from `progress` on, and returns the progress after it. [`close`] writes
-/// the code of the open block later, so the byte in its place until then doesn't matter.
+/// Continues the frame in `dest` with `source`, from `progress` on, and returns the progress after `source`. [`close`]
+/// writes the code of the open block later; until then the byte at the place of the code doesn't matter.
 ///
-/// [`append_windows`] takes most bytes. Usually few are left; [`append_rest`] takes these if they are more than a
+/// [`append_windows`] takes most bytes. Usually few bytes are left; [`append_rest`] takes them if they are more than a
 /// window, or if they may fill the open block.
 #[inline(always)]
 pub(crate) fn append(source: &[u8], dest: &mut [u8], progress: EncoderProgress) -> EncoderProgress {

@@ -7,13 +7,13 @@ use crate::proved::max_encoding_overhead;
 
 /// Encodes a message in its own buffer, and returns the length of its frame in bytes.
 ///
-/// The message has `len` bytes. It begins in `buffer` at the index that
-/// [`max_encoding_overhead`](crate::max_encoding_overhead) returns for `len`; the bytes before it don't matter. The
-/// frame is the one that [`encode`](crate::encode) writes, and `buffer` begins with it. Every byte of `buffer` after
-/// the frame stays as it was, even if it belongs to the message.
+/// The message has `len` bytes, and begins in `buffer` at the index that
+/// [`max_encoding_overhead`](crate::max_encoding_overhead) returns for `len`; the bytes before the message don't
+/// matter. `buffer` then begins with the frame that [`encode`](crate::encode) writes. Every byte of `buffer` after the
+/// frame stays as it was, even if it belongs to the message.
 ///
 /// Precondition: `buffer` is at least as long as [`max_encoding_length`](crate::max_encoding_length) returns for `len`,
-/// so the message lies within it.
+/// so the whole message lies within `buffer`.
 pub fn encode_in_place(buffer: &mut [u8], len: usize) -> usize {
     let before = max_encoding_overhead(len);
     let mut encoder = UnbufferedEncoder::new();

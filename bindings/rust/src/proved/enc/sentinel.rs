@@ -1,5 +1,5 @@
 // Made by bindings/rust/translate.py from `crates/cobs/src/enc/sentinel.rt`: change that file, and run it again.
-//! Frames for another sentinel than 0, and frames between sentinels.
+//! Frames for a sentinel other than 0, and frames between sentinels.
 
 use crate::proved::cobs_bytes::lanes::xor_bytes;
 use crate::proved::cobs_bytes::window::has_vectors;
@@ -31,13 +31,13 @@ pub fn try_encode_with_sentinel(
 /// Does what [`encode_including_sentinels`](crate::encode_including_sentinels) does, if the frame and both sentinels fit `dest`.
 ///
 /// # Errors
-/// `DestBufTooSmallError` exactly if the three together are longer than `dest`. Then no byte of `dest` has changed,
-/// which is a choice of this library.
+/// `DestBufTooSmallError` exactly if the frame and both sentinels together are longer than `dest`. Then no byte of
+/// `dest` has changed, which is a choice of this library.
 pub fn try_encode_including_sentinels(
     source: &[u8],
     dest: &mut [u8],
 ) -> Result<usize, DestBufTooSmallError> {
-    // Both sentinels and the shortest frame.
+    // Both sentinels and the shortest frame need three bytes.
     if dest.len() < 3 {
         return Err(DestBufTooSmallError);
     }

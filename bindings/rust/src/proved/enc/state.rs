@@ -13,25 +13,26 @@
 /// ```
 #[derive(Debug, Clone, Copy, PartialEq, Eq, Hash)]
 pub enum PushResult {
-    /// The byte is appended.
+    /// This byte of the message is appended to the output.
     AddSingle(u8),
 
-    /// The byte at the index is replaced by the code, and a placeholder is appended.
+    /// The output's byte at this index is replaced by this code, and a placeholder is appended to the output.
     ModifyFromStartAndSkip((usize, u8)),
 
-    /// The byte at the index is replaced by the code. The last of the three numbers, and then a placeholder, are
-    /// appended.
+    /// The output's byte at this index is replaced by this code. The third number, which is a byte of the message, and
+    /// then a placeholder are appended to the output.
     ModifyFromStartAndPushAndSkip((usize, u8, u8)),
 }
 
-/// The index at which the open block of an output begins, and the code that the block has so far, from 1 to 254.
+/// An encoder's state: the index at which the open block of the output begins, and the code that the block has so far,
+/// from 1 to 254.
 ///
-/// The state doesn't hold the output, so a caller can write the encoded bytes to a container of its own. The output
-/// begins as one placeholder, a byte of any value. Each result of [`push`](EncoderState::push) says what a byte of the
+/// The state doesn't hold the output, so a caller can write the encoded bytes to a container of its own. At first the
+/// output is one placeholder, a byte of any value. Each result of [`push`](EncoderState::push) says what a byte of the
 /// message changes in the output, and [`finalize`](EncoderState::finalize) returns the last change. A caller that
-/// carries out all changes has the frame of the message whose last block isn't full. That is the frame that
-/// [`encode`](crate::encode) writes, unless the message's last run of nonzero bytes has a positive length divisible by
-/// 254. Then it is the longer frame, the encoded one followed by `1`.
+/// carries out all changes has a frame of the message: the one whose last block isn't full. [`encode`](crate::encode)
+/// writes the same frame, unless the message's last run of nonzero bytes has a positive length divisible by 254. In
+/// that case the caller has the longer frame, which is the frame that `encode` writes, followed by the byte `1`.
 ///
 /// ```
 /// use jcobs::{EncoderState, PushResult};
@@ -85,7 +86,7 @@ impl EncoderState {
         self.code_index < usize::MAX - self.code as usize
     }
 
-    /// Takes the next byte of the message and returns the change of the output.
+    /// Takes the next byte of the message, and returns the change that this byte makes to the output.
     ///
     /// Indices count bytes from the start of the output.
     ///

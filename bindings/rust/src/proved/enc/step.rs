@@ -9,7 +9,7 @@ use crate::proved::error::DestBufTooSmallError;
 
 impl UnbufferedEncoder {
     /// Takes the next byte of the message, for which there is room.
-    // It calls nothing, so that a loop of such steps stays in registers.
+    // It calls no function, so that the loop of `encode_in_place` stays in registers.
     #[inline(always)]
     pub(crate) fn append_byte(&mut self, dest: &mut [u8], byte: u8) {
         let code = self.taken + 1;
@@ -79,6 +79,7 @@ impl UnbufferedEncoder {
     pub fn feed(&mut self, dest: &mut [u8], byte: u8) -> Result<(), DestBufTooSmallError> {
         let room = dest.len();
         let taken = self.taken;
+        // An open block has at most 253 bytes: other numbers don't come from these calls.
         if 253 < taken || room < self.index || room - self.index <= taken as usize + 1 {
             return Err(DestBufTooSmallError);
         }
@@ -112,11 +113,12 @@ impl UnbufferedEncoder {
         Ok(self.append_one(dest, byte))
     }
 
-    /// Takes up to 8 bytes of the message if they fit and can't fill the open block, and returns whether it did. Otherwise
-    /// nothing has changed, and [`push`](UnbufferedEncoder::push) takes the bytes if they fit.
+    /// Takes up to 8 bytes of the message if they fit and can't fill the open block, and returns whether it took them.
+    /// If it didn't, nothing has changed, and [`push`](UnbufferedEncoder::push) takes the bytes if they fit.
     ///
     /// No branch tests whether a byte is a zero, because a processor could predict it wrong. So pushing single bytes,
-    /// or the fields of a record, is faster if zeros are at random places, and slower if they are rare.
+    /// or the fields of a record, is faster with `push_few` than with [`push`](UnbufferedEncoder::push) if zeros are at
+    /// random places, and slower if zeros are rare.
     ///
     /// ```
     /// use jcobs::UnbufferedEncoder;
