@@ -88,7 +88,7 @@ COMMENTS = {
     "": [(" (A choice of this library.)", "")],
     "UnbufferedDecoder::end": [("`len` is the buffer's length.", "It returns how the piece ended. The buffer has buffer_size bytes.")],
     "UnbufferedDecoder::feed_each": [(
-        " For the sentinel 0 it does what [`feed_piece`](Self::feed_piece) does. This function searches for nothing and copies"
+        " For the sentinel 0 it does what [`feed_piece`](Self::feed_piece) does. The function searches for nothing and copies"
         " no slices, so it is small, and fast for a few bytes.",
         "",
     ), (
@@ -135,8 +135,8 @@ COMMENTS = {
         " consumed",
     )],
     "has_room": [(
-        "The bytes are read only if their number doesn't decide this.",
-        "The bytes are read only if their number doesn't decide this. data_len is how many bytes of the message the open block and those"
+        "The bytes are read only if their number doesn't decide whether the frame fits.",
+        "The bytes are read only if their number doesn't decide whether the frame fits. data_len is how many bytes of the message the open block and those"
         " after it then have.",
     )],
     "kind_by_blocks": [(
@@ -155,7 +155,6 @@ COMMENTS = {
         "a call that took these of `len` bytes, into a buffer of `room` bytes",
         "a call that took `len` bytes or those through this piece's end, if it has ended. The buffer has `room` bytes",
     )],
-    "through_piece": [("the piece ends whose next byte is at index `at`:", "the piece ends that source[at] belongs to:")],
     "write_each": [(
         "Does what [`encode`](crate::encode) does, one byte at a time.",
         "Writes the frame of the message, and returns its length. index is where the code of the open block belongs, and next where the"

@@ -1,4 +1,4 @@
--- The words by which contracts describe types with private fields.
+-- The words with which contracts describe types with private fields.
 pub mod Report
 pub mod Decoders
 pub mod Lending

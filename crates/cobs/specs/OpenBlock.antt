@@ -1,4 +1,4 @@
--- The message that a streaming encoder has taken so far, and the changes that a caller carries out.
+-- The message that a streaming encoder has taken so far, and the changes to the output that a caller carries out.
 use Rattle.std.specs.Prelude.{◌≡◌, ℕ, ◌+◌, ◌<◌, ◌≤◌, ◌==◌, Bool, List, [], ◌∷◌, ◌++◌, length, take, slice_set, if◌then◌else◌}
 use Rattle.cobs.specs.declared.enc.state.PushResult.{PushResult}
 use Rattle.cobs.specs.declared.enc.state.PushResult.TheVariants.{AddSingle, ModifyFromStartAndSkip, ModifyFromStartAndPushAndSkip}

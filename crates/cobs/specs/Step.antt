@@ -1,6 +1,6 @@
--- A machine for your own decoder: its result and its phase for one byte, in any phase. It isn't a specification: no
--- clause of `feed` depends on it. `law_17` ties it to `Feeds`, which gives the meaning of a byte after the front of a
--- piece.
+-- A machine for your own decoder: the decoder's result and its next phase for one byte, in any phase. This machine
+-- isn't a specification: no clause of `feed` depends on it. `law_17` connects the machine with `Feeds`, which gives the
+-- meaning of a byte after the front of a piece.
 use Rattle.std.specs.Prelude.{ℕ, zero, suc, ◌+◌, ◌-◌, ◌==◌, nat_lt, nat_le, Bool, true, false, List, slice_set, Option, Some, None, Result, Ok, Err, if◌then◌else◌}
 use Rattle.cobs.specs.Feed.{Phase, Idle, Within, Overlong}
 use Rattle.cobs.specs.declared.error.DecodeError.{DecodeError}

@@ -93,7 +93,7 @@ fn encode_long(source: &[u8], dest: &mut [u8]) -> usize
 /// Does what [`encode`] does, if the frame fits `dest`.
 ///
 /// # Errors
-/// `DestBufTooSmallError` exactly if the frame is longer than `dest`. Then no byte of `dest` has changed, which is a
+/// `DestBufTooSmallError` exactly if the frame is longer than `dest`. This error changes no byte of `dest`, which is a
 /// choice of this library.
 ///
 /// ```

@@ -59,7 +59,7 @@ pub enum Next {
 /// ```
 #[derive(Debug, PartialEq, Eq, Drop)]
 pub enum ReadFault {
-    /// A read failed. An interrupted read counts as a failed one.
+    /// A read failed. An interrupted read counts as a failed read.
     Io,
 
     /// The call made 65,536 reads, each of which returned bytes, and no piece ended.
@@ -180,7 +180,7 @@ fn is_unfinished(before: bool, bytes: &[u8]) -> bool
     }
 }
 
-/// The greatest number of reads that one call of `next_frame` makes.
+/// The greatest number of reads that one call of `next_frame` makes. So a call ends even if no piece ends.
 const MOST_READS: usize = 65536;
 
 /// Reads the frames of a stream, one frame for each call, with a decoder of its own.

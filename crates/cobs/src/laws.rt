@@ -157,7 +157,7 @@ pub fn law_5()
 /// A frame for a sentinel is a frame for 0 with each byte XORed with the sentinel. A frame for a sentinel doesn't contain the
 /// sentinel, and another XOR restores the frame for 0.
 ///
-/// That frames don't contain the sentinel is the purpose of COBS: if sentinels are put between frames, a receiver finds the
+/// The purpose of COBS is that a frame doesn't contain its sentinel: if sentinels are put between frames, a receiver finds the
 /// ends of frames by searching for the sentinel. The clause `free` is about a frame that is sent, and the clause `received` is
 /// about bytes that were received. Bytes without the sentinel contain no zero after the XOR (`coded`), and an XOR with 0
 /// changes nothing (`zero`).

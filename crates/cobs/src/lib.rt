@@ -5,9 +5,9 @@
 //! serial line, in a stream or in a file, so after damage a receiver finds the next frame after the next sentinel. A
 //! frame is a list of blocks. A block is a code, which counts the block's bytes including itself, and then nonzero
 //! bytes. Between two blocks the message has a zero, unless the first of the two is a full block, whose code is 255. So
-//! the frame of a message of up to 254 bytes is one byte longer than the message. In a longer message, each further 254
-//! bytes, and the rest of fewer than 254 bytes, cost at most one more byte. The format is that of the paper "Consistent
-//! Overhead Byte Stuffing" by Stuart Cheshire and Mary Baker.
+//! the frame of a message of up to 254 bytes is one byte longer than the message. The frame of a longer message has at
+//! most one more byte for each further 254 bytes, and for a last part of fewer than 254 bytes. The format is that of
+//! the paper "Consistent Overhead Byte Stuffing" by Stuart Cheshire and Mary Baker.
 //!
 //! This example encodes a message, and decodes it again:
 //!
@@ -57,8 +57,8 @@
 //!   a frame.
 //! - [`laws`] has facts that a proof of your own can cite.
 //!
-//! A call that allocates has an allocator as its first argument and returns a `Result`. Each call is proved to meet its contract, to
-//! be safe and to end. In the examples `rt` is the argument of `main`, and `alloc` is `rt.alloc()`.
+//! A call that allocates has an allocator as its first argument and returns a `Result`. Each call is proved to meet its
+//! contract, to be safe and to end. In the examples `rt` is the argument of `main`, and `alloc` is `rt.alloc()`.
 #![tactic(auto)]
 
 ghost use Rattle.std.specs.Prelude.{◌≡◌, ◌<◌, ◌^◌};

@@ -143,7 +143,7 @@ pub fn encode_frames(alloc: Global, messages: &[Vec<u8>]) -> Result<Vec<u8>, All
         IfOk result (λ bytes. stream_outcomes bytes.items n
         ≡ map Message (messages_in messages.now)) }
 {
-    // By the precondition this is never `None`.
+    // By the precondition `encode_frames_room` doesn't return `None` here.
     let room = encode_frames_room(messages).unwrap_or(0);
     let mut frames = vec![in alloc; 0; room]?;
     let len = write_frames(messages, &mut frames);

@@ -13,7 +13,7 @@ pub const WIDE_WINDOW: usize = 64;
 
 /// Returns whether the target has vectors with which short data are copied faster. If it has none, a loop over bytes is
 /// faster, and its code is much smaller.
-// It has no clause, so that its callers are proved for both kinds of target.
+// This function has no clause, so that its callers are proved for both kinds of target.
 #[inline(always)]
 pub fn has_vectors() -> bool {
     true

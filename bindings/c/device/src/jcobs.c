@@ -180,8 +180,8 @@ static size_t jcobs_leading_zeros(const unsigned char *source, size_t source_len
     return source_len;
 }
 
-/* Returns the index at which the piece ends that source[at] belongs to: the index after the next zero, or the
- * source's length if there is no zero. */
+/* Skips the first at bytes of the source. Returns the index after the next zero, or the source's length if no zero
+ * follows. */
 static JCOBS_APART size_t jcobs_find_end(const unsigned char *source, size_t source_len, size_t at)
 {
     size_t end = at;
@@ -352,8 +352,8 @@ static JCOBS_INLINE jcobs_end jcobs_decoder_end_piece(jcobs_decoder *decoder, si
     return jcobs_make_end(JCOBS_END_MESSAGE, before.written);
 }
 
-/* Takes bytes of a stream of frames for this sentinel, one step for each byte. It stops after the sentinel that
- * ends the first piece, or takes all bytes if no piece ends. */
+/* Takes bytes of a stream of frames for this sentinel, one step for each byte. The function stops after the
+ * sentinel that ends the first piece, or takes all bytes if no piece ends. */
 static JCOBS_INLINE jcobs_piece jcobs_decoder_take(jcobs_decoder *decoder, unsigned char *buffer, size_t buffer_size,
                                                    const unsigned char *bytes, size_t len, unsigned char sentinel)
 {
@@ -512,8 +512,8 @@ static int jcobs_extra_codes_fit(unsigned char code, const unsigned char *bytes,
 }
 
 /* Returns whether room bytes, counted from the code of an open block, are enough for the frame if the block takes
- * these bytes. The bytes are read only if their number doesn't decide this. data_len is how many bytes of the
- * message the open block and those after it then have. */
+ * these bytes. The bytes are read only if their number doesn't decide whether the frame fits. data_len is how many
+ * bytes of the message the open block and those after it then have. */
 static JCOBS_INLINE int jcobs_has_room(unsigned char code, const unsigned char *bytes, size_t len, size_t room)
 {
     size_t taken = (size_t)code - 1;

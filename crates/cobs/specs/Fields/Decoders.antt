@@ -1,4 +1,4 @@
--- The words by which contracts describe the streaming decoders: their buffers and phases.
+-- The words with which contracts describe the streaming decoders: the buffers and phases of the decoders.
 use Rattle.std.specs.Prelude.{ℕ, zero, suc, ◌==◌, Bool, true, false, List, if◌then◌else◌}
 use Rattle.cobs.specs.declared.dec.buffered.CobsDecoder.{CobsDecoder}
 use Rattle.cobs.specs.declared.dec.buffered.CobsDecoderOwned.{CobsDecoderOwned}

@@ -1,4 +1,4 @@
--- The words by which contracts describe a `CobsEncoder` and an `UnbufferedEncoder`.
+-- The words with which contracts describe a `CobsEncoder` and an `UnbufferedEncoder`.
 use Rattle.std.specs.Prelude.{◌≡◌, ℕ, List}
 use Rattle.std.specs.Borrow.{MutBor}
 use Rattle.cobs.specs.declared.enc.encoder.CobsEncoder.{CobsEncoder}

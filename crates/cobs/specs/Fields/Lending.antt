@@ -1,5 +1,5 @@
--- What a decoder lends with `dest_mut`: its buffer. These words are apart from the others, because only `dest_mut` and
--- `write_dest` need them; clauses cite them, so they can't be proofs.
+-- The words for a buffer that a decoder lends with `dest_mut`. They have a file of their own, because only `dest_mut`
+-- and `write_dest` need them. They are in specs/, not in proofs/, because clauses cite them.
 use Rattle.std.specs.Prelude.{◌≡◌, length, ℕ, List, []}
 use Rattle.std.specs.List.{length_refill}
 use Rattle.std.proofs.Common.{refl, sym, ◌∙◌}

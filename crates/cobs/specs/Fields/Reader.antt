@@ -1,4 +1,4 @@
--- The words by which contracts describe a `FrameReader` and a `Recorded`.
+-- The words with which contracts describe a `FrameReader` and a `Recorded`.
 use Rattle.std.specs.Prelude.{ℕ, List, slice_range}
 use Rattle.cobs.specs.Feed.{Phase}
 use Rattle.cobs.specs.NextFrame.{ReaderState}

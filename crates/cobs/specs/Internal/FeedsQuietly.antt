@@ -1,5 +1,5 @@
--- Several bytes, none of which ends a piece or overflows the buffer, fed to the decoder on which the streaming decoders
--- are built.
+-- Feeding several bytes, none of which ends a piece or overflows the buffer, to the decoder on which the streaming
+-- decoders are built.
 use Rattle.std.specs.Prelude.{◌≡◌, List, [], ◌∷◌, ℕ, length, Ok, None}
 use Rattle.cobs.specs.Feed.{Phase}
 use Rattle.cobs.specs.Step.{next_result, next_buffer, next_phase}

@@ -1,4 +1,5 @@
--- A window of a source that was copied after the open block, and whose zeros are marked: a code is written over each.
+-- A window of a source. The window was copied after the bytes of the open block, and its zeros are marked: a code is
+-- written over each zero.
 use Rattle.std.specs.Prelude.{◌≡◌, ◌<◌, ◌≤◌, ℕ, ◌+◌, ◌-◌, min, false, List, ◌++◌, length, take, drop, replicate}
 use Rattle.cobs_bytes.specs.Mask.{lowest, zero_mask}
 use Rattle.cobs.specs.Internal.Reaches.{Reaches, Start, whole_end}

@@ -85,8 +85,8 @@ pub(crate) fn decode_in_place_each(buf: &mut [u8]) -> Result<DecodeReport, Decod
     })
 }
 
-/// Returns the index at which the piece ends whose next byte is at index `at`: the index after the next zero, or the
-/// source's length if there is no zero.
+/// Skips the first `at` bytes of the source. Returns the index after the next zero, or the source's length if no zero
+/// follows.
 // Not inlined, so that the loops of its caller can use all registers of a small processor.
 #[inline(never)]
 fn through_piece(source: &[u8], at: usize) -> usize

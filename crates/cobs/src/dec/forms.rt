@@ -130,8 +130,8 @@ pub fn decode_vec(alloc: Global, source: &[u8]) -> Result<Vec<u8>, DecodeVecErro
 /// bytes of the message.
 ///
 /// This function reads the frame as [`decode_with_sentinel`] does, up to the first sentinel or the source's end. If the
-/// source begins with a sentinel, it returns an empty vector. Memory is allocated, and errors are returned, as in
-/// [`decode_vec`].
+/// source begins with a sentinel, the function returns an empty vector. Memory is allocated, and errors are returned,
+/// as in [`decode_vec`].
 ///
 /// ```
 /// let message = decode_vec_with_sentinel(alloc, &[252, 245, 244, 253, 243], 255)?;

@@ -1,4 +1,4 @@
-//! The streaming decoder whose buffer is part of the value itself.
+//! The streaming decoder whose buffer is part of the decoder itself.
 ghost use Rattle.std.specs.Prelude.{◌≡◌, ◌-◌, ◌++◌, [], replicate, ◌≤◌, ◌∷◌, List, length, ℕ};
 ghost use Rattle.std.specs.Borrow.{sem};
 ghost use Rattle.arrayvec.specs.ArrayVec.{array_vec_len};
@@ -13,7 +13,7 @@ use crate::dec::unbuffered::UnbufferedDecoder;
 use crate::error::{DecodeError, DecodeReport, PushError};
 use arrayvec::ArrayVec;
 
-/// Decodes a stream of frames, each ended by a zero, into a buffer of `N` bytes that is part of the value itself.
+/// Decodes a stream of frames, each ended by a zero, into a buffer of `N` bytes that is part of the decoder itself.
 ///
 /// This decoder returns the same results as [`CobsDecoder`](crate::CobsDecoder), and it doesn't allocate. The rule that
 /// a zero ends each frame is from Cheshire and Baker's paper; the calls are those of the crate `cobs`.

@@ -162,7 +162,7 @@ fn decode_span_in_place(buffer: &mut [u8], len: usize) -> bool
 ///   the last whole block is full. `decoded_bytes` is the length of the output, and every byte of the buffer after the
 ///   output is as it was.
 ///
-/// (That an error leaves the bytes after the output as they were is a choice of this library.)
+/// An error, too, leaves the bytes after the output as they were. (A choice of this library.)
 ///
 /// ```
 /// let mut buf = [3, 10, 11, 2, 12, 0];

@@ -304,7 +304,8 @@ impl UnbufferedDecoder {
     }
 
     /// Takes the bytes before the zero that ends a piece, or all bytes if no piece ends in them. Returns how many it took.
-    // Not inlined, so that `feed_piece` saves no registers for a short piece. It returns one number, which stays in a register.
+    // Not inlined, so that `feed_piece` saves no registers for a short piece. The function returns one number, which
+    // stays in a register.
     #[inline(never)]
     fn take_to_end(&mut self, dest: &mut [u8], bytes: &[u8]) -> usize
         ensures within { result ≤ length bytes.now }
@@ -316,7 +317,7 @@ impl UnbufferedDecoder {
         let mut taken = 0;
         'by_run: while taken < bytes.len() {
             if self.too_long != 0 {
-                // The piece is too long for the buffer: its bytes are skipped up to its zero.
+                // The piece is too long for the buffer: its bytes are skipped up to the zero that ends it.
                 let len = position_or_len(&bytes[taken..], 0);
                 return taken + len;
             }

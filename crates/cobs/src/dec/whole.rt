@@ -17,13 +17,13 @@ use cobs_bytes::window::has_vectors;
 /// many bytes the message has.
 ///
 /// Leading zeros are skipped. The frame ends at the next zero or at the source's end, and the bytes after that zero
-/// have no effect. The first `frame_size` bytes of `dest` are the message, and its other bytes are as they were.
-/// `parsed_size` counts the skipped zeros, the frame, and the zero after it if there is one.
+/// have no effect. The first `frame_size` bytes of `dest` are the message, and the other bytes of `dest` are as they
+/// were. `parsed_size` counts the skipped zeros, the frame, and the zero after the frame if there is one.
 ///
 /// # Errors
 ///
-/// - `EmptyFrame` if the source is empty, and `InvalidFrame` with `decoded_bytes` 0 if it has only zeros; `dest` is as it
-///   was.
+/// - `EmptyFrame` if the source is empty, and `InvalidFrame` with `decoded_bytes` 0 if the source has only zeros. In
+///   both cases `dest` is as it was.
 /// - `TargetBufTooSmall` if `dest` is shorter than the output; `dest` then holds the first bytes of the output.
 /// - `InvalidFrame` if the frame breaks off inside a block. `dest` then begins with the decoded bytes, including those
 ///   of the broken block, and `decoded_bytes` is the number of decoded bytes. The other bytes of `dest` are as they

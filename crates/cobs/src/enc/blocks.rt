@@ -160,8 +160,8 @@ fn write_codes_of_zeros(source: &[u8], dest: &mut [u8], at: usize) -> usize
     len
 }
 
-/// Takes windows of 32 bytes while more bytes than one window are left. The function stops earlier if the open block
-/// becomes full. Returns how many bytes it took, and the progress after them.
+/// Takes windows of 32 bytes while more than 32 bytes are left. The function stops earlier if the open block becomes
+/// full. Returns how many bytes it took, and the progress after them.
 ///
 /// Each window is copied to the place of the next byte. If the window fills the open block before a zero comes, the
 /// block is closed, and the caller copies the next bytes as slices, because a run that fills one block often fills more
@@ -265,8 +265,8 @@ fn append_long_run(
     (read + 1, progress_at(next, next + 1, false))
 }
 
-/// Takes all bytes of `source`, whose first run has `run` bytes: first this run, and then, until no byte is left,
-/// windows up to the next long run and that run.
+/// Takes all bytes of `source`, whose first run has `run` bytes. The function first takes this run. Then, until no byte
+/// is left, it takes windows up to the next long run, and that run.
 #[inline(never)]
 #[tactic(auto, using(crate::proofs::encoding::TakingLemmas::next_steps))]
 pub(crate) fn append_rest(
@@ -310,7 +310,7 @@ pub(crate) fn append(source: &[u8], dest: &mut [u8], progress: EncoderProgress) 
     if fits_window_and_block(progress, rest.len()) {
         append_short(rest, dest, progress, false)
     } else {
-        // Copied field by field, so that the result of `append_short` stays in registers.
+        // Copied field by field, before the call and after it, so that the result of `append_short` stays in registers.
         let start = EncoderProgress { ..progress };
         let reached = append_rest(rest, position_or_len(rest, 0), dest, start);
         EncoderProgress { ..reached }

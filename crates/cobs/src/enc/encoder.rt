@@ -11,7 +11,7 @@ use crate::error::DestBufTooSmallError;
 ///
 /// However the message is cut into pieces, the frame is the one that [`encode`](crate::encode) writes. After each push
 /// the slice begins with the frame of the bytes taken so far, except the code of the open block;
-/// [`finalize`](CobsEncoder::finalize) writes this last code. The slice needs no more room than for the frame.
+/// [`finalize`](CobsEncoder::finalize) writes this last code. A slice that is as long as the frame is enough.
 ///
 /// The blocks are those of the paper by Cheshire and Baker; the calls are those of the crate `cobs`.
 ///
@@ -64,7 +64,7 @@ impl<'a> CobsEncoder<'a> {
     ///
     /// # Errors
     /// `DestBufTooSmallError` exactly if the encoded frame of the message so far, these bytes included, is longer than
-    /// the slice. Then neither the encoder nor the slice has changed, so the caller may end the frame, or push fewer
+    /// the slice. This error changes neither the encoder nor the slice, so the caller may end the frame, or push fewer
     /// bytes. That an error changes nothing is a choice of this library.
     ///
     /// ```

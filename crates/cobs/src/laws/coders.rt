@@ -41,8 +41,8 @@ pub fn law_15()
 /// An encoder of your own, byte by byte.
 ///
 /// The encoder writes to a slice. At first the encoder has taken no byte. The encoder appends a nonzero byte to the
-/// open block. The 254th byte fills the block, and a zero ends the block; then the encoder writes the block's code. At
-/// the end of the message the encoder writes the code of the open block, unless the last block is full.
+/// open block. The 254th byte fills the block, and a zero ends the block; in both cases the encoder writes the block's
+/// code. At the end of the message the encoder writes the code of the open block, unless the last block is full.
 ///
 /// If more bytes of the message follow, the length of the whole frame is a sum: the index of the open block, plus the
 /// length of the encoded frame of the open block's bytes and the bytes that follow. The clause `goes_on` says this; its
@@ -106,11 +106,11 @@ pub fn law_17()
 
 /// A frame is decoded as its message however it is streamed, and nothing else is.
 ///
-/// If all bytes of a frame have been fed, `feed` of the zero after them returns the length of the message, provided
-/// that the buffer has room for the message. `feed_piece` of an idle decoder stops after the zero that ends the first
-/// piece. If the piece is such a frame, `feed_piece` returns the length of the message too, and so does a push of the
-/// frame and its zero to an idle decoder. In each case the buffer then begins with the message. No other piece is
-/// decoded as a message.
+/// After all bytes of a frame have been fed, feeding the zero after the frame returns the length of the message,
+/// provided that the buffer has room for the message. `feed_piece` of an idle decoder stops after the zero that ends
+/// the first piece. If this piece is a frame, `feed_piece` returns the length of the message too. A push of a frame and
+/// its zero to an idle decoder also returns the length of the message. After each of these calls the buffer begins with
+/// the message. No piece that isn't a frame is decoded as a message.
 ///
 /// So a frame that [`encode`](crate::encode) wrote is read by each of these calls.
 ///

@@ -109,7 +109,7 @@ fn decode_span_in_place(buffer: &mut [u8], len: usize) -> bool {
 ///   the last whole block is full. `decoded_bytes` is the length of the output, and every byte of the buffer after the
 ///   output is as it was.
 ///
-/// (That an error leaves the bytes after the output as they were is a choice of this library.)
+/// An error, too, leaves the bytes after the output as they were.
 // Inlined, because a call that returns its result in memory costs as much as decoding a frame of a few bytes.
 #[inline(always)]
 pub fn decode_in_place_report(buf: &mut [u8]) -> Result<DecodeReport, DecodeError> {

@@ -18,9 +18,9 @@ use crate::proved::find::zero_or_len;
 pub(crate) const SPAN_MAX: usize = FULL_BLOCK_BYTES - 1;
 
 /// Takes rows of 32 bytes from the front of `bytes`, as long as each byte of a row is `byte`, and writes a row of zeros
-/// to `dest` for each, from index `at` on. It stops if `dest` has no room for another row. It also stops after seven
-/// rows, because the caller treats the rows as one span, and eight rows would be longer than a span. Returns how many
-/// zeros it wrote.
+/// to `dest` for each, from index `at` on. The function stops if `dest` has no room for another row. It stops after
+/// seven rows too, because the caller treats the rows as one span, and eight rows would be longer than a span. Returns
+/// how many zeros it wrote.
 #[inline(always)]
 fn write_rows(dest: &mut [u8], at: usize, bytes: &[u8], byte: u8) -> usize {
     let most = bytes.len().min(dest.len().saturating_sub(at)).min(SPAN_MAX);
@@ -241,8 +241,8 @@ impl UnbufferedDecoder {
         self.take_blocks(dest, &bytes[..end], 0)
     }
 
-    /// Does what [`take_run`](Self::take_run) does if the target has vectors. Otherwise it takes no byte and returns 0, and the
-    /// caller takes a step for each byte.
+    /// Does what [`take_run`](Self::take_run) does if the target has vectors. If the target has no vectors, the
+    /// function takes no byte and returns 0, and the caller takes a step for each byte.
     #[inline(always)]
     pub(crate) fn take_at_once(&mut self, dest: &mut [u8], bytes: &[u8]) -> usize {
         if has_vectors() {

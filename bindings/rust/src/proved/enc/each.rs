@@ -38,8 +38,8 @@ pub(crate) fn write_each(source: &[u8], dest: &mut [u8]) -> usize {
     next
 }
 
-/// Does what [`try_encode`](crate::try_encode) does, one byte at a time: in less code and more time, for small devices. It
-/// reads the message twice only if `dest` is shorter than the longest frame of a message of that length.
+/// Does what [`try_encode`](crate::try_encode) does, one byte at a time: in less code and more time, for small devices.
+/// The function reads the message twice only if `dest` is shorter than the longest frame of a message of that length.
 ///
 /// # Errors
 /// Those of [`try_encode`](crate::try_encode).

@@ -9,8 +9,8 @@ use crate::proved::max_encoding_overhead;
 ///
 /// The message has `len` bytes, and begins in `buffer` at the index that
 /// [`max_encoding_overhead`](crate::max_encoding_overhead) returns for `len`; the bytes before the message don't
-/// matter. `buffer` then begins with the frame that [`encode`](crate::encode) writes. Every byte of `buffer` after the
-/// frame stays as it was, even if it belongs to the message.
+/// matter. After the call `buffer` begins with the frame that [`encode`](crate::encode) writes. Every byte of `buffer`
+/// after the frame stays as it was, even a byte of the message.
 ///
 /// Precondition: `buffer` is at least as long as [`max_encoding_length`](crate::max_encoding_length) returns for `len`,
 /// so the whole message lies within `buffer`.

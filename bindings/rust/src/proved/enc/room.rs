@@ -36,7 +36,7 @@ fn covers_overhead(len: usize, spare: usize) -> bool {
 }
 
 /// Returns whether `room` bytes, counted from the code of an open block, are enough for the frame if the block takes
-/// these bytes. The bytes are read only if their number doesn't decide this.
+/// these bytes. The bytes are read only if their number doesn't decide whether the frame fits.
 // Inlined, because the two lengths mostly decide: a call would cost a short message more than the comparisons.
 #[inline(always)]
 pub(crate) fn has_room(code: u8, bytes: &[u8], room: usize) -> bool {
@@ -53,16 +53,17 @@ pub(crate) fn has_room(code: u8, bytes: &[u8], room: usize) -> bool {
 /// the block takes `source`. Returns `None` if they aren't.
 ///
 /// The function counts all full blocks except a full block at the end of the frame. If one of the next bytes that could
-/// fill a block is a zero, the block doesn't become full, and the count continues after the last zero among them. If
-/// none of them is a zero, the run fills the block. The function then searches for the end of the run, because the run
-/// fills a block with each 254 of its bytes. If the end of the first run was searched for, the `Some` has the length of
-/// this run, so that the encoder needn't search again. Otherwise it has 0.
+/// fill a block is a zero, the block doesn't become full, and the count continues after the last zero among these
+/// bytes. If none of these bytes is a zero, the run fills the block. The function then searches for the end of the run,
+/// because the run fills a block with each 254 of its bytes. If the end of the first run was searched for, the `Some`
+/// has the length of this run, so that the encoder needn't search again; otherwise the `Some` has 0.
 #[inline(never)]
 fn fits(code: usize, source: &[u8], room: usize) -> Option<usize> {
     if room < source.len() {
         return None;
     }
     let spare = room - source.len();
+    // The current run has `run` bytes before index `read`, and there are `counted` full blocks before this run.
     let mut run = code - 1;
     let mut counted = 0;
     let mut read = 0;
@@ -104,7 +105,7 @@ pub(crate) fn try_append(source: &[u8], dest: &mut [u8], progress: &mut EncoderP
     // one by one.
     let start = EncoderProgress { ..*progress };
     let room = dest.len() - start.index;
-    // The bytes of the message from the open block on.
+    // `len` is the number of bytes that the message has from the open block on.
     let len = start.code as usize - 1 + source.len();
     let mut run = 0;
     if room <= len || !covers_overhead(len, room - len) {

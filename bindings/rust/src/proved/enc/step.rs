@@ -9,7 +9,7 @@ use crate::proved::error::DestBufTooSmallError;
 
 impl UnbufferedEncoder {
     /// Takes the next byte of the message, for which there is room.
-    // It calls no function, so that the loop of `encode_in_place` stays in registers.
+    // This function calls no other function, so that the loop of `encode_in_place` stays in registers.
     #[inline(always)]
     pub(crate) fn append_byte(&mut self, dest: &mut [u8], byte: u8) {
         let code = self.taken + 1;
@@ -34,7 +34,8 @@ impl UnbufferedEncoder {
     }
 
     /// Takes the next byte of the message, for which there is room, and returns the length of the frame so far.
-    // It does what `append_byte` does, in fewer instructions for a call with one byte, and in more for a loop of bytes.
+    // This function does what `append_byte` does, in fewer instructions for a call with one byte, and in more
+    // instructions for a loop over bytes.
     #[inline(always)]
     fn append_one(&mut self, dest: &mut [u8], byte: u8) -> usize {
         let index = self.index;
@@ -60,10 +61,10 @@ impl UnbufferedEncoder {
 
     /// Takes the next byte of the message.
     ///
-    /// It does what [`push`](UnbufferedEncoder::push) of this one byte does.
+    /// `feed` does what [`push`](UnbufferedEncoder::push) of this one byte does.
     ///
     /// # Errors
-    /// `DestBufTooSmallError` if the byte doesn't fit. Then neither the encoder nor the buffer has changed.
+    /// `DestBufTooSmallError` if the byte doesn't fit. This error changes neither the encoder nor the buffer.
     ///
     /// ```
     /// use jcobs::{DestBufTooSmallError, UnbufferedEncoder};
@@ -114,11 +115,11 @@ impl UnbufferedEncoder {
     }
 
     /// Takes up to 8 bytes of the message if they fit and can't fill the open block, and returns whether it took them.
-    /// If it didn't, nothing has changed, and [`push`](UnbufferedEncoder::push) takes the bytes if they fit.
+    /// If it took none, nothing has changed, and [`push`](UnbufferedEncoder::push) takes the bytes if they fit.
     ///
-    /// No branch tests whether a byte is a zero, because a processor could predict it wrong. So pushing single bytes,
-    /// or the fields of a record, is faster with `push_few` than with [`push`](UnbufferedEncoder::push) if zeros are at
-    /// random places, and slower if zeros are rare.
+    /// No branch tests whether a byte is a zero, because a processor could predict the branch wrong. So pushing single
+    /// bytes, or the fields of a record, is faster with `push_few` than with [`push`](UnbufferedEncoder::push) if zeros
+    /// are at random places, and slower if zeros are rare.
     ///
     /// ```
     /// use jcobs::UnbufferedEncoder;
@@ -144,7 +145,7 @@ impl UnbufferedEncoder {
 
     /// Takes the next bytes of the message, one at a time.
     ///
-    /// It does what [`push`](UnbufferedEncoder::push) does, in less code and more time: for small devices.
+    /// `push_each` does what [`push`](UnbufferedEncoder::push) does, in less code and more time: for small devices.
     ///
     /// # Errors
     /// Those of [`push`](UnbufferedEncoder::push).
