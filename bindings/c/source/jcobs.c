@@ -911,6 +911,7 @@ static JCOBS_APART jcobs_end jcobs_decode_blocks(unsigned char *buffer, size_t f
                 read++;
             } while (read != next);
         }
+        /* A zero joins this block to the next block, unless this block is full. */
         if (code != JCOBS_FULL_CODE && read < frame_len) {
             buffer[written] = 0;
             written++;

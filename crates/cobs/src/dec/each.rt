@@ -61,6 +61,7 @@ pub fn decode_blocks_each(buffer: &mut [u8], end: usize) -> Result<usize, Decode
                 }
             }
         }
+        // A zero joins this block to the next block, unless this block is full.
         if code != FULL_CODE && read < end {
             buffer[written] = 0;
             written += 1;

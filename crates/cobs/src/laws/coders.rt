@@ -106,11 +106,11 @@ pub fn law_17()
 
 /// A frame is decoded as its message however it is streamed, and nothing else is.
 ///
-/// After all bytes of a frame have been fed, feeding the zero after the frame returns the length of the message,
-/// provided that the buffer has room for the message. `feed_piece` of an idle decoder stops after the zero that ends
-/// the first piece. If this piece is a frame, `feed_piece` returns the length of the message too. A push of a frame and
-/// its zero to an idle decoder also returns the length of the message. After each of these calls the buffer begins with
-/// the message. No piece that isn't a frame is decoded as a message.
+/// After all bytes of a frame have been fed, feeding the zero after the frame returns the length of the message.
+/// `feed_piece` of an idle decoder stops after the zero that ends the first piece. If this piece is a frame,
+/// `feed_piece` returns the length of the message too. A push of a frame and its zero to an idle decoder also returns
+/// the length of the message. After each of these calls the buffer begins with the message. All this holds if the
+/// buffer has room for the message. No piece that isn't a frame is decoded as a message.
 ///
 /// So a frame that [`encode`](crate::encode) wrote is read by each of these calls.
 ///
