@@ -32,8 +32,8 @@ pub enum FrameKind {
 /// blocks are a full block and a block without bytes; decoders read both frames of a message alike. Nothing is
 /// allocated.
 ///
-/// A frame is defined by its blocks, as in Cheshire and Baker's paper. The encoder of that paper writes the shorter one
-/// of a message's two frames, so the shorter frame is canonical.
+/// A frame is defined by its blocks, as in Cheshire and Baker's paper. That the shorter one of a message's two frames is
+/// canonical is a choice of this library: all its `encode` functions write that frame.
 ///
 /// ```
 /// assert_eq!(rt; frame_kind(b"\x06hello"), FrameKind::Canonical);

@@ -34,8 +34,8 @@ pub enum FrameKind {
 /// blocks are a full block and a block without bytes; decoders read both frames of a message alike. Nothing is
 /// allocated.
 ///
-/// A frame is defined by its blocks, as in Cheshire and Baker's paper. The encoder of that paper writes the shorter one
-/// of a message's two frames, so the shorter frame is canonical.
+/// A frame is defined by its blocks, as in Cheshire and Baker's paper. That the shorter one of a message's two frames is
+/// canonical is a choice of this library: all its `encode` functions write that frame.
 pub fn frame_kind(bytes: &[u8]) -> FrameKind {
     if zero_or_len(bytes) < bytes.len() {
         return FrameKind::NotAFrame;
