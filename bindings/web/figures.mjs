@@ -39,7 +39,7 @@ const pictures = {
     title: "The two frames of 254 ones",
     lines: [
       { label: "encoded frame", pieces: [encode(ones)], cut: { from: 4, to: 252 }, note: "One full block: 255 and 254 ones." },
-      { label: "other frame", pieces: [longer], cut: { from: 4, to: 252 }, note: "The same frame with a needless block 01 after it. Both decode to the same message." },
+      { label: "other frame", pieces: [longer], cut: { from: 4, to: 252 }, note: "The same frame with the lone block 01 after it. Both decode to the same message." },
     ],
   },
 };
