@@ -21,7 +21,7 @@ const damaged = [stream[0], Uint8Array.from(stream[1], (byte, at) => (at === 2 ?
 
 const pictures = {
   "frame.svg": {
-    title: "The frame of the message 10, 11, 0, 12, and the sentinel behind it",
+    title: "The frame of the message 10, 11, 0, 12, and the sentinel after it",
     lines: [{ label: "frame", pieces: [encode(Uint8Array.of(10, 11, 0, 12))], note: "Each code says how far it is to the next one. The second code stands where the zero was." }],
   },
   "run-of-255.svg": {
@@ -39,7 +39,7 @@ const pictures = {
     title: "The two frames of 254 ones",
     lines: [
       { label: "encoded frame", pieces: [encode(ones)], cut: { from: 4, to: 252 }, note: "One full block: 255 and 254 ones." },
-      { label: "other frame", pieces: [longer], cut: { from: 4, to: 252 }, note: "The same and the lone block 1 behind it. Both read as the same message." },
+      { label: "other frame", pieces: [longer], cut: { from: 4, to: 252 }, note: "The same frame with the lone block 01 after it. Both decode to the same message." },
     ],
   },
 };

@@ -11,7 +11,10 @@ import { BROKEN, CHUNK_SIZE, CobsError, KINDS, NEAR, OK, STATE_SIZE, TOO_SMALL, 
 
 export { CobsError, isSupported, load, loadSync } from "./machine.js";
 
-/** Returns the options of a call, with the default for each that is left out. An option that the call doesn't have is an error. */
+/**
+ * Returns the options of a call, with the default for each option that is left out. Throws a TypeError for an option that the
+ * call doesn't have.
+ */
 function optionsOf(given, defaults) {
   if (given === undefined) return defaults;
   if (typeof given !== "object" || given === null) throw new TypeError(`options are wanted, as { ${Object.keys(defaults).join(", ")} }`);
@@ -58,7 +61,7 @@ export function encode(message, options) {
   return machine.read(at, length);
 }
 
-/** Encodes a message to the front of `dest` and returns the frame's length. If it doesn't fit, nothing is changed. */
+/** Encodes a message to the front of `dest` and returns the frame's length. If the frame doesn't fit, nothing is changed. */
 export function encodeInto(message, dest, options) {
   const front = bytesOf(dest);
   const { sentinel, terminated } = optionsOf(options, ENCODING);
@@ -72,7 +75,10 @@ export function encodeInto(message, dest, options) {
   return length;
 }
 
-/** Returns the message of a frame, up to its sentinel or its end; sentinels in front are skipped. */
+/**
+ * Returns the message of the first frame. Leading sentinels are skipped, and the frame ends at the next sentinel or with the
+ * bytes.
+ */
 export function decode(frame, options) {
   const bytes = bytesOf(frame);
   const { sentinel } = optionsOf(options, DECODING);
@@ -96,7 +102,10 @@ export function frameKind(frame, options) {
 
 const abandoned = typeof FinalizationRegistry === "function" ? new FinalizationRegistry(({ arena, place }) => arena.give(place)) : null;
 
-/** A place in the shared memory with a state, room for a chunk, and a buffer. It is freed by `close`, or once its owner is gone. */
+/**
+ * A place in the shared memory with a state, room for a chunk, and a buffer. `close` frees the place; garbage collection of
+ * its owner does too.
+ */
 class Held {
   #place;
 
@@ -152,9 +161,9 @@ export class FrameDecoder {
   }
 
   /**
-   * Calls `visit(outcome, end)` for each piece that `chunk` ends; `end` is the place in the chunk after its sentinel.
-   * After a visit that throws or closes the decoder there are no more visits. An error that a visit throws is thrown once the
-   * whole chunk is taken, so that the next chunk is decoded as if nothing had been thrown.
+   * Calls `visit(outcome, end)` for each piece that ends in `chunk`; `end` is the index in the chunk after the sentinel of that
+   * piece. After a visit that throws or closes the decoder there are no more visits. An error that a visit throws is thrown
+   * once the whole chunk is taken, so that the next chunk is decoded as if nothing had been thrown.
    */
   push(chunk, visit) {
     if (!this.#held.isOpen || this.#isClosing) throw new Error("the decoder is closed");
@@ -174,7 +183,7 @@ export class FrameDecoder {
     if (fault.isThrown) throw fault.thrown;
   }
 
-  /** How many bytes of a chunk are before the place where decoding begins. */
+  /** Returns the index in a chunk at which decoding begins. */
   #skip(bytes) {
     if (!this.#isSkipping) return 0;
     const at = bytes.indexOf(this.#sentinel);
@@ -202,7 +211,7 @@ export class FrameDecoder {
     }
   }
 
-  /** Frees the decoder's memory, or during a push marks it, so that the push frees it at its end. */
+  /** Frees the decoder's memory. During a push, that push frees the memory at its end. */
   close() {
     if (this.#isPushing) this.#isClosing = true;
     else this.#close();
@@ -219,7 +228,10 @@ export class FrameDecoder {
   }
 }
 
-/** Returns an iterator over the outcomes of the pieces of `bytes` that a sentinel ends. `end` of each is the place after that sentinel. */
+/**
+ * Returns an iterator over the outcomes of all pieces of `bytes` that a sentinel ends. `end` of an outcome is the index after
+ * that sentinel.
+ */
 export function frames(bytes, options) {
   const view = bytesOf(bytes);
   return outcomesOf(view, new FrameDecoder(optionsOf(options, { ...STREAM, maxLength: view.length })));
@@ -259,7 +271,7 @@ export class FrameEncoder {
     return this.#taken;
   }
 
-  /** Takes the next bytes of the message. If it would be longer than `maxLength`, none is taken. */
+  /** Takes the next bytes of the message. If the message would be longer than `maxLength`, none of the bytes is taken. */
   push(piece) {
     this.#demandOpen();
     const bytes = bytesOf(piece);
@@ -300,15 +312,16 @@ export class FrameEncoder {
 }
 
 /**
- * Makes the two ends of a stream, as a TransformStream has them. `take` is called with each chunk, and with a function `give`
- * for its results. `close` is called once, however the stream ends: engines don't notify a TransformStream of every end.
+ * Makes the two ends of a stream, `readable` and `writable`, as a TransformStream has them. `take` is called with each chunk,
+ * and with a function `give` for its results. `close` is called once, however the stream ends: engines don't notify a
+ * TransformStream of every end.
  */
 function ends(take, close) {
   const link = { take, close, out: null, into: null, wake: () => {}, isWanted: false, isOver: false, reason: undefined };
   return { readable: readableOf(link), writable: writableOf(link) };
 }
 
-/** Ends both ends of the stream. `end` is the controller of one of them, which gets the reason. */
+/** Ends both ends of the stream. `end` is the controller of one end, to which the reason is passed. */
 function fail(link, end, reason) {
   if (link.isOver) return;
   link.isOver = true;

@@ -60,7 +60,7 @@ export function parseHex(text) {
     if (at < text.length && signAt(text, at) !== SEPARATOR) {
       return { error: `At ${placeOf(text, at)}: “${String.fromCodePoint(text.codePointAt(at))}” is no hexadecimal digit.`, at };
     }
-    if (at === start) return { error: `At ${placeOf(text, at - 2)}: “0x” has no digits behind it.`, at: at - 2 };
+    if (at === start) return { error: `At ${placeOf(text, at - 2)}: “0x” has no digits after it.`, at: at - 2 };
     if ((at - start) % 2 === 1) return { error: `At ${placeOf(text, start)}: ${oddDigits(text.slice(start, at))}.`, at: start };
     for (let i = start; i < at; i += 2) bytes[length++] = (signAt(text, i) << 4) | signAt(text, i + 1);
   }

@@ -156,7 +156,7 @@ function say() {
   const parts = [MESSAGE, BROKEN, TOO_LONG].map((kind) => [pieces.countOf(kind), BADGES[kind]]);
   const said = parts.filter(([number]) => number > 0).map(([number, name]) => (name === "message" ? counted(number, name) : `${count(number)} ${name}`));
   let text = `${counted(stream.length, "byte")}, ${counted(pieces.ended, "piece")}${said.length > 0 ? `: ${said.join(", ")}` : ""}.`;
-  if (pieces.isUnfinished) text += " The last bytes have no sentinel behind them yet.";
+  if (pieces.isUnfinished) text += " The last bytes have no sentinel after them yet.";
   text += readAs;
   if (damage.size > 0) {
     const kept = before.ended - before.changedFrom(pieces, hurt).length;

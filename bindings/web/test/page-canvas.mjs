@@ -64,7 +64,7 @@ for (const [name, options] of [["a phone", { width: 360, isPhone: true }], ["a s
     }
   }, options));
   await check(`canvas: a click damages a byte, and one at the same place mends it, on ${name}`, () => on("stream", async (page) => {
-    const whole = "28 bytes, 5 pieces: 4 messages, 1 broken. The last bytes have no sentinel behind them yet.";
+    const whole = "28 bytes, 5 pieces: 4 messages, 1 broken. The last bytes have no sentinel after them yet.";
     const said = (words) => page.until(`document.getElementById("stream-status").textContent === "${whole}${words}"`);
     await fillStream(page, STREAM);
     await said("");
@@ -264,7 +264,7 @@ await check("canvas: in a stream, digits in a frame are damage, and in a message
   await summary(page, "1 byte damaged: 4 of the 5 pieces");
   await page.click("#stream-over-4");
   await page.press("Delete");
-  await summary(page, "27 bytes, 5 pieces: 4 messages, 1 broken. The last bytes have no sentinel behind them yet. 1 byte damaged: 4 of the 5 pieces");
+  await summary(page, "27 bytes, 5 pieces: 4 messages, 1 broken. The last bytes have no sentinel after them yet. 1 byte damaged: 4 of the 5 pieces");
   equal(await page.value('[...document.querySelectorAll("#stream-pieces [aria-selected=true]")].map((each) => each.id)'), ["stream-byte-12"], "the damaged byte, where it is now");
   equal((await page.value('document.getElementById("stream-input").value')).split("\n")[0], "01 02 0b 01 00", "the first line of the field");
   await page.click("#stream-over-12");
@@ -272,7 +272,7 @@ await check("canvas: in a stream, digits in a frame are damage, and in a message
   await page.until('document.getElementById("stream-fault").textContent === "What came of piece 3 isn\'t what was sent: mend its bytes first."');
   await page.press("ArrowDown");
   await page.type("05"); // what was sent
-  await summary(page, "27 bytes, 5 pieces: 4 messages, 1 broken. The last bytes have no sentinel behind them yet.");
+  await summary(page, "27 bytes, 5 pieces: 4 messages, 1 broken. The last bytes have no sentinel after them yet.");
   await page.type("ff");
   await summary(page, "1 byte damaged");
   holds((await badges(page)).includes("altered message"), "a message that nobody sent");

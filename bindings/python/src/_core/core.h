@@ -1,8 +1,8 @@
 /* jcobs._core: the calls of libjcobs, for the package jcobs.
  *
- * It is built for the stable ABI of CPython 3.9, so one file serves 3.9 and later. The module has no state, and its
- * objects refer to no other: a call that makes objects takes their classes as arguments. So it works in every
- * subinterpreter.
+ * The module is built for the stable ABI of CPython 3.9, so one file serves CPython 3.9 and every later version. The
+ * module has no state, and its objects refer to no other objects: a call that makes objects takes their classes as
+ * arguments. So the module works in every subinterpreter.
  */
 #ifndef JCOBS_CORE_H
 #define JCOBS_CORE_H
@@ -13,8 +13,9 @@
 
 #include "jcobs.h"
 
-/* Reference counts are changed by calls. Headers before 3.12 change them inline, and know nothing of the objects that
- * never die, which 3.12 shares between interpreters. If each interpreter has a GIL, two could change such a count at once. */
+/* These macros change reference counts by calls of functions. The headers of CPython before 3.12 change reference
+ * counts inline, and don't know of immortal objects, which CPython 3.12 shares between interpreters. If each
+ * interpreter has its own GIL, two threads could change the count of such an object at once. */
 #undef Py_INCREF
 #undef Py_DECREF
 #undef Py_XDECREF
@@ -24,30 +25,32 @@
 #define Py_XDECREF(object) Py_DecRef((PyObject *)(object)) /* which takes NULL */
 #define Py_RETURN_NONE return Py_IncRef(Py_None), Py_None
 
-/* From this length on a call releases the GIL. A shorter one takes a few microseconds. */
+/* A call releases the GIL if its input has at least this many bytes. A call with shorter input takes a few
+ * microseconds. */
 #define LONG 32768
 
-/* How many bytes of a chunk a decoder takes before it lets signal handlers and other threads run. */
+/* The number of bytes of a chunk that a decoder takes before it lets signal handlers and other threads run. */
 #define TURN 65536
 
-/* A call that is passed its arguments as an array. The stable ABI names it from 3.10 on; 3.9 has it too. */
+/* A call that is passed its arguments as an array. The stable ABI names this kind of call from CPython 3.10 on;
+ * CPython 3.9 has it too. */
 #ifndef METH_FASTCALL
 #define METH_FASTCALL 0x0080
 #endif
 #define FAST(function) ((PyCFunction)(void (*)(void))(function))
 
-/* Returns an argument as a bytes object. Bytes are taken as they are; anything else with a buffer is copied, so that
- * no other thread or process can change the bytes while a call reads them. */
+/* Returns an argument as a bytes object. A bytes object is returned as it is; the bytes of any other object with a
+ * buffer are copied, so that no other thread or process can change the bytes while a call reads them. */
 PyObject *bytes_of(PyObject *data, const char *name);
 
-/* The arguments of a call by name. The first one may be passed by its place too, and must be passed. */
+/* The arguments of a call by name. The first argument must be passed, by position or by name. */
 typedef struct {
     const char *call;
     Py_ssize_t count;
     const char *names[3];
 } Signature;
 
-/* Sorts the arguments of a call into `found`, with NULL for each one that isn't passed. Returns 1, or 0 with
+/* Sorts the arguments of a call into `found`, with NULL for each argument that isn't passed. Returns 1, or 0 with
  * TypeError. */
 int arguments_of(const Signature *signature, PyObject *const *args, Py_ssize_t count, PyObject *names,
                  PyObject **found);
@@ -73,24 +76,25 @@ void restore(PyThreadState *thread);
 /* Returns a new bytes object of this length, for writing, or NULL with MemoryError. */
 PyObject *room_of(size_t len);
 
-/* Shortens a bytes object that room_of returned, and returns it. The stable ABI has no call for that, but it has the
- * size of an object. The rest of the memory stays unused: here at most 1 byte in 254. */
+/* Shortens a bytes object that room_of returned, and returns it. The stable ABI has no call that shortens a bytes
+ * object, but it lets the size of an object be set. The memory after the new end stays unused: at most 1 byte in 254
+ * of a frame. */
 PyObject *cut(PyObject *bytes, size_t len);
 
-/* Writes bytes, each XORed with the sentinel, to another place or to the same one. */
+/* Writes bytes from `from` to `to`, each XORed with the sentinel. `to` may be `from`. */
 void xor_each(unsigned char *to, const unsigned char *from, size_t len, unsigned char sentinel);
 
 /* Pushes bytes of a stream of frames for any sentinel. */
 jcobs_answer push(jcobs_decoder *decoder, unsigned char *buffer, size_t room, const unsigned char *bytes, size_t len,
                   unsigned char sentinel);
 
-/* Frees the object's memory, and then its reference to its class. */
+/* Frees the object's memory, and then drops the object's reference to its class. */
 void free_object(PyObject *self);
 
 /* Returns a new object of the class, zeroed, or NULL with MemoryError. */
 void *new_object(PyTypeObject *type);
 
-/* A buffer of libjcobs, for one message or frame, and whether a call is at work on it. */
+/* A buffer of libjcobs, for one message or frame, and whether a call is using it. */
 typedef struct {
     unsigned char *start;
     size_t len;
@@ -100,7 +104,8 @@ typedef struct {
 /* Makes the buffer, or returns 0 with MemoryError. */
 int buffer_make(Buffer *buffer, size_t len);
 
-/* Takes the buffer for a call, or returns 0 with RuntimeError if another one is at work. The GIL is held. */
+/* Takes the buffer for a call, or returns 0 with RuntimeError if another call is using it. The caller holds the GIL.
+ * */
 int buffer_take(Buffer *buffer, const char *coder);
 
 /* Returns a new object of a class for data, or NULL with an error. */

@@ -37,7 +37,7 @@ static void decoder_dealloc(PyObject *self)
     free_object(self);
 }
 
-/* Pushes bytes through the next sentinel, without the GIL if it is far away. */
+/* Pushes bytes through the next sentinel. It releases the GIL if that sentinel is far away. */
 static jcobs_answer decoder_step(Decoder *self, const unsigned char *bytes, size_t len)
 {
     int far = len >= LONG && memchr(bytes, self->sentinel, LONG) == NULL;
@@ -64,9 +64,10 @@ static int decoder_append(Decoder *self, PyObject *list, PyObject *classes, jcob
     return done;
 }
 
-/* Runs signal handlers, or returns -1 with the error that one raised. Lets other threads run if 10 ms have passed since `turn`. A
- * thread that waits asks for the GIL after 5 ms (sys.getswitchinterval), and again 5 ms after each time that it was released.
- * If this thread released it more often, no other thread would have asked, and this one would get it back at once. */
+/* Runs signal handlers, or returns -1 with the error that one raised. Lets other threads run if 10 ms have passed since
+ * `turn`. A waiting thread asks for the GIL after 5 ms (sys.getswitchinterval), and again 5 ms after each release of
+ * the GIL. If this thread released the GIL more often, no other thread would have asked for it, and this thread would
+ * get it back at once. */
 static int have_turn(clock_t *turn)
 {
     clock_t now = clock();
@@ -101,8 +102,9 @@ static PyObject *decoder_outcomes(Decoder *self, PyObject *chunk, PyObject *clas
     return list;
 }
 
-/* feed(chunk, classes): a list of objects of the three classes. An error comes at the end of a frame, so the decoder
- * is then as new; the rest of the chunk is dropped. It is as new too if there is no memory for a copy of the chunk. */
+/* feed(chunk, classes): a list of objects of the three classes. An error occurs only at the end of a frame, so the
+ * decoder is then at its start; the rest of the chunk is dropped. The decoder is at its start too if there is no memory
+ * for a copy of the chunk. */
 static PyObject *decoder_feed(PyObject *object, PyObject *const *args, Py_ssize_t count)
 {
     Decoder *self = (Decoder *)object;

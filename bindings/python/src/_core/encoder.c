@@ -76,7 +76,8 @@ static PyObject *encoder_feed(PyObject *object, PyObject *data)
     Py_RETURN_NONE;
 }
 
-/* finish(terminated): the frame of the message. The encoder is then as new, after an error too. */
+/* finish(terminated): returns the frame of the message. Afterwards the encoder is at its start, even
+ * if the call raises an error. */
 static PyObject *encoder_finish(PyObject *object, PyObject *args)
 {
     Encoder *self = (Encoder *)object;

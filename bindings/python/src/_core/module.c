@@ -183,8 +183,8 @@ static PyObject *core_max_length(PyObject *module, PyObject *const *args, Py_ssi
     return PyLong_FromSize_t(jcobs_max_length(len));
 }
 
-/* The documentation of the functions, after a line from which inspect.signature takes the arguments. Those in _plain.py are
- * the same; the tests compare them. */
+/* The documentation of the functions. The first line of each text has the arguments for inspect.signature. The
+ * functions of _plain.py have the same documentation; the tests compare the two. */
 static const char encode_document[] =
     "encode(data, *, sentinel=0, terminated=False)\n--\n\n"
     "Encodes a message, and returns its frame, with the sentinel after it if `terminated` is true.\n\n"
@@ -238,7 +238,7 @@ static int add_type(PyObject *module, const char *name, PyType_Spec *spec)
     return 0;
 }
 
-/* The code that the calls use: the library of proved machine code, or C that was made from it and compiled here. */
+/* The code behind the calls: "prebuilt" is libjcobs, proved machine code; "compiled" is jcobs.c, compiled here. */
 #ifdef JCOBS_COMPILED
 #define BACKEND "compiled"
 #else
@@ -255,8 +255,8 @@ static int fill(PyObject *module)
                : 0;
 }
 
-/* CPython 3.12 has a slot by which a module says that it may be imported under each interpreter's own GIL. Older
- * versions raise an error for it, and headers for the stable ABI of 3.9 don't name it. */
+/* CPython 3.12 has a slot by which a module says that it may be imported into an interpreter with a GIL of its own.
+ * Older versions raise an error for this slot, and the headers for the stable ABI of 3.9 don't name it. */
 #define MULTIPLE_INTERPRETERS 3
 #define PER_INTERPRETER_GIL_SUPPORTED ((void *)2)
 

@@ -1,8 +1,8 @@
 /* The code that the functions and the types share. */
 #include "core.h"
 
-/* Adds to a TypeError of Python's own which argument was wrong; `text` is in the text of such an error. A TypeError that a
- * method of the argument has raised stays as it is. */
+/* Adds the name of the wrong argument to a TypeError that Python raised itself; the message of such an error contains
+ * `text`. A TypeError that a method of the argument raised isn't changed. */
 static void wrong_type(const char *name, const char *wanted, PyObject *given, const char *text)
 {
     PyObject *type, *value, *trace, *said = NULL, *begin = NULL, *class = NULL;
@@ -59,7 +59,7 @@ unsigned char *start_of(PyObject *bytes)
     return (unsigned char *)PyBytes_AsString(bytes);
 }
 
-/* Puts an argument that is passed by name where it belongs, or returns 0 with TypeError. */
+/* Puts an argument that is passed by name at its place in `found`, or returns 0 with TypeError. */
 static int place(const Signature *signature, PyObject *name, PyObject *value, PyObject **found)
 {
     Py_ssize_t i = 0;

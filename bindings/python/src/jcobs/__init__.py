@@ -1,7 +1,7 @@
 """Consistent Overhead Byte Stuffing (COBS), by proved code.
 
-A message becomes a frame that never contains one byte, the sentinel, so that the sentinel can mark where frames end on
-a serial line, in a stream or in a file:
+A message is turned into a frame that never contains one byte value, the sentinel, so that the sentinel can mark where
+frames end on a serial line, in a stream or in a file:
 
 >>> import jcobs
 >>> jcobs.encode(b"hello\\0world", terminated=True)

@@ -19,7 +19,7 @@ NAMES = {jcobs.Message: "message", jcobs.Broken: "broken", jcobs.TooLong: "too l
 
 
 class Fault(Exception):
-    """An error that the user reads before the program ends with status 1."""
+    """An error whose text the user reads; the program then ends with status 1."""
 
 
 def arguments() -> argparse.ArgumentParser:
@@ -61,7 +61,10 @@ def text_of(message: bytes) -> str:
 
 
 def members_of(outcome: Outcome) -> Dict[str, Any]:
-    """Returns the members of an outcome's JSON object except its kind. For a damaged frame they describe the bytes decoded."""
+    """Returns the members of an outcome's JSON object except its kind.
+
+    For a damaged frame these members describe the bytes that were decoded.
+    """
     members = {"length": len(outcome.data), "hex": outcome.data.hex()}
     if not isinstance(outcome, Message):
         return members
@@ -72,7 +75,7 @@ def members_of(outcome: Outcome) -> Dict[str, Any]:
 
 
 def line_of(outcome: Outcome, options: argparse.Namespace) -> str:
-    """Returns the line that shows an outcome. The members of its JSON object are those of the program cobs_watch."""
+    """Returns the line that shows an outcome. A JSON object has the members that the program cobs_watch writes."""
     name = NAMES[type(outcome)]
     if options.json:
         return json.dumps({"kind": name.replace(" ", "-"), **members_of(outcome)})
@@ -91,7 +94,7 @@ def show(source: Readable, output: TextIO, options: argparse.Namespace) -> None:
 
 
 def messages(lines: BinaryIO, options: argparse.Namespace) -> Iterator[bytes]:
-    """Yields the message of each line."""
+    """Yields the message for each line of the input."""
     for number, line in enumerate(lines, 1):
         text = line[:-1] if line.endswith(b"\n") else line
         try:

@@ -1,4 +1,4 @@
-"""A lock for methods that nobody waits for: a second call raises an error."""
+"""A lock for methods, without waiting: a second call at the same time raises an error."""
 
 from __future__ import annotations
 
@@ -15,7 +15,10 @@ Calls = Dict[str, List[FrameType]]
 
 
 def is_at_work(frame: FrameType) -> bool:
-    """Returns whether the call of a frame is still at work. As long as it is, its variables can't be cleared."""
+    """Returns whether the call that a stack frame belongs to is still running.
+
+    While the call is running, the variables of its stack frame can't be cleared.
+    """
     try:
         frame.clear()
     except RuntimeError:
@@ -24,10 +27,11 @@ def is_at_work(frame: FrameType) -> bool:
 
 
 def begins(calls: List[FrameType], mine: FrameType) -> bool:
-    """Adds the frame of a call to those of the same use, and returns whether it is the first one at work.
+    """Adds the stack frame of a call to those of the same use, and returns whether no other of these calls is running.
 
-    If it isn't, it is taken out again. A call that has ended may still be there: a signal handler raised an exception
-    before it could take itself out. Only such a call is taken out by others.
+    If another call is running, the stack frame is removed again. The stack frame of a call that has ended may still be
+    there, if a signal handler raised an exception before the call could remove it. Only such a stack frame is removed
+    by another call.
     """
     calls.append(mine)
     while (first := calls[0]) is not mine:
@@ -40,12 +44,14 @@ def begins(calls: List[FrameType], mine: FrameType) -> bool:
 
 
 def alone(what: str, use: Optional[str] = None) -> Callable[[_Method], _Method]:
-    """Has a method raise RuntimeError while another call is at work on its object, in any thread or signal handler.
+    """Makes a method raise RuntimeError while another call is running on its object, in any thread or signal handler.
 
-    Methods with different uses don't exclude each other. The object has an empty dictionary `_calls`.
+    Methods with different uses may run at the same time. The object must have a dictionary `_calls`, which is empty at
+    first.
 
-    The finally clause calls nothing, as CPython from 3.11 on runs signal handlers after calls. Before, and on PyPy, a
-    handler may raise an exception there too: then the next call finds that this one has ended.
+    The finally clause calls nothing, because CPython from 3.11 on runs signal handlers after calls. In older versions,
+    and on PyPy, a handler may raise an exception inside the finally clause too: then the next call finds that this call
+    has ended.
     """
     use = use or what
 

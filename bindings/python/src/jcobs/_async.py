@@ -25,7 +25,7 @@ class ReceivesSome(Protocol):
     """A stream of trio."""
 
     async def receive_some(self, max_bytes: Any = None) -> Any:
-        """Returns at most `max_bytes` bytes, none at the end."""
+        """Returns at most `max_bytes` bytes, or no bytes at the end of the stream."""
 
 
 class Receives(Protocol):
@@ -38,16 +38,16 @@ class Receives(Protocol):
 class AsyncFrameReader(Frames):
     """Reads frames from a stream of asyncio, trio or anyio, and sends messages.
 
-    `read` returns the outcome of one frame: a `Message`, `Broken` or `TooLong`. `async for` yields each one, as soon as
-    its frame ends, until the stream ends. If a read is cancelled, as by a timeout, no byte is lost, and the next call
-    continues there.
+    `read` returns the outcome of one frame: a `Message`, `Broken` or `TooLong`. `async for` yields each outcome as soon
+    as its frame ends, until the stream ends. If a read is cancelled, as by a timeout, no byte is lost, and the next
+    call continues where that read stopped.
 
     The stream is an `asyncio.StreamReader`, an object with `receive_some`, such as a stream of trio, or one with
-    `receive`, such as a stream of anyio. For asyncio `writer` is the `StreamWriter`. For trio and anyio messages are sent
-    by `send_all` or `send` of the stream, or of `writer` if it is passed.
+    `receive`, such as a stream of anyio. For asyncio `writer` is the `StreamWriter`. For trio and anyio, messages are
+    sent by `send_all` or `send`: of `writer` if that is passed, otherwise of the stream.
 
-    With `sync` a sentinel is sent before the first frame. It ends the bytes of an earlier sender, or of noise on the
-    line.
+    If `sync` is true, a sentinel is sent before the first frame, so that bytes left by an earlier sender or by noise
+    don't become part of that frame.
 
     >>> import asyncio
     >>> async def show() -> None:
@@ -116,13 +116,16 @@ class AsyncFrameReader(Frames):
             return b""
 
     async def _take(self) -> bytes:
-        """Decodes the bytes of one read, and returns them: none at the end. Between the two nothing is awaited."""
+        """Decodes the bytes of one read, and returns these bytes: none at the end.
+
+        Nothing is awaited between the read and the decoding.
+        """
         if not self._arrived:
             self._arrived.append(await self._receive())
         return self._decode()
 
     async def _take_within(self, timeout: float) -> Optional[bytes]:
-        """Does the same, or returns None at the timeout."""
+        """Does what `_take` does, but returns None if no bytes have arrived after `timeout` seconds."""
         if self._name == "read":
             return await self._take_by_a_task(timeout)
         library: Any = importlib.import_module("trio" if self._name == "receive_some" else "anyio")
@@ -131,7 +134,10 @@ class AsyncFrameReader(Frames):
         return None
 
     async def _take_by_a_task(self, timeout: float) -> Optional[bytes]:
-        """Does so over asyncio. `asyncio.wait_for` would swallow a cancellation up to 3.11."""
+        """Does what `_take_within` does, for asyncio.
+
+        Up to Python 3.11 `asyncio.wait_for` would swallow a cancellation.
+        """
         import asyncio
 
         taking = asyncio.ensure_future(self._take())
@@ -174,8 +180,9 @@ class AsyncFrameReader(Frames):
     async def discard(self, quiet: float = 0.05) -> None:
         """Drops the outcomes that weren't read, and all bytes that have arrived.
 
-        If the bytes end inside a frame, it also drops the bytes that follow, until none has arrived for `quiet` seconds.
-        On a line that never rests it stops after a second, and the next outcome is that of the frame that is open then.
+        If these bytes end inside a frame, this call also drops the bytes that follow, until none has arrived for
+        `quiet` seconds. If bytes still arrive after one second, this call stops, and the next outcome is that of the
+        frame that is then open.
         """
         end = time.monotonic() + LONGEST_DISCARD
         while await self._take_within(Deadline(quiet).left() or 0.0 if self.unfinished else 0.0):
@@ -189,7 +196,7 @@ class AsyncFrameReader(Frames):
     async def write(self, message: ReadableBuffer) -> None:
         """Sends a message: its frame, and the sentinel after it. Raises TypeError if there is no `writer`.
 
-        If this is cancelled, or fails, a stream of trio or anyio may have sent a part of the frame. The next write
+        If this call is cancelled or fails, a stream of trio or anyio may have sent a part of the frame. The next write
         then first sends bytes that end this frame, and the receiver reports at most one `Broken` or `TooLong` for that
         frame and these bytes.
         """
@@ -203,7 +210,10 @@ class AsyncFrameReader(Frames):
         await self._writer.drain()
 
     async def _send(self, message: ReadableBuffer) -> None:
-        """Sends a message to a stream of trio or anyio. The coroutine of a call shows whether it is at work."""
+        """Sends a message to a stream of trio or anyio.
+
+        The coroutine of an earlier call shows whether that call is still running.
+        """
         if self._sending is not None and (self._sending.cr_running or self._sending.cr_await is not None):
             raise RuntimeError("the writer is in use by another call")
         self._sending = self._send_alone(message)
@@ -216,8 +226,9 @@ class AsyncFrameReader(Frames):
     async def request(self, message: ReadableBuffer, timeout: Optional[float], *, discard: bool = False) -> bytes:
         """Sends a message, and returns the next message that is received, as its reply.
 
-        Raises TimeoutError if none has come after `timeout` seconds, and `DecodeError` if it is damaged or too long.
-        With `discard` the bytes that have come so far are dropped first, such as a late reply to another request.
+        Raises TimeoutError if no message has arrived after `timeout` seconds, and `DecodeError` if the reply is damaged
+        or too long. If `discard` is true, the bytes that have arrived so far are dropped first, such as a late reply to
+        another request.
         """
         Deadline(timeout)
         if discard:
@@ -227,7 +238,7 @@ class AsyncFrameReader(Frames):
 
 
 class AsyncMessages:
-    """The messages of a reader. A generator would end if it is cancelled."""
+    """The messages of a reader. A generator would end when it is cancelled; this iterator doesn't."""
 
     def __init__(self, reader: AsyncFrameReader) -> None:
         self._reader = reader

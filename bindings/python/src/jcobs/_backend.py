@@ -1,8 +1,8 @@
 """Which code does the work: the extension `_core` if it can be loaded, or else `_plain`, which is in Python.
 
-If the environment variable JCOBS_BACKEND is "python", it is `_plain`. If the variable has any other value, an extension
-that can't be loaded raises ImportError. An extension of another version, which an installation may have left behind,
-isn't used.
+If the environment variable JCOBS_BACKEND is "python", `_plain` does the work. If the variable has any other value, an
+extension that can't be loaded raises ImportError. An extension of another version, which an installation may have left
+behind, isn't used.
 """
 
 from __future__ import annotations
@@ -15,7 +15,7 @@ from jcobs import __version__
 
 
 def is_other(found: object) -> bool:
-    """Returns whether an extension is of another version of the package, and warns if it is."""
+    """Returns whether an extension belongs to another version of the package, and warns if it does."""
     version = getattr(found, "version", "an older version")
     if version == __version__:
         return False

@@ -24,21 +24,22 @@ class Readable(Protocol):
     """An object with `read`, such as a binary file or a `serial.Serial`."""
 
     def read(self, size: int, /) -> Optional[bytes]:
-        """Returns at most `size` bytes: none at the end, or None if there are none now."""
+        """Returns at most `size` bytes: no bytes at the end of the file, or None if there are none now."""
 
 
 class Receivable(Protocol):
     """An object with `recv`, such as a socket."""
 
     def recv(self, size: int, /) -> bytes:
-        """Returns at most `size` bytes, or none at the end."""
+        """Returns at most `size` bytes, or no bytes at the end of the stream."""
 
 
 def keep(kept: Kept, read: Callable[[int], Optional[bytes]], size: int, in_python: bool = False) -> bool:
-    """Reads, and keeps the bytes, unless there are none now.
+    """Reads bytes and keeps them, unless the file has none now.
 
-    No bytecode runs between the two if `read` is a function in C. So an exception that a signal handler raises can't lose
-    bytes that were read. A `read` in Python may have dropped them (`in_python`): then a GAP is kept.
+    If `read` is a function in C, no bytecode runs after the read and before the bytes are kept. So an exception that a
+    signal handler raises can't lose bytes that were read. A `read` that is written in Python (`in_python`) may have
+    lost bytes if it is interrupted: then a GAP is kept.
     """
     try:
         kept.extend(map(read, (size,)))  # type: ignore[arg-type]
@@ -63,7 +64,7 @@ def descriptor_of(file: Any) -> Optional[int]:
 
 
 def wait(descriptors: Iterable[int], timeout: Optional[float]) -> bool:
-    """Waits until one of the descriptors has bytes or has ended, and returns whether that happened in time."""
+    """Waits until one of the descriptors has bytes or is at its end, and returns whether that happened in time."""
     if not hasattr(select, "poll"):
         return bool(select.select(list(descriptors), [], [], timeout)[0])
     poll = select.poll()
@@ -73,7 +74,7 @@ def wait(descriptors: Iterable[int], timeout: Optional[float]) -> bool:
 
 
 def is_ready(file: Any, timeout: float) -> bool:
-    """Waits until a file or socket has bytes or has ended, and returns whether that happened in time."""
+    """Waits until a file or socket has bytes or is at its end, and returns whether that happened in time."""
     if not hasattr(file, "fileno"):
         kind = type(file).__name__
         raise TypeError(f"a timeout needs a serial port, a socket or a file: {kind} has no fileno")
@@ -88,7 +89,8 @@ def is_ready(file: Any, timeout: float) -> bool:
 def read_port(port: Any, timeout: Optional[float], kept: Kept) -> bool:
     """Reads the bytes that a serial port has, or waits for the next one.
 
-    It waits for the descriptor. Setting the port's own timeout would configure the port anew, while bytes come in.
+    It waits for the descriptor. If it set the port's own timeout, the port would be configured again while bytes
+    arrive.
     """
     waiting = port.in_waiting
     if not waiting:
@@ -101,7 +103,8 @@ def read_port(port: Any, timeout: Optional[float], kept: Kept) -> bool:
 
 
 def read_port_by_its_timeout(port: Any, timeout: Optional[float], kept: Kept) -> bool:
-    """Reads the bytes that a port without a descriptor has, or waits for the next one: on Windows, or by rfc2217://."""
+    """Reads the bytes that a port without a descriptor has, or waits for the next one: a port on Windows or of rfc2217://.
+    """
     waiting = port.in_waiting
     if waiting or timeout is None:
         return keep_some(kept, port, waiting)
@@ -114,7 +117,10 @@ def read_port_by_its_timeout(port: Any, timeout: Optional[float], kept: Kept) ->
 
 
 def read_port_at_a_socket(port: Any, timeout: Optional[float], kept: Kept) -> bool:
-    """Reads the bytes that a port by socket:// has, or waits for some. Its `in_waiting` is 1 for any number of bytes."""
+    """Reads the bytes that a port of socket:// has, or waits for some.
+
+    Its `in_waiting` is 1 for any number of bytes.
+    """
     own = port.timeout
     if not wait([port.fileno()], own if timeout is None else timeout):
         return False
@@ -126,7 +132,10 @@ def read_port_at_a_socket(port: Any, timeout: Optional[float], kept: Kept) -> bo
 
 
 def keep_some(kept: Kept, port: Any, waiting: int) -> bool:
-    """Reads the bytes that wait, or waits for 1, and keeps them. No byte means that the port timed out: it has no end."""
+    """Reads the `waiting` bytes, or waits for 1 byte, and keeps them.
+
+    If there is none, the port has timed out, since a port has no end.
+    """
     keep(kept, port.read, min(max(waiting, 1), CHUNK), in_python=True)
     if kept[-1]:
         return True
@@ -149,7 +158,10 @@ def read_socket(sock: Any, timeout: Optional[float], kept: Kept) -> bool:
 
 
 def read_ssl(sock: Any, timeout: Optional[float], kept: Kept) -> bool:
-    """Reads the bytes that an SSL socket has, or waits for some. It may be readable because of a record without data."""
+    """Reads the bytes that an SSL socket has, or waits for some.
+
+    The socket may be readable because of a record without data.
+    """
     from ssl import SSLWantReadError
 
     own = sock.gettimeout()
@@ -187,7 +199,7 @@ def read_file(file: Any, timeout: Optional[float], kept: Kept) -> bool:
 
 
 def read_of(file: Any) -> Read:
-    """Returns the function that reads this kind of file, or raises TypeError if it is none."""
+    """Returns the function that reads this kind of file, or raises TypeError if the object can't be read."""
     if isinstance(file, io.TextIOBase):
         raise TypeError(f'file must be binary, as by open(path, "rb"), not {type(file).__name__}')
     if hasattr(file, "in_waiting"):

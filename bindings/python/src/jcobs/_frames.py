@@ -15,11 +15,11 @@ FrameKind = Literal["not_a_frame", "canonical", "longer"]
 
 
 class DecodeError(ValueError):
-    """Raised by `decode` if there is no message, and by `request` of a reader if there is none in the reply.
+    """Raised by `decode` if the bytes have no message, and by `request` of a reader if the reply has none.
 
-    `kind` is "broken" if the frame breaks off inside a block, or "empty" if there are no bytes, or only sentinels. For a
-    reader it is "too_long" if the message is longer than `max_length`. `data` is the bytes that the frame decodes to
-    before it breaks off, at most `max_length` of them.
+    `kind` is "broken" if the frame breaks off inside a block, or "empty" if there are no bytes, or only sentinels. If a
+    reader raises the error, `kind` may also be "too_long": the message is longer than `max_length`. `data` is the bytes
+    that the frame decodes to before it breaks off, at most `max_length` of them.
 
     >>> try:
     ...     jcobs.decode(b"\\x06hel")
@@ -54,12 +54,14 @@ def encode_in_place(buffer: WriteableBuffer, length: int, *, sentinel: int = 0) 
     """Encodes a message in its own buffer, and returns the length of its frame.
 
     Before the call the message, which has `length` bytes, begins at index `max_length(length) - length` of `buffer`; the
-    bytes before it don't matter. Then `buffer` begins with the frame, and the bytes after the frame stay as they were.
+    bytes before it don't matter. Afterwards `buffer` begins with the frame, and the bytes after the frame are as they
+    were.
 
-    This is no faster than `encode`, which it calls for a copy of the message. It remains for scripts that use it.
+    This function is no faster than `encode`, which it calls for a copy of the message. It remains for scripts that
+    already use it.
 
-    `buffer` is a contiguous bytes-like object that can be written to. Raises ValueError if it has less than
-    `max_length(length)` bytes, and is then as it was.
+    `buffer` is a contiguous bytes-like object that can be written to. If it has fewer than `max_length(length)` bytes,
+    the function raises ValueError and leaves `buffer` as it was.
 
     >>> buffer = bytearray(b"\\0hello..")
     >>> jcobs.encode_in_place(buffer, 5)

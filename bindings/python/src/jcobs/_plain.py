@@ -1,6 +1,6 @@
 """The calls of the extension `_core`, written in Python, for use without the extension.
 
-Frames for another sentinel are XORed with it, so all loops are about the sentinel 0.
+Each byte of a frame for another sentinel is XORed with that sentinel, so every loop needs to know only the sentinel 0.
 """
 
 from __future__ import annotations
@@ -221,7 +221,7 @@ class Decoder:
         self._begun = self._joint = self._too_long = False
 
     def _take(self, piece: bytes) -> None:
-        """Takes bytes of a piece, and writes what they decode to, as far as there is room."""
+        """Takes bytes of a piece, and writes the decoded bytes, as far as there is room."""
         data, at = bytearray(), 0
         missing, joint = self._missing, self._joint
         while at < len(piece) and not self._too_long:
@@ -241,7 +241,7 @@ class Decoder:
         self._too_long = self._too_long or len(data) > room
 
     def _end(self) -> Tuple[int, bytes]:
-        """Ends the piece, and returns the number of its class, and the decoded bytes."""
+        """Ends the piece, and returns the index of the outcome's class and the decoded bytes."""
         found = 2 if self._too_long else 1 if self._missing else 0, bytes(self._buffer[: self._written])
         self._clear()
         return found

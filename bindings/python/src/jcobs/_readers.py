@@ -29,12 +29,13 @@ LONGEST_DISCARD = 1.0
 
 
 def closing(count: int, sentinel: int) -> bytes:
-    """Returns bytes that end a frame which was cut, and that no decoder takes for the end of a message.
+    """Returns bytes that end a frame which was cut off, such that no decoder takes the result for a message.
 
-    A single sentinel isn't enough: a frame that was cut between two of its blocks would be a shorter message. If k bytes
-    of a block are missing (k is less than `count`), the first k of the returned bytes complete it. The next byte is a code of
-    255 with fewer than 254 bytes after it, so the frame is broken. Up to 254 bytes of a block can be missing. So for a `count`
-    of 255 the first returned byte is the code of an empty block, because 254 bytes would follow the code of a full one.
+    A single sentinel isn't enough: a frame that was cut off between two of its blocks is the frame of a shorter
+    message. If k bytes of a block are missing (k is less than `count`), the first k of the returned bytes complete that
+    block. The next byte is a code of 255 with fewer than 254 bytes after it, so the frame is broken. Up to 254 bytes of
+    a block can be missing. So for a `count` of 255 the first returned byte is the code of an empty block, because 254
+    bytes would follow the code of a full one.
     """
     spoiling = b"\xff" * count if count < 255 else b"\x01" + b"\xff" * 254
     return bytes(byte ^ sentinel for byte in spoiling + b"\0")
@@ -50,7 +51,7 @@ def reply_of(outcome: Optional[Outcome]) -> bytes:
 
 
 class Deadline:
-    """The moment at which a call stops waiting, if there is one."""
+    """The moment at which a call stops waiting, or no such moment."""
 
     def __init__(self, timeout: Optional[float]) -> None:
         if isinstance(timeout, (str, bytes)) or not (timeout is None or hasattr(timeout, "__float__")):
@@ -64,7 +65,7 @@ class Deadline:
 
 
 class Frames(Coder):
-    """A decoder, the bytes that it should decode, and the outcomes that were decoded and not yet returned."""
+    """A decoder, the bytes that it has to decode next, and the outcomes that weren't returned yet."""
 
     def __init__(self, max_length: int, sentinel: int, sync: bool) -> None:
         self._decoder = Decoder(max_length, sentinel)
@@ -78,14 +79,17 @@ class Frames(Coder):
 
     @property
     def unfinished(self) -> bool:
-        """Whether a frame has begun and not ended: at the end of a file, whether its last frame was cut off."""
+        """Whether a frame has begun and not ended.
+
+        At the end of a file, this says whether the last frame was cut off.
+        """
         return self._headless or self._decoder.unfinished
 
     def _end(self) -> EOFError:
         return EOFError("the stream ended inside a frame" if self.unfinished else "the stream ended")
 
     def _lose(self, begun: bool) -> None:
-        """Resets the decoder. If a frame had begun, its rest will be dropped."""
+        """Resets the decoder. If a frame had begun, the rest of that frame will be dropped."""
         self._decoder.reset()
         self._headless = self._headless or begun
 
@@ -96,7 +100,8 @@ class Frames(Coder):
                 self._lose(True)
 
     def _without_rest(self, chunk: bytes) -> bytes:
-        """Drops the rest of a frame whose beginning is lost, and reports that frame at its end."""
+        """Drops the rest of a frame whose beginning is lost, and reports that frame as `Broken` when its sentinel comes.
+        """
         after = chunk.find(self._sentinel) + 1
         self._arrived[0] = chunk[after:] if after else b""
         if after:
@@ -105,11 +110,11 @@ class Frames(Coder):
         return self._arrived[0]
 
     def _decode(self) -> bytes:
-        """Decodes the chunk that has arrived, and returns it.
+        """Decodes the chunk that has arrived, and returns this chunk.
 
         If a signal handler raises an exception, or memory runs out, the chunk stays, and the next call decodes it. Only a
-        frame that had begun before the chunk is lost. One step of C decodes the chunk, keeps the outcomes and drops the
-        chunk, as in `keep`.
+        frame that had begun before the chunk is lost. A single call into C decodes the chunk, keeps the outcomes and
+        drops the chunk, so that no exception of a signal handler can come between these steps.
         """
         chunk = self._arrived[0]
         left = self._without_rest(chunk) if self._headless else chunk
@@ -126,7 +131,10 @@ class Frames(Coder):
         return chunk
 
     def _out(self, message: ReadableBuffer) -> bytes:
-        """Returns the bytes to send for a message. Until `_sent` is called, the reader assumes that they were cut."""
+        """Returns the bytes to send for a message.
+
+        Until `_sent` is called, the reader assumes that only a part of these bytes was sent.
+        """
         frame = encode(message, sentinel=self._sentinel, terminated=True)
         lead = closing(self._cut, self._sentinel) if self._cut else self._lead
         # fewer bytes of a block are missing than the frame has; if an earlier frame was cut, any number up to 254
@@ -141,15 +149,15 @@ class Frames(Coder):
 class FrameReader(Frames):
     """Reads frames from a serial port, a socket, a pipe or a file, and sends messages to it.
 
-    `read` returns the outcome of one frame: a `Message`, `Broken` or `TooLong`. Iterating yields each one, as soon as
-    its frame ends, until the stream ends or a timeout of the port or socket passes. Reading can continue after that, and
-    no byte is lost if the read of the file raises an exception.
+    `read` returns the outcome of one frame: a `Message`, `Broken` or `TooLong`. Iterating yields each outcome as soon
+    as its frame ends, until the stream ends or a timeout of the port or socket passes. After a timeout reading can
+    continue. No byte is lost if the read of the file raises an exception.
 
-    If a signal handler raises an exception, no byte of a socket, a pipe or a file is lost. Bytes may be lost in pyserial
-    and in the `makefile` of a socket: then the frames that they belong to are reported as one `Broken`.
+    If a signal handler raises an exception, no byte of a socket, a pipe or a file is lost. Bytes may be lost in
+    pyserial and in the `makefile` of a socket: then the frames that these bytes belong to are reported as one `Broken`.
 
-    With `sync` a sentinel is sent before the first frame. It ends the bytes of an earlier sender, or of noise on the
-    line.
+    If `sync` is true, a sentinel is sent before the first frame, so that bytes left by an earlier sender or by noise
+    don't become part of that frame.
 
     One thread at a time may read, and at the same time one thread may write. A call raises RuntimeError while another
     call of the same kind is at work.
@@ -163,9 +171,10 @@ class FrameReader(Frames):
     >>> reader.unfinished
     True
 
-    It never waits for more bytes than have arrived. From a serial port it reads `in_waiting` bytes, or 1 byte. It calls
-    `recv` of a socket, `read1` of a buffered file, or `read` of any other object, with 65536. Such a call must return the
-    bytes that have arrived, no bytes at the end, or None if there are none now.
+    A reader never waits for further bytes if some have arrived. From a serial port it reads `in_waiting` bytes, or 1
+    byte if none are waiting. For a socket it calls `recv`, for a buffered file `read1`, and for any other object
+    `read`, each with 65536 as the size. Such a call must return the bytes that have arrived, no bytes at the end, or
+    None if there are none now.
     """
 
     def __init__(
@@ -207,12 +216,13 @@ class FrameReader(Frames):
     def read(self, timeout: Optional[float] = None) -> Optional[Outcome]:
         """Returns the outcome of the next frame, or None if it hasn't ended after `timeout` seconds.
 
-        Without `timeout` it waits as the object does: None means that a timeout of its own has passed, or that it has
-        nothing now and doesn't wait. Raises EOFError at the end of the stream.
+        Without `timeout` the call waits as long as the object itself waits. None then means that the object's own
+        timeout has passed, or that the object never waits and has no bytes now. Raises EOFError at the end of the
+        stream.
 
         With a timeout, bytes that other code such as `readline` has left in a file's own buffer aren't seen: open the file
         with `buffering=0`, or give such bytes to a `Decoder`. If a socket has a timeout, pass the socket itself: its
-        `makefile` raises TimeoutError, and can't be read any more then.
+        `makefile` raises TimeoutError, and after that can't be read any more.
 
         On Windows only serial ports and sockets can have a timeout.
 
@@ -283,8 +293,9 @@ class FrameReader(Frames):
     def discard(self, quiet: float = 0.05) -> None:
         """Drops the outcomes that weren't read, and all bytes that have arrived.
 
-        If the bytes end inside a frame, it also drops the bytes that follow, until none has arrived for `quiet` seconds.
-        On a line that never rests it stops after a second, and the next outcome is that of the frame that is open then.
+        If these bytes end inside a frame, this call also drops the bytes that follow, until none has arrived for
+        `quiet` seconds. If bytes still arrive after one second, this call stops, and the next outcome is that of the
+        frame that is then open.
 
         A file in memory or on a disk is read to its end.
 
@@ -307,9 +318,10 @@ class FrameReader(Frames):
     def write(self, message: ReadableBuffer) -> None:
         """Sends a message: its frame, and the sentinel after it.
 
-        If this fails, or ends by an exception of a signal handler, a part of the frame may have been sent. The next
-        write then first sends bytes that end this frame, and the receiver reports at most one `Broken` or `TooLong` for
-        that frame and these bytes. A port may still be sending when this returns: its own `flush` waits for it.
+        If this call fails, or a signal handler ends it by an exception, a part of the frame may have been sent. The
+        next write then first sends bytes that end this frame, and the receiver reports at most one `Broken` or
+        `TooLong` for that frame and these bytes. A port may still be sending when this call returns: the port's own
+        `flush` waits until everything is sent.
 
         >>> import io
         >>> file = io.BytesIO()
@@ -323,14 +335,14 @@ class FrameReader(Frames):
 
     @alone("reader", "request")
     def request(self, message: ReadableBuffer, timeout: Optional[float], *, discard: bool = False) -> bytes:
-        """Sends a message, and returns the next one that comes, its reply.
+        """Sends a message, and returns the next message that arrives, as its reply.
 
-        Raises TimeoutError if none has come after `timeout` seconds, and `DecodeError` if it is damaged or too long.
-        After that its reply, or the rest of it, may still come. With `discard` the bytes that have come so far are dropped
-        first, so that they aren't mistaken for the reply to this message.
+        Raises TimeoutError if no message has arrived after `timeout` seconds, and `DecodeError` if the reply is damaged
+        or too long. After such an error the reply, or the rest of it, may still arrive. If `discard` is true, the bytes
+        that have arrived so far are dropped first, so that they aren't mistaken for the reply to this message.
 
-        A reply that comes even later is mistaken for it, because COBS doesn't say which reply belongs to which request. If
-        that can happen, number the requests.
+        A reply to an earlier request that arrives after that is mistaken for the reply to this one, because COBS
+        doesn't say which reply belongs to which request. If that can happen, number the requests.
         """
         Deadline(timeout)
         if discard:
@@ -344,8 +356,8 @@ def frames(
 ) -> FrameReader:
     """Returns an iterator over the outcomes of the frames in bytes, or in a binary file such as a log.
 
-    They are decoded as they are asked for. It is a `FrameReader`, so `unfinished` says at the end whether the last frame
-    was cut off, and `messages` skips damaged ones.
+    Each frame is decoded when its outcome is asked for. The iterator is a `FrameReader`: at the end its `unfinished`
+    says whether the last frame was cut off, and its `messages` skips damaged frames.
 
     >>> for outcome in jcobs.frames(b"\\x03hi\\x00\\x05a\\x00\\x06hello\\x00"):
     ...     print(outcome)

@@ -11,7 +11,7 @@ if TYPE_CHECKING:
 
 
 class Message(core.Outcome):
-    """A message, `data`. It is true even if it has no bytes.
+    """A message, `data`. A message is true even if it has no bytes.
 
     >>> message = jcobs.Message(b"hi")
     >>> message.data, bytes(message), len(message)
@@ -32,7 +32,7 @@ class Message(core.Outcome):
 
 
 class Broken(core.Outcome):
-    """A frame that breaks off inside a block. `data` is the bytes that it decodes to before it breaks off."""
+    """A frame that breaks off inside a block. `data` is the bytes that the frame decodes to before it breaks off."""
 
     __slots__ = ()
     __match_args__ = ("data",)
@@ -76,8 +76,8 @@ class Decoder(Coder):
     def feed(self, chunk: ReadableBuffer) -> List[Outcome]:
         """Decodes the next bytes of the stream, and returns the outcome of each frame that ends in them, in order.
 
-        Raises MemoryError if there isn't enough memory for them. Then these outcomes are lost, and the decoder is reset.
-        The same happens if a signal handler raises an exception, as for Ctrl-C.
+        Raises MemoryError if there isn't enough memory for these outcomes. Then these outcomes are lost, and the
+        decoder is reset. The same happens if a signal handler raises an exception, as for Ctrl-C.
 
         >>> decoder = jcobs.Decoder(max_length=5)
         >>> for outcome in decoder.feed(b"\\x03hi\\x00\\x06hel\\x00\\x07hello!\\x00"):
@@ -90,7 +90,8 @@ class Decoder(Coder):
 
     @property
     def unfinished(self) -> bool:
-        """Whether a frame has begun and not ended: at the end of a stream, whether its last frame was cut off.
+        """Whether a frame has begun and not ended. At the end of a stream, this says whether the last frame was cut
+        off.
 
         >>> decoder = jcobs.Decoder()
         >>> decoder.feed(b"\\x06hel")
@@ -116,8 +117,8 @@ class Decoder(Coder):
 class Encoder(Coder):
     """Encodes messages that come in pieces.
 
-    `max_length` is the length of the longest message; the encoder allocates this much memory at once. It is for one
-    thread at a time, like a `Decoder`.
+    `max_length` is the length of the longest message; the encoder allocates this much memory at once. An encoder is for
+    one thread at a time, like a `Decoder`.
 
     >>> encoder = jcobs.Encoder()
     >>> encoder.feed(b"hel")

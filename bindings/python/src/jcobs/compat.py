@@ -4,9 +4,9 @@
 >>> cobs.decode(cobs.encode(b"hello"))
 b'hello'
 
-As there, `decode` takes a frame without a sentinel after it, and returns no bytes for no bytes. It raises a `DecodeError`
-of this module, with the same texts. Both functions raise TypeError for a str. There is nothing in place of the module
-`cobs.cobsr`, COBS/R: keep the package `cobs` for that.
+As in `cobs`, `decode` takes a frame without a sentinel after it, and returns no bytes for no bytes. On damage `decode`
+raises a `DecodeError` of this module, with the texts that `cobs` uses. Both functions raise TypeError for a str. This
+package has nothing like the module `cobs.cobsr` (COBS/R): keep the package `cobs` for that.
 """
 
 from __future__ import annotations
