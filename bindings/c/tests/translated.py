@@ -37,7 +37,7 @@ PAIRS = {
     "cobs/dec/kind": "kind_by_blocks",
     "cobs/dec/step": "joint_after decoder_take_byte=take_byte decoder_end_piece=end decoder_step=step decoder_take=feed_each",
     "cobs/dec/unbuffered": "decoder_is_idle=is_idle",
-    "cobs/enc/blocks": "close_block=close",
+    "cobs/enc/blocks": "close_block",
     "cobs/enc/each": "write_blocks=write_each",
     "cobs/enc/in_place": "write_in_place=encode_in_place",
     "cobs/enc/room": "extra_codes_fit=fits_each covers_overhead has_room",

@@ -12,7 +12,7 @@ ghost use Rattle.cobs.specs.Internal.Taking.{IsFirstRun, TakesFront};
 use crate::block::FULL_CODE;
 use crate::enc::progress::EncoderProgress;
 use crate::find::position_or_len;
-use cobs_bytes::window::{WINDOW, copy_at, copy_window, write_row, zeros_at};
+use cobs_bytes::window::{WINDOW, copy_at, copy_window, has_vectors, write_row, zeros_at};
 
 /// Fewer bytes than this are appended one by one, because in the Rust crate that is faster than copying a window.
 /// `push_few` takes up to this number of bytes.
@@ -322,7 +322,7 @@ pub(crate) fn append(source: &[u8], dest: &mut [u8], progress: EncoderProgress) 
 // The room is tested first, though only a full block leaves none. Otherwise compilers test whether the block is full in the
 // caller's loop over single bytes, which can make that loop half as fast in the Rust crate with link-time optimization.
 #[inline(always)]
-pub(crate) fn close(dest: &mut [u8], progress: EncoderProgress) -> usize
+pub(crate) fn close_block(dest: &mut [u8], progress: EncoderProgress) -> usize
     requires { IsPlaceIn (length dest.old) (reached_at progress) }
     ensures frame { (m : List ℕ) → CobsEncoderAfter dest.old (reached_at progress) m
         → IsEncodedFrame (take result dest.new) m }
@@ -335,4 +335,29 @@ pub(crate) fn close(dest: &mut [u8], progress: EncoderProgress) -> usize
         return index + code as usize;
     }
     index
+}
+
+/// Does what [`close_block`] does. On a target with vectors it always stores a byte: after a full block, the byte that is
+/// already there.
+// Then compilers keep the caller's loop over single bytes as it is written. If only an open block's code were stored, this
+// loop would be slower in the Rust crate on x86-64. Without vectors the code is `close_block`, which needs fewer bytes of flash.
+#[inline(always)]
+pub(crate) fn close(dest: &mut [u8], progress: EncoderProgress) -> usize
+    requires { IsPlaceIn (length dest.old) (reached_at progress) }
+    ensures frame { (m : List ℕ) → CobsEncoderAfter dest.old (reached_at progress) m
+        → IsEncodedFrame (take result dest.new) m }
+    ensures end { result ≡ end_of (reached_at progress) }
+    ensures rest { drop result dest.new ≡ drop result dest.old }
+{
+    if !has_vectors() {
+        return close_block(dest, progress);
+    }
+    let EncoderProgress { index, code, .. } = progress;
+    if index < dest.len() {
+        dest[index] = if progress.is_full { dest[index] } else { code };
+    }
+    if progress.is_full {
+        return index;
+    }
+    index + code as usize
 }

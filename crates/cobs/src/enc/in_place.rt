@@ -7,7 +7,7 @@ ghost use Rattle.cobs.specs.Overwritten.{message_in};
 ghost use Rattle.cobs.specs.Fields.Progress.{reached_by};
 
 use crate::enc::UnbufferedEncoder;
-use crate::enc::blocks::close;
+use crate::enc::blocks::close_block;
 use crate::max_encoding_overhead;
 
 /// Encodes a message in its own buffer, and returns the length of its frame in bytes.
@@ -38,5 +38,5 @@ pub fn encode_in_place(buffer: &mut [u8], len: usize) -> usize
         let byte = buffer[before + taken];
         encoder.append_byte(buffer, byte);
     }
-    close(buffer, encoder.progress())
+    close_block(buffer, encoder.progress())
 }

@@ -6,7 +6,7 @@ ghost use Rattle.cobs.specs.OpenBlock.{CobsEncoderAfter, HasRoomFor, IsPlaceIn, 
 ghost use Rattle.cobs.specs.Fields.Progress.{reached_at, reached_by};
 ghost use Rattle.cobs.specs.Internal.Taking.{TakesFront};
 
-use crate::enc::blocks::{append_short, close, fits_window_and_block};
+use crate::enc::blocks::{append_short, close_block, fits_window_and_block};
 use crate::enc::progress::EncoderProgress;
 use crate::enc::room::try_append;
 use crate::error::DestBufTooSmallError;
@@ -229,7 +229,7 @@ impl UnbufferedEncoder {
         if !self.is_within(dest.len()) {
             return Err(DestBufTooSmallError);
         }
-        let len = close(dest, self.progress());
+        let len = close_block(dest, self.progress());
         self.reset();
         Ok(len)
     }

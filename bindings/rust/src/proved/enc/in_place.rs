@@ -2,7 +2,7 @@
 //! A message that is encoded in its own buffer.
 
 use crate::proved::enc::UnbufferedEncoder;
-use crate::proved::enc::blocks::close;
+use crate::proved::enc::blocks::close_block;
 use crate::proved::max_encoding_overhead;
 
 /// Encodes a message in its own buffer, and returns the length of its frame in bytes.
@@ -21,5 +21,5 @@ pub fn encode_in_place(buffer: &mut [u8], len: usize) -> usize {
         let byte = buffer[before + taken];
         encoder.append_byte(buffer, byte);
     }
-    close(buffer, encoder.progress())
+    close_block(buffer, encoder.progress())
 }

@@ -2,7 +2,7 @@
 //! An encoder for a message that comes in pieces. Its buffer is passed to each call.
 
 use crate::proved::cobs_bytes::window::has_vectors;
-use crate::proved::enc::blocks::{append_short, close, fits_window_and_block};
+use crate::proved::enc::blocks::{append_short, close_block, fits_window_and_block};
 use crate::proved::enc::progress::EncoderProgress;
 use crate::proved::enc::room::try_append;
 use crate::proved::error::DestBufTooSmallError;
@@ -200,7 +200,7 @@ impl UnbufferedEncoder {
         if !self.is_within(dest.len()) {
             return Err(DestBufTooSmallError);
         }
-        let len = close(dest, self.progress());
+        let len = close_block(dest, self.progress());
         self.reset();
         Ok(len)
     }

@@ -1,15 +1,25 @@
--- With its last code written the slice holds the whole frame, by `closed-open`. If no code is written, the frame ends in a full
--- block (`closed-full`), because an open one has room.
+-- With its last code written the slice holds the whole frame: by `closed-open`, or `closed-full` if it ends in a full block.
 use Rattle.std.proofs.Common.{arith}
+use Rattle.std.proofs.lemmas.List.{take-set}
 use Rattle.cobs.proofs.encoding.AfterLemmas.{closed-full, closed-open}
-use Rattle.cobs.proofs.enc.blocks.close.Goals.{else-index-dest-via-then-index-dest+else-not-progress, else-index-dest-via-else-index-dest}
+use Rattle.cobs.proofs.enc.blocks.close.Goals.{then-index-dest, then-progress, else-progress, else-index-dest}
 use Rattle.cobs.proofs.enc.blocks.close.Goals as goal
 
-pub returns-then-not-progress-clause-frame : goal.returns-then-not-progress-clause-frame
-returns-then-not-progress-clause-frame c = λ m h. closed-open h (grind arith)
+pub returns-then-progress-2-clause-frame : goal.returns-then-progress-2-clause-frame
+returns-then-progress-2-clause-frame c = λ m h.
+    let frame = closed-full h c.if-progress-2.true in
+    elim c.if-index-dest.branch [
+      | then-index-dest w ↦ rw w.dest-is (rw (take-set c.args.dest.now c.args.progress.index w.if-progress.dest) frame)
+      | else-index-dest w ↦ rw w.dest-is frame
+    ]
 
 pub returns-clause-frame : goal.returns-clause-frame
-returns-clause-frame c = λ m h. closed-full h (elim c.else-index-dest.branch [
-  | else-index-dest-via-then-index-dest+else-not-progress w ↦ grind arith
-  | else-index-dest-via-else-index-dest w ↦ grind arith
-])
+returns-clause-frame c = λ m h.
+    let frame = closed-open h c.if-progress-2.false in
+    elim c.if-index-dest.branch [
+      | then-index-dest w ↦ elim w.if-progress.branch [
+        | then-progress v ↦ absurd (grind arith)
+        | else-progress v ↦ rw w.dest-is (rw v.dest-is frame)
+      ]
+      | else-index-dest w ↦ absurd (grind arith)
+    ]

@@ -63,8 +63,8 @@ by_byte-preserved c =
     let least = next-least r (get_or c.by_byte.buffer at 0 ∷ []) (after-place i.after).some (omega arith) in
     grind (arith, all-rest, drop-later, all-end)
 
-pub close-requires : goal.close-requires
-close-requires c = rw c.progress.ensures.progress (after-place c.by_byte.invariant.after)
+pub close_block-requires : goal.close_block-requires
+close_block-requires c = rw c.progress.ensures.progress (after-place c.by_byte.invariant.after)
 
 pub returns : goal.returns
 returns c =
@@ -74,11 +74,11 @@ returns c =
     let message : take c.by_byte.taken (drop c.max_encoding_overhead-before.result c.args.buffer.now) ≡ m = rw (all, c.max_encoding_overhead-before.ensures.overhead) refl in
     let same = c.progress.ensures.progress in
     let after : CobsEncoderAfter c.by_byte.buffer r m = rw (same, ← message) c.by_byte.invariant.after in
-    let frame = c.close.ensures.frame m after in
-    let end = c.close.ensures.end ∙ ap end_of same in
+    let frame = c.close_block.ensures.frame m after in
+    let end = c.close_block.ensures.end ∙ ap end_of same in
     record {
       frame = frame;
       no_sentinel = encoded_nonzero frame;
-      len = c.close.ensures.end ∙ sym (end-is after);
-      rest = c.close.ensures.rest ∙ subst (λ (n : ℕ). drop n c.by_byte.buffer ≡ drop n c.args.buffer.now) (sym end) c.by_byte.invariant.rest;
+      len = c.close_block.ensures.end ∙ sym (end-is after);
+      rest = c.close_block.ensures.rest ∙ subst (λ (n : ℕ). drop n c.by_byte.buffer ≡ drop n c.args.buffer.now) (sym end) c.by_byte.invariant.rest;
     }

@@ -10,10 +10,10 @@ pub returns-then-not-is_within-clause-fits : goal.returns-then-not-is_within-cla
 returns-then-not-is_within-clause-fits c = λ m h. let yes = c.is_within.ensures.1 (after-place h) in cc
 
 pub returns-clause-len : goal.returns-clause-len
-returns-clause-len c = λ m h. c.close-len.ensures.end ∙ ap end_of c.progress.ensures.progress ∙ sym (end-is h)
+returns-clause-len c = λ m h. c.close_block-len.ensures.end ∙ ap end_of c.progress.ensures.progress ∙ sym (end-is h)
 
 pub returns-clause-frame : goal.returns-clause-frame
-returns-clause-frame c = λ m h. c.close-len.ensures.frame m (rw c.progress.ensures.progress h)
+returns-clause-frame c = λ m h. c.close_block-len.ensures.frame m (rw c.progress.ensures.progress h)
 
 pub returns-clause-no_sentinel : goal.returns-clause-no_sentinel
 returns-clause-no_sentinel c = λ m h. encoded_nonzero (returns-clause-frame c m h)

@@ -1,0 +1,15 @@
+-- With its last code written the slice holds the whole frame, by `closed-open`. If no code is written, the frame ends in a full
+-- block (`closed-full`), because an open one has room.
+use Rattle.std.proofs.Common.{arith}
+use Rattle.cobs.proofs.encoding.AfterLemmas.{closed-full, closed-open}
+use Rattle.cobs.proofs.enc.blocks.close_block.Goals.{else-index-dest-via-then-index-dest+else-not-progress, else-index-dest-via-else-index-dest}
+use Rattle.cobs.proofs.enc.blocks.close_block.Goals as goal
+
+pub returns-then-not-progress-clause-frame : goal.returns-then-not-progress-clause-frame
+returns-then-not-progress-clause-frame c = λ m h. closed-open h (grind arith)
+
+pub returns-clause-frame : goal.returns-clause-frame
+returns-clause-frame c = λ m h. closed-full h (elim c.else-index-dest.branch [
+  | else-index-dest-via-then-index-dest+else-not-progress w ↦ grind arith
+  | else-index-dest-via-else-index-dest w ↦ grind arith
+])
