@@ -8,8 +8,10 @@ FUNCTIONS = {
     "UnbufferedEncoder::append_one": "jcobs_encoder_append_and_measure",
     "UnbufferedEncoder::finalize": "jcobs_encoder_close",
     "UnbufferedEncoder::push_each": "jcobs_encoder_try_append",
+    "begin_block": "jcobs_decoder_begin_block",
     "close": "jcobs_close_block",
     "decode_blocks_each": "jcobs_decode_blocks",
+    "decode_zero": "jcobs_decoder_feed_zero",
     "done": "jcobs_ok_answer",
     "encode_byte": "jcobs_encoder_feed_byte",
     "encode_in_place": "jcobs_write_in_place",
@@ -21,6 +23,7 @@ FUNCTIONS = {
     "max_encoding_overhead": "jcobs_max_overhead",
     "result_by": "jcobs_in_place_answer",
     "result_of": "jcobs_decoder_answer",
+    "take_one": "jcobs_decoder_take_and_measure",
     "through_piece": "jcobs_find_end",
     "too_small": "jcobs_too_small_answer",
     "write_each": "jcobs_write_blocks",
@@ -42,7 +45,7 @@ VARIABLES = {
     "UnbufferedEncoder::push_each": {"dest": "buffer"},
     "close": {"dest": "buffer"},
     "decode_blocks_each": {"end": "frame_len"},
-    "decode_byte": {"found": "piece"},
+    "decode_zero": {"found": "piece"},
     "decode_each": {"found": "piece"},
     "decode_piece": {"dest": "message", "left": "missing"},
     "encode_in_place": {"len": "message_len", "before": "start"},
@@ -55,11 +58,14 @@ VARIABLES = {
     "max_encoding_overhead": {"source_len": "message_len"},
     "result_by": {"room": "buffer_len", "size": "decoded"},
     "result_of": {"room": "buffer_size", "found": "piece"},
+    "take_one": {"room": "buffer_size"},
     "try_encode_each": {"source": "message", "dest": "frame"},
     "write_each": {"source": "message", "dest": "frame", "len": "part_len"},
 }
 # Functions that are called once, by a call of jcobs.h, and aren't written there: for an AVR the step would be a tenth slower.
-APART = {"encode_byte"}
+APART = {"encode_byte", "decode_zero"}
+# Functions for what happens once in a piece, called for each byte of it (JCOBS_RARE in top.c).
+RARE = {"decode_zero"}
 # Functions whose value is written where they are called.
 WRITTEN_OUT = {"UnbufferedDecoder::is_idle"}
 # A number that has a name.
@@ -155,6 +161,11 @@ COMMENTS = {
         "a call that took `len` bytes or those through this piece's end, if it has ended. The buffer has `room` bytes",
     )],
     "through_piece": [("whose next byte is at `at`: after", "that source[at] belongs to: after")],
+    "take_one": [(
+        "Takes a byte of a piece, writes its output to the buffer, and returns how many bytes of the open message the buffer then holds.",
+        "Does what jcobs_decoder_take_byte does, and returns how many bytes of the open message the buffer then holds. Each case has a"
+        " length that needs no test.",
+    )],
     "write_each": [(
         "Does what [`encode`](crate::encode) does, one byte at a time.",
         "Writes the frame of the message, and returns its length. index is where the code of the open block belongs, and next where the"

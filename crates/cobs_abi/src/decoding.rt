@@ -95,8 +95,8 @@ fn begin_block(decoder: &mut UnbufferedDecoder, code: u8)
 
 /// Takes a byte of a piece, writes its output to the buffer, and returns how many bytes of the open message the buffer then
 /// holds.
-// Each case has a store of its own, and a length that needs no test: compilers make fewer instructions of this form for one
-// byte, and more for a loop.
+// Each case has a length that needs no test, and in the two that are most frequent the byte has room: so compilers make
+// fewer instructions for a call with one byte.
 #[inline(always)]
 fn take_one(decoder: &mut UnbufferedDecoder, buffer: &mut [u8], byte: u8) -> usize
     requires nonzero { byte ≢ 0 }
@@ -134,7 +134,7 @@ fn take_one(decoder: &mut UnbufferedDecoder, buffer: &mut [u8], byte: u8) -> usi
     room
 }
 
-/// Takes a zero of a stream of frames, whose sentinel is zero.
+/// Takes a zero of the stream, which ends a piece if one has begun.
 #[inline(always)]
 fn decode_zero(decoder: &mut UnbufferedDecoder, buffer: &mut [u8]) -> Answer
     ensures decodes { DecodesNext decoder.old buffer.old (0 ∷ []) result
