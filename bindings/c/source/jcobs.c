@@ -463,15 +463,8 @@ static JCOBS_RARE jcobs_answer jcobs_decoder_feed_zero(jcobs_decoder *decoder, u
     return jcobs_decoder_answer(decoder, piece, 1, buffer_size);
 }
 
-/* Begins a block with this code. */
-static JCOBS_INLINE void jcobs_decoder_begin_block(jcobs_decoder *decoder, unsigned char code)
-{
-    decoder->missing = (unsigned char)(code - 1);
-    decoder->joint = code == JCOBS_FULL_CODE ? 0 : 1;
-}
-
-/* Does what jcobs_decoder_take_byte does, and returns how many bytes of the open message the buffer then holds.
- * Each case has a length that needs no test. */
+/* Does what jcobs_decoder_take_byte does, and returns how many bytes of the open message the buffer then holds. A
+ * byte inside a block has a return of its own, with a length that needs no test. */
 static JCOBS_INLINE size_t jcobs_decoder_take_and_measure(jcobs_decoder *decoder, unsigned char *buffer,
                                                           size_t buffer_size, unsigned char byte)
 {
@@ -489,18 +482,18 @@ static JCOBS_INLINE size_t jcobs_decoder_take_and_measure(jcobs_decoder *decoder
         decoder->too_long = 1;
         return buffer_size;
     }
-    if (decoder->joint == 0) {
-        jcobs_decoder_begin_block(decoder, byte);
-        return jcobs_min(at, buffer_size);
-    }
-    if (at < buffer_size) {
+    if (decoder->joint != 0) {
+        if (buffer_size <= at) {
+            decoder->too_long = 1;
+            return buffer_size;
+        }
         buffer[at] = 0;
-        decoder->written = at + 1;
-        jcobs_decoder_begin_block(decoder, byte);
-        return at + 1;
+        at++;
+        decoder->written = at;
     }
-    decoder->too_long = 1;
-    return buffer_size;
+    decoder->missing = (unsigned char)(byte - 1);
+    decoder->joint = byte == JCOBS_FULL_CODE ? 0 : 1;
+    return jcobs_min(at, buffer_size);
 }
 
 /* Takes one byte of the stream, as a push of that byte does.

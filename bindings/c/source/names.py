@@ -8,7 +8,6 @@ FUNCTIONS = {
     "UnbufferedEncoder::append_one": "jcobs_encoder_append_and_measure",
     "UnbufferedEncoder::finalize": "jcobs_encoder_close",
     "UnbufferedEncoder::push_each": "jcobs_encoder_try_append",
-    "begin_block": "jcobs_decoder_begin_block",
     "close": "jcobs_close_block",
     "decode_blocks_each": "jcobs_decode_blocks",
     "decode_zero": "jcobs_decoder_feed_zero",
@@ -163,8 +162,8 @@ COMMENTS = {
     "through_piece": [("whose next byte is at `at`: after", "that source[at] belongs to: after")],
     "take_one": [(
         "Takes a byte of a piece, writes its output to the buffer, and returns how many bytes of the open message the buffer then holds.",
-        "Does what jcobs_decoder_take_byte does, and returns how many bytes of the open message the buffer then holds. Each case has a"
-        " length that needs no test.",
+        "Does what jcobs_decoder_take_byte does, and returns how many bytes of the open message the buffer then holds. A byte"
+        " inside a block has a return of its own, with a length that needs no test.",
     )],
     "write_each": [(
         "Does what [`encode`](crate::encode) does, one byte at a time.",

@@ -79,24 +79,10 @@ pub fn decode_each(
     result_of(decoder, found, bytes.len(), buffer.len())
 }
 
-/// Begins a block with this code.
-#[inline(always)]
-fn begin_block(decoder: &mut UnbufferedDecoder, code: u8)
-    requires nonzero { code ≢ 0 }
-    ensures missing { decoder.new.missing ≡ code - 1 }
-    ensures full { code ≡ 255 → decoder.new.joint ≡ 0 }
-    ensures other { code ≢ 255 → decoder.new.joint ≡ 1 }
-    ensures written { decoder.new.written ≡ decoder.old.written }
-    ensures too_long { decoder.new.too_long ≡ decoder.old.too_long }
-{
-    decoder.missing = code - 1;
-    decoder.joint = if code == FULL_CODE { 0 } else { 1 };
-}
-
 /// Takes a byte of a piece, writes its output to the buffer, and returns how many bytes of the open message the buffer then
 /// holds.
-// Each case has a length that needs no test, and in the two that are most frequent the byte has room: so compilers make
-// fewer instructions for a call with one byte.
+// A byte inside a block has a return of its own, with a length that needs no test: so compilers make fewer instructions for a
+// call with one byte than of the step of a loop.
 #[inline(always)]
 fn take_one(decoder: &mut UnbufferedDecoder, buffer: &mut [u8], byte: u8) -> usize
     requires nonzero { byte ≢ 0 }
@@ -109,7 +95,7 @@ fn take_one(decoder: &mut UnbufferedDecoder, buffer: &mut [u8], byte: u8) -> usi
     if decoder.too_long != 0 {
         return room;
     }
-    let at = decoder.written;
+    let mut at = decoder.written;
     if decoder.missing != 0 {
         if at < room {
             buffer[at] = byte;
@@ -120,18 +106,18 @@ fn take_one(decoder: &mut UnbufferedDecoder, buffer: &mut [u8], byte: u8) -> usi
         decoder.too_long = 1;
         return room;
     }
-    if decoder.joint == 0 {
-        begin_block(decoder, byte);
-        return at.min(room);
-    }
-    if at < room {
+    if decoder.joint != 0 {
+        if room <= at {
+            decoder.too_long = 1;
+            return room;
+        }
         buffer[at] = 0;
-        decoder.written = at + 1;
-        begin_block(decoder, byte);
-        return at + 1;
+        at += 1;
+        decoder.written = at;
     }
-    decoder.too_long = 1;
-    room
+    decoder.missing = byte - 1;
+    decoder.joint = if byte == FULL_CODE { 0 } else { 1 };
+    at.min(room)
 }
 
 /// Takes a zero of the stream, which ends a piece if one has begun.
