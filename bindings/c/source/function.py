@@ -141,10 +141,11 @@ class Function(Statements):
         if self.is_exported:
             text = self.out.calls[self.name].text
         else:
-            is_inline = self.name.rsplit("::", 1)[-1] in INLINE or any("inline(always)" in it for it in self.attributes)
+            is_rare = self.name in names.RARE
+            is_inline = not is_rare and (self.name.rsplit("::", 1)[-1] in INLINE or any("inline(always)" in it for it in self.attributes))
             is_apart = any("inline(never)" in it for it in self.attributes)
             name = self.out.names[self.key]
-            text = f"static {'JCOBS_INLINE ' * is_inline}{'JCOBS_APART ' * is_apart}{self.declared(self.kind_of(self.result), name)}({', '.join(params) or 'void'})"
+            text = f"static {'JCOBS_INLINE ' * is_inline}{'JCOBS_APART ' * is_apart}{'JCOBS_RARE ' * is_rare}{self.declared(self.kind_of(self.result), name)}({', '.join(params) or 'void'})"
         return wrapped(text)
 
 

@@ -10,6 +10,7 @@ FUNCTIONS = {
     "UnbufferedEncoder::push_each": "jcobs_encoder_try_append",
     "close_block": "jcobs_close_block",
     "decode_blocks_each": "jcobs_decode_blocks",
+    "decode_zero": "jcobs_decoder_feed_zero",
     "done": "jcobs_ok_answer",
     "encode_byte": "jcobs_encoder_feed_byte",
     "encode_in_place": "jcobs_write_in_place",
@@ -21,6 +22,7 @@ FUNCTIONS = {
     "max_encoding_overhead": "jcobs_max_overhead",
     "result_by": "jcobs_in_place_answer",
     "result_of": "jcobs_decoder_answer",
+    "take_one": "jcobs_decoder_take_and_measure",
     "through_piece": "jcobs_find_end",
     "too_small": "jcobs_too_small_answer",
     "write_each": "jcobs_write_blocks",
@@ -42,7 +44,7 @@ VARIABLES = {
     "UnbufferedEncoder::push_each": {"dest": "buffer"},
     "close_block": {"dest": "buffer"},
     "decode_blocks_each": {"end": "frame_len"},
-    "decode_byte": {"found": "piece"},
+    "decode_zero": {"found": "piece"},
     "decode_each": {"found": "piece"},
     "decode_piece": {"dest": "message", "left": "missing"},
     "encode_in_place": {"len": "message_len", "before": "start"},
@@ -55,11 +57,14 @@ VARIABLES = {
     "max_encoding_overhead": {"source_len": "message_len"},
     "result_by": {"room": "buffer_len", "size": "decoded"},
     "result_of": {"room": "buffer_size", "found": "piece"},
+    "take_one": {"room": "buffer_size"},
     "try_encode_each": {"source": "message", "dest": "frame"},
     "write_each": {"source": "message", "dest": "frame", "len": "part_len"},
 }
 # Functions that are called once, by a call of jcobs.h, and aren't written there: for an AVR the step would be a tenth slower.
-APART = {"encode_byte"}
+APART = {"encode_byte", "decode_zero"}
+# Functions for what happens once in a piece, called for each byte of it (JCOBS_RARE in top.c).
+RARE = {"decode_zero"}
 # Functions whose value is written where they are called.
 WRITTEN_OUT = {"UnbufferedDecoder::is_idle"}
 # A number that has a name.
@@ -154,6 +159,11 @@ COMMENTS = {
     "result_of": [(
         "a call that took these of `len` bytes, into a buffer of `room` bytes",
         "a call that took `len` bytes or those through this piece's end, if it has ended. The buffer has `room` bytes",
+    )],
+    "take_one": [(
+        "Takes a byte of a piece, writes its output to the buffer, and returns how many bytes of the open message the buffer then holds.",
+        "Does what jcobs_decoder_take_byte does, and returns how many bytes of the open message the buffer then holds. A byte"
+        " inside a block has a return of its own, with a length that needs no test.",
     )],
     "write_each": [(
         "Does what [`encode`](crate::encode) does, one byte at a time.",

@@ -2,9 +2,10 @@
 """Measures jcobs.c, compiled by `cc -O2`, beside C that is written by hand: speed.py [--docs] [--placements NUMBER] [FILE]
 
 Prints a table of the speed of jcobs.c, or of FILE, relative to hand.c (bindings/c/device/tests), for messages of each length of
-LENGTHS. Each figure is the geometric mean over the kinds of messages of ZEROS, and over NUMBER placements of both files in memory,
-16 if none is given: where a loop begins in a line of the cache changes its speed by up to a half. speed.c makes the measurements
-of one program, and checks each result. With --docs the figures are written into the table of docs/DECISIONS.md, which is of x86-64.
+LENGTHS. Each figure is the geometric mean over the kinds of messages of ZEROS, and over NUMBER placements of both files and of
+speed.c in memory, 16 if none is given: where a loop begins in a line of the cache changes its speed by up to a half, and that of
+the caller counts too. speed.c makes the measurements of one program, and checks each result. With --docs the figures are written
+into the table of docs/DECISIONS.md, which is of x86-64.
 """
 
 import argparse
@@ -35,7 +36,8 @@ STEP, LINE = 16, 64  # bytes: compilers begin a function at a multiple of the on
 
 
 def programs(source, count, work):
-    """Programs with jcobs.c and hand.c at other places in a line of the cache, linked of the same objects."""
+    """Programs with speed.c, jcobs.c and hand.c at other places in a line of the cache, linked of the same objects. Any two of the
+    files have each pair of places once in the 16 programs."""
     compiler = os.environ.get("CC", "cc")
     for path in (C / "tests/speed.c", source, C / "device/tests/hand.c"):
         subprocess.run([compiler, "-std=c99", "-O2", f"-I{C}/include", "-c", path, "-o", work / f"{path.stem}.o"], check=True)
@@ -43,9 +45,10 @@ def programs(source, count, work):
         skipped = f".skip {bytes_before}" if bytes_before else ""
         (work / "skip.s").write_text(f'.text\n{skipped}\n.section .note.GNU-stack,"",%progbits\n')
         subprocess.run([compiler, "-c", work / "skip.s", "-o", work / f"skip{bytes_before}.o"], check=True)
-    places = [(a, b) for a in range(0, LINE, STEP) for b in range(0, LINE, STEP)]
-    for number, (first, second) in enumerate(places[:count]):
-        names = ["speed", f"skip{first}", source.stem, f"skip{second}", "hand"]
+    places = [(a, (a + b) % LINE, (2 * a + b) % LINE) for b in range(0, LINE, STEP) for a in range(0, LINE, STEP)]
+    for number, (ours, hands, callers) in enumerate(places[:count]):
+        skipped = [callers, (ours - callers) % LINE, (hands - ours) % LINE]
+        names = [name for at, file in zip(skipped, ["speed", source.stem, "hand"]) for name in (f"skip{at}", file)]
         program = work / f"speed{number}"
         subprocess.run([compiler, *(work / f"{name}.o" for name in names), "-o", program], check=True)
         yield program

@@ -27,7 +27,8 @@ PAIRS = {
     "cobs_small/in_place": "decode_in_place=jcobs_decode_in_place",
     "cobs_small/kind": "frame_kind=jcobs_frame_kind",
     "cobs_abi/answer": "ok_answer=done too_small_answer=too_small in_place_answer=result_by",
-    "cobs_abi/decoding": "decoder_length=held decoder_answer=result_of decoder_push=decode_each decoder_feed=decode_byte",
+    "cobs_abi/decoding": """decoder_length=held decoder_answer=result_of decoder_push=decode_each decoder_feed=decode_byte
+        decoder_feed_zero=decode_zero decoder_take_and_measure=take_one""",
     "cobs_abi/encoding": """encoder_length=end_of encoder_push=encode_each encoder_feed_byte=encode_byte encoder_finish=finish
         encoder_finish_terminated=finish_terminated encode_in_place=encode_within""",
     "cobs_abi/message": "write_frame",

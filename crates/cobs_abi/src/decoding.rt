@@ -1,8 +1,9 @@
 //! The results of the streaming decoder's steps, as C sees them.
-ghost use Rattle.std.specs.Prelude.{◌≡◌, ℕ, List, [], ◌∷◌, length};
+ghost use Rattle.std.specs.Prelude.{◌≡◌, ◌≢◌, ◌≤◌, ◌-◌, ℕ, List, [], ◌∷◌, length};
 ghost use Rattle.cobs.specs.FeedPiece.{TakesPiece};
 ghost use Rattle.cobs.specs.Fields.Decoders.{phase_of};
 ghost use Rattle.cobs.specs.Sentinel.{xor_each};
+ghost use Rattle.cobs.specs.Step.{next_phase, next_buffer};
 ghost use Rattle.cobs.specs.declared.UnbufferedDecoder.{UnbufferedDecoder};
 ghost use Rattle.cobs_abi.specs.State.{held};
 ghost use Rattle.cobs_abi.specs.Stream.{DecodesNext};
@@ -10,6 +11,9 @@ ghost use Rattle.cobs_abi.specs.Stream.{DecodesNext};
 use crate::answer::{Answer, BROKEN, MORE, TOO_SMALL, done};
 use cobs::laws::law_17;
 use cobs::{PieceEnd, UnbufferedDecoder};
+
+/// The code of a full block.
+const FULL_CODE: u8 = 255;
 
 /// Returns how many bytes of an open message a buffer of `room` bytes holds.
 #[inline(always)]
@@ -75,6 +79,63 @@ pub fn decode_each(
     result_of(decoder, found, bytes.len(), buffer.len())
 }
 
+/// Takes a byte of a piece, writes its output to the buffer, and returns how many bytes of the open message the buffer then
+/// holds.
+// A byte inside a block has a return of its own, with a length that needs no test: so compilers make fewer instructions for a
+// call with one byte than of the step of a loop.
+#[inline(always)]
+fn take_one(decoder: &mut UnbufferedDecoder, buffer: &mut [u8], byte: u8) -> usize
+    requires nonzero { byte ≢ 0 }
+    ensures buffer { buffer.new ≡ next_buffer buffer.old (phase_of decoder.old) byte }
+    ensures phase { phase_of decoder.new ≡ next_phase (length buffer.old) (phase_of decoder.old) byte }
+    ensures held { result ≡ held (length buffer.old) (phase_of decoder.new) }
+    ensures bound { result ≤ length buffer.old }
+{
+    let room = buffer.len();
+    if decoder.too_long != 0 {
+        return room;
+    }
+    let mut at = decoder.written;
+    if decoder.missing != 0 {
+        if at < room {
+            buffer[at] = byte;
+            decoder.written = at + 1;
+            decoder.missing -= 1;
+            return at + 1;
+        }
+        decoder.too_long = 1;
+        return room;
+    }
+    if decoder.joint != 0 {
+        if room <= at {
+            decoder.too_long = 1;
+            return room;
+        }
+        buffer[at] = 0;
+        at += 1;
+        decoder.written = at;
+    }
+    decoder.missing = byte - 1;
+    decoder.joint = if byte == FULL_CODE { 0 } else { 1 };
+    at.min(room)
+}
+
+/// Takes a zero of the stream, which ends a piece if one has begun.
+#[inline(always)]
+fn decode_zero(decoder: &mut UnbufferedDecoder, buffer: &mut [u8]) -> Answer
+    ensures decodes { DecodesNext decoder.old buffer.old (0 ∷ []) result
+        decoder.new buffer.new }
+{
+    law_17(); // A decoder of your own, byte by byte
+    let room = buffer.len();
+    let end = PieceEnd::reported(decoder.feed(buffer, 0));
+    let found = match end {
+        Some(end) => Some((end, 1)),
+        None => None,
+    };
+    result_of(decoder, found, 1, room)
+}
+
 /// Takes the next byte of a stream of frames, whose sentinel is zero.
 #[inline(always)]
 pub fn decode_byte(decoder: &mut UnbufferedDecoder, buffer: &mut [u8], byte: u8) -> Answer
@@ -82,15 +143,12 @@ pub fn decode_byte(decoder: &mut UnbufferedDecoder, buffer: &mut [u8], byte: u8)
         decoder.new buffer.new }
 {
     law_17(); // A decoder of your own, byte by byte
-    let room = buffer.len();
-    let mut end = PieceEnd::reported(decoder.feed(buffer, byte));
-    // A piece that is too long is reported once, at the zero that ends it, and not at each of its bytes.
-    if byte != 0 {
-        end = None;
+    if byte == 0 {
+        return decode_zero(decoder, buffer);
     }
-    let found = match end {
-        Some(end) => Some((end, 1)),
-        None => None,
-    };
-    result_of(decoder, found, 1, room)
+    Answer {
+        status: MORE,
+        consumed: 1,
+        length: take_one(decoder, buffer, byte),
+    }
 }

@@ -1,24 +1,21 @@
--- A byte that ends no piece, and one that ends it, as `law_17` says.
-use Rattle.std.proofs.Common.{[], ◌∷◌, refl, sym, ◌∙◌, arith}
-use Rattle.cobs_abi.proofs.decoding.decode_byte.Goals.{then-byte-ne0, else-byte-ne0, in-Some, in-None}
+-- A byte of a piece changes the decoder and the buffer as `law_17` says, and ends no piece.
+use Rattle.std.proofs.Common.{[], ◌∷◌, refl, arith}
+use Rattle.cobs.specs.Fields.Decoders.{phase_of}
 use Rattle.cobs_abi.proofs.decoding.decode_byte.Goals as goal
 
--- a byte that ends a piece, and one that ends none, as `law_17` says
 pub returns : goal.returns
 returns c =
     let law = c.law_17.ensures in
-    let feeds = c.feed.ensures.feeds in
+    let e = c.take_one.ensures in
+    let feeds = law.step c.args.buffer.now (phase_of c.args.decoder.now) c.args.byte in
     record {
-      decodes = c.result_of.ensures.decodes c.args.decoder.now c.args.buffer.now (c.args.byte ∷ []) c.feed.new.dest refl refl
-          (elim c.match-end.branch [
-            | in-Some w ↦ rw w.found-is (elim c.if-byte-ne0.branch [
-              | then-byte-ne0 v ↦ let no = sym v.end-is ∙ w.in-Some.is in absurd cc
-              | else-byte-ne0 v ↦ law.end (c.args.byte ∷ []) _ _ _ _ _ _ _ _ 0 (omega arith) (law.nothing _ _) feeds v.if-byte-ne0.false (sym c.reported-end.ensures.end ∙ sym v.end-is ∙ w.in-Some.is)
-            ])
-            | in-None w ↦ rw w.found-is (law.byte (c.args.byte ∷ []) _ _ _ _ _ _ _ 0 (omega arith) (law.nothing _ _) feeds (λ z.
-                elim c.if-byte-ne0.branch [
-                  | then-byte-ne0 v ↦ absurd (v.if-byte-ne0.true z)
-                  | else-byte-ne0 v ↦ sym c.reported-end.ensures.end ∙ sym v.end-is ∙ w.in-None.is
-                ]))
-          ]);
+      decodes = record {
+        takes = rw e.buffer (rw e.phase (law.byte (c.args.byte ∷ []) _ _ _ _ _ _ _ 0 (omega arith) (law.nothing _ _) feeds (λ z. absurd (c.if-byte-eq0.false z))));
+        more = λ _. rw e.held refl;
+        too_small = λ z. absurd cc;
+        status = omega arith;
+        consumed = omega arith;
+        bound = e.bound;
+        len = rw e.buffer feeds.len;
+      };
     }
