@@ -19,7 +19,7 @@ const MOST_CALLS: usize = 1000;
 enum Feeding {
     Pushes,
     Bytes,
-    /// Byte by byte too, but only the results for zeros are added.
+    /// Byte by byte; only the results for zeros are added to the result of the case.
     Zeros,
     /// By `feed_piece`, which returns how each piece ended.
     Pieces,
@@ -59,7 +59,8 @@ impl Streaming for CobsDecoder<'_> {
         self.push(bytes)
     }
 
-    /// Feeds a zero, because this decoder has no `reset`. A zero makes it idle too, and changes no byte.
+    /// Feeds a zero, because this decoder has no `reset`. The zero makes the decoder idle too, and changes no byte of
+    /// the buffer.
     fn restart(&mut self) {
         let _ = self.feed(0);
     }
@@ -99,9 +100,8 @@ impl Streaming for ByBytes {
     }
 }
 
-/// Runs each of the three streaming decoders over a buffer: by pushes, byte by byte, and by `feed_piece`. The results
-/// of `feed_piece` are compared with the results for the zeros. If a result differs from the first one, it is added to
-/// the text, so that the case differs.
+/// Runs each of the three streaming decoders over a buffer: by pushes, byte by byte, and by `feed_piece`. A result that
+/// isn't as expected is added to the text, so that the case differs.
 ///
 /// # Errors
 /// `Malformed` also if [`heapless`] has no buffer of this length.
@@ -116,6 +116,8 @@ pub fn decoder(alloc: Global, arguments: &[&str]) -> Result<CallResult, CaseFaul
     returned.append_other(borrowed(alloc, &buffer, pieces, &Feeding::Bytes)?)?;
     returned.append_other(heapless(alloc, &buffer, pieces, &Feeding::Pushes)?)?;
     returned.append_other(heapless(alloc, &buffer, pieces, &Feeding::Bytes)?)?;
+    // Pushes and single bytes have a result for each piece and for each error inside a piece, and `feed_piece` only for
+    // the zero that ends a piece. So the results of `feed_piece` are compared with those for the zeros (`ends`).
     let ends = owned(alloc, &buffer, pieces, &Feeding::Zeros)?;
     returned.append_unlike(&ends, owned(alloc, &buffer, pieces, &Feeding::Pieces)?)?;
     returned.append_unlike(&ends, borrowed(alloc, &buffer, pieces, &Feeding::Pieces)?)?;
@@ -200,7 +202,8 @@ fn write_over(dest: &mut [u8], bytes: &[u8]) {
     }
 }
 
-/// Passes the pieces to a decoder. Returns its buffer after them, and each result except "nothing yet".
+/// Passes the pieces to a decoder. Returns each result except "nothing yet", and the decoder's buffer after the last
+/// piece.
 fn given<D: Streaming>(
     alloc: Global,
     decoder: &mut D,

@@ -59,7 +59,7 @@ const SHOWN: [(Style, &[u8]); 7] = [
     ),
 ];
 
-/// The same in colours, by style.
+/// The text of [`SHOWN`] in colours, by style.
 const COLORED: [(Style, &[u8]); 3] = [
     (
         Style::Hex,
@@ -80,7 +80,8 @@ const COLORED: [(Style, &[u8]); 3] = [
     ),
 ];
 
-/// The same with the time of each piece, if a byte is read every 250 ms from 23:59:58.123 on, in UTC.
+/// The text of [`SHOWN`] with the time of each piece, by style and by the kind of time. A byte is read every 250 ms
+/// from 23:59:58.123 on, in UTC.
 const TIMED: [(Style, Stamp, &[u8]); 4] = [
     (
         Style::Hex,

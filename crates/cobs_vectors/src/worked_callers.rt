@@ -41,7 +41,7 @@ pub fn encode_by_state(alloc: Global, source: &[u8]) -> Result<Vec<u8>, AllocErr
     Ok(output)
 }
 
-/// Encodes a message of two pieces. They are taken exactly if the frame fits.
+/// Encodes a message of two pieces. Both pieces are taken exactly if the frame fits.
 pub fn encode_both(
     first: &[u8],
     second: &[u8],
@@ -58,7 +58,7 @@ pub fn encode_both(
     Ok(encoder.finalize())
 }
 
-/// Writes the first byte of a buffer. The decoder is then the same, with that byte.
+/// Writes a byte to the front of a decoder's buffer. Nothing else of the decoder changes.
 pub fn write_first<D: WriteBuffer>(decoder: &mut D, byte: u8)
     requires { 0 < length (D.bytes decoder.old) }
     ensures { decoder.new ≡ D.with_bytes decoder.old (slice_set (D.bytes decoder.old) 0 byte) }

@@ -126,7 +126,8 @@ fn a_failed_write_ends_a_run(rt: HostRuntime) -> Result<(), Fail> {
     Ok(())
 }
 
-/// Opens a line with these bytes. Every second attempt to open it succeeds, three in all.
+/// Opens a line with these bytes. Every second attempt to open it succeeds, three in all: two lines break after 8
+/// bytes, the third has nothing to read yet.
 #[derive(Drop)]
 struct Plug<'a> {
     bytes: &'a [u8],
