@@ -195,7 +195,7 @@ fn by_bytes(alloc: Global, buffer: &[u8], pieces: &[&str]) -> Result<CallResult,
     given(alloc, &mut ByBytes { decoder }, pieces, &Feeding::Pieces)
 }
 
-/// Writes bytes over a slice of the same length.
+/// Writes bytes over a slice of the same length. For another length it does nothing.
 fn write_over(dest: &mut [u8], bytes: &[u8]) {
     if dest.len() == bytes.len() {
         dest.copy_from_slice(bytes);

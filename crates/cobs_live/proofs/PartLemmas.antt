@@ -1,4 +1,4 @@
--- Lemmas on the pieces that have ended in a stream, and on the bytes of the last one in a buffer.
+-- Lemmas on the pieces that have ended in a stream, and on the bytes of the last piece in the decoder's buffer.
 use Rattle.std.proofs.Common.{◌≡◌, ◌≤◌, ◌<◌, nat_le, ℕ, Bool, true, false, List, [], ◌∷◌, ◌++◌, length, take, map, min, refl, sym, ap, ◌∙◌, arith, append_assoc, append-nil, length-append, length-take, Option, Some, None}
 use Rattle.std.proofs.Math.ListN.{drop_of_length-le}
 use Rattle.std.proofs.Math.Seq.{take-append_seam}

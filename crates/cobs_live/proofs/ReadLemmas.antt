@@ -1,4 +1,5 @@
--- Lemmas on reads that have an output as an argument.
+-- Lemmas on the reads of a run, each of which has the output as an argument: a run that is live is still live after one
+-- read more.
 use Rattle.std.proofs.Common.{◌≡◌, ℕ, List, [], ◌∷◌, ◌++◌, refl, sym, ap, ◌∙◌, subst, append-nil, append_assoc, Option}
 use Rattle.std.proofs.lemmas.List.{map-append}
 use Rattle.cobs_live.specs.Reads.{HeldWhileNothing, Read, IsLive, IsLiveAfter, ReadsOnce, Runs, came, joined}

@@ -38,8 +38,8 @@ impl<'a, C: Clock + Drop, F: Drop> Port<'a, C, F> {
     }
 
     /// Returns whether the port has to try the call again. If the call would have blocked, pauses and returns true.
-    /// Otherwise returns false. An error is stored in `reason` by its system's number, except for an interruption,
-    /// after which the port's caller tries again.
+    /// Otherwise returns false. The system's error number of a failure is stored in `reason`. An interruption isn't
+    /// stored, because the port's caller tries again after it.
     fn tries_again(&self, done: &io::Result<usize>) -> bool
         ensures failed { IsOk done.now → result ≡ false }
     {

@@ -12,7 +12,7 @@ use std::io;
 use std::io::Write;
 use std::process::Abort;
 
-/// The output of a mode, in memory.
+/// The output of a mode, in an array, so that a write allocates nothing.
 #[derive(Drop)]
 struct Page {
     bytes: [u8; 128],

@@ -1,4 +1,4 @@
--- A byte that ends no piece, and one that ends it, as `law_17` says.
+-- Either the byte ends no piece, or it ends the piece: `law_17` has a fact for each.
 use Rattle.std.proofs.Common.{[], ◌∷◌, refl, sym, ◌∙◌, arith}
 use Rattle.cobs_abi.proofs.decoding.decode_byte.Goals.{then-byte-ne0, else-byte-ne0, in-Some, in-None}
 use Rattle.cobs_abi.proofs.decoding.decode_byte.Goals as goal
