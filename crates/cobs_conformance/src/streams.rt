@@ -116,7 +116,7 @@ pub fn decoder(alloc: Global, arguments: &[&str]) -> Result<CallResult, CaseFaul
     returned.append_other(borrowed(alloc, &buffer, pieces, &Feeding::Bytes)?)?;
     returned.append_other(heapless(alloc, &buffer, pieces, &Feeding::Pushes)?)?;
     returned.append_other(heapless(alloc, &buffer, pieces, &Feeding::Bytes)?)?;
-    // Pushes and single bytes have a result for each piece and for each error inside a piece, and `feed_piece` only for
+    // Pushes and single bytes also have a result for each byte that doesn't fit the buffer, and `feed_piece` only for
     // the zero that ends a piece. So the results of `feed_piece` are compared with those for the zeros (`ends`).
     let ends = owned(alloc, &buffer, pieces, &Feeding::Zeros)?;
     returned.append_unlike(&ends, owned(alloc, &buffer, pieces, &Feeding::Pieces)?)?;
@@ -232,7 +232,8 @@ fn given<D: Streaming>(
     Ok(returned)
 }
 
-/// Pushes a piece, and then repeatedly the bytes that the push hasn't consumed.
+/// Pushes a piece, and then repeatedly the bytes that the push hasn't consumed. `taken` is the number of bytes of the
+/// pieces before this piece.
 fn push_piece<D: Streaming>(
     decoder: &mut D,
     piece: &[u8],
@@ -254,7 +255,8 @@ fn push_piece<D: Streaming>(
     Ok(())
 }
 
-/// Feeds a piece byte by byte, and adds the result for each byte, or only for the zeros.
+/// Feeds a piece byte by byte. Adds the result for each byte if `all` is set, and otherwise only the results for the
+/// zeros. `taken` is the number of bytes of the pieces before this piece.
 fn feed_bytes<D: Streaming>(
     decoder: &mut D,
     piece: &[u8],
@@ -273,7 +275,8 @@ fn feed_bytes<D: Streaming>(
     Ok(())
 }
 
-/// Feeds a piece by `feed_piece`, and then repeatedly the bytes that the call hasn't consumed.
+/// Feeds a piece by `feed_piece`, and then repeatedly the bytes that the call hasn't consumed. `taken` is the number of
+/// bytes of the pieces before this piece.
 fn feed_pieces<D: Streaming>(
     decoder: &mut D,
     piece: &[u8],

@@ -49,7 +49,7 @@ fn check_decode(rt: &impl Abort, alloc: Global, source: &[u8], room: usize) -> R
     )
 }
 
-/// Checks `decode_in_place_report`.
+/// Checks `decode_in_place_report`. The buffer then begins with the decoded bytes, and has its other bytes as before.
 fn check_in_place(rt: &impl Abort, alloc: Global, source: &[u8]) -> Result<(), Fail> {
     let (head, _) = split_at_zero(source);
     let Reading {

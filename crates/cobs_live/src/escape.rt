@@ -15,6 +15,7 @@ pub fn is_hidden(c: char) -> bool
     ensures hidden { result ≡ is_hidden c }
 {
     let code = u32::from(c);
+    // Of the characters below 127, those below 32 are control characters. They need no look-up of their category.
     if code < 127 {
         return code < 32;
     }

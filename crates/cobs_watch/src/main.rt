@@ -107,8 +107,9 @@ fn no_task(rt: &HostRuntime, error: &clap::Error) -> ExitCode {
     faulted(rt, error.into(), reason)
 }
 
-/// Returns whether lines have colours if the arguments don't say so. They have colours if standard output is a terminal
-/// with colours, and the variable `NO_COLOR` is unset or empty.
+/// Returns whether lines have colours if the arguments don't say so. They have colours if standard output is a
+/// terminal, the variable `TERM` is set and not `dumb`, and `NO_COLOR` is unset or empty. A value that isn't UTF-8 is
+/// set, and not empty.
 fn auto_color(rt: &HostRuntime) -> bool {
     let no_color = match env::var(rt, "NO_COLOR") {
         Ok(value) => !value.is_empty(),

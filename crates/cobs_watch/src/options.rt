@@ -256,6 +256,7 @@ fn show_task<'a>(
     ensures paths { IfOk result (HasPaths (first_value (found_of matches.now) (codes "path"))
         (first_value (found_of matches.now) (codes "log"))) }
 {
+    // The option `--length` has a default, so there is always a number.
     let length = number_of(alloc, matches, "length", MAX_LENGTH)?.unwrap_or(0);
     let every = number_of(alloc, matches, "count-every", u32::MAX.into())?;
     Ok(Task::Show(ShowTask {
