@@ -45,7 +45,7 @@ pub enum CallResult {
     TooSmall,
 }
 
-/// Returns the error of a decoder in words of this table.
+/// Returns the error of a decoder as a [`CallResult`].
 pub fn rejected(error: &DecodeError) -> CallResult {
     match error {
         DecodeError::EmptyFrame => CallResult::EmptyFrame,

@@ -23,7 +23,7 @@ pub struct Checksum {
 impl Checksum {
     ghost use Rattle.cobs_live.specs.Checksum.{body_of, is_checked, sum_of};
 
-    /// Makes a check with these parameters. Its checksum has the lowest byte first if `little` is set.
+    /// Makes a check with these parameters, whose checksum has the lowest byte first if `little` is set.
     pub fn new(params: Params, little: bool) -> Self
         requires sized { (0 < params.size) × (params.size ≤ 4) }
         ensures params { result.params ≡ params }

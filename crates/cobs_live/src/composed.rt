@@ -146,8 +146,8 @@ impl Composed {
     }
 
     /// Replaces the composed text by the text of a piece and returns true if three conditions hold: the piece is a
-    /// short message, its text fits, and the view shows JSON without colour, number and time. Otherwise returns false;
-    /// the composed text may then be the first part of the piece's, so the caller clears it. If the view's filter holds
+    /// short message, its text fits, and the view shows JSON without colour, number and time. Otherwise returns false.
+    /// The composed text may then be a part of the piece's text, so the caller clears it. If the view's filter holds
     /// the message back, its text is empty.
     #[inline(always)]
     pub fn compose(&mut self, view: &View, number: u64, times: &Times, piece: &Sight<'_>) -> bool
@@ -167,8 +167,8 @@ impl Composed {
         self.put_message(view.style, number, piece).is_ok()
     }
 
-    /// Adds a message with this number as JSON. Only JSON is composed here. For other styles it returns `Full`, and the
-    /// caller writes the text directly.
+    /// Adds a message with this number as JSON. Only JSON is composed here. For other styles, `put_message` returns
+    /// `Full`, and the caller writes the text directly.
     #[inline(always)]
     fn put_message(&mut self, style: Style, number: u64, piece: &Sight<'_>) -> Result<(), Full>
         requires message { piece.now.kind ≡ Message }
@@ -327,8 +327,8 @@ impl Composed {
         Ok(())
     }
 
-    /// Adds a decimal number. It needs at most 40 bytes of room. A number below 10 has a path of its own, which is
-    /// faster.
+    /// Adds a decimal number. The number needs at most 40 bytes of room. A number below 10 has a path of its own, which
+    /// is faster.
     #[inline(always)]
     fn append_decimal(&mut self, number: u64)
         requires room { self.old.len + 40 ≤ 2048 }
@@ -369,7 +369,8 @@ impl Composed {
         Ok(())
     }
 
-    /// Adds bytes. The caller makes sure that they fit. From 1 to `WINDOW` bytes are copied in vectors, without a call.
+    /// Adds bytes. The caller makes sure that the bytes fit. From 1 to `WINDOW` bytes are copied in vectors, without a
+    /// call.
     #[inline(always)]
     fn append(&mut self, bytes: &[u8])
         requires room { self.old.len + length bytes.now ≤ 2048 }

@@ -22,8 +22,8 @@ pub enum WatchFault {
     #[error("output closed")]
     OutputClosed,
 
-    /// Memory ran out. In `show` this happens only at the start, before anything is read or written. In `send` it
-    /// happens for the frame of a line.
+    /// Memory ran out. In `show`, memory runs out only at the start, before anything is read or written. In `send`,
+    /// memory runs out for the frame of a line.
     #[error("out of memory")]
     OutOfMemory,
 }

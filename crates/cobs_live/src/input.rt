@@ -42,8 +42,8 @@ pub trait LiveInput<W: Write + Drop> {
         }) self.new };
 }
 
-/// An input that is read line by line, with the output as an argument of each read. Contracts describe it in the same
-/// way as a [`LiveInput`].
+/// An input that is read line by line, with the output as an argument of each read. Contracts describe a `LiveLines` in
+/// the same way as a [`LiveInput`].
 pub trait LiveLines<W: Write + Drop> {
     /// The bytes that the next reads will return, if they are known.
     ghost remaining: { Self → Option (List ℕ) };

@@ -3,15 +3,10 @@
 //! This crate is the program `cobs_watch` without its command line. `show::run_show` reads a stream of frames, and shows
 //! each piece when its sentinel arrives. `send::run_send` sends each line as a frame.
 //!
-//! | module | holds |
-//! |---|---|
-//! | `show`, `send` | the two tasks of the program |
-//! | `input`, `port` | readers and writers with the additional duties that the tasks need |
-//! | `seen` | a piece of a stream, with its kind and its bytes, before it is shown |
-//! | `shown` | the settings that say which pieces are shown, and in which style |
-//! | `line`, `json`, `dump`, `capture`, `escape`, `composed` | the text of a piece in each style |
-//! | `clock`, `checksum`, `crc`, `tally` | the times of pieces, checksums, and counts |
-//! | `fault` | the faults that end showing or sending early |
+//! `seen` holds a piece of a stream, with its kind and its bytes, before it is shown. `shown` holds the settings that say
+//! which pieces are shown, and in which style. `line`, `json`, `dump`, `capture`, `escape` and `composed` write the text
+//! of a piece. `clock`, `checksum`, `crc` and `tally` hold the times of pieces, the checksums and the counts. `input` and
+//! `port` hold the readers and writers. `fault` holds the faults that end showing or sending early.
 #![tactic(auto)]
 
 pub mod capture;

@@ -102,7 +102,7 @@ pub trait Opener<R> {
     fn open(&self) -> io::Result<R>;
 }
 
-/// A line that is opened again each time it hangs up. It hangs up if it ends, or if a read of it fails.
+/// A line that is opened again each time it hangs up. A line hangs up if it ends, or if a read of it fails.
 #[derive(Drop)]
 pub struct Reopened<C, O, R> {
     clock: C,
@@ -115,7 +115,7 @@ pub struct Reopened<C, O, R> {
 impl<C: Clock + Drop, O: Opener<R> + Drop, R: Read + Drop> Reopened<C, O, R> {
     ghost use Rattle.std.specs.Prelude.{◌≡◌, IsSome};
 
-    /// Makes an input over the line that `opener` opens. `line` is that line if it is open already.
+    /// Makes an input over the line that `opener` opens. `line` is the line, or `None` if the line isn't open yet.
     pub fn new(clock: C, opener: O, line: Option<R>) -> Self
         ensures line { result.line ≡ line }
     {
@@ -149,7 +149,8 @@ impl<C: Clock + Drop, O: Opener<R> + Drop, R: Read + Drop, W: Write + Drop> Live
 
     ghost step = { λ from read to. GivesNext R.remaining from.line to.line read.came };
 
-    /// Waits until the line is open, and reads from it once. Returns the bytes, or that the line hung up.
+    /// Waits until the line is open, and reads from it once. Returns how many bytes were read, or that the line hung
+    /// up.
     fn read_beside(&mut self, _output: &BufWriter<W>, chunk: &mut [u8]) -> io::Result<Came> {
         self.wait();
         let Some(line) = &mut self.line else {
@@ -167,8 +168,8 @@ impl<C: Clock + Drop, O: Opener<R> + Drop, R: Read + Drop, W: Write + Drop> Live
     }
 }
 
-/// Returns whether a read with this result means that the line hung up. It does if it returned no bytes, or if it
-/// failed with an error other than "interrupted" or "would block".
+/// Returns whether a read with this result is a hang-up. A read is a hang-up if it returned no bytes, or if it failed
+/// with an error other than "interrupted" or "would block".
 fn is_hang_up(given: &io::Result<usize>) -> bool {
     match given {
         Ok(count) => *count == 0,

@@ -39,7 +39,7 @@ const NEAREST: usize = 16;
 /// A zero is searched for in at most this many bytes before all bytes are passed to the decoder.
 const NEAR: usize = 64;
 
-/// The most bytes of a read, 64 KiB. If a read returns fewer, they are shown without waiting for more.
+/// The most bytes of a read, 64 KiB. If a read returns fewer bytes, they are shown before more bytes are read.
 pub const CHUNK_LEN: usize = 65_536;
 
 /// Shows each piece of the input when its sentinel arrives. At the end of the input, shows `unfinished` if another
@@ -213,8 +213,8 @@ impl<'a> Watch<'a> {
         Ok(true)
     }
 
-    /// Shows `unfinished` if a piece has begun and no sentinel has ended it. This is called if no bytes follow, because
-    /// the input has ended or can't be read.
+    /// Shows `unfinished` if a piece has begun and no sentinel has ended it. `end` is called if no bytes follow,
+    /// because the input has ended or can't be read.
     fn end<W: Write + Drop>(&self, output: &mut BufWriter<W>) -> Result<(), WatchFault>
         requires flushed { writer_buffer output.old ≡ [] }
         ensures shown { OnOk result (ShowsEnd (phase_of self.now.decoder) self.now.settings.now.view

@@ -5,7 +5,7 @@ use std::alloc::Global;
 use std::process::Abort;
 use std::test::Fail;
 
-/// For a buffer of this many bytes, bytes that lead from idle to each phase.
+/// The length of a buffer, and bytes that lead an idle decoder over this buffer to a phase: a row for each phase.
 const FRONTS: [(usize, Parts); 10] = [
     // idle, at the start and after a frame
     (4, &[]),

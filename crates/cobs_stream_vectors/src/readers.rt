@@ -10,7 +10,7 @@ use std::io::Read;
 use std::process::Abort;
 use std::test::Fail;
 
-/// The bytes that a reader returns, and how.
+/// The bytes that a reader returns, and in which reads.
 #[derive(Clone, Copy)]
 enum Given {
     /// The bytes, at most this many per read.
@@ -93,7 +93,7 @@ fn result_of(found: Found) -> Result<Next, ReadFault> {
     }
 }
 
-/// A reader, the result of each call, and how often it has been read then.
+/// A reader, the result of each call, and how often the reader has been read after these calls.
 type ReaderRow = (Given, &'static [Found], usize);
 
 /// Finds the frames of a reader.

@@ -30,7 +30,8 @@ fn outcomes_of(alloc: Global, wanted: &[Wanted]) -> Result<Vec<FrameOutcome>, Al
 /// A stream, and its outcomes in a buffer of this many bytes.
 type Case = (usize, &'static [u8], &'static [Wanted]);
 
-/// Over four bytes: a message, a broken piece, a piece that is too long, and a message.
+/// A stream whose pieces, in a buffer of four bytes, are a message, a broken piece, a piece that is too long, and a
+/// message.
 const DAMAGED: [u8; 18] = [0, 3, 7, 8, 0, 5, 1, 0, 6, 1, 2, 3, 4, 5, 0, 2, 9, 0];
 
 /// The outcomes of [`DAMAGED`] in a buffer of four bytes.
