@@ -37,9 +37,9 @@ letters_of-more (g ∷ gone) bytes more = grind (arith, append_assoc, (letters_o
 pub count_bytes-gone : (gone : List (List ℕ)) (bytes : List ℕ) → count_bytes (gone ++ bytes ∷ []) [] ≡ count_bytes gone bytes
 count_bytes-gone gone bytes = grind (arith, concat-append, append-nil, length-append)
 
--- WHAT IS SHOWN OF THEM
+-- THE TEXT OF THE LINES
 
--- with one more
+-- the text with one line more
 pub shown_gone-gone : (view : View) (times : ℕ → Moment) (n index : ℕ) (ts : List (List ℕ)) (t : List ℕ) → shown_gone view times n index (ts ++ t ∷ [])
     ≡ shown_gone view times n index ts ++ (shown_from view times (index + length (outcomes_of ts n)) (all_ended t n) ++ shown_hang_up view (is_nonempty (unended t)))
 shown_gone-gone view times n index [] t = grind (arith, append-nil)

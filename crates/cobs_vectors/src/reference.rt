@@ -44,7 +44,8 @@ pub struct Reading {
     /// The bytes of the list's blocks, with the zeros that join the blocks.
     pub output: Vec<u8>,
 
-    /// How many bytes of the output are kept: all of them, or, if the last block breaks off, those before its bytes.
+    /// How many bytes of the output are kept: all bytes or, if the last block breaks off, the bytes before those of
+    /// that block.
     pub kept: usize,
 
     /// Whether the last block has as many bytes as its code says.

@@ -67,7 +67,7 @@ pub fn write_first<D: WriteBuffer>(decoder: &mut D, byte: u8)
     dest[0] = byte;
 }
 
-/// Writes the first byte of a borrowed slice. The phase stays, and so does the slice that is borrowed.
+/// Writes the first byte of a borrowed slice. The phase doesn't change, and the decoder still borrows the same slice.
 pub fn write_first_borrowed(decoder: &mut CobsDecoder<'_>, byte: u8)
     requires { 0 < length (borrowed_buffer decoder.old) }
     ensures phase { borrowed_phase decoder.new ≡ borrowed_phase decoder.old }
