@@ -17,8 +17,8 @@ pub enum Verdict {
     /// The result is the expected one.
     Agrees,
 
-    /// The result isn't the expected one, or there is no result. The text names the case, and says how they differ or
-    /// why there is none.
+    /// The result isn't the expected one, or there is no result. The text names the case or the line, and says how the
+    /// results differ or why there is no result.
     Differs(String),
 }
 

@@ -15,7 +15,8 @@ pub fn is_hidden(c: char) -> bool
     ensures hidden { result ≡ is_hidden c }
 {
     let code = u32::from(c);
-    // Of the characters below 127, those below 32 are control characters. They need no look-up of their category.
+    // Characters below 127 need no look-up of their category: those below 32 are control characters, and no other is
+    // hidden.
     if code < 127 {
         return code < 32;
     }

@@ -56,8 +56,8 @@ pub(crate) fn sentinel_of(alloc: Global, matches: &ArgMatches<'_>) -> Result<u8,
 /// Returns the checksum that was asked for, if any.
 ///
 /// # Errors
-/// An error if the text is neither the name of a check nor a list of its parameters. The error names a part of the text
-/// that isn't a parameter.
+/// An error if the text is neither the name of a check nor a list of the parameters of one. If a part of the text isn't
+/// a parameter, the error names that part.
 pub(crate) fn checksum_of(
     alloc: Global,
     matches: &ArgMatches<'_>,
