@@ -165,7 +165,7 @@ def measure(name, block):
 
 def print_table(columns):
     """Prints the table: the speed of both programs, or their instructions, by style and stream."""
-    print("| MB/s, and those of C |", " | ".join(columns), "|\n|---|" + "--:|" * len(columns))
+    print("| MB/s of `cobs_watch`, and of C |", " | ".join(columns), "|\n|---|" + "--:|" * len(columns))
     for row in sorted(next(iter(columns.values())), key=lambda it: it.startswith("instructions")):
         print(f"| {row} |", " | ".join(column[row] for column in columns.values()), "|")
 

@@ -253,8 +253,8 @@ static JCOBS_INLINE jcobs_piece jcobs_decode_piece(const unsigned char *source, 
     return jcobs_ended_piece(written, missing, at);
 }
 
-/* Returns the result of a call that succeeded: this many bytes were taken, and this many are at the front of the
- * buffer. */
+/* Returns the result of a call that succeeded. It took consumed bytes, and length bytes of output are at the front
+ * of the buffer. */
 static jcobs_answer jcobs_ok_answer(size_t consumed, size_t length)
 {
     return jcobs_make_answer(JCOBS_OK, consumed, length);
@@ -397,7 +397,7 @@ static JCOBS_INLINE jcobs_piece jcobs_decoder_take(jcobs_decoder *decoder, unsig
     return jcobs_make_piece(JCOBS_END_NONE, 0, 0);
 }
 
-/* Returns how many bytes of an open message a buffer of buffer_size bytes holds. */
+/* Returns how many decoded bytes of the open piece are in a buffer of buffer_size bytes. */
 static JCOBS_INLINE size_t jcobs_decoder_length(const jcobs_decoder *decoder, size_t buffer_size)
 {
     if (decoder->too_long != 0) {
@@ -406,8 +406,8 @@ static JCOBS_INLINE size_t jcobs_decoder_length(const jcobs_decoder *decoder, si
     return jcobs_min(decoder->written, buffer_size);
 }
 
-/* Returns the result of a call that took len bytes or those through this piece's end, if it has ended. The buffer
- * has buffer_size bytes. */
+/* Returns the result of a call that took len bytes or, if a piece has ended in them, those through its end. The
+ * buffer has buffer_size bytes. piece says whether and how the piece has ended. */
 static JCOBS_INLINE jcobs_answer jcobs_decoder_answer(const jcobs_decoder *decoder, jcobs_piece piece, size_t len,
                                                       size_t buffer_size)
 {
@@ -520,7 +520,8 @@ static size_t jcobs_max_overhead(size_t message_len)
     return message_len / JCOBS_FULL_BLOCK_BYTES + (message_len % JCOBS_FULL_BLOCK_BYTES != 0 ? 1 : 0);
 }
 
-/* Returns the length of the longest frame of a message of message_len bytes, or 0 if that number doesn't fit.
+/* Returns the length of the longest frame of a message of message_len bytes, or 0 if that length doesn't fit the
+ * type of the result.
  * Proved, by the contract in encode.rt: the result is that number if it is below 2 to the 64th, and 0 if not. */
 size_t jcobs_max_length(size_t message_len)
 {
@@ -606,7 +607,7 @@ static size_t jcobs_write_blocks(const unsigned char *message, size_t message_le
     return next;
 }
 
-/* Writes the frame of the message to the front of the buffer, if it fits, and returns its length in bytes.
+/* Writes the frame of the message to the front of the buffer, if it fits, and returns the frame's length in bytes.
  * Otherwise it returns 0, and nothing is written. */
 static JCOBS_APART size_t jcobs_write_frame(const unsigned char *message, size_t message_len, unsigned char *frame,
                                             size_t frame_size)
@@ -636,8 +637,8 @@ jcobs_answer jcobs_encode(const void *message, size_t message_len, void *frame, 
     return jcobs_ok_answer(message_len, length);
 }
 
-/* Writes the frame of the message and a zero after it to the front of the buffer frame, if both fit. Otherwise
- * nothing is written.
+/* Writes the frame of the message, followed by a zero, to the front of the buffer frame, if the frame and the zero
+ * fit. Otherwise nothing is written.
  * Proved, by the contract in encode.rt: if the frame and the zero fit, they are the message's, and bytes after
  * them are as they were; if they don't, the status is TOO_SMALL, and the buffer is as it was. */
 jcobs_answer jcobs_encode_terminated(const void *message, size_t message_len, void *frame, size_t frame_size)
@@ -716,9 +717,9 @@ static size_t jcobs_write_in_place(unsigned char *buffer, size_t buffer_size, si
     return jcobs_close_block(buffer, buffer_size, jcobs_encoder_progress(&encoder));
 }
 
-/* Encodes a message in its own buffer, if the longest frame of a message of message_len bytes fits. Otherwise
- * nothing is written. The message lies in the buffer after the room for the other bytes of that frame, from the
- * index JCOBS_MAX_OVERHEAD(message_len) on. Its frame is written to the front of the buffer.
+/* Encodes a message of message_len bytes in its own buffer, if the longest frame of such a message fits. Otherwise
+ * nothing is written. The message begins in the buffer at the index JCOBS_MAX_OVERHEAD(message_len), and its frame
+ * is written to the front of the buffer.
  * Proved, by the contract in encode.rt: if the longest frame fits, the buffer begins with the message's, and bytes
  * after that are as they were; if it doesn't, the status is TOO_SMALL, and the buffer is as it was. */
 jcobs_answer jcobs_encode_in_place(void *buffer, size_t buffer_size, size_t message_len)
@@ -730,7 +731,7 @@ jcobs_answer jcobs_encode_in_place(void *buffer, size_t buffer_size, size_t mess
     return jcobs_ok_answer(message_len, length);
 }
 
-/* Puts the encoder back to the start, even if its state is corrupt: it has then taken nothing.
+/* Puts the encoder back to the start, even if its state is corrupt. The encoder has then taken no byte.
  * Proved, by the contract in encoder.rt: then the encoder has taken nothing, whatever its state was. */
 void jcobs_encoder_reset(jcobs_encoder *encoder)
 {
@@ -891,7 +892,8 @@ jcobs_answer jcobs_encoder_finish(jcobs_encoder *encoder, void *buffer, size_t b
     return jcobs_too_small_answer();
 }
 
-/* Ends the message, as jcobs_encoder_finish does, and writes a zero after its frame, if both fit.
+/* Ends the message, as jcobs_encoder_finish does, and writes a zero after its frame, if the frame and the zero
+ * fit.
  * Proved, by the contract in encoder.rt: if the frame of all that was taken and the zero fit, the buffer begins
  * with them, and the encoder has taken nothing; if they don't, the status is TOO_SMALL, and the state and the
  * buffer are as they were. */
@@ -966,8 +968,8 @@ static JCOBS_APART jcobs_end jcobs_decode_blocks(unsigned char *buffer, size_t f
     return jcobs_make_end(JCOBS_END_MESSAGE, written);
 }
 
-/* Returns the result of a call that decodes in place, and took this many bytes of the buffer_len bytes of a
- * buffer, given how the frame ended. JCOBS_END_TOO_LONG and JCOBS_END_NONE don't occur: a message is shorter than
+/* Returns the result of a call that decodes in place, and took consumed bytes of the buffer_len bytes of a buffer.
+ * decoded says how the frame ended. JCOBS_END_TOO_LONG and JCOBS_END_NONE don't occur: a message is shorter than
  * its frame, and an empty buffer isn't decoded. */
 static jcobs_answer jcobs_in_place_answer(size_t consumed, size_t buffer_len, jcobs_end decoded)
 {
@@ -1020,7 +1022,7 @@ static enum jcobs_kind jcobs_kind_by_blocks(const unsigned char *bytes, size_t l
     return JCOBS_NOT_A_FRAME;
 }
 
-/* Returns whether the bytes are a frame, and if so, whether it is the one that encoders write for its message.
+/* Returns whether the bytes are a frame, and whether that frame is the one that encoders write for its message.
  * Proved, by the contract in kind.rt: the result is NOT_A_FRAME exactly if the bytes are no frame, and CANONICAL
  * exactly if they are the one that encoders write. */
 unsigned int jcobs_frame_kind(const void *bytes, size_t len)

@@ -151,14 +151,18 @@ COMMENTS = {
     "leading_zeros": [(" [`decode`](crate::decode) skips these zeros before a frame.", "")],
     "len_to_zero": [(" The function uses no vectors, so that it is small.", " With four bytes in a round it needs half the instructions.")],
     "result_by": [(
-        "a decoding call that took this many bytes, into a buffer of `room` bytes, given the message's length or the error.",
-        "a call that decodes in place, and took this many bytes of the `room` bytes of a buffer, given how the frame ended."
+        "a call that took `consumed` bytes and decoded them into a buffer of `room` bytes. `size` is the message's length, or the"
+        " error.",
+        "a call that decodes in place, and took `consumed` bytes of the `room` bytes of a buffer. `size` says how the frame"
+        " ended."
         " JCOBS_END_TOO_LONG and JCOBS_END_NONE don't occur: a message is shorter than its frame, and an empty buffer isn't"
         " decoded.",
     )],
     "result_of": [(
-        "a call that took these of `len` bytes, into a buffer of `room` bytes",
-        "a call that took `len` bytes or those through this piece's end, if it has ended. The buffer has `room` bytes",
+        "a call that decoded `len` bytes into a buffer of `room` bytes. If a piece has ended, `found` says how it ended, and how"
+        " many bytes there are through its end",
+        "a call that took `len` bytes or, if a piece has ended in them, those through its end. The buffer has `room` bytes."
+        " `found` says whether and how the piece has ended",
     )],
     "take_one": [(
         "Takes a byte of a piece, writes its output to the buffer, and returns how many bytes of the open message the buffer then holds.",

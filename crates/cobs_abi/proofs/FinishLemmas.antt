@@ -1,4 +1,5 @@
--- Frames of an encoder for another sentinel, and with their terminators.
+-- Lemmas on the end of a message that an encoder has taken: its frame for another sentinel, and its frame followed by
+-- the sentinel.
 use Rattle.std.proofs.Common.{◌≡◌, ◌≢◌, ◌∙◌, ◌++◌, ◌+◌, ◌<◌, ◌≤◌, ℕ, nat_le, true, false, List, [], ◌∷◌, All, length, take, drop, set, refl, sym, ap, subst, arith, take_at, length-append, length-drop, length-take-le, take-append-drop, ⊎_elim}
 use Rattle.std.proofs.lemmas.Bool.{leb-true, leb-false, cases_Bool}
 use Rattle.std.proofs.lemmas.List.{length-map, length-set, take-take}
@@ -52,7 +53,7 @@ module _ (free : (f : List ℕ) (s : ℕ) → IsFrame f → All (λ byte. byte �
 
 -- what `finalize` ensures, as the result of a call
 module _ {encoder encoder' : UnbufferedEncoder} {buffer buffer' : List ℕ} where
-  -- it wrote a frame of n bytes
+  -- the call wrote a frame of n bytes
   pub Finishes-finalized : {n : ℕ} → length buffer ≢ 0
       → ((m : List ℕ) → CobsEncoderAfter buffer (reached_by encoder) m → n ≡ encoded_len m)
       → ((m : List ℕ) → CobsEncoderAfter buffer (reached_by encoder) m → IsFrameOnWire (take n buffer') m)
@@ -76,7 +77,7 @@ module _ {encoder encoder' : UnbufferedEncoder} {buffer buffer' : List ℕ} wher
     len = same;
   }
 
-  -- it wrote nothing, since the encoder hasn't taken a message in this buffer
+  -- the call wrote nothing, because the encoder hasn't taken a message in this buffer
   pub Finishes-refused : ((m : List ℕ) → CobsEncoderAfter buffer (reached_by encoder) m → ⊥) → buffer' ≡ buffer → encoder' ≡ encoder
       → Finishes 0 IsFrameOnWire encoder buffer (record { status = TOO_SMALL; consumed = 0; length = 0 }) encoder' buffer'
   Finishes-refused none same kept = record {
@@ -106,7 +107,7 @@ module _ (counted : (f m : List ℕ) → IsEncodedFrame f m → length f ≡ enc
         noted = h.noted;
       }
 
-  -- a byte after what was written for a message
+  -- a byte after the bytes that were written for a message
   module _ {IsWanted IsEnded : List ℕ → List ℕ → Type 0} {encoder encoder' : UnbufferedEncoder} {buffer part : List ℕ} {result : Answer} (last s : ℕ) (room : last + 1 ≡ length buffer) (len : length part ≡ last)
       (f : Finishes 0 IsWanted encoder (take last buffer) result encoder' part) where
     pub Finishes-terminated : ((x m : List ℕ) → IsWanted x m → IsEnded (x ++ s ∷ []) m) → result.status ≡ OK

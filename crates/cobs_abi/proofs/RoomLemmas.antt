@@ -1,4 +1,4 @@
--- The status TOO_SMALL: only an output that is longer than the buffer has it.
+-- Lemmas on the status TOO_SMALL: it is returned only if the output is longer than the buffer.
 use Rattle.std.proofs.Common.{◌≡◌, ◌<◌, ℕ, List, length, Err, refl, arith}
 use Rattle.std.proofs.lemmas.Bool.{leb-false, cases_Bool}
 use Rattle.cobs.specs.Decode.{outcome_result}

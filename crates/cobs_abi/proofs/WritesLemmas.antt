@@ -1,4 +1,4 @@
--- Calls that write a frame, and a byte after it.
+-- Lemmas on calls that write a frame and a byte after the frame.
 use Rattle.std.proofs.Common.{◌≡◌, ℕ, ◌+◌, ◌≤◌, ◌<◌, nat_le, true, false, List, [], ◌∷◌, ◌++◌, length, take, drop, set, refl, sym, ap, ◌∙◌, subst, arith, length-append, length-drop, length-take-le, take-append-drop, ⊎_elim}
 use Rattle.std.proofs.lemmas.Bool.{leb-true, leb-false, cases_Bool}
 use Rattle.std.proofs.lemmas.List.{drop-append-le, drop-drop, drop-set-lt, take_more_set, take-append-le}
@@ -7,7 +7,7 @@ use Rattle.cobs_abi.specs.declared.answer.Answer.{Answer}
 use Rattle.cobs_abi.specs.declared.answer.TheConstants.{OK}
 
 module _ {size taken : ℕ} {IsWanted : List ℕ → Type 0} {buffer : List ℕ} {result : Answer} {buffer' : List ℕ} where
-  -- where such a call succeeds, its bytes fit
+  -- if a call that writes a frame succeeds, the frame fits
   pub Writes-ok : Writes size taken IsWanted buffer result buffer' → result.status ≡ OK → size ≤ length buffer
   Writes-ok w ok =
       ⊎_elim (λ (fits : nat_le size (length buffer) ≡ true). leb-true size (length buffer) fits)
@@ -20,7 +20,8 @@ module _ {size taken : ℕ} {IsWanted : List ℕ → Type 0} {buffer : List ℕ}
       (λ (long : nat_le size (length buffer) ≡ false). leb-false size (length buffer) long)
       (cases_Bool (nat_le size (length buffer)))
 
--- after a frame and its terminator a buffer is as it was, if its part before the last byte is so after the frame
+-- the bytes after a frame and its terminator are unchanged, if those after the frame were unchanged in the buffer
+-- without its last byte
 pub behind_terminator : (buffer part : List ℕ) (last end s : ℕ) → length part ≡ last → last < length buffer → end ≤ last → drop end part ≡ drop end (take last buffer)
     → drop (end + 1) (set (part ++ drop last buffer) end s) ≡ drop (end + 1) buffer
 behind_terminator buffer part last end s len within short behind =
@@ -32,7 +33,7 @@ behind_terminator buffer part last end s len within short behind =
     drop-set-lt (end + 1) (part ++ drop last buffer) end s (omega arith)
     ∙ sym (drop-drop 1 end (part ++ drop last buffer)) ∙ ap (drop 1) same ∙ drop-drop 1 end buffer
 
--- and it begins with the frame and the terminator
+-- the buffer begins with the frame and the terminator
 terminated : (part rest : List ℕ) (end s : ℕ) → end ≤ length part → 0 < length rest → take (end + 1) (set (part ++ rest) end s) ≡ take end part ++ s ∷ []
 terminated part rest end s within some =
     let l = length-append part rest in

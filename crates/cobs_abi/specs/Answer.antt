@@ -8,15 +8,15 @@ use Rattle.cobs.specs.declared.DecodeError.TheVariants.{EmptyFrame, InvalidFrame
 use Rattle.cobs_abi.specs.declared.answer.Answer.{Answer}
 use Rattle.cobs_abi.specs.declared.answer.TheConstants.{OK, TOO_SMALL, BROKEN, EMPTY}
 
--- the result of a decoding call that took this many bytes, into a buffer of n bytes, given the message's length or the
--- error
+-- the result of a call that took `consumed` bytes and decoded them into a buffer of n bytes, given the message's length
+-- or the error
 abbrev pub result_by : ℕ → ℕ → Result ℕ DecodeError → Answer
 result_by consumed n (Ok size) = record { status = OK; consumed = consumed; length = size }
 result_by consumed n (Err EmptyFrame) = record { status = EMPTY; consumed = consumed; length = 0 }
 result_by consumed n (Err (InvalidFrame count)) = record { status = BROKEN; consumed = consumed; length = count }
 result_by consumed n (Err TargetBufTooSmall) = record { status = TOO_SMALL; consumed = consumed; length = n }
 
--- the number of bytes of a source up to its first zero, with that zero if there is one
+-- the number of bytes of a source through its first zero, or of all bytes if there is no zero
 abbrev pub head_end : List ℕ → ℕ
 head_end source = min (length source) (length (head source) + 1)
 

@@ -19,7 +19,8 @@ pub const BROKEN: u32 = 3;
 /// There is no frame.
 pub const EMPTY: u32 = 4;
 
-/// A status, how many bytes were taken, and how many bytes are at the front of the buffer.
+/// The result of a call: its status, how many bytes it took, and how many bytes of its output are at the front of the
+/// buffer.
 #[repr(C)]
 #[derive(Clone, Copy)]
 pub struct Answer {
@@ -28,8 +29,8 @@ pub struct Answer {
     pub length: usize,
 }
 
-/// Returns the result of a call that succeeded: this many bytes were taken, and this many are at the front of the
-/// buffer.
+/// Returns the result of a call that succeeded. It took `consumed` bytes, and `length` bytes of output are at the front
+/// of the buffer.
 pub fn done(consumed: usize, length: usize) -> Answer
     ensures { result ≡ record { status = OK; consumed = consumed; length = length } }
 {
@@ -51,8 +52,8 @@ pub fn too_small() -> Answer
     }
 }
 
-/// Returns the result of a decoding call that took this many bytes, into a buffer of `room` bytes, given the message's
-/// length or the error.
+/// Returns the result of a call that took `consumed` bytes and decoded them into a buffer of `room` bytes. `size` is
+/// the message's length, or the error.
 pub fn result_by(consumed: usize, room: usize, size: Result<usize, DecodeError>) -> Answer
     ensures { result ≡ result_by consumed room size }
 {

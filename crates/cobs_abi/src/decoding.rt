@@ -15,7 +15,7 @@ use cobs::{PieceEnd, UnbufferedDecoder};
 /// The code of a full block.
 const FULL_CODE: u8 = 255;
 
-/// Returns how many bytes of an open message a buffer of `room` bytes holds.
+/// Returns how many decoded bytes of the open piece are in a buffer of `room` bytes.
 #[inline(always)]
 fn held(decoder: &UnbufferedDecoder, room: usize) -> usize
     ensures { result ≡ held room (phase_of decoder.now) }
@@ -27,7 +27,8 @@ fn held(decoder: &UnbufferedDecoder, room: usize) -> usize
     }
 }
 
-/// Returns the result of a call that took these of `len` bytes, into a buffer of `room` bytes.
+/// Returns the result of a call that decoded `len` bytes into a buffer of `room` bytes. If a piece has ended, `found`
+/// says how it ended, and how many bytes there are through its end.
 #[inline(always)]
 pub fn result_of(
     decoder: &UnbufferedDecoder,
@@ -63,8 +64,8 @@ pub fn result_of(
     }
 }
 
-/// Takes bytes of a stream of frames for this sentinel, through the sentinel that ends the first piece, or all of them if no
-/// piece ends.
+/// Takes bytes of a stream of frames for this sentinel: those through the sentinel that ends the first piece, or all
+/// bytes if no piece ends.
 #[inline(always)]
 pub fn decode_each(
     decoder: &mut UnbufferedDecoder,

@@ -1,5 +1,5 @@
-//! The results of the calls of the streaming encoder, whose state a program in C keeps, and of the call that encodes a
-//! message in its own buffer.
+//! The calls of the streaming encoder, whose state a program in C keeps, and the call that encodes a message in its own
+//! buffer. Each call returns its result as C sees it.
 ghost use Rattle.std.specs.Prelude.{◌≡◌, ◌<◌, ◌^◌, [], ◌∷◌};
 ghost use Rattle.cobs.specs.Fields.Encoders.{reached_by};
 ghost use Rattle.cobs.specs.OpenBlock.{end_of};
@@ -66,7 +66,7 @@ pub fn finish(encoder: &mut UnbufferedEncoder, buffer: &mut [u8]) -> Answer
     }
 }
 
-/// Ends the message, and writes a zero after its frame, if both fit the buffer.
+/// Ends the message, and writes a zero after its frame, if the frame and the zero fit the buffer.
 #[inline]
 pub fn finish_terminated(encoder: &mut UnbufferedEncoder, buffer: &mut [u8]) -> Answer
     ensures finishes { Finishes 1 (IsTerminatedFrame 0) encoder.old buffer.old result

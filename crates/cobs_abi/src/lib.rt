@@ -1,7 +1,8 @@
 //! Shared by the libraries for C: the structs and numbers that cross to C, and the postcondition of each exported call.
 //!
-//! `cobs_c` and `cobs_small` export the same calls, with other bodies. The contract of each exported function is one
-//! definition of `specs/`, whose name says what the call does. So both crates state the same contract.
+//! `cobs_c` exports all calls. `cobs_small` exports some of these calls, with other bodies. The contract of each
+//! exported function is one definition of `specs/`, whose name says what the call does. So a call has the same contract
+//! in both crates.
 #![tactic(auto)]
 
 mod answer;

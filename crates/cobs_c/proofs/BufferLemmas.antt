@@ -1,10 +1,10 @@
--- The contents of a buffer.
+-- Lemmas on the contents of a buffer to which a text was written.
 use Rattle.std.proofs.Common.{◌≡◌, ℕ, ◌+◌, ◌-◌, ◌<◌, ◌≤◌, min, List, [], ◌∷◌, ◌++◌, length, take, drop, set, get_or, sym, ap, ◌∙◌, arith, length-append, length-take-le, take_all, append_assoc, nat_le, true, false, ⊎_elim}
 use Rattle.std.proofs.lemmas.List.{drop_more, set_at}
 use Rattle.std.proofs.lemmas.Bool.{leb-true, leb-false, cases_Bool}
 use Rattle.cobs.specs.Overwritten.{overwritten}
 
--- words with a zero after them, as far as both fit
+-- a text followed by a zero, cut so that both fit
 pub words-written : (text words : List ℕ) (end : ℕ) → 0 < length text → end ≡ min (length words) (length text - 1)
     → set (take end words ++ drop end text) end 0 ≡ overwritten text (take (length text - 1) words ++ 0 ∷ [])
 words-written text words end some is =

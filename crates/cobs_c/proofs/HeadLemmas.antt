@@ -1,4 +1,5 @@
--- The bytes of a buffer before its first zero, which is found after the bytes that were decoded in their own place.
+-- Lemmas on the first zero of a buffer in which a broken frame was decoded in place. The zero is found after the
+-- decoded bytes.
 use Rattle.std.proofs.Common.{◌≡◌, ◌≤◌, ◌+◌, ◌++◌, ◌∙◌, ℕ, zero, suc, List, [], ◌∷◌, Err, length, drop, sym, ap, arith, take_all}
 use Rattle.std.proofs.lemmas.Bool.{cases_Bool, ne_eqb}
 use Rattle.std.proofs.lemmas.List.{length-take}
@@ -13,7 +14,7 @@ head-cons : (b : ℕ) (t : List ℕ) → head (suc b ∷ t) ≡ suc b ∷ head t
 unfolding head
 head-cons b t = grind (arith, slice_split-cons_no, ne_eqb)
 
--- after some of its bytes the head continues
+-- after the first bytes of the head, the rest of the head follows
 pub head-drop : (k : ℕ) (t : List ℕ) → k ≤ length (head t) → length (head t) ≡ k + length (head (drop k t))
 unfolding head
 head-drop zero t within = omega arith
@@ -43,7 +44,7 @@ module _ (shorter : (p : List ℕ) → length (output p) ≤ length p) where
       let count = count-of (length (head (b ∷ t))) (head (b ∷ t)) d e in
       (count, omega (arith, count, kept-within (head (b ∷ t))), head-within (b ∷ t))
 
-  -- after them the buffer is as it was
+  -- after these d bytes the buffer is unchanged
   pub behind-kept : (t : List ℕ) (d : ℕ) → d ≡ length (kept_output (head t)) → d ≤ length t → drop d (in_place t) ≡ drop d t
   behind-kept t d is within =
       let kept : List ℕ = kept_output (head t) in

@@ -1,4 +1,4 @@
--- A frame that is decoded in its own place, and nothing after it.
+-- Lemmas on a frame that is decoded in its own buffer, in which no byte after the frame changes.
 use Rattle.std.proofs.Common.{◌≡◌, ◌≢◌, ◌∙◌, ◌⊎◌, inl, inr, ◌++◌, ◌+◌, ◌<◌, ◌≤◌, ℕ, List, [], ◌∷◌, All, length, take, drop, min, get_or, refl, sym, ap, subst, arith, take_all, length-take-le}
 use Rattle.std.proofs.lemmas.List.{length-map}
 use Rattle.std.specs.Int.Bits.{bit_xor}

@@ -1,4 +1,4 @@
--- Sources, and how much of them a call takes.
+-- Lemmas on the number of bytes that a call takes of its source.
 use Rattle.std.proofs.Common.{◌≡◌, ◌<◌, ◌≤◌, ℕ, List, [], ◌∷◌, length, take, drop, get_or, Some, None, Result, Ok, Err, sym, subst, arith}
 use Rattle.cobs.specs.Grammar.{HasNoZero}
 use Rattle.cobs.specs.Decode.{leading_zeros, len_through_piece, result_of_decode, report_result, outcome_result}
@@ -22,7 +22,7 @@ unfolding first_piece
 result-some [] p n is = absurd cc
 result-some (b ∷ bs) p n is = grind arith
 
--- an error with the count of what was consumed
+-- an error, with the number of bytes that the call consumed
 pub report_result-err : (parsed : ℕ) (size : Result ℕ DecodeError) (error : DecodeError) → Err error ≡ report_result parsed size → Err error ≡ size
 report_result-err parsed (Ok size) error e = absurd cc
 report_result-err parsed (Err other) error e = cc

@@ -22,7 +22,7 @@ fn first_sentinel(bytes: &[u8], sentinel: u8) -> usize
     memchr(sentinel, bytes).unwrap_or(bytes.len())
 }
 
-/// Returns the number of bytes up to the first sentinel, with that sentinel if there is one.
+/// Returns the number of bytes through the first sentinel, or of all bytes if there is no sentinel.
 fn head_end(bytes: &[u8], sentinel: u8) -> usize
     ensures end { result ≡ head_end (xor_each sentinel bytes.now) }
 {
@@ -31,8 +31,8 @@ fn head_end(bytes: &[u8], sentinel: u8) -> usize
     if end < bytes.len() { end + 1 } else { end }
 }
 
-/// Returns the number of bytes up to the end of the source's first piece, with the zero after it if there is one.
-/// Returns `None` if the source has no piece.
+/// Returns the number of bytes of the source through the zero that ends its first piece, or of all bytes if no zero
+/// ends that piece. Returns `None` if the source has no piece.
 fn first_piece_end(source: &[u8]) -> Option<usize>
     ensures none { result ≡ None → first_piece source.now ≡ None }
     ensures some { IfSome result
@@ -51,7 +51,8 @@ fn first_piece_end(source: &[u8]) -> Option<usize>
 }
 
 /// Returns the status and the length for a source whose first frame was rejected with this error, or that has no frame.
-/// The buffer has `room` bytes. It returns two numbers, which stay in registers, instead of an `Answer`.
+/// The message's buffer has `room` bytes. The number of bytes taken is stored in `consumed`. The function returns two
+/// numbers, which stay in registers, instead of an `Answer`.
 #[inline(never)]
 fn rejected(source: &[u8], room: usize, error: DecodeError, consumed: &mut usize) -> (u32, usize)
     requires { Err error ≡ result_of_decode source.now room }
@@ -69,8 +70,9 @@ fn rejected(source: &[u8], room: usize, error: DecodeError, consumed: &mut usize
     (returned.status, returned.length)
 }
 
-/// Does what [`jcobs_decode`] does for a source that [`decode_short`] doesn't decode. It returns the numbers that
-/// [`rejected`] returns. It is a separate function, so that decoding a short frame doesn't save registers for it.
+/// Does what [`jcobs_decode`] does for a source that [`decode_short`] doesn't decode. It returns the status and the
+/// length, as [`rejected`] does. It is a separate function, so that no registers are saved before a short frame is
+/// decoded.
 #[inline(never)]
 fn decode_long(source: &[u8], message: &mut [u8], consumed: &mut usize) -> (u32, usize)
     ensures decodes { Decodes source.now message.old
@@ -121,7 +123,7 @@ pub extern "C" fn jcobs_decode_with_sentinel(
     )
 }
 
-/// Returns the number of bytes through the zero at index `end`, or `len` if the bytes end there.
+/// Returns the number of bytes through the zero at index `end`, or `len` if `end` is the end of all `len` bytes.
 fn with_zero(end: usize, len: usize) -> usize
     ensures { result ≡ min len (end + 1) }
 {
@@ -144,7 +146,8 @@ fn decode_long_in_place(buffer: &mut [u8], consumed: &mut usize) -> (u32, usize)
             result_by(consumed, room, Ok(report.frame_size()))
         }
         Err(DecodeError::InvalidFrame { decoded_bytes }) => {
-            // The frame ends after the decoded bytes. Nothing has changed there, so its end can still be found.
+            // The frame is longer than the decoded bytes. The bytes after these haven't changed, so the frame's end can
+            // still be found.
             let end = decoded_bytes + first_sentinel(&buffer[decoded_bytes..], 0);
             let error = DecodeError::InvalidFrame { decoded_bytes };
             result_by(with_zero(end, room), room, Err(error))
@@ -195,7 +198,7 @@ pub extern "C" fn jcobs_decode_in_place_with_sentinel(buffer: &mut [u8], sentine
     )
 }
 
-/// Returns whether the bytes are a frame, and if so, whether it is the one that encoders write for its message.
+/// Returns whether the bytes are a frame, and whether that frame is the one that encoders write for its message.
 #[unsafe(no_mangle)]
 pub extern "C" fn jcobs_frame_kind(bytes: &[u8]) -> u32
     ensures kind { IsKindOf bytes.now result }

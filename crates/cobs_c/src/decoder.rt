@@ -22,8 +22,9 @@ pub extern "C" fn jcobs_decoder_is_idle(decoder: &UnbufferedDecoder) -> u32
     if decoder.is_idle() { 1 } else { 0 }
 }
 
-/// Takes bytes of the stream, through the zero that ends the first piece, or all of them if no piece ends. Even if the state
-/// is corrupt, the buffer keeps its length, and the counts are within the bytes and the buffer.
+/// Takes bytes of the stream: those through the zero that ends the first piece, or all bytes if no piece ends. Even if
+/// the state is corrupt, the buffer keeps its length, `consumed` is at most the number of bytes, and `length` is at
+/// most the buffer's length.
 #[unsafe(no_mangle)]
 pub extern "C" fn jcobs_decoder_push(
     decoder: &mut UnbufferedDecoder,
@@ -33,7 +34,7 @@ pub extern "C" fn jcobs_decoder_push(
     ensures decodes { DecodesNext decoder.old buffer.old bytes.now result
         decoder.new buffer.new }
 {
-    // For one byte, a search and a copy would take longer.
+    // For one byte, a search and a copy would take longer than a step.
     if bytes.len() == 1 {
         return decode_byte(decoder, buffer, bytes[0]);
     }
@@ -51,7 +52,8 @@ pub extern "C" fn jcobs_decoder_feed(
     ensures decodes { DecodesNext decoder.old buffer.old (byte ∷ []) result
         decoder.new buffer.new }
 {
-    // Most bytes are inside a block. This case is tested for first, so that compilers put it on a path without the others.
+    // Most bytes are inside a block. This case is tested for first, so that compilers give it code without the other
+    // cases.
     let is_data = byte != 0 && decoder.missing != 0 && decoder.too_long == 0;
     if is_data && decoder.written < buffer.len() {
         return decode_each(decoder, buffer, &[byte], 0);

@@ -11,10 +11,11 @@ use cobs_abi::{Answer, OK, TOO_SMALL, done, encode_within, too_small};
 /// message.
 const FULL_CODE: usize = 255;
 
-/// A message of fewer bytes is encoded byte by byte.
+/// A message of fewer bytes than this number is encoded byte by byte.
 const FEW: usize = 8;
 
-/// Returns the length of the longest frame of a message of `message_len` bytes, or 0 if that number doesn't fit.
+/// Returns the length of the longest frame of a message of `message_len` bytes, or 0 if that length doesn't fit the
+/// type of the result.
 #[unsafe(no_mangle)]
 pub extern "C" fn jcobs_max_length(message_len: usize) -> usize
     ensures fits { max_encoded_len message_len < 2 ^ 64 → result ≡ max_encoded_len message_len }
@@ -25,9 +26,9 @@ pub extern "C" fn jcobs_max_length(message_len: usize) -> usize
         .unwrap_or(0)
 }
 
-/// Does what [`jcobs_encode`] does with any message. Returns how many bytes were taken, and the length of the frame,
-/// which is 0 if it doesn't fit. It is a separate function, so that encoding a short message doesn't save registers for
-/// it.
+/// Does what [`jcobs_encode`] does with any message. Returns how many bytes were taken, and the length of the frame.
+/// The length is 0 if the frame doesn't fit. It is a separate function, so that no registers are saved before a short
+/// message is encoded.
 #[inline(never)]
 fn encode_long(message: &[u8], frame: &mut [u8]) -> (usize, usize)
     ensures encodes { Encodes message.now frame.old
@@ -48,9 +49,10 @@ pub extern "C" fn jcobs_encode(message: &[u8], frame: &mut [u8]) -> Answer
 {
     law_4(); // The length of a frame, and its bound
     let len = message.len();
-    // A message of up to 254 bytes fits if `frame` is longer than the message. It is encoded here, without a call. The
-    // shortest messages are tested for first, so that compilers give them code without the other cases. The message's
-    // length is computed from the frame's, so it needs no register. All this makes short messages faster.
+    // A message of up to 254 bytes fits if `frame` is longer than the message. Then the message is encoded here,
+    // without a call. Messages of fewer than `FEW` bytes are tested for first, so that compilers give them code without
+    // the other cases. The message's length is computed from the frame's, so that no register has to keep it. All this
+    // makes the encoding of short messages faster.
     if len < frame.len() {
         if len < FEW {
             let length = encode(message, frame);
@@ -86,8 +88,8 @@ pub extern "C" fn jcobs_encode_with_sentinel(
     }
 }
 
-/// Writes the frame of the message and a zero after it to the front of the buffer `frame`, if both fit. Otherwise nothing
-/// is written.
+/// Writes the frame of the message, followed by a zero, to the front of the buffer `frame`, if the frame and the zero
+/// fit. Otherwise nothing is written.
 #[unsafe(no_mangle)]
 pub extern "C" fn jcobs_encode_terminated(message: &[u8], frame: &mut [u8]) -> Answer
     ensures encodes { EncodesTerminated 0 message.now frame.old result frame.new }
@@ -104,8 +106,8 @@ pub extern "C" fn jcobs_encode_terminated(message: &[u8], frame: &mut [u8]) -> A
     done(returned.consumed, returned.length + 1)
 }
 
-/// Writes the frame of the message for this sentinel and the sentinel after it to the front of the buffer `frame`, if both
-/// fit. Otherwise nothing is written.
+/// Writes the frame of the message for this sentinel, followed by the sentinel, to the front of the buffer `frame`, if
+/// the frame and the sentinel fit. Otherwise nothing is written.
 #[unsafe(no_mangle)]
 pub extern "C" fn jcobs_encode_terminated_with_sentinel(
     message: &[u8],
@@ -126,9 +128,9 @@ pub extern "C" fn jcobs_encode_terminated_with_sentinel(
     done(returned.consumed, returned.length + 1)
 }
 
-/// Encodes a message in its own buffer. The message has `message_len` bytes; the bytes before it in the buffer are as
-/// many as the longest frame has more than the message. If the longest frame fits, the frame is written to the front of
-/// the buffer. Otherwise nothing is written.
+/// Encodes a message of `message_len` bytes in its own buffer, if the longest frame of such a message fits. Otherwise
+/// nothing is written. The message begins in the buffer at the index JCOBS_MAX_OVERHEAD(message_len), and its frame is
+/// written to the front of the buffer.
 #[unsafe(no_mangle)]
 pub extern "C" fn jcobs_encode_in_place(buffer: &mut [u8], message_len: usize) -> Answer
     ensures encodes { EncodesInPlace message_len buffer.old result buffer.new }

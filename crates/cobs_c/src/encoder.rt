@@ -8,7 +8,7 @@ use cobs::laws::{law_2, law_6, law_13};
 use cobs_abi::{Answer, OK, done, encode_byte, end_of, finish, finish_terminated, too_small};
 use cobs_bytes::lanes::xor_bytes;
 
-/// Puts the encoder back to the start, even if its state is corrupt: it has then taken nothing.
+/// Puts the encoder back to the start, even if its state is corrupt. The encoder has then taken no byte.
 #[unsafe(no_mangle)]
 pub extern "C" fn jcobs_encoder_reset(encoder: &mut UnbufferedEncoder)
     ensures fresh { IsFreshEncoder encoder.new }
@@ -17,7 +17,7 @@ pub extern "C" fn jcobs_encoder_reset(encoder: &mut UnbufferedEncoder)
 }
 
 /// Takes the next bytes of a message, if the frame of all bytes so far fits the buffer. Even if the state is corrupt,
-/// the buffer keeps its length, and the counts are within the bytes and the buffer.
+/// the buffer keeps its length, `consumed` is at most the number of bytes, and `length` is at most the buffer's length.
 #[unsafe(no_mangle)]
 pub extern "C" fn jcobs_encoder_push(
     encoder: &mut UnbufferedEncoder,
@@ -28,6 +28,7 @@ pub extern "C" fn jcobs_encoder_push(
         encoder.new buffer.new }
 {
     law_13(); // The open frame of a streaming encoder
+    // Up to 8 bytes that can't fill the open block are taken here, without a call.
     if encoder.push_few(buffer, bytes) {
         return done(bytes.len(), end_of(encoder));
     }
@@ -38,14 +39,14 @@ pub extern "C" fn jcobs_encoder_push(
 }
 
 /// Ends the message, if its frame fits the buffer. Even if the state is corrupt, the buffer keeps its length, and the
-/// returned length is within it.
+/// returned `length` is at most that.
 #[unsafe(no_mangle)]
 pub extern "C" fn jcobs_encoder_finish(encoder: &mut UnbufferedEncoder, buffer: &mut [u8]) -> Answer
     ensures finishes { Finishes 0 IsFrameOnWire encoder.old buffer.old result
         encoder.new buffer.new }
 {
     let returned = finish(encoder, buffer);
-    // Copied field by field: otherwise compilers join the results of two returns in memory.
+    // The result is copied field by field, because compilers otherwise join the results of two returns in memory.
     Answer { ..returned }
 }
 
@@ -82,7 +83,8 @@ pub extern "C" fn jcobs_encoder_finish_with_sentinel(
     returned
 }
 
-/// Ends the message, as `jcobs_encoder_finish_with_sentinel` does, and writes the sentinel after its frame, if both fit.
+/// Ends the message, as `jcobs_encoder_finish_with_sentinel` does, and writes the sentinel after its frame, if the
+/// frame and the sentinel fit.
 #[unsafe(no_mangle)]
 pub extern "C" fn jcobs_encoder_finish_terminated_with_sentinel(
     encoder: &mut UnbufferedEncoder,
@@ -107,7 +109,7 @@ pub extern "C" fn jcobs_encoder_finish_terminated_with_sentinel(
     done(returned.consumed, returned.length + 1)
 }
 
-/// Ends the message, as `jcobs_encoder_finish` does, and writes a zero after its frame, if both fit.
+/// Ends the message, as `jcobs_encoder_finish` does, and writes a zero after its frame, if the frame and the zero fit.
 #[unsafe(no_mangle)]
 pub extern "C" fn jcobs_encoder_finish_terminated(
     encoder: &mut UnbufferedEncoder,

@@ -1,7 +1,7 @@
 //! The library `jcobs` for C: one function for each call, over slices, plain structs and numbers.
 //!
-//! `bindings/c/include/jcobs.h` declares them and states their preconditions. Nothing checks that a caller in C meets
-//! them. For a slice, C passes the pointer and then the length.
+//! `bindings/c/include/jcobs.h` declares these functions and states their preconditions. Nothing checks that a caller
+//! in C meets the preconditions. For a slice, C passes the pointer and then the length.
 #![tactic(auto)]
 
 mod decode;

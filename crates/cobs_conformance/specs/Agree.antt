@@ -5,6 +5,7 @@ use Rattle.std.specs.Prelude.{ℕ, ◌≡◌, ◌⊎◌, List, codes}
 abbrev pub IsErrorWord : List ℕ → Type 0
 IsErrorWord word = (word ≡ codes "empty") ⊎ (word ≡ codes "invalid") ⊎ (word ≡ codes "too_small") ⊎ (word ≡ codes "broken") ⊎ (word ≡ codes "too_long")
 
--- the actual word is an expected one: any word if `?` is expected, the same word, or any error if `refused` is
+-- the actual word agrees with the expected word: any word with `?`, the name of any error with `refused`, and each word
+-- with itself
 abbrev pub Agrees : List ℕ → List ℕ → Type 0
 Agrees wanted came = (wanted ≡ codes "?") ⊎ (wanted ≡ came) ⊎ ((wanted ≡ codes "refused") × IsErrorWord came)

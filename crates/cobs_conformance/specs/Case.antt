@@ -1,4 +1,4 @@
--- The kinds of lines.
+-- The lines of the input that aren't cases.
 use Rattle.std.specs.Prelude.{ℕ, ◌≡◌, List, [], ◌∷◌}
 
 -- the line is empty or begins with a number sign, 35

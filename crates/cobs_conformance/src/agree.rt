@@ -3,7 +3,7 @@ ghost use Rattle.std.specs.Prelude.{◌↔◌, IsTrue, string_bytes};
 ghost use Rattle.std.specs.List.{AllZip};
 ghost use Rattle.cobs_conformance.specs.Agree.{Agrees, IsErrorWord};
 
-/// Returns whether the words agree one by one, and there are as many.
+/// Returns whether there are as many words as expected words, and each word agrees with its expected word.
 pub fn agree(wanted: &[&str], came: &[String]) -> bool
     ensures same { IsTrue result
         ↔ AllZip (λ one other. Agrees one.now (string_bytes other)) wanted.now came.now }
@@ -17,7 +17,8 @@ pub fn agree(wanted: &[&str], came: &[String]) -> bool
     }
 }
 
-/// Returns whether a word is an expected one: the same word, any word if `?` is expected, or any error if `refused` is.
+/// Returns whether a word agrees with the expected word `wanted`. The word `?` agrees with any word, `refused` agrees
+/// with the name of any error, and any other word only with itself.
 fn agrees(wanted: &str, came: &str) -> bool
     ensures agrees { IsTrue result ↔ Agrees wanted.now came.now }
 {

@@ -16,7 +16,7 @@ pub const MAX_DIGITS: usize = 2 * MAX_BYTES;
 /// The word that means no bytes, or no number.
 pub const NONE: &str = "-";
 
-/// Returns the bytes that a word means by its hexadecimal digits, or no bytes for `-`.
+/// Returns the bytes whose hexadecimal digits the word has, or no bytes for the word `-`.
 ///
 /// # Errors
 /// `Malformed` for any other word, and for more than [`MAX_BYTES`] bytes. `OutOfMemory` if memory ran out.
@@ -44,7 +44,7 @@ pub fn bytes_of(alloc: Global, word: &str) -> Result<Vec<u8>, CaseFault>
 /// Returns the one byte that a word means.
 ///
 /// # Errors
-/// Those of [`bytes_of`], and `Malformed` for no byte and for several.
+/// The errors of [`bytes_of`], and `Malformed` if the word means no byte or several bytes.
 pub fn byte_of(alloc: Global, word: &str) -> Result<u8, CaseFault> {
     let bytes = bytes_of(alloc, word)?;
     match bytes.as_slice() {

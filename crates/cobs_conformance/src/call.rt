@@ -4,7 +4,7 @@ use crate::fault::CaseFault;
 use crate::{decoding, encoding, machines, streams};
 use std::alloc::Global;
 
-/// Makes the call of this name.
+/// Makes the call with this name, and returns its result.
 ///
 /// # Errors
 /// `Malformed` if no call has the name, or the arguments aren't those of the call; `NotCallable` if they break its

@@ -51,7 +51,7 @@ impl CallResult {
         self.words.append(&mut other.words)
     }
 
-    /// Adds the words of another result if they differ from those of this one.
+    /// Adds the words of `other` if they differ from the words of this result.
     pub fn append_other(&mut self, other: CallResult) -> Result<(), AllocError>
         ensures words { OnOk result ((words_of self.new ≡ words_of self.old)
             ⊎ (words_of self.new ≡ words_of self.old ++ words_of other)) }
@@ -62,7 +62,7 @@ impl CallResult {
         self.append(other)
     }
 
-    /// Adds the words of another result if they differ from those that are expected of it.
+    /// Adds the words of `other` if they differ from the words of `wanted`.
     pub fn append_unlike(
         &mut self,
         wanted: &CallResult,

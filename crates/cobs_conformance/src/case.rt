@@ -17,7 +17,8 @@ pub enum Verdict {
     /// The result is the expected one.
     Agrees,
 
-    /// The result is another one, or there is none. The text has both, the expected result first.
+    /// The result isn't the expected one, or there is no result. The text names the case or the line, and says how the
+    /// results differ or why there is no result.
     Differs(String),
 }
 
@@ -30,7 +31,7 @@ struct Case<'a> {
     wanted: &'a [&'a str],
 }
 
-/// Makes the call of a line, and compares its result with the one in the line.
+/// Makes the call of a line, and compares its result with the expected result in the line.
 pub fn verdict_of(alloc: Global, line: &str) -> Result<Verdict, AllocError>
     ensures no_case { (result ≡ Ok Verdict.NoCase) ↔ IsNoCase line.now }
 {
@@ -66,7 +67,7 @@ pub fn verdict_of(alloc: Global, line: &str) -> Result<Verdict, AllocError>
     }
 }
 
-/// Returns the words of a case, or `None` if they aren't one.
+/// Sorts the words of a line by their meaning, or returns `None` if the line isn't a case.
 fn case_of<'a>(words: &'a [&'a str]) -> Option<Case<'a>>
     ensures call { IfSome result (λ case. case.call ≡ slice_index_or words.now 2 case.call) }
     ensures each_word { IfSome result (λ case.

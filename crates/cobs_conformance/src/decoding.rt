@@ -69,7 +69,8 @@ pub fn decode_in_place(alloc: Global, arguments: &[&str]) -> Result<CallResult, 
     Ok(returned)
 }
 
-/// Runs `decode_in_place_report`, which writes the message over its own frame, and returns both sizes.
+/// Runs `decode_in_place_report`, which writes the message over its own frame, and returns the message's length and the
+/// number of bytes consumed.
 pub fn decode_in_place_report(alloc: Global, arguments: &[&str]) -> Result<CallResult, CaseFault> {
     let [buffer] = arguments else {
         return Err(CaseFault::Malformed);
@@ -99,7 +100,8 @@ pub fn decode_in_place_with_sentinel(
     Ok(returned)
 }
 
-/// Runs `frame_kind`, which returns whether bytes are a frame, and which one of their message.
+/// Runs `frame_kind`, which returns whether the bytes are a frame, and whether that frame is the one that encoders
+/// write for its message.
 pub fn frame_kind(alloc: Global, arguments: &[&str]) -> Result<CallResult, CaseFault> {
     let [bytes] = arguments else {
         return Err(CaseFault::Malformed);

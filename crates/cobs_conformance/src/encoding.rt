@@ -7,7 +7,8 @@ use crate::fault::CaseFault;
 use cobs::CobsEncoder;
 use std::alloc::Global;
 
-/// Runs `max_encoding_overhead`, which returns by how many bytes a frame is longer than its message at most.
+/// Runs `max_encoding_overhead`, which returns the greatest number of bytes by which a frame is longer than its
+/// message.
 pub fn max_encoding_overhead(alloc: Global, arguments: &[&str]) -> Result<CallResult, CaseFault> {
     let [length] = arguments else {
         return Err(CaseFault::Malformed);
@@ -179,7 +180,8 @@ pub fn encoder(alloc: Global, arguments: &[&str]) -> Result<CallResult, CaseFaul
     Ok(returned)
 }
 
-/// Pushes each piece to a new encoder, says whether it was taken, and returns the frame's length.
+/// Pushes each piece to a new encoder, adds a word that says whether the piece was taken, and returns the frame's
+/// length.
 fn push_pieces(
     alloc: Global,
     buffer: &mut [u8],

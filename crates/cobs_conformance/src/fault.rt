@@ -7,11 +7,11 @@ use std::alloc::{AllocError, AllocFailed};
 /// The reason why a case has no result that can be compared.
 #[derive(Debug, PartialEq, Eq, Drop)]
 pub enum CaseFault {
-    /// The line isn't in the format: there is no such call, an argument is missing or too many, or a word can't be
+    /// The line isn't in the format: no call has its name, it has too few or too many arguments, or a word can't be
     /// read.
     Malformed,
 
-    /// The arguments break the call's precondition, such as room for the frame.
+    /// The arguments break the call's precondition: for example, the buffer has no room for the frame.
     NotCallable,
 
     /// Memory ran out.

@@ -35,7 +35,7 @@ pub fn encoder_state(alloc: Global, arguments: &[&str]) -> Result<CallResult, Ca
     Ok(returned)
 }
 
-/// Carries out a push result on the frame so far, with a placeholder of 0.
+/// Carries out the result of a push on the frame so far. At the place of a code that isn't known yet, it writes a 0.
 fn carry_out(pushed: &PushResult, frame: &mut Vec<u8>) -> Result<(), CaseFault> {
     match pushed {
         PushResult::AddSingle(byte) => frame.push(*byte)?,
@@ -52,7 +52,7 @@ fn carry_out(pushed: &PushResult, frame: &mut Vec<u8>) -> Result<(), CaseFault> 
     Ok(())
 }
 
-/// Writes a code over its placeholder.
+/// Writes a code over the 0 at its place.
 fn write_code(frame: &mut Vec<u8>, index: usize, code: u8) {
     if let Some(placeholder) = frame.get_mut(index) {
         *placeholder = code;

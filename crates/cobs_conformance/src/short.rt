@@ -10,7 +10,7 @@ use std::alloc::{AllocError, Global};
 /// Returns the words of a line, each written out.
 ///
 /// # Errors
-/// Those of [`written_out`].
+/// The errors of [`written_out`].
 pub fn words_of(alloc: Global, line: &str) -> Result<Vec<String>, CaseFault>
     ensures words { IfOk result (λ words. map string_bytes words.items
         ≡ map word_text (slice_split (λ byte. byte == 32) line.now)) }

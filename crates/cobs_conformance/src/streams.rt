@@ -19,7 +19,7 @@ const MOST_CALLS: usize = 1000;
 enum Feeding {
     Pushes,
     Bytes,
-    /// Byte by byte too, but only the results for zeros are added.
+    /// Byte by byte; only the results for zeros are added to the result of the case.
     Zeros,
     /// By `feed_piece`, which returns how each piece ended.
     Pieces,
@@ -59,7 +59,8 @@ impl Streaming for CobsDecoder<'_> {
         self.push(bytes)
     }
 
-    /// Feeds a zero, because this decoder has no `reset`. A zero makes it idle too, and changes no byte.
+    /// Feeds a zero, because this decoder has no `reset`. The zero makes the decoder idle too, and changes no byte of
+    /// the buffer.
     fn restart(&mut self) {
         let _ = self.feed(0);
     }
@@ -99,9 +100,8 @@ impl Streaming for ByBytes {
     }
 }
 
-/// Runs each of the three streaming decoders over a buffer: by pushes, byte by byte, and by `feed_piece`. The results
-/// of `feed_piece` are compared with the results for the zeros. If a result differs from the first one, it is added to
-/// the text, so that the case differs.
+/// Runs each of the three streaming decoders over a buffer: by pushes, byte by byte, and by `feed_piece`. A result that
+/// isn't as expected is added to the text, so that the case differs.
 ///
 /// # Errors
 /// `Malformed` also if [`heapless`] has no buffer of this length.
@@ -116,6 +116,8 @@ pub fn decoder(alloc: Global, arguments: &[&str]) -> Result<CallResult, CaseFaul
     returned.append_other(borrowed(alloc, &buffer, pieces, &Feeding::Bytes)?)?;
     returned.append_other(heapless(alloc, &buffer, pieces, &Feeding::Pushes)?)?;
     returned.append_other(heapless(alloc, &buffer, pieces, &Feeding::Bytes)?)?;
+    // Pushes and single bytes also have a result for each byte that doesn't fit the buffer, and `feed_piece` only for
+    // the zero that ends a piece. So the results of `feed_piece` are compared with those for the zeros (`ends`).
     let ends = owned(alloc, &buffer, pieces, &Feeding::Zeros)?;
     returned.append_unlike(&ends, owned(alloc, &buffer, pieces, &Feeding::Pieces)?)?;
     returned.append_unlike(&ends, borrowed(alloc, &buffer, pieces, &Feeding::Pieces)?)?;
@@ -193,14 +195,15 @@ fn by_bytes(alloc: Global, buffer: &[u8], pieces: &[&str]) -> Result<CallResult,
     given(alloc, &mut ByBytes { decoder }, pieces, &Feeding::Pieces)
 }
 
-/// Writes bytes over a slice of the same length.
+/// Writes bytes over a slice of the same length. For another length it does nothing.
 fn write_over(dest: &mut [u8], bytes: &[u8]) {
     if dest.len() == bytes.len() {
         dest.copy_from_slice(bytes);
     }
 }
 
-/// Passes the pieces to a decoder. Returns its buffer after them, and each result except "nothing yet".
+/// Passes the pieces to a decoder. Returns each result except "nothing yet", and the decoder's buffer after the last
+/// piece.
 fn given<D: Streaming>(
     alloc: Global,
     decoder: &mut D,
@@ -229,7 +232,8 @@ fn given<D: Streaming>(
     Ok(returned)
 }
 
-/// Pushes a piece, and then repeatedly the bytes that the push hasn't consumed.
+/// Pushes a piece, and then repeatedly the bytes that the push hasn't consumed. `taken` is the number of bytes of the
+/// pieces before this piece.
 fn push_piece<D: Streaming>(
     decoder: &mut D,
     piece: &[u8],
@@ -251,7 +255,8 @@ fn push_piece<D: Streaming>(
     Ok(())
 }
 
-/// Feeds a piece byte by byte, and adds the result for each byte, or only for the zeros.
+/// Feeds a piece byte by byte. Adds the result for each byte if `all` is set, and otherwise only the results for the
+/// zeros. `taken` is the number of bytes of the pieces before this piece.
 fn feed_bytes<D: Streaming>(
     decoder: &mut D,
     piece: &[u8],
@@ -270,7 +275,8 @@ fn feed_bytes<D: Streaming>(
     Ok(())
 }
 
-/// Feeds a piece by `feed_piece`, and then repeatedly the bytes that the call hasn't consumed.
+/// Feeds a piece by `feed_piece`, and then repeatedly the bytes that the call hasn't consumed. `taken` is the number of
+/// bytes of the pieces before this piece.
 fn feed_pieces<D: Streaming>(
     decoder: &mut D,
     piece: &[u8],

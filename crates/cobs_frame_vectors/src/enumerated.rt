@@ -49,7 +49,7 @@ fn check_decode(rt: &impl Abort, alloc: Global, source: &[u8], room: usize) -> R
     )
 }
 
-/// Checks `decode_in_place_report`.
+/// Checks `decode_in_place_report`. The buffer then begins with the decoded bytes, and has its other bytes as before.
 fn check_in_place(rt: &impl Abort, alloc: Global, source: &[u8]) -> Result<(), Fail> {
     let (head, _) = split_at_zero(source);
     let Reading {
@@ -111,8 +111,8 @@ fn check_with_sentinel(
     )
 }
 
-/// Checks `frame_kind`: a frame is a whole piece without zeros, and it is the longer one of two if the encoder writes
-/// another one for its message.
+/// Checks `frame_kind`: a frame is a whole piece without zeros. It is the longer of two frames if the encoder writes
+/// another frame for its message.
 fn check_kind(rt: &impl Abort, alloc: Global, source: &[u8]) -> Result<(), Fail> {
     let reading = reading_of(alloc, source)?;
     let wanted = if source.contains(&0) || !reading.is_whole {

@@ -1,9 +1,9 @@
 //! Tests of each call with too little memory.
 //!
 //! Each call that allocates has a test of its own, in which it succeeds. `tests/fail-alloc.sh` runs copies in which one
-//! allocation of each test fails: in the first copy the first one, in the second copy the second, and so on. Then the call
-//! returns an error exactly if the failed allocation was one of its own, and its test ends with the words `out of memory`.
-//! The script stops at the first copy in which no test ends so.
+//! allocation of each test fails: in the first copy the first one, in the second copy the second, and so on. Then the
+//! call returns an error exactly if the failed allocation was one of its own, and its test ends with the words `out of
+//! memory`. The script stops at the first copy in which no test ends with these words.
 use crate::messages::encode_few;
 use crate::slices::{CallResult, VectorCall, rejected, vector};
 use cobs::{
@@ -21,10 +21,10 @@ const ONE_GROWTH_FAILS: bool = false;
 /// A message with a zero.
 const MESSAGE: &[u8] = &[10, 11, 0, 12];
 
-/// Its frame.
+/// The frame of [`MESSAGE`].
 const FRAME: &[u8] = &[3, 10, 11, 2, 12];
 
-/// Its frame for the sentinel 10.
+/// The frame of [`MESSAGE`] for the sentinel 10.
 const FRAME_FOR_10: &[u8] = &[9, 0, 1, 8, 6];
 
 /// A broken frame.
@@ -41,8 +41,8 @@ fn is_next_failing(alloc: Global) -> bool {
 }
 
 /// Checks that the call returned an error for memory exactly if one of its own allocations failed. Only one allocation
-/// fails in each test, so one of the call's has failed exactly if no later one fails. The test then ends with the words
-/// `out of memory`.
+/// fails in each test, so an allocation of the call has failed exactly if no later one fails. The test then ends with
+/// the words `out of memory`.
 fn check_growths(rt: &impl Abort, alloc: Global, returned: Result<(), AllocError>) {
     let has_failed = ONE_GROWTH_FAILS && !is_next_failing(alloc);
     assert_eq!(rt;
@@ -77,10 +77,11 @@ fn find_frames(rt: &impl Abort, alloc: Global) -> Result<(), AllocError> {
     Ok(())
 }
 
-/// Over two bytes: a piece that is too long, a message, a broken piece, and the empty message.
+/// A stream whose pieces, in a buffer of two bytes, are: a piece that is too long, a message, a broken piece, and the
+/// empty message.
 const STREAM: [u8; 14] = [4, 7, 8, 9, 0, 2, 5, 0, 3, 1, 0, 0, 1, 0];
 
-/// Returns whether these are the outcomes of the stream over two bytes.
+/// Returns whether these are the outcomes of [`STREAM`] in a buffer of two bytes.
 fn are_its_outcomes(outcomes: &[FrameOutcome]) -> bool {
     match outcomes {
         [

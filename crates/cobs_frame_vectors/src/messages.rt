@@ -12,7 +12,7 @@ pub fn three_messages(alloc: Global) -> Result<Vec<Vec<u8>>, AllocError> {
     Ok(messages)
 }
 
-/// Encodes messages that are few and short enough by `encode_frames`.
+/// Encodes messages by `encode_frames`, which requires that they are few and short enough.
 pub fn encode_few(
     rt: &impl Abort,
     alloc: Global,

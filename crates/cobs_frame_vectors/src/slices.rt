@@ -45,7 +45,7 @@ pub enum CallResult {
     TooSmall,
 }
 
-/// Returns the error of a decoder in words of this table.
+/// Returns the error of a decoder as a [`CallResult`].
 pub fn rejected(error: &DecodeError) -> CallResult {
     match error {
         DecodeError::EmptyFrame => CallResult::EmptyFrame,
@@ -79,7 +79,8 @@ fn decoded(call: Decoder, source: &[u8], buffer: &mut [u8]) -> CallResult {
     }
 }
 
-/// Makes the call with this source (none in place) and this buffer, and compares its result and the buffer after it.
+/// Makes a call with this source (a call in place has none) and this buffer, and compares its result and the buffer
+/// after the call.
 pub fn check_decoder(
     rt: &impl Abort,
     alloc: Global,
@@ -96,7 +97,7 @@ pub fn check_decoder(
     Ok(())
 }
 
-/// Makes the call, for a source of less than 10,000 bytes.
+/// Makes a call that returns a vector, for a source of less than 10,000 bytes.
 pub fn vector(
     rt: &impl Abort,
     alloc: Global,

@@ -38,7 +38,7 @@ TakesChunk-copied left chunk chunk' left' n long count copied rest =
       leaves = rest ∙ drop_least left n least;
     }
 
--- what such a read returns
+-- the result of a read of n bytes into the front of a chunk
 pub TakesChunk-read : {E : Type 0} (r : Result ℕ E) (left chunk chunk' left' : List ℕ) → length chunk ≡ 64 → r ≡ Ok (min (length left) (length chunk))
     → IfOk r (λ n. chunk' ≡ take n left ++ drop n chunk) → IfOk r (λ n. left' ≡ drop n left)
     → TakesChunk left (option_map (λ n. take n chunk') (result_ok r)) left'
@@ -71,7 +71,7 @@ bytes_left-at_end from [] to (next, step, more) =
     sym (ap bytes_left more) ∙ step.leaves ∙ drop_all 64 (bytes_left from) (omega (arith, length-take 64 (bytes_left from)))
 bytes_left-at_end from (read ∷ earlier) to (next, step, more) = bytes_left-at_end next earlier to more
 
--- each of the reads but the last gave 64 bytes, where all of them gave some
+-- if each read returned at least one byte, then each read except the last returned 64 bytes
 pub few_reads : (from : InMemory) (reads : List Read) (to : InMemory) → Runs MemoryStep from reads to → All GaveBytes reads
     → 64 * length reads < length (bytes_left from) + 64
 few_reads from [] to same gave = omega arith

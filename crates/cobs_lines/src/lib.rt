@@ -1,4 +1,5 @@
-//! Shared by both programs: a stream in memory as a source of bytes, and the lines that they print for its pieces.
+//! Shared by the programs `cobs_tool` and `cobs_watch`: the lines that they print for the pieces of a stream, and a
+//! stream in memory as a source of bytes.
 #![tactic(auto)]
 
 mod lines;

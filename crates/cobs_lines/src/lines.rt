@@ -1,4 +1,4 @@
-//! The line of each piece of a stream, written to any writer.
+//! Writes the line of a piece of a stream to any writer.
 ghost use Rattle.std.specs.Prelude.{◌≡◌, ◌<◌, ◌*◌, ◌++◌, OnOk, length, slice_index};
 ghost use Rattle.std.specs.Io.KnownBytes.{Appends};
 ghost use Rattle.hex.specs.Hex.{encode_lower, lower_digits};
@@ -16,11 +16,12 @@ const MANY: usize = 8;
 /// The hexadecimal digits.
 const DIGITS: [u8; 16] = *b"0123456789abcdef";
 
-/// Writes the line of a message of N bytes, and a newline. The line is `message N HEX`, with the bytes as lower-case
-/// hexadecimal digits, or `message 0` for the empty message. Nothing is allocated, however long the message is.
+/// Writes the line of a message of N bytes, and a newline. The line is `message N HEX`, in which HEX is the bytes as
+/// lower-case hexadecimal digits. For the empty message the line is `message 0`. Nothing is allocated, however long the
+/// message is.
 ///
 /// # Errors
-/// The error of the write that failed. Part of the line may have been written.
+/// Returns the error of a write that failed. Part of the line may have been written.
 pub fn write_message<W: Write>(output: &mut W, message: &[u8]) -> io::Result<()>
     ensures written { OnOk result (Appends (W.contents output.old) (W.contents output.new)
         (outcome_line (Message message.now))) }
@@ -37,7 +38,7 @@ pub fn write_message<W: Write>(output: &mut W, message: &[u8]) -> io::Result<()>
 /// Writes the bytes as lower-case hexadecimal digits. It allocates nothing.
 ///
 /// # Errors
-/// The error of the write that failed. Some of the digits may have been written.
+/// Returns the error of a write that failed. Some of the digits may have been written.
 pub fn write_digits<W: Write>(output: &mut W, bytes: &[u8]) -> io::Result<()>
     ensures written { OnOk result
         (Appends (W.contents output.old) (W.contents output.new) (encode_lower bytes.now)) }
@@ -67,7 +68,7 @@ pub fn fill_digits(room: &mut [u8], bytes: &[u8])
     }
 }
 
-/// Fills `room` with the digits of a few bytes.
+/// Fills `room` with the digits of the bytes, and looks up each digit. This is faster for a few bytes.
 #[inline(always)]
 fn look_up_digits(room: &mut [u8], bytes: &[u8])
     requires room { length room.old ≡ 2 * length bytes.now }
@@ -79,7 +80,7 @@ fn look_up_digits(room: &mut [u8], bytes: &[u8])
     }
 }
 
-/// Fills `room` with the digits of many bytes.
+/// Fills `room` with the digits of the bytes, and computes each digit. This is faster for many bytes.
 #[inline(always)]
 fn compute_digits(room: &mut [u8], bytes: &[u8])
     requires room { length room.old ≡ 2 * length bytes.now }
@@ -108,7 +109,7 @@ fn digit(number: u8) -> u8
 /// Writes the line `broken N` for a piece that breaks off inside a block and decodes to N bytes.
 ///
 /// # Errors
-/// The error of the write that failed. Part of the line may have been written.
+/// Returns the error of a write that failed. Part of the line may have been written.
 pub fn write_broken<W: Write>(output: &mut W, count: usize) -> io::Result<()>
     ensures written { OnOk result (Appends (W.contents output.old) (W.contents output.new)
         (outcome_line (Broken count))) }
@@ -119,7 +120,7 @@ pub fn write_broken<W: Write>(output: &mut W, count: usize) -> io::Result<()>
 /// Writes the line `too long` for a piece that decodes to more bytes than the buffer holds.
 ///
 /// # Errors
-/// The error of the write that failed. Part of the line may have been written.
+/// Returns the error of a write that failed. Part of the line may have been written.
 pub fn write_too_long<W: Write>(output: &mut W) -> io::Result<()>
     ensures written { OnOk result (Appends (W.contents output.old) (W.contents output.new)
         (outcome_line TooLong)) }

@@ -2,7 +2,8 @@
 use cobs::FrameSource;
 use std::io::Read;
 
-/// The bytes of a stream in memory. No read of them fails, and each one returns 64 bytes or all that are left.
+/// The bytes of a stream in memory. A read never fails. It returns the next 64 bytes, or all remaining bytes if there
+/// are fewer.
 #[derive(Drop)]
 pub struct InMemory<'a> {
     left: &'a [u8],

@@ -1,4 +1,4 @@
--- Texts that are written one after another.
+-- Lemmas on texts that are written one after another.
 use Rattle.std.proofs.Common.{ℕ, List, ◌++◌, Option, Result, Ok, Err}
 use Rattle.std.specs.Prelude.{OnOk}
 use Rattle.std.specs.Io.KnownBytes.{Appends}

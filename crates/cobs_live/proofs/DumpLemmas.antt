@@ -1,4 +1,4 @@
--- Lemmas on bytes sixteen a line.
+-- Lemmas on the rows of a dump, which has sixteen bytes per line.
 use Rattle.std.proofs.Common.{◌≡◌, ◌+◌, ◌-◌, ℕ, add-one, List, [], ◌++◌, length, take, drop, min, refl, arith, length-drop, take_all}
 use Rattle.std.proofs.lemmas.Bool.{cases_lt}
 use Rattle.cobs_live.specs.Dump.{upto}

@@ -1,4 +1,4 @@
--- Lemmas on text as a string of JSON has it.
+-- Lemmas on text that is escaped in a JSON string.
 use Rattle.std.proofs.Common.{◌≡◌, ◌<◌, ◌+◌, ◌==◌, ◌||◌, nat_lt, false, ℕ, List, [], ◌∷◌, ◌++◌, All, IsTrue, Option, Result, Ok, Err, codes, length, take, drop, refl, sym, ap, subst, ◌∙◌, arith, chars, IsUtf8, append_assoc, append-nil}
 use Rattle.std.specs.Io.KnownBytes.{Appends}
 use Rattle.std.proofs.KnownBytes.{Appends-trans}

@@ -1,4 +1,4 @@
--- Lemmas on lines that hang up, one after the other.
+-- Lemmas on lines that hang up one after another: the bytes and the text of one line more.
 use Rattle.std.proofs.Common.{◌≡◌, ◌≤◌, ◌+◌, ℕ, Bool, true, List, [], ◌∷◌, ◌++◌, length, map, refl, sym, ap, ◌∙◌, arith, append_assoc, append-nil, length-append, Some, None}
 use Rattle.std.proofs.lemmas.List.{map-append}
 use Rattle.std.proofs.lemmas.List.Folds.{concat-append}
@@ -37,9 +37,9 @@ letters_of-more (g ∷ gone) bytes more = grind (arith, append_assoc, (letters_o
 pub count_bytes-gone : (gone : List (List ℕ)) (bytes : List ℕ) → count_bytes (gone ++ bytes ∷ []) [] ≡ count_bytes gone bytes
 count_bytes-gone gone bytes = grind (arith, concat-append, append-nil, length-append)
 
--- WHAT IS SHOWN OF THEM
+-- THE TEXT OF THE LINES
 
--- with one more
+-- the text with one line more
 pub shown_gone-gone : (view : View) (times : ℕ → Moment) (n index : ℕ) (ts : List (List ℕ)) (t : List ℕ) → shown_gone view times n index (ts ++ t ∷ [])
     ≡ shown_gone view times n index ts ++ (shown_from view times (index + length (outcomes_of ts n)) (all_ended t n) ++ shown_hang_up view (is_nonempty (unended t)))
 shown_gone-gone view times n index [] t = grind (arith, append-nil)

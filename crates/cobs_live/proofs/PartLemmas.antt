@@ -1,4 +1,4 @@
--- Lemmas on the pieces that have ended in a stream, and on the bytes of the last one in a buffer.
+-- Lemmas on the pieces that have ended in a stream, and on the bytes of the last piece in the decoder's buffer.
 use Rattle.std.proofs.Common.{◌≡◌, ◌≤◌, ◌<◌, nat_le, ℕ, Bool, true, false, List, [], ◌∷◌, ◌++◌, length, take, map, min, refl, sym, ap, ◌∙◌, arith, append_assoc, append-nil, length-append, length-take, Option, Some, None}
 use Rattle.std.proofs.Math.ListN.{drop_of_length-le}
 use Rattle.std.proofs.Math.Seq.{take-append_seam}
@@ -31,7 +31,7 @@ length-all_ended t n = grind (arith, length-map)
 pub all_ended-none : (t : List ℕ) (n : ℕ) → stream_outcomes t n ≡ [] → all_ended t n ≡ []
 all_ended-none t n none = nil_from_length (all_ended t n) (length-all_ended t n ∙ ap length none)
 
--- THE ONE THAT A ZERO ENDS
+-- THE PIECE THAT A ZERO ENDS
 
 one_piece : (law : StreamLaw) (q : List ℕ) (n : ℕ) (outcome : Outcome) → HasNoZero q → outcome ∷ [] ≡ stream_outcomes (q ++ 0 ∷ []) n → (all_ended (q ++ 0 ∷ []) n ≡ ended_in n q ∷ []) × (outcome ≡ outcome_of q n)
 unfolding all_ended stream_outcomes ended_pieces but_last
@@ -46,7 +46,7 @@ one_ended law t n outcome none reported =
     let one = one_piece law (unended t) n outcome (law.begun t) (reported ∙ law.cut t (0 ∷ []) n ∙ ap (λ (z : List Outcome). z ++ stream_outcomes (unended t ++ 0 ∷ []) n) none) in
     (behind ∙ one.0, one.1)
 
--- WHAT THE BUFFER HOLDS OF IT
+-- THE BYTES OF THAT PIECE IN THE BUFFER
 
 broken-fits : (q : List ℕ) (n count : ℕ) → OfBroken count ≡ outcome_of q n → (count ≡ length (output q)) × (length (output q) ≤ n)
 unfolding outcome_of
@@ -62,7 +62,7 @@ held-broken out buffer fits = grind (arith, length-append, length-take, take-app
 held-too_long : (out buffer : List ℕ) → length buffer < length out → overwritten buffer out ≡ take (length buffer) out
 held-too_long out buffer more = grind (arith, drop_of_length-le, append-nil)
 
--- of a message only its own bytes are seen
+-- a message is seen with its own bytes only
 message-alone : (checksum : Option Checksum) (message d e : List ℕ) → with_part true (seen_message checksum message) d ≡ with_part true (seen_message checksum message) e
 message-alone None message d e = refl
 message-alone (Some c) message d e = grind arith

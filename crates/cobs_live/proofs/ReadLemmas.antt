@@ -1,4 +1,5 @@
--- Lemmas on reads that have an output as an argument.
+-- Lemmas on the reads of a run, each of which has the output as an argument: a run that is live is still live after one
+-- read more.
 use Rattle.std.proofs.Common.{◌≡◌, ℕ, List, [], ◌∷◌, ◌++◌, refl, sym, ap, ◌∙◌, subst, append-nil, append_assoc, Option}
 use Rattle.std.proofs.lemmas.List.{map-append}
 use Rattle.cobs_live.specs.Reads.{HeldWhileNothing, Read, IsLive, IsLiveAfter, ReadsOnce, Runs, came, joined}
@@ -45,7 +46,7 @@ live-none step source P = record { reads = []; runs = refl; live = tt }
 pub once-none : {S A : Type 0} (step : S → Read A → S → Type 0) (source : S) (written : Option (List ℕ)) → ReadsOnce step source source written []
 once-none step source written = record { live = live-none step source (HeldWhileNothing written); given = refl }
 
--- one more read, where none has given bytes
+-- one read more, if no read has returned bytes
 pub once-more : {S A : Type 0} {step : S → Read A → S → Type 0} {source mid source' : S} {written : Option (List ℕ)} (read : Read A)
     → ReadsOnce step source mid written [] → step mid read source' → read.back ≡ [] → read.written ≡ written → ReadsOnce step source source' written read.came
 once-more {A = A} {step = step} {source = source} {mid = mid} {source' = source'} {written = written} read a s back same = record {

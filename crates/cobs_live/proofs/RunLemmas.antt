@@ -1,4 +1,5 @@
--- Lemmas on a run of `show`.
+-- Lemmas on a run of `show`: each read keeps the facts of `HasShownSoFar` for one read more (`more-..`), and keeps the
+-- run live (`live-..`); the end and each fault have the text that `HasShown` says (`shown-..`).
 use Rattle.std.proofs.Common.{◌≡◌, ◌≢◌, ◌≤◌, ◌+◌, ◌↔◌, ℕ, Bool, true, false, List, [], ◌∷◌, ◌++◌, length, map, take, drop, refl, sym, ap, ◌∙◌, subst, arith, append-nil, append_assoc, length-append, Option, Some, None, Result, Ok, Err}
 use Rattle.std.specs.Prelude.{IfSome, IsErrAnd}
 use Rattle.std.proofs.Math.Seq.{take-append_seam}
@@ -35,14 +36,14 @@ use Rattle.cobs_live.specs.declared.fault.WatchFault.{WatchFault}
 use Rattle.cobs_live.specs.declared.fault.WatchFault.TheVariants.{OutOfMemory, OutputClosed, ReadFailed, WriteFailed}
 use Rattle.cobs_live.specs.declared.tally.Tally.{Tally}
 
--- a decoder that is idle has taken no bytes of a piece
+-- a decoder that is idle has taken no byte of a piece
 pub begun-after : (p : List ℕ) (n : ℕ) (phase : Phase) (begun : Bool) → phase ≡ phase_after p n → ((begun ≡ false) ↔ (phase ≡ Idle)) → begun ≡ is_nonempty p
 unfolding phase_after
 begun-after [] n phase begun is idle = idle.1 is
 begun-after (b ∷ bs) n phase true is idle = refl
 begun-after (b ∷ bs) n phase false is idle = grind arith
 
--- whatever is known of a reader
+-- a fact holds whether or not the bytes of a reader are known
 pub whatever : (from : Option (List ℕ)) (P : Type 0) → P → IfSome from (λ _. P)
 whatever None P p = tt
 whatever (Some xs) P p = p
@@ -298,13 +299,13 @@ given-bytes E gave n chunk is = grind arith
 pub given-hang_up : (E : Type 0) (gave : Came) (chunk : List ℕ) → gave ≡ HungUp → given {E = E} (Ok gave) chunk ≡ None ∷ []
 given-hang_up E gave chunk is = grind arith
 
--- a run ends with the fault of its last read
+-- a run that ends with a fault has shown the text for that fault
 pub shown-fault : (settings : Settings) (from to before after : Option (List ℕ)) (result : Result Tally WatchFault) (fault : WatchFault) → IsErrAnd result (λ found. found ≡ fault)
     → HasShown settings (Err fault) from to before after → HasShown settings result from to before after
 shown-fault settings from to before after (Err found) fault e s = grind arith
 shown-fault settings from to before after (Ok tally) fault e s = absurd e
 
--- of a write that failed nothing is shown
+-- after a write that failed, nothing is claimed about the shown text
 pub unfinished-fault : (settings : Settings) (from to before after : Option (List ℕ)) (result : Result Tally WatchFault) (fault : WatchFault) → IsErrAnd result (λ found. found ≡ fault)
     → (fault ≢ ReadFailed) × (fault ≢ OutOfMemory) → HasShown settings result from to before after
 unfinished-fault settings from to before after (Err ReadFailed) fault e other = grind arith

@@ -1,4 +1,4 @@
--- Lemmas on sending lines.
+-- Lemmas on a run of `send`: the lines that were read and sent so far, and one line more.
 use Rattle.std.proofs.Common.{◌≡◌, ◌≢◌, ◌↔◌, ◌==◌, ℕ, Bool, true, false, IsTrue, All, List, [], ◌∷◌, ◌++◌, refl, ap, ◌∙◌, append-nil, sym, subst, append_assoc, ⊎_elim, Option, Some, None, IfSome, Result, Ok, Err}
 use Rattle.std.proofs.lemmas.Bool.{cases_Bool}
 use Rattle.std.specs.Prelude.{IsErrAnd}

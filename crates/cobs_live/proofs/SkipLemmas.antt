@@ -1,4 +1,4 @@
--- Lemmas on the bytes after the first zero.
+-- Lemmas on the bytes after the first zero, which are shown if the bytes up to it are skipped.
 use Rattle.std.proofs.Common.{◌≡◌, ◌==◌, ℕ, Bool, true, false, cond, List, [], ◌∷◌, ◌++◌, refl}
 use Rattle.cobs_live.specs.Watched.{begun, skips_on}
 

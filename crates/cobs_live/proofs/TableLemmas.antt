@@ -1,5 +1,5 @@
--- A check from a table: the steps of a sum without carry are those of its parts, and so are those of a register's high bits
--- and of its low ones.
+-- Lemmas on a check that is computed with a table. Steps of the XOR of two registers are the XOR of their steps. So the
+-- high byte and the low bits of a register can be stepped apart.
 use Rattle.std.proofs.Common.{◌≡◌, ◌<◌, ◌+◌, ◌-◌, ◌*◌, ◌/◌, ◌%◌, ℕ, zero, suc, refl, sym, ap, ◌∙◌, arith, subst}
 use Rattle.std.specs.Prelude.{◌^◌}
 use Rattle.std.specs.Int.Bits.{bit_xor, xor_assoc, xor_shifted, xor_zero_r}

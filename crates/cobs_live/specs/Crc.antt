@@ -1,4 +1,4 @@
--- Cyclic redundancy checks, by the catalogue of parametrised CRC algorithms.
+-- Cyclic redundancy checks, as the catalogue of parametrised CRC algorithms defines them.
 use Rattle.std.specs.Prelude.{ℕ, zero, suc, ◌≡◌, ◌<◌, ◌-◌, ◌*◌, ◌/◌, ◌^◌, nat_lt, true, false, List, get_or, if◌then◌else◌}
 use Rattle.std.specs.Int.{reverse_bits, w8, w32}
 use Rattle.std.specs.Int.Bits.{bit_xor}

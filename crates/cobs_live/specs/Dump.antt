@@ -1,4 +1,5 @@
--- Bytes, sixteen per line, with the offset of the first and the characters, as `hexdump -C` prints them.
+-- Bytes, sixteen per line, in the columns of `hexdump -C`: the offset of the first byte, the bytes as digits, and the
+-- bytes as characters.
 use Rattle.std.specs.Prelude.{ℕ, zero, suc, ◌+◌, ◌*◌, ◌/◌, ◌^◌, ◌-◌, ◌&&◌, nat_le, nat_lt, false, List, [], ◌∷◌, ◌++◌, length, take, drop, map, slice_index, codes, if◌then◌else◌}
 use Rattle.std.specs.Fmt.{digits, padded_integral, format_spec}
 use Rattle.hex.specs.Hex.{encode_lower}

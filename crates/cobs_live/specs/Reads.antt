@@ -35,7 +35,7 @@ pub record GivesBytes (from to : Option (List ℕ)) (came : List (Option ℕ)) :
   pub are : came ≡ map Some bytes
   pub taken : Consumes from to bytes
 
--- the lists, one after the other
+-- the elements of all lists, one list after the other
 abbrev pub joined : {A : Type 0} → List (List A) → List A
 joined [] = []
 joined (xs ∷ xss) = xs ++ joined xss

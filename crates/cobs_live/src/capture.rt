@@ -1,11 +1,11 @@
-//! A capture of messages, in the format of libpcap, which Wireshark reads.
+//! Writes a capture of messages in the format of libpcap, which Wireshark reads.
 ghost use Rattle.std.specs.Prelude.{◌≡◌, OnOk};
 ghost use Rattle.std.specs.Io.KnownBytes.{Appends};
 ghost use Rattle.cobs_live.specs.Capture.{capture_head, record_head, word};
 
 use std::io::{self, Write};
 
-/// Writes the head of a capture.
+/// Writes the header of a capture file.
 pub fn write_capture_head<W: Write>(output: &mut W) -> io::Result<()>
     ensures written { OnOk result
         (Appends (W.contents output.old) (W.contents output.new) capture_head) }
@@ -15,7 +15,8 @@ pub fn write_capture_head<W: Write>(output: &mut W) -> io::Result<()>
     ])
 }
 
-/// Writes the head of a record: the time and the number of bytes. `time` is in milliseconds since 1970.
+/// Writes the header of a record: its time in seconds and microseconds, and then its number of bytes, twice. `time` is
+/// in milliseconds since 1970.
 pub fn write_record_head<W: Write>(output: &mut W, time: u64, len: usize) -> io::Result<()>
     ensures written { OnOk result
         (Appends (W.contents output.old) (W.contents output.new) (record_head time len)) }

@@ -4,16 +4,16 @@ ghost use Rattle.cobs_live.specs.Crc.{IsTable, after_byte, crc};
 
 use crate::crc::{Params, table_of};
 
-/// A cyclic redundancy check that follows each message, and the order of its bytes.
+/// A cyclic redundancy check, whose checksum follows each message, and the order of the checksum's bytes.
 #[derive(Debug, PartialEq, Eq, Drop)]
 pub struct Checksum {
     pub params: Params,
 
-    /// Whether the lowest byte comes first. Otherwise the highest comes first.
+    /// Whether the checksum's lowest byte comes first. Otherwise its highest byte comes first.
     pub little: bool,
 
-    /// For each byte, the register after the eight bits of the byte, as `table_of` computes it. The table saves a loop
-    /// over the bits of each byte of a message.
+    /// The table that `table_of` computes from the polynomial. With this table, a byte of a message needs one look-up
+    /// instead of eight steps.
     words: [u32; 256],
 
     ghost sized: { (0 < params.size) × (params.size ≤ 4) },
@@ -23,7 +23,7 @@ pub struct Checksum {
 impl Checksum {
     ghost use Rattle.cobs_live.specs.Checksum.{body_of, is_checked, sum_of};
 
-    /// Makes the check with these parameters.
+    /// Makes a check with these parameters, whose checksum has the lowest byte first if `little` is set.
     pub fn new(params: Params, little: bool) -> Self
         requires sized { (0 < params.size) × (params.size ≤ 4) }
         ensures params { result.params ≡ params }
@@ -45,6 +45,7 @@ impl Checksum {
         'by_byte: for byte in bytes {
             register = self.after_byte(register, *byte);
         }
+        // The result is in the high bits of the register, and is moved to the low bits.
         let low = if params.reflected {
             register.reverse_bits()
         } else {
@@ -53,7 +54,7 @@ impl Checksum {
         low ^ params.xorout
     }
 
-    /// Returns the register after one more byte.
+    /// Returns the register after one more byte of the message.
     fn after_byte(&self, register: u32, byte: u8) -> u32
         ensures after { result ≡ after_byte self.now.params register byte }
     {
@@ -66,7 +67,7 @@ impl Checksum {
         self.words[(top ^ first) as usize] ^ (register << 8)
     }
 
-    /// Writes the checksum of a message to the front of `room`, and returns its bytes.
+    /// Writes the checksum of a message to the front of `room`, and returns the checksum's bytes.
     pub fn sum<'a>(&self, message: &[u8], room: &'a mut [u8; 4]) -> &'a [u8]
         ensures sum { result.now ≡ sum_of self.now message.now }
     {
@@ -78,7 +79,7 @@ impl Checksum {
         bytes
     }
 
-    /// Returns the bytes without the checksum at their end, or `None` if it isn't right.
+    /// Returns the bytes before the checksum if they end with the right checksum, and otherwise `None`.
     pub fn checked<'a>(&self, bytes: &'a [u8]) -> Option<&'a [u8]>
         ensures body { IfSome result (λ body. body.now ≡ body_of self.now bytes.now) }
         ensures right { IsSome result ↔ IsTrue (is_checked self.now bytes.now) }

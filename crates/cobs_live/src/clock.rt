@@ -1,4 +1,4 @@
-//! When pieces were read.
+//! The times at which pieces were read, and their text.
 ghost use Rattle.std.specs.Prelude.{◌≡◌, ◌≤◌, ◌*◌, ◌+ℤ◌, min, pos};
 ghost use Rattle.jiff_core.specs.DateTime.{civil_nanos};
 ghost use Rattle.jiff_core.specs.Timestamp.{nanos_of_seconds};
@@ -12,35 +12,35 @@ use std::io::{self, Write};
 use std::rt::Clock;
 use std::time::{Duration, Instant};
 
-/// Which time of each piece is shown.
+/// Which time is shown with each piece.
 #[derive(Debug, PartialEq, Eq, Clone, Copy)]
 pub enum Stamp {
     /// No time.
     Untimed,
 
-    /// The time since the start.
+    /// The time since the [`Timer`] was made.
     Start,
 
-    /// The time since the piece before it was read; for the first piece, the time since the start.
+    /// The time since the previous piece was read. For the first piece, the time since the [`Timer`] was made.
     Last,
 
-    /// The date and time of day in a time zone, and how far the zone is ahead of UTC.
+    /// The date and time of day in a time zone, with the zone's offset from UTC.
     Date,
 }
 
-/// A time in milliseconds: since the start, or since 1970 for `Stamp::Date`.
+/// A point in time, in milliseconds since the [`Timer`] was made, or since 1970 for `Stamp::Date`.
 #[derive(Clone, Copy)]
 pub struct Moment {
     pub millis: u64,
 
-    /// The date and time of day, on a clock that is ahead of UTC by `offset`.
+    /// The date and time of day in a zone whose offset from UTC is `offset`.
     pub civil: DateTime,
     pub offset: Offset,
 
     ghost shows: { civil_nanos civil ≡ pos (millis * 1_000_000) +ℤ nanos_of_seconds offset.seconds },
 }
 
-/// The last millisecond, in the year 9999, that exists in every time zone.
+/// The last time, in milliseconds since 1970, at which the year is at most 9999 in every time zone.
 const LAST: u64 = 253_402_207_200_999;
 
 impl Moment {
@@ -48,8 +48,7 @@ impl Moment {
     ghost use Rattle.std.specs.Io.KnownBytes.{Appends};
     ghost use Rattle.cobs_live.specs.Timed.{date_time};
 
-    /// Returns the time this many milliseconds after the start, or after 1970, in this zone. A time after `LAST`
-    /// becomes `LAST`.
+    /// Returns the point in time at `millis`, with its date in this zone. A time after `LAST` becomes `LAST`.
     fn new(millis: u64, zone: TimeZone<'_>) -> Self
         ensures millis { result.millis ≡ min millis 253_402_207_200_999 }
         ensures zone { result.offset.seconds ≡ offset_at zone.entry (pos (result.millis * 1_000_000)) }
@@ -67,7 +66,7 @@ impl Moment {
         }
     }
 
-    /// Writes the date and time of day as in RFC 3339, with three decimals.
+    /// Writes the date, the time of day with three decimals, and the offset from UTC, in the format of RFC 3339.
     fn write<W: Write>(&self, output: &mut W) -> io::Result<()>
         ensures written { OnOk result
             (Appends (W.contents output.old) (W.contents output.new) (date_time self.now)) }
@@ -81,22 +80,22 @@ impl Moment {
     }
 }
 
-/// A clock that counts from a start.
+/// A clock whose times are milliseconds since it was made, or since 1970.
 #[derive(Drop)]
 pub struct Timer<'a, C> {
     clock: C,
     zone: TimeZone<'a>,
     start: Instant,
 
-    /// The clock's time at the start, in milliseconds.
+    /// The time when the timer was made, in milliseconds: 0, or the milliseconds since 1970.
     pub base: u64,
 }
 
 impl<'a, C: Clock + Drop> Timer<'a, C> {
-    /// Makes a clock that starts at 0, or for `Stamp::Date` at the time since 1970.
+    /// Makes a timer that starts at 0, or for `Stamp::Date` at the current number of milliseconds since 1970.
     ///
     /// # Errors
-    /// The error of the clock, if it can't be read.
+    /// Returns the error of `clock` if it can't be read.
     pub fn new(clock: C, stamp: Stamp, zone: TimeZone<'a>) -> io::Result<Self> {
         let base = match stamp {
             Stamp::Untimed | Stamp::Start | Stamp::Last => 0,
@@ -111,8 +110,8 @@ impl<'a, C: Clock + Drop> Timer<'a, C> {
         })
     }
 
-    /// Returns the time now. It never decreases: if the clock went back, or can't be read, the result is the last time
-    /// again.
+    /// Returns the current time, which is never before `last`. If the clock went back, or can't be read, returns
+    /// `last`.
     fn read(&self, last: Moment) -> Moment
         ensures later { last.millis ≤ result.millis }
     {
@@ -124,12 +123,13 @@ impl<'a, C: Clock + Drop> Timer<'a, C> {
     }
 }
 
-/// Returns a duration in whole milliseconds.
+/// Returns a duration in whole milliseconds, at most `u64::MAX`.
 fn millis_of(duration: Duration) -> u64 {
     u64::try_from(duration.as_millis()).unwrap_or(u64::MAX)
 }
 
-/// The time at which the last piece was read, and the time at which the next one is read.
+/// Two times: `last`, when the previous piece ended, and `next`, when the latest bytes were read. A piece that ends in
+/// these bytes has the time `next`.
 #[derive(Clone, Copy)]
 pub struct Times {
     pub last: Moment,
@@ -141,7 +141,7 @@ impl Times {
     ghost use Rattle.std.specs.Io.KnownBytes.{Appends};
     ghost use Rattle.cobs_live.specs.Timed.{json_time, seconds, stamped, time_text};
 
-    /// Makes the times before any piece has been read.
+    /// Makes two times of 0, for a stream of which nothing has been read.
     pub fn new() -> Self
         ensures start { result.last.millis ≡ 0 }
     {
@@ -152,7 +152,7 @@ impl Times {
         }
     }
 
-    /// Reads the clock.
+    /// Sets `next` to the current time of the timer.
     pub fn update<C: Clock + Drop>(&mut self, timer: &Timer<'_, C>)
         ensures later { self.old.last.millis ≤ self.new.next.millis }
         ensures last { self.new.last ≡ self.old.last }
@@ -160,7 +160,7 @@ impl Times {
         self.next = timer.read(self.last);
     }
 
-    /// Notes that the next piece was shown: its time becomes the time of the last piece.
+    /// Sets `last` to `next`, after a piece that ended at the time `next`.
     pub fn advance(&mut self)
         ensures last { self.new.last ≡ self.old.next }
         ensures next { self.new.next ≡ self.old.next }
@@ -168,7 +168,7 @@ impl Times {
         self.last = self.next;
     }
 
-    /// Writes the time of the piece before its line.
+    /// Writes the time of a piece and a space, or nothing for `Stamp::Untimed`.
     pub fn write_stamp<W: Write>(&self, output: &mut W, stamp: Stamp) -> io::Result<()>
         ensures written { OnOk result
             (Appends (W.contents output.old) (W.contents output.new) (stamped stamp self.now)) }
@@ -182,7 +182,7 @@ impl Times {
         }
     }
 
-    /// Writes the time of the piece as a member of an object of JSON.
+    /// Writes the time of a piece as the member `time` of a JSON object, or nothing for `Stamp::Untimed`.
     pub fn write_member<W: Write>(&self, output: &mut W, stamp: Stamp) -> io::Result<()>
         ensures written { OnOk result
             (Appends (W.contents output.old) (W.contents output.new) (json_time stamp self.now)) }
@@ -201,7 +201,7 @@ impl Times {
         }
     }
 
-    /// Writes the time of the piece.
+    /// Writes the time of a piece: in seconds, or for `Stamp::Date` as a date.
     fn write_time<W: Write>(&self, output: &mut W, stamp: Stamp) -> io::Result<()>
         ensures written { OnOk result
             (Appends (W.contents output.old) (W.contents output.new) (time_text stamp self.now)) }

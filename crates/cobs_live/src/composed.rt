@@ -1,4 +1,4 @@
-//! The text of a short message, composed in memory and written at once.
+//! Composes the text of short messages in memory, and writes it at once.
 ghost use Rattle.std.specs.Prelude.{◌≡◌, ◌<◌, ◌≤◌, ◌+◌, ◌*◌, ◌++◌, ℕ, IfOk, IsTrue, OnOk, codes, false, length, take};
 ghost use Rattle.std.specs.Fmt.{decimal};
 ghost use Rattle.std.specs.Io.KnownBytes.{Appends};
@@ -23,22 +23,22 @@ use itoa::Buffer;
 use std::io::{self, Write};
 use std::str;
 
-/// The longest message whose text is composed, in bytes.
+/// The length in bytes of the longest message whose text is composed.
 const SHORT_LEN: usize = 256;
 
-/// The most bytes of a line without the digits of its message: a word, a number of up to 40 digits, a space and a
-/// newline.
+/// At most this many bytes of a line aren't digits of its message: the word `message` and a space, a number of up to 40
+/// digits, a space and a newline.
 const LINE: usize = 50;
 
-/// The most bytes of a text.
+/// The most bytes that a composed text has.
 const ROOM: usize = 2_048;
 
-/// The error if there is no room for a text.
+/// The error of a call whose text doesn't fit.
 #[derive(Debug, PartialEq, Eq, Clone, Copy)]
 struct Full;
 
-/// A text that is composed in memory and then written at once. A write may fail, and testing that costs more than composing
-/// a short message, so there is at most one write for each message.
+/// A text that is composed in memory and then written at once. The result of each write has to be tested, and this test
+/// costs more than composing the text of a short message. So there is at most one write for each message.
 #[derive(Drop)]
 pub struct Composed {
     bytes: [u8; ROOM],
@@ -46,7 +46,7 @@ pub struct Composed {
 }
 
 impl Composed {
-    /// Makes a text without bytes.
+    /// Makes an empty text.
     pub fn new() -> Self
         ensures empty { result.len ≡ 0 }
     {
@@ -56,10 +56,10 @@ impl Composed {
         }
     }
 
-    /// Writes the composed text, if there is any, and clears it.
+    /// Writes the composed text if it isn't empty, and clears it.
     ///
     /// # Errors
-    /// The error of the write that failed. Part of the text may have been written.
+    /// Returns the error of a write that failed. Part of the text may have been written.
     #[inline(always)]
     pub fn write_to<W: Write>(&mut self, output: &mut W) -> io::Result<()>
         ensures written { OnOk result (Appends (W.contents output.old) (W.contents output.new)
@@ -74,22 +74,23 @@ impl Composed {
         output.write_all(&self.bytes[..len])
     }
 
-    /// Drops the composed text.
+    /// Discards the composed text.
     pub fn clear(&mut self)
         ensures empty { self.new.len ≡ 0 }
     {
         self.len = 0;
     }
 
-    /// Returns whether there may be no room for another line.
+    /// Returns whether the line of another short message might not fit.
     #[inline(always)]
     pub fn is_nearly_full(&self) -> bool {
         ROOM - LINE - 2 * SHORT_LEN < self.len
     }
 
-    /// Adds the text of a short message and returns true, if there is room and the view is one of these two: digits
-    /// without colours, numbers and times; or raw messages without numbers. Otherwise returns false. If the view's
-    /// filter holds the message back, its text is empty. So one write can contain the text of many messages.
+    /// Adds the text of a piece and returns true if three conditions hold: the piece is a short message, its text fits,
+    /// and the view shows either digits without colours, numbers and times, or raw messages without numbers. Otherwise
+    /// adds nothing and returns false. If the view's filter holds the message back, its text is empty. The text is
+    /// written later, so one write can contain the text of many messages.
     #[inline(always)]
     pub fn keep(&mut self, view: &View, piece: &Sight<'_>) -> bool
         ensures kept { IsTrue result → (number : ℕ) (times : Times) → take self.new.len self.new.bytes
@@ -103,7 +104,7 @@ impl Composed {
         }
     }
 
-    /// Does what [`keep`](Composed::keep) does, for a view that shows digits.
+    /// Does what [`keep`](Composed::keep) does for a view with the style `Hex`.
     #[inline(always)]
     fn keep_hex(&mut self, view: &View, piece: &Sight<'_>) -> bool
         requires style { view.now.style ≡ Hex }
@@ -123,7 +124,7 @@ impl Composed {
         true
     }
 
-    /// Does what [`keep`](Composed::keep) does, for a view that shows raw messages.
+    /// Does what [`keep`](Composed::keep) does for a view with the style `Raw`.
     #[inline(always)]
     fn keep_raw(&mut self, view: &View, piece: &Sight<'_>) -> bool
         requires style { view.now.style ≡ Raw }
@@ -144,8 +145,10 @@ impl Composed {
         true
     }
 
-    /// Composes the text of a short message, if the view shows JSON without colour, number and time, and if there is room.
-    /// Returns whether it did. If the view's filter holds the message back, the text is empty.
+    /// Replaces the composed text by the text of a piece and returns true if three conditions hold: the piece is a
+    /// short message, its text fits, and the view shows JSON without colour, number and time. Otherwise returns false.
+    /// The composed text may then be a part of the piece's text, so the caller clears it. If the view's filter holds
+    /// the message back, its text is empty.
     #[inline(always)]
     pub fn compose(&mut self, view: &View, number: u64, times: &Times, piece: &Sight<'_>) -> bool
         ensures shown { IsTrue result → take self.new.len self.new.bytes
@@ -164,7 +167,8 @@ impl Composed {
         self.put_message(view.style, number, piece).is_ok()
     }
 
-    /// Adds a message with this number, in a style.
+    /// Adds a message with this number as JSON. Only JSON is composed here. For other styles, `put_message` returns
+    /// `Full`, and the caller writes the text directly.
     #[inline(always)]
     fn put_message(&mut self, style: Style, number: u64, piece: &Sight<'_>) -> Result<(), Full>
         requires message { piece.now.kind ≡ Message }
@@ -179,7 +183,7 @@ impl Composed {
         }
     }
 
-    /// Adds the line of a message, with its bytes as digits.
+    /// Adds the line of a message: the word `message`, its length, and its bytes as hexadecimal digits.
     #[inline(always)]
     fn append_hex(&mut self, piece: &Sight<'_>)
         requires message { piece.now.kind ≡ Message }
@@ -210,7 +214,7 @@ impl Composed {
         self.put(b"}\n")
     }
 
-    /// Adds the length and the bytes of a message.
+    /// Adds the members of a JSON object for the message's length, for its bytes and, if it is UTF-8, for its text.
     fn put_json_message(&mut self, len: usize, bytes: &[u8]) -> Result<(), Full>
         ensures put { OnOk result (Appends (contents_of self.old) (contents_of self.new)
             (json_message len bytes.now)) }
@@ -223,7 +227,7 @@ impl Composed {
         self.put_text(bytes)
     }
 
-    /// Adds the text of a message, if it is UTF-8.
+    /// Adds the member `text` of a JSON object, if the message is UTF-8.
     fn put_text(&mut self, bytes: &[u8]) -> Result<(), Full>
         ensures put { OnOk result (Appends (contents_of self.old) (contents_of self.new) (json_text bytes.now)) }
     {
@@ -246,7 +250,8 @@ impl Composed {
         Ok(())
     }
 
-    /// Adds all characters before the first that needs an escape, at once, and then that one. Returns the rest.
+    /// Adds the characters before the first one that needs an escape, in one copy, and then that character with its
+    /// escape. Returns the rest of the text.
     fn put_run<'a>(&mut self, text: &'a str) -> Result<&'a str, Full>
         ensures put { IfOk result (λ rest. WritesFront (contents_of self.old) (contents_of self.new) text.now rest.now) }
         ensures shorter { IfOk result (λ rest. 0 < length text.now → length rest.now < length text.now) }
@@ -263,7 +268,7 @@ impl Composed {
         }
     }
 
-    /// Adds a character of a JSON string, escaped if it is a quote, a backslash or hidden.
+    /// Adds a character of a JSON string. A quote, a backslash and a hidden character are escaped.
     fn put_char(&mut self, c: char) -> Result<(), Full>
         ensures put { OnOk result (Appends (contents_of self.old) (contents_of self.new) (escaped c)) }
     {
@@ -276,7 +281,8 @@ impl Composed {
         self.put(c.encode_utf8(&mut [0; 4]).as_bytes())
     }
 
-    /// Adds the escape of a character: its code, or the codes of two surrogates.
+    /// Adds the escape of the character with this code. The escape has the code or, if the code has more than 16 bits,
+    /// two surrogates.
     fn put_escape(&mut self, code: u32) -> Result<(), Full>
         ensures put { OnOk result (Appends (contents_of self.old) (contents_of self.new) (char_escape code)) }
     {
@@ -287,7 +293,7 @@ impl Composed {
         self.put_unit((0xDC00 + code % 1024) as u16)
     }
 
-    /// Adds the escape of a code of 16 bits.
+    /// Adds the escape of a 16-bit code: `\u` and four hexadecimal digits.
     fn put_unit(&mut self, unit: u16) -> Result<(), Full>
         ensures put { OnOk result (Appends (contents_of self.old) (contents_of self.new) (unit_escape unit)) }
     {
@@ -295,7 +301,7 @@ impl Composed {
         self.put_digits(&[(unit / 256) as u8, (unit % 256) as u8])
     }
 
-    /// Adds a number, or returns `Full` if there is no room.
+    /// Adds a decimal number, or returns `Full` if there are fewer than 40 bytes of room.
     #[tactic(auto, unfolding(crate::specs::Composed::contents_of))]
     #[inline(always)]
     fn put_decimal(&mut self, number: u64) -> Result<(), Full>
@@ -308,7 +314,7 @@ impl Composed {
         Ok(())
     }
 
-    /// Adds bytes as lower-case hexadecimal digits.
+    /// Adds bytes as lower-case hexadecimal digits, or returns `Full` if they don't fit.
     #[tactic(auto, unfolding(crate::specs::Composed::contents_of))]
     #[inline(always)]
     fn put_digits(&mut self, bytes: &[u8]) -> Result<(), Full>
@@ -321,7 +327,8 @@ impl Composed {
         Ok(())
     }
 
-    /// Adds a number, for which 40 bytes are enough. A length below 10, of one digit, has a fast path.
+    /// Adds a decimal number. The number needs at most 40 bytes of room. A number below 10 has a path of its own, which
+    /// is faster.
     #[inline(always)]
     fn append_decimal(&mut self, number: u64)
         requires room { self.old.len + 40 ≤ 2048 }
@@ -335,7 +342,7 @@ impl Composed {
         }
     }
 
-    /// Adds bytes as lower-case hexadecimal digits, for which there is room.
+    /// Adds bytes as lower-case hexadecimal digits. The caller makes sure that the digits fit.
     #[inline(always)]
     fn append_digits(&mut self, bytes: &[u8])
         requires room { self.old.len + 2 * length bytes.now ≤ 2048 }
@@ -349,7 +356,7 @@ impl Composed {
         self.len = end;
     }
 
-    /// Adds bytes, or returns `Full` if there is no room.
+    /// Adds bytes, or returns `Full` if they don't fit.
     #[tactic(auto, unfolding(crate::specs::Composed::contents_of))]
     #[inline(always)]
     fn put(&mut self, bytes: &[u8]) -> Result<(), Full>
@@ -362,7 +369,8 @@ impl Composed {
         Ok(())
     }
 
-    /// Adds bytes, for which there is room. If there are few, they are copied in vectors, without a call.
+    /// Adds bytes. The caller makes sure that the bytes fit. From 1 to `WINDOW` bytes are copied in vectors, without a
+    /// call.
     #[inline(always)]
     fn append(&mut self, bytes: &[u8])
         requires room { self.old.len + length bytes.now ≤ 2048 }
@@ -380,7 +388,7 @@ impl Composed {
     }
 }
 
-/// Returns whether lines have no colour, number and time.
+/// Returns whether the view shows pieces without colour, number and time.
 fn is_bare(view: &View) -> bool
     ensures bare { IsTrue result
         → (view.now.color ≡ false) × (view.now.number ≡ false) × (view.now.stamp ≡ Untimed) }

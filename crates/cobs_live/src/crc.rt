@@ -2,7 +2,7 @@
 ghost use Rattle.std.specs.Prelude.{◌≡◌, ◌<◌, ◌≤◌};
 ghost use Rattle.cobs_live.specs.Crc.{IsTable, params_of, shifted, word_of};
 
-/// Which cyclic redundancy check a checksum is.
+/// The cyclic redundancy checks that have a name.
 #[derive(Debug, PartialEq, Eq, Clone, Copy)]
 pub enum Crc {
     /// CRC-8/SMBUS.
@@ -26,12 +26,12 @@ pub enum Crc {
     /// CRC-32/ISCSI, known as CRC-32C.
     Crc32c,
 
-    /// CRC-32/ISO-HDLC, the one of zip files and Ethernet.
+    /// CRC-32/ISO-HDLC, which zip files and Ethernet use.
     Crc32,
 }
 
 /// The parameters of a check, as in the catalogue of parametrised CRC algorithms. A check is computed in a *register*
-/// of 32 bits. If it has fewer bits, its polynomial and its start are in the high bits.
+/// of 32 bits. If the check has fewer bits, its polynomial and its initial value are shifted to the high bits.
 #[derive(Debug, PartialEq, Eq, Clone, Copy)]
 pub struct Params {
     /// The checksum's length in bytes, from 1 to 4.
@@ -40,13 +40,14 @@ pub struct Params {
     /// The polynomial without its highest power.
     pub poly: u32,
 
-    /// The register at the start.
+    /// The initial value of the register.
     pub init: u32,
 
-    /// Whether the lowest bit of each byte comes first, and the lowest bit of the register too.
+    /// Whether the bits of each byte are reversed, and at the end the bits of the register (*refin* and *refout* of the
+    /// catalogue).
     pub reflected: bool,
 
-    /// The number with which the register is XORed at the end.
+    /// The number with which the checksum is XORed at the end.
     pub xorout: u32,
 }
 
@@ -76,11 +77,11 @@ impl Crc {
     }
 }
 
-/// The lowest value that has the highest bit of a register.
+/// The highest bit of a register.
 const HIGH: u32 = 0x8000_0000;
 
-/// Returns a table with an entry for each byte: the register after eight steps, if it begins with this byte in its high
-/// bits and zeros below.
+/// Returns a table with an entry for each byte: the register that had this byte in its high bits and zeros below, after
+/// eight steps of [`shifted`].
 pub(crate) fn table_of(poly: u32) -> [u32; 256]
     ensures table { IsTable poly result }
 {
@@ -91,7 +92,7 @@ pub(crate) fn table_of(poly: u32) -> [u32; 256]
     words
 }
 
-/// Returns the register after eight steps, if it begins with this byte in its high bits and zeros below.
+/// Returns the register that had this byte in its high bits and zeros below, after eight steps of [`shifted`].
 fn word_of(poly: u32, byte: u32) -> u32
     requires byte { byte < 256 }
     ensures word { result ≡ word_of poly byte }
@@ -103,7 +104,8 @@ fn word_of(poly: u32, byte: u32) -> u32
     register
 }
 
-/// Returns the register after one step, which shifts it by one bit.
+/// Returns the register after one step. The step shifts the register to the left by one bit, and XORs it with the
+/// polynomial if a one was shifted out.
 fn shifted(poly: u32, register: u32) -> u32
     ensures shifted { result ≡ shifted poly register }
 {

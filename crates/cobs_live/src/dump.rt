@@ -1,15 +1,15 @@
-//! Bytes, sixteen per line, as `hexdump -C` prints them.
+//! Writes bytes, sixteen per line, in the columns of `hexdump -C`.
 ghost use Rattle.std.specs.Prelude.{◌≡◌, ◌+◌, ◌<◌, ◌≤◌, OnOk, length, map};
 ghost use Rattle.std.specs.Io.KnownBytes.{Appends};
 ghost use Rattle.cobs_live.specs.Dump.{cell, character, dump, dump_row, upto};
 
 use std::io::{self, Write};
 
-/// How many bytes a line has.
+/// The number of bytes on a line.
 const ROW: usize = 16;
 
-/// Writes the bytes, sixteen per line. Each line has the offset of its first byte, the bytes as digits, and the
-/// characters.
+/// Writes the bytes, sixteen per line. Each line has the offset of its first byte, the bytes as hexadecimal digits, and
+/// the bytes as characters.
 pub fn write_dump<W: Write>(output: &mut W, bytes: &[u8]) -> io::Result<()>
     ensures written { OnOk result
         (Appends (W.contents output.old) (W.contents output.new) (dump bytes.now)) }
@@ -23,7 +23,7 @@ pub fn write_dump<W: Write>(output: &mut W, bytes: &[u8]) -> io::Result<()>
     Ok(())
 }
 
-/// Writes one line, for up to sixteen bytes.
+/// Writes the line of up to sixteen bytes, the first of which is at `offset`.
 fn write_row<W: Write>(output: &mut W, offset: usize, row: &[u8]) -> io::Result<()>
     requires few { length row.now ≤ 16 }
     ensures written { OnOk result
@@ -38,7 +38,7 @@ fn write_row<W: Write>(output: &mut W, offset: usize, row: &[u8]) -> io::Result<
     output.write_all(b"|\n")
 }
 
-/// Writes the digits of eight bytes from an index on, and spaces in place of those that the row doesn't have.
+/// Writes the digits of eight bytes from an index on. If the row has fewer bytes, writes spaces for the missing digits.
 fn write_cells<W: Write>(output: &mut W, row: &[u8], from: usize) -> io::Result<()>
     requires few { from < 16 }
     ensures written { OnOk result (Appends (W.contents output.old) (W.contents output.new)
@@ -50,7 +50,7 @@ fn write_cells<W: Write>(output: &mut W, row: &[u8], from: usize) -> io::Result<
     Ok(())
 }
 
-/// Writes the digits of the byte at an index, or spaces.
+/// Writes the digits of the byte at an index and a space, or three spaces if the row has no such byte.
 fn write_cell<W: Write>(output: &mut W, row: &[u8], i: usize) -> io::Result<()>
     ensures written { OnOk result
         (Appends (W.contents output.old) (W.contents output.new) (cell row.now i)) }
@@ -67,7 +67,7 @@ fn write_cell<W: Write>(output: &mut W, row: &[u8], i: usize) -> io::Result<()>
     }
 }
 
-/// Writes each byte as an ASCII character, or as a dot, in one write.
+/// Writes all bytes of a row as characters, in one write.
 fn write_characters<W: Write>(output: &mut W, row: &[u8]) -> io::Result<()>
     requires few { length row.now ≤ 16 }
     ensures written { OnOk result
@@ -80,7 +80,7 @@ fn write_characters<W: Write>(output: &mut W, row: &[u8]) -> io::Result<()>
     output.write_all(shown)
 }
 
-/// Replaces each byte by an ASCII character, or by a dot.
+/// Replaces each byte that isn't a visible ASCII character or a blank by a dot.
 fn to_characters(bytes: &mut [u8])
     ensures shown { bytes.new ≡ map character bytes.old }
 {
@@ -89,7 +89,7 @@ fn to_characters(bytes: &mut [u8])
     }
 }
 
-/// Returns a byte as an ASCII character if it is visible or a blank, and otherwise a dot.
+/// Returns the byte if it is a visible ASCII character or a blank, and otherwise a dot.
 fn character(byte: u8) -> u8
     ensures shown { result ≡ character byte }
 {

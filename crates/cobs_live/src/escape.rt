@@ -1,4 +1,4 @@
-//! Text in a JSON string. Characters that a terminal acts on are escaped too.
+//! Writes text as a part of a JSON string. Characters on which a terminal acts are escaped too.
 ghost use Rattle.std.specs.Prelude.{◌≡◌, ◌<◌, ◌++◌, All, IfOk, IsTrue, OnOk, drop, false, length, take};
 ghost use Rattle.std.specs.Char.{encode_utf8};
 ghost use Rattle.std.specs.Io.KnownBytes.{Appends};
@@ -9,11 +9,14 @@ use cobs_lines::write_digits;
 use std::io::{self, Write};
 use unicode::properties::GeneralCategory;
 
-/// Returns whether a character is hidden: a control character, or one that formats text or separates lines invisibly.
+/// Returns whether a character is hidden: a control character, or an invisible one that formats text or separates lines
+/// or paragraphs.
 pub fn is_hidden(c: char) -> bool
     ensures hidden { result ≡ is_hidden c }
 {
     let code = u32::from(c);
+    // Characters below 127 need no look-up of their category: those below 32 are control characters, and no other is
+    // hidden.
     if code < 127 {
         return code < 32;
     }
@@ -36,7 +39,8 @@ pub fn write_escaped<W: Write>(output: &mut W, text: &str) -> io::Result<()>
     Ok(())
 }
 
-/// Writes all characters before the first that needs an escape, at once, and then that one. Returns the rest.
+/// Writes the characters before the first one that needs an escape, in one write, and then that character with its
+/// escape. Returns the rest of the text.
 fn write_run<'a, W: Write>(output: &mut W, text: &'a str) -> io::Result<&'a str>
     ensures written { IfOk result (λ rest. WritesFront (W.contents output.old) (W.contents output.new) text.now rest.now) }
     ensures shorter { IfOk result (λ rest. 0 < length text.now → length rest.now < length text.now) }
@@ -53,8 +57,8 @@ fn write_run<'a, W: Write>(output: &mut W, text: &'a str) -> io::Result<&'a str>
     }
 }
 
-/// Returns how many bytes at the front are characters that need no escape. ASCII bytes are tested without decoding
-/// characters, which is faster.
+/// Returns the length in bytes of the characters at the front of the text that need no escape. ASCII characters are
+/// tested as bytes, because decoding each character takes longer.
 pub(crate) fn visible_run(text: &str) -> usize
     ensures boundary { IsCharBoundary text.now result }
     ensures same { text_escaped text.now ≡ take result text.now ++ text_escaped (drop result text.now) }
@@ -74,14 +78,14 @@ pub(crate) fn visible_run(text: &str) -> usize
     run
 }
 
-/// Returns whether a character needs an escape in a string of JSON.
+/// Returns whether a character needs an escape in a JSON string.
 fn needs_escape(c: char) -> bool
     ensures same { (result ≡ false) → (escaped c ≡ encode_utf8 c) }
 {
     is_hidden(c) || c == '"' || c == '\\'
 }
 
-/// Returns how many bytes at the front are ASCII characters that need no escape.
+/// Returns how many ASCII characters at the front of the text need no escape.
 fn plain_run(text: &str) -> usize
     ensures boundary { IsCharBoundary text.now result }
     ensures plain { All (λ byte. IsTrue (is_plain_byte byte)) (take result text.now) }
@@ -102,7 +106,7 @@ fn is_plain_byte(byte: u8) -> bool
     32 <= byte && byte < 127 && byte != b'"' && byte != b'\\'
 }
 
-/// Writes a character of a JSON string, escaped if it is a quote, a backslash or hidden.
+/// Writes a character of a JSON string. A quote, a backslash and a hidden character are escaped.
 fn write_char<W: Write>(output: &mut W, c: char) -> io::Result<()>
     ensures written { OnOk result
         (Appends (W.contents output.old) (W.contents output.new) (escaped c)) }
@@ -116,7 +120,8 @@ fn write_char<W: Write>(output: &mut W, c: char) -> io::Result<()>
     output.write_all(c.encode_utf8(&mut [0; 4]).as_bytes())
 }
 
-/// Writes the escape of a character: its code, or the codes of two surrogates.
+/// Writes the escape of the character with this code. The escape has the code or, if the code has more than 16 bits,
+/// two surrogates.
 fn write_escape<W: Write>(output: &mut W, code: u32) -> io::Result<()>
     ensures written { OnOk result
         (Appends (W.contents output.old) (W.contents output.new) (char_escape code)) }
@@ -128,7 +133,7 @@ fn write_escape<W: Write>(output: &mut W, code: u32) -> io::Result<()>
     write_unit(output, (0xDC00 + code % 1024) as u16)
 }
 
-/// Writes the escape of a code of 16 bits.
+/// Writes the escape of a 16-bit code: `\u` and four hexadecimal digits.
 fn write_unit<W: Write>(output: &mut W, unit: u16) -> io::Result<()>
     ensures written { OnOk result
         (Appends (W.contents output.old) (W.contents output.new) (unit_escape unit)) }

@@ -1,4 +1,4 @@
-//! The faults of a program once its arguments have been read.
+//! The faults that end showing or sending early.
 ghost use Rattle.std.specs.Prelude.{◌≡◌};
 ghost use Rattle.cobs_live.specs.declared.fault.WatchFault.TheVariants.{OutOfMemory};
 
@@ -9,11 +9,12 @@ use thiserror::Error;
 /// The reason why showing or sending ended early.
 #[derive(Debug, PartialEq, Eq, Drop, Error)]
 pub enum WatchFault {
-    /// A read failed, and wasn't only interrupted. All pieces that had ended before it have been shown.
+    /// A read failed, and not because it was interrupted; or memory ran out while `send` read a line. All pieces that
+    /// had ended have been shown, or all earlier lines have been sent.
     #[error("read failed")]
     ReadFailed,
 
-    /// A write failed, and wasn't only interrupted. Part of its bytes may have been written.
+    /// A write failed, and not because it was interrupted. Part of the bytes may have been written.
     #[error("write failed")]
     WriteFailed,
 
@@ -21,7 +22,8 @@ pub enum WatchFault {
     #[error("output closed")]
     OutputClosed,
 
-    /// Memory ran out: at the start of `show`, which then has read and written nothing, or for a line of `send`.
+    /// Memory ran out. In `show`, memory runs out only at the start, before anything is read or written. In `send`,
+    /// memory runs out for the frame of a line.
     #[error("out of memory")]
     OutOfMemory,
 }
@@ -39,7 +41,7 @@ impl From<io::Error> for WatchFault {
 
     ghost from_gives = { IsWriteFault };
 
-    /// Returns the fault for a write that failed.
+    /// Returns the fault for a write that failed with this error.
     fn from(error: io::Error) -> WatchFault {
         match error.kind() {
             ErrorKind::BrokenPipe => WatchFault::OutputClosed,

@@ -1,4 +1,4 @@
-//! Inputs that are read while an output may hold text that isn't written yet.
+//! Inputs whose reads have the output as an argument, so that contracts can say what had been written at each read.
 ghost use Rattle.std.specs.Prelude.{◌≡◌, ◌+◌, ◌++◌, List, Option, ℕ, IfOk, OnOk, IfSome, vec_len};
 ghost use Rattle.std.specs.Prelude.{length};
 ghost use Rattle.std.specs.Io.{StopsAt, appended_bytes};
@@ -12,26 +12,26 @@ use std::io::{self, BufRead, BufWriter, Read, Write};
 /// The result of a read.
 #[derive(Debug, PartialEq, Eq, Clone, Copy)]
 pub enum Came {
-    /// This many bytes came. The number is 0 at the end of the input.
+    /// This many bytes were read, or 0 at the end of the input.
     Bytes(usize),
 
-    /// The line hung up. Later reads return the bytes of its next connection.
+    /// The line hung up. Later reads return the bytes of the line's next connection.
     HungUp,
 }
 
 /// An input whose reads have the output as an argument.
 ///
-/// Contracts describe an input by a relation, `step`. It says which reads may change the input from one state to
-/// another, and what the output held when the read began. So a theorem about any such input can say what had been
-/// written at each read.
+/// Contracts describe an input by a relation, `step`, between a state of the input, a read, and the state after that
+/// read. The read includes the contents of the output when the read began. So a theorem about any input can say what
+/// had been written at each read.
 pub trait LiveInput<W: Write + Drop> {
-    /// The bytes that reads will return from here on, if they are known.
+    /// The bytes that the next reads will return, if they are known.
     ghost remaining: { Self → Option (List ℕ) };
 
     /// Whether this read may change the input from the first state to the second.
     ghost step: { Self → ReadEvent (Option ℕ) → Self → Type 0 };
 
-    /// Reads once, as `Read::read` does, or returns that the line hung up.
+    /// Reads bytes into `chunk` once, as `Read::read` does, or returns that the line hung up.
     fn read_beside(&mut self, output: &BufWriter<W>, chunk: &mut [u8]) -> io::Result<Came>
         ensures len { length chunk.new ≡ length chunk.old }
         ensures bytes { ReadTakes (remaining self.old) (remaining self.new) result chunk.new }
@@ -42,9 +42,10 @@ pub trait LiveInput<W: Write + Drop> {
         }) self.new };
 }
 
-/// An input that is read line by line, with the output as an argument of each read. It is described as `LiveInput` is.
+/// An input that is read line by line, with the output as an argument of each read. Contracts describe a `LiveLines` in
+/// the same way as a [`LiveInput`].
 pub trait LiveLines<W: Write + Drop> {
-    /// The bytes that reads will return from here on, if they are known.
+    /// The bytes that the next reads will return, if they are known.
     ghost remaining: { Self → Option (List ℕ) };
 
     /// Whether this read may change the input from the first state to the second.
@@ -68,7 +69,7 @@ pub trait LiveLines<W: Write + Drop> {
         }) self.new };
 }
 
-/// Any reader as an input that never hangs up.
+/// An input over any reader. It never hangs up.
 #[derive(Drop)]
 pub struct AnyInput<R> {
     reader: R,
@@ -78,7 +79,7 @@ impl<R> AnyInput<R> {
     ghost use Rattle.std.specs.Prelude.{◌≡◌};
     ghost use Rattle.cobs_live.specs.Reads.{reader_of};
 
-    /// Makes an input of this reader.
+    /// Makes an input over this reader.
     pub fn new(reader: R) -> Self
         ensures reader { reader_of result ≡ reader }
     {

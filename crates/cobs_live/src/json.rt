@@ -1,4 +1,4 @@
-//! A piece as a JSON object.
+//! Writes a piece as a JSON object.
 ghost use Rattle.std.specs.Prelude.{OnOk};
 ghost use Rattle.std.specs.Io.KnownBytes.{Appends};
 ghost use Rattle.cobs_live.specs.Json.{json, json_kind, json_message, json_partial, json_text};
@@ -11,8 +11,8 @@ use cobs_lines::write_digits;
 use std::io::{self, Write};
 use std::str;
 
-/// Writes the piece with this number as a JSON object on a line. `stamp` says which of `times` is its member `time`, if
-/// any.
+/// Writes the piece with this number as a JSON object on a line. `stamp` says whether the object has a member `time`,
+/// and which time that is.
 pub fn write_json<W: Write>(
     output: &mut W,
     number: u64,
@@ -30,7 +30,8 @@ pub fn write_json<W: Write>(
     output.write_all(b"}\n")
 }
 
-/// Writes the kind of a piece, the length of its output, and the bytes of a message.
+/// Writes the kind of a piece, and then the members for its length and its bytes, as far as a piece of this kind has
+/// them.
 fn write_kind<W: Write>(output: &mut W, piece: &Sight<'_>) -> io::Result<()>
     ensures written { OnOk result (Appends (W.contents output.old) (W.contents output.new)
         (json_kind (seen_in piece.now).kind (seen_in piece.now).len (seen_in piece.now).bytes)) }
@@ -56,7 +57,7 @@ fn write_kind<W: Write>(output: &mut W, piece: &Sight<'_>) -> io::Result<()>
     }
 }
 
-/// Writes the bytes of a piece that is no message, if there are any.
+/// Writes the member `hex` for the decoded bytes of a broken or too long piece, if there are any.
 fn write_partial<W: Write>(output: &mut W, bytes: &[u8]) -> io::Result<()>
     ensures written { OnOk result
         (Appends (W.contents output.old) (W.contents output.new) (json_partial bytes.now)) }
@@ -69,7 +70,7 @@ fn write_partial<W: Write>(output: &mut W, bytes: &[u8]) -> io::Result<()>
     output.write_all(b"\"")
 }
 
-/// Writes the length and the bytes of a message.
+/// Writes the members for the message's length, for its bytes and, if it is UTF-8, for its text.
 fn write_message<W: Write>(output: &mut W, len: usize, bytes: &[u8]) -> io::Result<()>
     ensures written { OnOk result (Appends (W.contents output.old) (W.contents output.new)
         (json_message len bytes.now)) }
@@ -81,7 +82,7 @@ fn write_message<W: Write>(output: &mut W, len: usize, bytes: &[u8]) -> io::Resu
     Ok(())
 }
 
-/// Writes the text of a message, if it is UTF-8.
+/// Writes the member `text`, if the message is UTF-8.
 fn write_utf8<W: Write>(output: &mut W, bytes: &[u8]) -> io::Result<()>
     ensures written { OnOk result
         (Appends (W.contents output.old) (W.contents output.new) (json_text bytes.now)) }

@@ -16,7 +16,7 @@ use cobs_lines::write_digits;
 use std::io::{self, Write};
 use std::str;
 
-/// Writes a piece with this number and these times, in a view's style.
+/// Writes a piece, which has this number and these times, in the style of the view.
 pub fn write_line<W: Write>(
     output: &mut W,
     view: &View,
@@ -39,7 +39,7 @@ pub fn write_line<W: Write>(
     }
 }
 
-/// Writes the kind of a piece and the number of bytes that it decodes to, in the colour of the kind if colours are on.
+/// Writes the title of a piece, in the colour of its kind if `color` is set.
 fn write_titled<W: Write>(output: &mut W, color: bool, kind: Kind, len: usize) -> io::Result<()>
     ensures written { OnOk result
         (Appends (W.contents output.old) (W.contents output.new) (titled color kind len)) }
@@ -52,7 +52,7 @@ fn write_titled<W: Write>(output: &mut W, color: bool, kind: Kind, len: usize) -
     output.write_all(b"\x1b[0m")
 }
 
-/// Returns the escape sequence that begins the colour of a kind.
+/// Returns the escape sequence that switches the terminal to the colour of a kind.
 fn color_of(kind: Kind) -> &'static [u8]
     ensures color { result.now ≡ color_of kind }
 {
@@ -64,7 +64,7 @@ fn color_of(kind: Kind) -> &'static [u8]
     }
 }
 
-/// Writes the kind of a piece and the number of bytes that it decodes to.
+/// Writes the title of a piece: its kind and, unless it is too long, the number of bytes that it decodes to.
 fn write_title<W: Write>(output: &mut W, kind: Kind, len: usize) -> io::Result<()>
     ensures written { OnOk result
         (Appends (W.contents output.old) (W.contents output.new) (title kind len)) }
@@ -77,7 +77,7 @@ fn write_title<W: Write>(output: &mut W, kind: Kind, len: usize) -> io::Result<(
     }
 }
 
-/// Writes the start of a piece's line: its title, and a mark if it has bytes that are no message.
+/// Writes the start of a piece's line: the title, and a mark if decoded bytes of a broken or too long piece follow.
 fn write_heading<W: Write>(output: &mut W, color: bool, piece: &Sight<'_>) -> io::Result<()>
     ensures written { OnOk result (Appends (W.contents output.old) (W.contents output.new)
         (heading color (seen_in piece.now))) }
@@ -86,7 +86,7 @@ fn write_heading<W: Write>(output: &mut W, color: bool, piece: &Sight<'_>) -> io
     write_mark(output, piece.kind, piece.bytes)
 }
 
-/// Writes the mark before bytes that are no message, if there are any.
+/// Writes a mark before the decoded bytes of a broken or too long piece, if there are any.
 fn write_mark<W: Write>(output: &mut W, kind: Kind, bytes: &[u8]) -> io::Result<()>
     ensures written { OnOk result
         (Appends (W.contents output.old) (W.contents output.new) (mark kind bytes.now)) }
@@ -97,7 +97,7 @@ fn write_mark<W: Write>(output: &mut W, kind: Kind, bytes: &[u8]) -> io::Result<
     }
 }
 
-/// Writes a space and the bytes as digits, or nothing if there are no bytes.
+/// Writes a space and the bytes as hexadecimal digits, or nothing if there are no bytes.
 fn write_spaced<W: Write>(output: &mut W, bytes: &[u8]) -> io::Result<()>
     ensures written { OnOk result
         (Appends (W.contents output.old) (W.contents output.new) (spaced_digits bytes.now)) }
@@ -109,7 +109,7 @@ fn write_spaced<W: Write>(output: &mut W, bytes: &[u8]) -> io::Result<()>
     Ok(())
 }
 
-/// Writes the line of a piece, with its bytes as digits.
+/// Writes the line of a piece, with its bytes as hexadecimal digits.
 fn write_hex<W: Write>(output: &mut W, color: bool, piece: &Sight<'_>) -> io::Result<()>
     ensures written { OnOk result (Appends (W.contents output.old) (W.contents output.new)
         (hex_line color (seen_in piece.now))) }
@@ -120,7 +120,7 @@ fn write_hex<W: Write>(output: &mut W, color: bool, piece: &Sight<'_>) -> io::Re
 }
 
 /// Writes the line of a piece, with its bytes as text if they are UTF-8 without hidden characters, and otherwise as
-/// digits.
+/// hexadecimal digits.
 fn write_text<W: Write>(output: &mut W, color: bool, piece: &Sight<'_>) -> io::Result<()>
     ensures written { OnOk result (Appends (W.contents output.old) (W.contents output.new)
         (text_line color (seen_in piece.now))) }
@@ -138,7 +138,7 @@ fn write_text<W: Write>(output: &mut W, color: bool, piece: &Sight<'_>) -> io::R
     output.write_all(b"\n")
 }
 
-/// Returns the text of a message if it is UTF-8 without hidden characters.
+/// Returns the message as text if it is UTF-8 without hidden characters, and otherwise `None`.
 fn plain_text(message: &[u8]) -> Option<&str>
     ensures text { IfSome result (λ text. text.now ≡ message.now) }
     ensures plain { IsSome result ↔ IsTrue (is_plain message.now) }
@@ -152,7 +152,7 @@ fn plain_text(message: &[u8]) -> Option<&str>
     Some(text)
 }
 
-/// Writes a message in a style that shows nothing else.
+/// Writes a message in a style that shows only messages.
 fn write_alone<W: Write>(output: &mut W, style: Style, time: u64, bytes: &[u8]) -> io::Result<()>
     ensures written { OnOk result
         (Appends (W.contents output.old) (W.contents output.new) (alone style time bytes.now)) }
@@ -172,7 +172,7 @@ fn write_alone<W: Write>(output: &mut W, style: Style, time: u64, bytes: &[u8]) 
     }
 }
 
-/// Writes the title of a piece, and its bytes, sixteen per line.
+/// Writes a line with the title of a piece, and below it the piece's bytes, sixteen per line.
 fn write_dumped<W: Write>(output: &mut W, color: bool, piece: &Sight<'_>) -> io::Result<()>
     ensures written { OnOk result (Appends (W.contents output.old) (W.contents output.new)
         (dump_lines color (seen_in piece.now))) }

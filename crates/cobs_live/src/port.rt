@@ -1,4 +1,5 @@
-//! Readers and writers that wait, that open a line again, that note why they failed, and that also write to a log.
+//! Readers and writers with one more duty: they wait instead of blocking and record why a call failed, or they open a
+//! line again, or they also write to a log.
 
 use crate::input::{Came, LiveInput};
 use std::cell::Cell;
@@ -7,16 +8,16 @@ use std::rt::Clock;
 use std::thread;
 use std::time::Duration;
 
-/// How many milliseconds pass before a reader without bytes, or a writer without room, is tried again.
+/// The pause, in milliseconds, before a read or a write that would have blocked is tried again.
 const PAUSE: u64 = 5;
 
-/// A reader or a writer that may be non-blocking. If a call would block, it is tried again after a pause.
+/// A reader or a writer that may be non-blocking. A read or a write that would block is tried again after a pause.
 #[derive(Drop)]
 pub struct Port<'a, C, F> {
     clock: C,
     inner: F,
 
-    /// The system's number for the last failure, if there is one.
+    /// The system's error number of the last failure, if there is one.
     reason: &'a Cell<Option<i32>>,
 }
 
@@ -24,8 +25,8 @@ impl<'a, C: Clock + Drop, F: Drop> Port<'a, C, F> {
     ghost use Rattle.std.specs.Prelude.{◌≡◌, false, IsOk};
     ghost use Rattle.cobs_live.specs.Ports.{inner_of};
 
-    /// Makes a port of this reader or writer. It waits by this clock, and stores the system's number for a failure in
-    /// `reason`.
+    /// Makes a port over this reader or writer. The port measures its pauses with this clock, and stores the system's
+    /// error number of a failure in `reason`.
     pub fn new(clock: C, inner: F, reason: &'a Cell<Option<i32>>) -> Self
         ensures inner { inner_of result ≡ inner }
     {
@@ -36,8 +37,9 @@ impl<'a, C: Clock + Drop, F: Drop> Port<'a, C, F> {
         }
     }
 
-    /// Returns true after a pause if the call would have blocked: the call is then tried again. For any other error it notes
-    /// the system's number, except for an interruption, after which callers try again.
+    /// Returns whether the port has to try the call again. If the call would have blocked, pauses and returns true.
+    /// Otherwise returns false. The system's error number of a failure is stored in `reason`. An interruption isn't
+    /// stored, because the port's caller tries again after it.
     fn tries_again(&self, done: &io::Result<usize>) -> bool
         ensures failed { IsOk done.now → result ≡ false }
     {
@@ -91,7 +93,7 @@ impl<C: Clock + Drop, W: Write + Drop> Write for Port<'_, C, W> {
     }
 }
 
-/// How many milliseconds pass after a hang-up before the line is opened again.
+/// The pause, in milliseconds, before each attempt to open the line again.
 const REST: u64 = 200;
 
 /// A type that opens a line.
@@ -100,20 +102,20 @@ pub trait Opener<R> {
     fn open(&self) -> io::Result<R>;
 }
 
-/// A line that is opened again each time it hangs up: if it has ended, or if a read of it failed.
+/// A line that is opened again each time it hangs up. A line hangs up if it ends, or if a read of it fails.
 #[derive(Drop)]
 pub struct Reopened<C, O, R> {
     clock: C,
     opener: O,
 
-    /// The line, while it is open.
+    /// The line if it is open, and otherwise `None`.
     line: Option<R>,
 }
 
 impl<C: Clock + Drop, O: Opener<R> + Drop, R: Read + Drop> Reopened<C, O, R> {
     ghost use Rattle.std.specs.Prelude.{◌≡◌, IsSome};
 
-    /// Makes an input of this line, which may be open already.
+    /// Makes an input over the line that `opener` opens. `line` is the line, or `None` if the line isn't open yet.
     pub fn new(clock: C, opener: O, line: Option<R>) -> Self
         ensures line { result.line ≡ line }
     {
@@ -124,7 +126,7 @@ impl<C: Clock + Drop, O: Opener<R> + Drop, R: Read + Drop> Reopened<C, O, R> {
         }
     }
 
-    /// Waits until the line is open.
+    /// Tries to open the line, with a pause before each attempt, until it is open.
     fn wait(&mut self)
         ensures stays { IsSome self.old.line → self.new.line ≡ self.old.line }
     {
@@ -147,7 +149,8 @@ impl<C: Clock + Drop, O: Opener<R> + Drop, R: Read + Drop, W: Write + Drop> Live
 
     ghost step = { λ from read to. GivesNext R.remaining from.line to.line read.came };
 
-    /// Waits until the line is open, and reads from it, or returns that it hung up.
+    /// Waits until the line is open, and reads from it once. Returns how many bytes were read, or that the line hung
+    /// up.
     fn read_beside(&mut self, _output: &BufWriter<W>, chunk: &mut [u8]) -> io::Result<Came> {
         self.wait();
         let Some(line) = &mut self.line else {
@@ -165,8 +168,8 @@ impl<C: Clock + Drop, O: Opener<R> + Drop, R: Read + Drop, W: Write + Drop> Live
     }
 }
 
-/// Returns whether this read says that the line hung up: whether it returned no bytes, or failed with an error other
-/// than "interrupted" or "would block".
+/// Returns whether a read with this result is a hang-up. A read is a hang-up if it returned no bytes, or if it failed
+/// with an error other than "interrupted" or "would block".
 fn is_hang_up(given: &io::Result<usize>) -> bool {
     match given {
         Ok(count) => *count == 0,
@@ -182,7 +185,7 @@ pub struct Logged<W, L> {
     inner: W,
     log: Option<L>,
 
-    /// The error of the log. The next flush fails with it.
+    /// The error of the last write to the log, until the next flush returns it.
     failed: Option<io::Error>,
 }
 
@@ -191,7 +194,7 @@ impl<W: Write + Drop, L: Write + Drop> Logged<W, L> {
     ghost use Rattle.std.specs.Io.KnownBytes.{Appends};
     ghost use Rattle.cobs_live.specs.Ports.{log_contents, logged_inner};
 
-    /// Makes a writer with a log, if there is one.
+    /// Makes a writer that also writes to this log, if there is one.
     pub fn new(inner: W, log: Option<L>) -> Self
         ensures inner { logged_inner result ≡ inner }
         ensures log { (result.log ≡ log) × (result.failed ≡ None) }
@@ -203,7 +206,7 @@ impl<W: Write + Drop, L: Write + Drop> Logged<W, L> {
         }
     }
 
-    /// Writes to the log, if there is one and it hasn't failed.
+    /// Writes to the log, if there is one and `failed` has no error.
     fn write_log(&mut self, bytes: &[u8])
         ensures inner { self.new.inner ≡ self.old.inner }
         ensures logged { self.new.failed ≡ None
@@ -226,7 +229,7 @@ impl<W: Write + Drop, L: Write + Drop> Write for Logged<W, L> {
 
     ghost contents = { λ logged. W.contents (logged_inner logged) };
 
-    /// Writes, and also writes the bytes that were accepted to the log.
+    /// Writes the bytes, and then writes those that the writer has accepted to the log.
     fn write(&mut self, buf: &[u8]) -> io::Result<usize>
         ensures bound { WritesAtMost result buf.now }
         ensures bytes { WriteAppends (W.contents self.old.inner) (W.contents self.new.inner) result buf.now }

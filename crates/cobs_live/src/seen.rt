@@ -16,16 +16,17 @@ pub enum Kind {
     BadCrc,
 }
 
-/// A piece that can be shown.
+/// A piece of a stream, as it can be shown.
 #[derive(Clone, Copy)]
 pub struct Sight<'a> {
-    /// Its kind.
+    /// The kind of the piece.
     pub kind: Kind,
 
-    /// How many bytes it decodes to; `usize::MAX` if they are more than the buffer holds.
+    /// How many bytes the piece decodes to, without a right checksum; `usize::MAX` if it decodes to more than the
+    /// buffer holds.
     pub len: usize,
 
-    /// The bytes of a message, without its checksum if that is right. For a piece that is broken or too long, the decoded
-    /// bytes, or none if they aren't shown.
+    /// The bytes of a message, without a right checksum. For a broken or too long piece, the decoded bytes that the
+    /// buffer holds, or none if they aren't shown.
     pub bytes: &'a [u8],
 }

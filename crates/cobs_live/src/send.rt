@@ -1,4 +1,4 @@
-//! Sending lines as frames.
+//! Sends lines as frames.
 ghost use Rattle.std.specs.Prelude.{◌≡◌, ◌≢◌, ◌↔◌, List, [], OnOk, IfOk, IfErr, IsOk, IsTrue, ℕ, Some, true};
 ghost use Rattle.std.specs.Io.Buffered.{writer_buffer, writer_inner};
 ghost use Rattle.std.specs.Io.KnownBytes.{Appends, Keeps};
@@ -29,17 +29,18 @@ pub struct Settings {
     pub sentinel: u8,
 }
 
-/// Sends each line of the input, without its newline, as a frame and its sentinel, and then flushes the output. If a
-/// checksum is set, it follows the line's bytes in the frame.
+/// Sends the message of each line of the input: writes its frame and the sentinel, and flushes the output before the
+/// next line is read. The message is the line without its newline or, if `settings.hex` is set, the bytes whose
+/// hexadecimal digits the line has. If `settings.checksum` is set, the checksum follows the message in the frame.
 ///
-/// Returns whether every line was sent. If `settings.hex` is set, a line that isn't hexadecimal digits is skipped, and its
-/// number, counted from 1, is reported on `errors`. An interrupted read is tried again. Memory is allocated for one
-/// line and its frame.
+/// Returns whether every line was sent. If `settings.hex` is set, a line that isn't hexadecimal digits is skipped, and
+/// its number, counted from 1, is reported on `errors`. An interrupted read is tried again. Memory is allocated for one
+/// line at a time, with its message and its frame.
 ///
-/// - `ReadFailed`: a read failed, or memory ran out while a line was read. All lines before it were sent.
+/// - `ReadFailed`: a read failed, or memory ran out while a line was read. All earlier lines were sent.
 /// - `WriteFailed`: a write or a flush failed. Part of a frame may have been written.
 /// - `OutputClosed`: a write or a flush failed because nobody reads the output any more.
-/// - `OutOfMemory`: memory ran out for a frame. All lines before it were sent.
+/// - `OutOfMemory`: memory ran out for the frame of a line. All earlier lines were sent.
 pub fn run_send<S: LiveLines<W>, W: Write + Drop, E: Write>(
     alloc: Global,
     settings: &Settings,
@@ -72,7 +73,7 @@ pub fn run_send<S: LiveLines<W>, W: Write + Drop, E: Write>(
     Err(WatchFault::ReadFailed)
 }
 
-/// Returns the line without the newline at its end.
+/// Returns the line without the newline at its end, if it has one.
 fn without_newline(line: &[u8]) -> &[u8]
     ensures text { result.now ≡ text_of line.now }
 {
@@ -83,7 +84,7 @@ fn without_newline(line: &[u8]) -> &[u8]
     }
 }
 
-/// Sends the text of a line, and returns whether it was sent.
+/// Sends the message of a line's text. Returns false if the text should be hexadecimal digits and isn't.
 fn send_text<W: Write + Drop>(
     alloc: Global,
     settings: &Settings,
@@ -117,7 +118,7 @@ fn send_text<W: Write + Drop>(
     }
 }
 
-/// Returns the digits of a line, without blanks, tabs and carriage returns.
+/// Returns the text of a line without its blanks, tabs and carriage returns.
 fn digits_of(alloc: Global, text: &[u8]) -> Result<Vec<u8>, AllocError>
     ensures digits { IfOk result (λ digits. digits.items ≡ digits_of text.now) }
 {
@@ -130,14 +131,15 @@ fn digits_of(alloc: Global, text: &[u8]) -> Result<Vec<u8>, AllocError>
     Ok(digits)
 }
 
-/// Returns whether a byte of a line may be a digit: it is no blank, tab or carriage return.
+/// Returns whether a byte of a line should be a digit, because it is no blank, tab or carriage return.
 fn is_digit(byte: u8) -> bool
     ensures digit { result ≡ is_digit byte }
 {
     !(byte == b' ' || byte == b'\t' || byte == b'\r')
 }
 
-/// Sends a message, with its checksum after it if one is set.
+/// Writes the frame of a message and the sentinel, and flushes the output. If a checksum is set, it follows the message
+/// in the frame.
 fn send_message<W: Write + Drop>(
     alloc: Global,
     settings: &Settings,
@@ -158,7 +160,8 @@ fn send_message<W: Write + Drop>(
     Ok(())
 }
 
-/// Returns the frame of a message, followed by the sentinel. If a checksum is set, the frame has it after the message.
+/// Returns the frame of a message, followed by the sentinel. If there is a checksum, it follows the message in the
+/// frame.
 fn summed_frame(
     alloc: Global,
     sentinel: u8,
@@ -174,7 +177,7 @@ fn summed_frame(
     ended_frame(alloc, sentinel, &whole)
 }
 
-/// Returns a message with its checksum after it.
+/// Returns a message, followed by its checksum.
 pub fn with_sum(alloc: Global, checksum: &Checksum, message: &[u8]) -> Result<Vec<u8>, AllocError>
     ensures sum { IfOk result (λ whole. whole.items ≡ with_sum (Some checksum.now) message.now) }
 {
@@ -188,6 +191,7 @@ pub fn with_sum(alloc: Global, checksum: &Checksum, message: &[u8]) -> Result<Ve
 fn ended_frame(alloc: Global, sentinel: u8, message: &[u8]) -> Result<Vec<u8>, AllocError>
     ensures frame { IfOk result (λ bytes. IsSent sentinel message.now bytes.items) }
 {
+    // The frame of a longer message could have a length that doesn't fit a `usize`.
     if usize::MAX / 2 < message.len() {
         return Err(AllocError);
     }

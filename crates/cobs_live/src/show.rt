@@ -32,32 +32,33 @@ use std::alloc::{AllocError, Global};
 use std::io::{BufWriter, ErrorKind, Write};
 use std::rt::Clock;
 
-/// The zero after a short frame is searched for first in this many bytes, which are one vector, and then in [`NEAR`] bytes.
+/// The zero after a short frame is first searched for in this many bytes, which fill one vector, and then in [`NEAR`]
+/// bytes.
 const NEAREST: usize = 16;
 
 /// A zero is searched for in at most this many bytes before all bytes are passed to the decoder.
 const NEAR: usize = 64;
 
-/// The most bytes of a read, 64 KiB. If a read returns fewer, they are shown without waiting for more.
+/// The most bytes of a read, 64 KiB. If a read returns fewer bytes, they are shown before more bytes are read.
 pub const CHUNK_LEN: usize = 65_536;
 
-/// Shows each piece of the input when its sentinel arrives. At the end of the input it shows whether another piece has
-/// begun. A hang-up of the line doesn't end a piece. It is shown whether a piece has begun, and then that the line hung
-/// up. The bytes that follow are skipped up to the first sentinel.
+/// Shows each piece of the input when its sentinel arrives. At the end of the input, shows `unfinished` if another
+/// piece has begun. A hang-up of the line doesn't end a piece: shows `unfinished` if a piece has begun, and then `hung
+/// up`. After a hang-up, all bytes up to the next sentinel are skipped.
 ///
-/// It calls [`Watch::show_next`] repeatedly. Each call reads once, and flushes the output before it reads. So all
-/// pieces that have ended so far have been written before the program waits for more bytes. Memory is allocated only
-/// before the first read: for a message of the greatest length, and for a chunk of the input.
+/// It calls [`Watch::show_next`] repeatedly. Each call reads once, shows the pieces that ended, and flushes the output.
+/// So all pieces that have ended so far have been written before the program waits for more bytes. Memory is allocated
+/// only before the first read: for a message of the greatest length, and for a chunk of the input.
 ///
 /// If `counting.at_end` is set, the counts are written to `errors` at the end, also after a fault. With
-/// `counting.every`, the counts so far are also written when bytes arrive, if this many milliseconds have passed since
-/// the start, or since the counts were last written. A failure to write them is no fault.
+/// `counting.every`, the counts so far are also written when bytes arrive, if at least that many milliseconds have
+/// passed since the start, or since the counts were last written. If the counts can't be written, that is no fault.
 ///
-/// - `ReadFailed`: a read failed, for example because the line hung up. All pieces that had ended before have been
-///   shown, and then whether another one had begun.
+/// - `ReadFailed`: a read failed, for example because the line hung up. All pieces that had ended have been shown, and
+///   then `unfinished` if another one had begun.
 /// - `WriteFailed`: a write or a flush failed. Part of the text may have been written.
 /// - `OutputClosed`: a write or a flush failed because nobody reads the output any more.
-/// - `OutOfMemory`: memory ran out. Nothing was read, and nothing written.
+/// - `OutOfMemory`: memory ran out. Nothing was read, and nothing was written.
 pub fn run_show<C: Clock + Drop, S: LiveInput<W>, W: Write + Drop, E: Write>(
     alloc: Global,
     settings: &Settings,
@@ -110,7 +111,7 @@ pub struct Watch<'a> {
     /// The times at which the last piece and the last bytes were read.
     clock: Times,
 
-    /// Whether bytes are still skipped, up to the first sentinel.
+    /// Whether bytes are skipped, up to the next sentinel.
     skipping: bool,
 }
 
@@ -121,7 +122,7 @@ impl<'a> Watch<'a> {
     /// Makes a watch that has shown nothing yet.
     ///
     /// # Errors
-    /// `AllocError` if memory for a message of the greatest length runs out.
+    /// `AllocError` if there is no memory for a message of the greatest length.
     pub fn new(alloc: Global, settings: &'a Settings) -> Result<Self, AllocError>
         ensures start { IfOk result (λ watch. (from before : Option (List ℕ)) →
             HasShownSoFar settings.now from from before before watch) }
@@ -138,16 +139,16 @@ impl<'a> Watch<'a> {
         })
     }
 
-    /// Reads once into `chunk`, shows each piece that ended in the bytes that were read, flushes the output, and
-    /// returns whether the input continues. At the end of the input, and if the read failed, it shows whether a piece
-    /// has begun and not ended. If the line hung up, it shows that too.
+    /// Reads bytes once into `chunk`, shows each piece that ends in them, flushes the output, and returns whether the
+    /// input continues. At the end of the input, after a failed read and after a hang-up, shows `unfinished` if a piece
+    /// has begun and not ended. After a hang-up, shows `hung up` too.
     ///
     /// Nothing is written before the read. When the read begins, all output has been passed on (`flushed`), so all
     /// pieces that had ended have been shown. An interrupted read is tried again.
     ///
     /// # Errors
-    /// `ReadFailed` if the read failed; then no piece has ended. `WriteFailed` if a write or a flush failed, and
-    /// `OutputClosed` if it failed because nobody reads the output any more.
+    /// `ReadFailed` if the read failed; no piece has ended in this call. `WriteFailed` if a write or a flush failed. If
+    /// it failed because nobody reads the output any more, the error is `OutputClosed` instead.
     pub fn show_next<C: Clock + Drop, S: LiveInput<W>, W: Write + Drop>(
         &mut self,
         timer: &Timer<'_, C>,
@@ -167,7 +168,7 @@ impl<'a> Watch<'a> {
             → IsLiveSoFar S.step start input.old settings from (S.remaining input.old) before
             (W.contents (writer_inner output.old)) self.old
             → IsLive S.step start input.new (HoldsText settings before) }
-        // If the input continues, the next call may assume the same.
+        // If the input continues, the assumption of `live` is also true for the next call.
         ensures goes_on { IfOk result (λ more. IsTrue more
             → (settings : Settings) (start : S) (from before : Option (List ℕ))
             → IsLiveSoFar S.step start input.old settings from (S.remaining input.old) before
@@ -212,8 +213,8 @@ impl<'a> Watch<'a> {
         Ok(true)
     }
 
-    /// Shows `unfinished` if a piece has begun and no sentinel has ended it. No bytes follow, because the input has
-    /// ended or can't be read.
+    /// Shows `unfinished` if a piece has begun and no sentinel has ended it. `end` is called if no bytes follow,
+    /// because the input has ended or can't be read.
     fn end<W: Write + Drop>(&self, output: &mut BufWriter<W>) -> Result<(), WatchFault>
         requires flushed { writer_buffer output.old ≡ [] }
         ensures shown { OnOk result (ShowsEnd (phase_of self.now.decoder) self.now.settings.now.view
@@ -228,8 +229,8 @@ impl<'a> Watch<'a> {
         Ok(())
     }
 
-    /// Shows whether a piece has begun and not ended, and then that the line hung up. The bytes of the next connection
-    /// are skipped up to its first sentinel, because it may begin in the middle of a frame.
+    /// Shows `unfinished` if a piece has begun and not ended, and then `hung up`. The bytes of the next connection are
+    /// skipped up to its first sentinel, because the connection may begin in the middle of a frame.
     fn hang_up<W: Write + Drop>(&mut self, output: &mut BufWriter<W>) -> Result<(), WatchFault>
         requires flushed { writer_buffer output.old ≡ [] }
         ensures shown { OnOk result (ShowsHangUp (phase_of self.old.decoder) self.old.settings.now.view
@@ -248,8 +249,8 @@ impl<'a> Watch<'a> {
     }
 }
 
-/// Reads once into the chunk, and again if the read was interrupted, and returns the result. Every read of [`run_show`]
-/// is made here, after all output has been passed on.
+/// Reads once into the chunk, and tries again if the read was interrupted. Every read of [`run_show`] is made here,
+/// after the output has been flushed.
 fn read_chunk<S: LiveInput<W>, W: Write + Drop>(
     input: &mut S,
     output: &BufWriter<W>,
@@ -282,6 +283,7 @@ fn has_begun(phase: DecoderPhase) -> bool
 {
     match phase {
         DecoderPhase::Idle => false,
+        // A full block, with nothing missing and nothing written, is the state of an idle decoder.
         DecoderPhase::Within {
             is_full,
             missing,
@@ -302,7 +304,8 @@ fn change_sentinel(bytes: &mut [u8], sentinel: u8)
     }
 }
 
-/// Returns the bytes after the first zero if bytes are skipped up to that zero, and otherwise all bytes.
+/// Returns the bytes after the first zero if `skipping` is set, and otherwise all bytes. If `skipping` is set and there
+/// is no zero, returns no bytes. The zero clears `skipping`.
 fn behind_first<'a>(skipping: &mut bool, bytes: &'a [u8]) -> &'a [u8]
     ensures begun { result.now ≡ begun skipping.old bytes.now }
     ensures skips { skipping.new ≡ skips_on skipping.old bytes.now }
@@ -359,8 +362,9 @@ fn show_bytes<W: Write>(
     Ok(())
 }
 
-/// Returns the bytes to pass to the decoder at once: those through the first zero if it is near, and otherwise all. A
-/// decoder takes a short frame in one step if it gets no other bytes.
+/// Returns the bytes to pass to the decoder in one call: those through the first zero if it is among the first [`NEAR`]
+/// bytes, and otherwise all bytes. So the decoder gets a short frame without the bytes after it, and chooses the path
+/// for that length.
 #[inline(always)]
 fn front(bytes: &[u8]) -> &[u8]
     requires some { 0 < length bytes.now }
@@ -380,7 +384,7 @@ fn front(bytes: &[u8]) -> &[u8]
     bytes
 }
 
-/// Returns the index after the first zero among the first `most` bytes, if there is one.
+/// Returns the index after the first zero among the first `most` bytes, if they have a zero.
 #[inline(always)]
 fn end_within(bytes: &[u8], most: usize) -> Option<usize>
     requires few { most ≤ 64 }
@@ -391,8 +395,8 @@ fn end_within(bytes: &[u8], most: usize) -> Option<usize>
     if zero < near { Some(zero + 1) } else { None }
 }
 
-/// Shows a piece with this number and these times. If its text can be composed, it is written in one call, or kept and
-/// later written with the text of other pieces.
+/// Shows a piece with this number and these times. If the piece's text can be composed, the text is written in one
+/// call, or is kept and later written with the text of other pieces.
 #[inline(always)]
 fn show_at_once<W: Write>(
     output: &mut W,

@@ -18,25 +18,27 @@ use std::io::{self, Write};
 /// How a piece is written.
 #[derive(Debug, PartialEq, Eq, Clone, Copy)]
 pub enum Style {
-    /// A line, with a message as hexadecimal digits.
+    /// A line for each piece, with the bytes of a message as hexadecimal digits.
     Hex,
 
-    /// A line, with a message as text if it is UTF-8 without hidden characters, and otherwise as hexadecimal digits.
+    /// A line for each piece, with a message as text if it is UTF-8 without hidden characters, and otherwise as
+    /// hexadecimal digits.
     Text,
 
-    /// The bytes of a message and a newline. Other pieces aren't shown.
+    /// The bytes of each message, followed by a newline. Other pieces aren't shown.
     Raw,
 
-    /// A line, and below it a message's bytes, sixteen per line, each line with its offset and the characters.
+    /// A line for each piece, and below it the bytes of a message, sixteen per line, with their offset and as
+    /// characters.
     Hexdump,
 
-    /// A line with a JSON object.
+    /// A JSON object for each piece, on a line.
     Json,
 
-    /// The bytes of a message and nothing else. Other pieces aren't shown.
+    /// The bytes of each message and nothing else. Other pieces aren't shown.
     Bytes,
 
-    /// A record of a libpcap capture for a message. Other pieces aren't shown.
+    /// A record of a libpcap capture for each message. Other pieces aren't shown.
     Pcap,
 }
 
@@ -63,25 +65,25 @@ pub struct Filter {
     pub min: usize,
     pub max: usize,
 
-    /// A piece is shown only if its bytes begin with these. If this list isn't empty, a piece whose bytes aren't shown
-    /// is held back.
+    /// A piece is shown only if its bytes begin with this prefix. If the prefix isn't empty, a piece whose bytes aren't
+    /// shown is held back.
     pub prefix: Vec<u8>,
 }
 
-/// How pieces are shown, and which.
+/// Which pieces are shown, and how.
 #[derive(Debug, PartialEq, Eq, Drop)]
 pub struct View {
     /// How a piece is written.
     pub style: Style,
 
-    /// Whether the kind of a piece, and the number of bytes that it decodes to, have a colour. `Hex`, `Text` and
-    /// `Hexdump` may have one.
+    /// Whether the title of a piece (its kind, and the number of bytes that it decodes to) has a colour. Only the
+    /// styles `Hex`, `Text` and `Hexdump` have titles.
     pub color: bool,
 
-    /// Whether each piece has its number before it. Pieces that a filter holds back are counted too.
+    /// Whether the number of each piece is written before its line. Pieces that a filter holds back are counted too.
     pub number: bool,
 
-    /// Which time is before the line of each piece, or in its object.
+    /// Which time is written before the line of each piece, or in its JSON object.
     pub stamp: Stamp,
 
     /// Which pieces are shown.
@@ -97,22 +99,23 @@ pub struct View {
 /// How a stream is read and shown.
 #[derive(Debug, PartialEq, Eq, Drop)]
 pub struct Settings {
-    /// How pieces are shown, and which.
+    /// Which pieces are shown, and how.
     pub view: View,
 
-    /// The length in bytes of the longest message that is shown: a piece that decodes to more is too long.
+    /// The length in bytes of the longest message that is shown, with its checksum if it has one. A piece that decodes
+    /// to more bytes is too long.
     pub length: usize,
 
     /// The byte that ends each frame.
     pub sentinel: u8,
 
     /// Whether all bytes up to the first sentinel are skipped, because reading may begin in the middle of a frame.
-    /// After a hang-up they are always skipped.
+    /// After a hang-up, all bytes up to the next sentinel are always skipped.
     pub skip_first: bool,
 }
 
-/// Returns the piece that ended as `end` says. Its output is at the front of `buffer`. With a checksum, a message's
-/// last bytes are taken as its checksum.
+/// Returns the piece that ended as `end` says. Its output is at the front of `buffer`. If there is a checksum, each
+/// message should end with it.
 pub fn sight_of<'a>(checksum: &Option<Checksum>, end: PieceEnd, buffer: &'a [u8]) -> Sight<'a>
     requires within { IsWithin (length buffer.now) end }
     ensures seen { seen_in result ≡ seen_of checksum.now (outcome_at end buffer.now) }
@@ -132,7 +135,7 @@ pub fn sight_of<'a>(checksum: &Option<Checksum>, end: PieceEnd, buffer: &'a [u8]
     }
 }
 
-/// Returns a message, which should end with the checksum if there is one.
+/// Returns the piece for a message, which should end with the checksum if there is one.
 fn message_sight<'a>(checksum: &Option<Checksum>, message: &'a [u8]) -> Sight<'a>
     ensures seen { seen_in result ≡ seen_message checksum.now message.now }
 {
@@ -153,7 +156,7 @@ pub fn sum_law()
         ≡ whole Message message }
 {}
 
-/// Returns a piece of this kind. All its bytes are shown.
+/// Returns a piece of this kind, all of whose bytes are shown.
 fn whole(kind: Kind, bytes: &[u8]) -> Sight<'_>
     ensures seen { seen_in result ≡ whole kind bytes.now }
 {
@@ -164,7 +167,7 @@ fn whole(kind: Kind, bytes: &[u8]) -> Sight<'_>
     }
 }
 
-/// Returns the piece. With `partial`, a broken or too long piece also has those of its decoded bytes that the buffer
+/// Returns the piece. If `partial` is set, a broken or too long piece has those of its decoded bytes that `buffer`
 /// holds.
 pub fn with_part<'a>(partial: bool, piece: &Sight<'a>, buffer: &'a [u8]) -> Sight<'a>
     ensures seen { seen_in result
@@ -211,7 +214,7 @@ impl Filter {
     }
 }
 
-/// Shows a piece with this number and these times.
+/// Shows a piece with this number and these times, unless the view's filter holds it back.
 pub fn show_piece<W: Write>(
     output: &mut W,
     view: &View,
@@ -232,7 +235,7 @@ pub fn show_piece<W: Write>(
     write_line(output, view, number, times, piece)
 }
 
-/// Writes the time of a piece before its line, if the style has it there.
+/// Writes the time of a piece before its line, if the style shows it there.
 fn write_time<W: Write>(output: &mut W, view: &View, times: &Times) -> io::Result<()>
     ensures written { OnOk result (Appends (W.contents output.old) (W.contents output.new)
         (in_front view.now.style view.now.stamp times.now)) }
@@ -243,7 +246,7 @@ fn write_time<W: Write>(output: &mut W, view: &View, times: &Times) -> io::Resul
     }
 }
 
-/// Shows the end of a stream. `unfinished` says whether a piece had begun.
+/// Shows the end of a stream: that a piece is unfinished, if one had begun.
 pub fn show_end<W: Write>(output: &mut W, view: &View, unfinished: bool) -> io::Result<()>
     ensures shown { OnOk result (Appends (W.contents output.old) (W.contents output.new)
         (shown_end view.now unfinished)) }
@@ -258,7 +261,7 @@ pub fn show_end<W: Write>(output: &mut W, view: &View, unfinished: bool) -> io::
     }
 }
 
-/// Shows that a line hung up. `unfinished` says whether a piece had begun before that; if so, this is shown first.
+/// Shows that a line hung up. If a piece had begun before the hang-up, that is shown first.
 pub fn show_hang_up<W: Write>(output: &mut W, view: &View, unfinished: bool) -> io::Result<()>
     ensures shown { OnOk result (Appends (W.contents output.old) (W.contents output.new)
         (shown_hang_up view.now unfinished)) }

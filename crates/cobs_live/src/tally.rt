@@ -17,7 +17,7 @@ pub struct Tally {
     pub bad_crc: u64,
     pub bytes: u64,
 
-    /// How many pieces were read, of all four kinds.
+    /// How many pieces of all four kinds were read.
     pub pieces: u64,
 
     /// Whether messages should end with checksums.
@@ -27,11 +27,11 @@ pub struct Tally {
 /// When the tally is written to standard error.
 #[derive(Debug, PartialEq, Eq, Clone, Copy)]
 pub struct Counting {
-    /// Whether it is written when the program ends: at the end of the input, or after a fault.
+    /// Whether the tally is written when the program ends: at the end of the input, or after a fault.
     pub at_end: bool,
 
-    /// If there is a number, the tally is also written when bytes arrive and this many milliseconds have passed since it was
-    /// last written, or since the start.
+    /// If there is a number, the tally is also written when bytes arrive, if at least this many milliseconds have
+    /// passed since the tally was last written, or since the start.
     pub every: Option<u64>,
 }
 
@@ -53,7 +53,7 @@ impl Counting {
 impl Tally {
     ghost use Rattle.std.specs.Prelude.{List, ℕ, [], ◌∷◌, ◌++◌, ◌+◌, ◌≡◌, Option, is_some};
 
-    /// Makes a tally of nothing.
+    /// Makes a tally whose counts are all 0.
     pub fn new(checked: bool) -> Self
         ensures none { (checksum : Option Checksum) → checked ≡ is_some checksum → IsTallyOf checksum result [] 0 }
     {

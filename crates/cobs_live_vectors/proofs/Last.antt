@@ -1,4 +1,4 @@
--- The last of the reads that were recorded.
+-- A lemma on the last of the reads that were recorded.
 use Rattle.std.proofs.Common.{◌≡◌, ℕ, List, [], ◌∷◌, ◌++◌, inl, inr, sym, ap, ◌∙◌, Option}
 use Rattle.cobs_live.specs.Reads.{IsLive, IsLiveAfter, Read, Runs}
 use Rattle.cobs_live_vectors.specs.Recorded.{IsRightAtLast, len_of}

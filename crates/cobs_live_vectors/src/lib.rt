@@ -1,5 +1,6 @@
-//! Tests of `cobs_live` with readers and writers that pass on few bytes, are interrupted, or fail; no contract says
-//! anything about them. Also callers that use its promise to show a piece before the next read.
+//! Tests of `cobs_live` with readers and writers that pass on few bytes, are interrupted, or fail. No contract says
+//! anything about these cases. The crate also has callers that use the promise of `cobs_live` to show a piece before
+//! the next read.
 #![tactic(auto)]
 
 pub mod recorder;

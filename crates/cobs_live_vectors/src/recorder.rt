@@ -1,4 +1,5 @@
-//! An input that records how many bytes had been written at each read, and callers that prove it.
+//! An input that records how many bytes had been written at the last read, and callers whose contracts say what that
+//! number is.
 ghost use Rattle.std.specs.Prelude.{◌≡◌, [], List, ℕ, Some};
 ghost use Rattle.std.specs.Io.Buffered.{writer_buffer, writer_inner};
 ghost use Rattle.cobs_live.specs.Live.{HoldsText};
@@ -16,7 +17,7 @@ use std::alloc::Global;
 use std::io::{self, BufRead, BufWriter, Read};
 use std::rt::Clock;
 
-/// Reads from some bytes, and keeps how many had been written at the last read.
+/// Reads from some bytes, and records how many bytes had been written to the output at the last read.
 #[derive(Drop)]
 pub struct Recorder<'a> {
     pub bytes: &'a [u8],
@@ -60,7 +61,7 @@ impl LiveLines<Vec<u8>> for Recorder<'_> {
     }
 }
 
-/// Shows a stream, and records it: at the last read, the text of all pieces that had ended was written.
+/// Shows a stream. At the last read, the text of all pieces that had ended was written, as the recorded number says.
 pub fn show_recorded<C: Clock + Drop>(
     alloc: Global,
     settings: &Settings,
@@ -86,7 +87,7 @@ pub fn show_recorded<C: Clock + Drop>(
     )
 }
 
-/// Sends lines, and records them: when the last line was read, the frames of those before it were written.
+/// Sends lines. When the last line was read, the frames of all earlier lines were written, as the recorded number says.
 pub fn send_recorded(
     alloc: Global,
     settings: &send::Settings,

@@ -21,11 +21,11 @@ use std::rt::Clock;
 use std::test::Fail;
 use std::time::Duration;
 
-/// Four pieces, for a buffer of four bytes, and the start of a fifth.
+/// Four pieces, for a buffer of four bytes, and the start of a fifth piece.
 const STREAM: &[u8] = b"\x00\x03\x07\x08\x00\x05\x01\x00\x06\x01\x02\x03\x04\x05\x00\x03hi\x00\x02";
 
-/// The text that is shown for these pieces, by style. In a capture each piece has the time of the one read, 250 ms
-/// after the start.
+/// The text that is shown for [`STREAM`], by style. In a capture each message has the time of the one read that
+/// returned the stream, 250 ms after the start.
 const SHOWN: [(Style, &[u8]); 7] = [
     (
         Style::Hex,
@@ -59,7 +59,7 @@ const SHOWN: [(Style, &[u8]); 7] = [
     ),
 ];
 
-/// The same in colours, by style.
+/// The text of [`SHOWN`] in colours, by style.
 const COLORED: [(Style, &[u8]); 3] = [
     (
         Style::Hex,
@@ -80,7 +80,8 @@ const COLORED: [(Style, &[u8]); 3] = [
     ),
 ];
 
-/// The same with the time of each piece, if a byte is read every 250 ms from 23:59:58.123 on, in UTC.
+/// The text of [`SHOWN`] with the time of each piece, by style and by the kind of time. A byte is read every 250 ms
+/// from 23:59:58.123 on, in UTC.
 const TIMED: [(Style, Stamp, &[u8]); 4] = [
     (
         Style::Hex,
@@ -109,8 +110,8 @@ const TIMED: [(Style, Stamp, &[u8]); 4] = [
     ),
 ];
 
-/// A broken piece, one that is too long for four bytes, one that decodes to no byte, and a message, with the decoded
-/// bytes of each.
+/// The text with decoded bytes, by style, for four pieces: a broken piece, a piece that is too long for four bytes, a
+/// piece that decodes to no byte, and a message.
 const PARTIAL: [(Style, &[u8]); 5] = [
     (
         Style::Hex,
@@ -139,7 +140,7 @@ const PARTIAL: [(Style, &[u8]); 5] = [
     ),
 ];
 
-/// Lines, and the frames that are sent for them.
+/// Whether lines have hexadecimal digits, the lines, the frames that are sent for them, and whether every line is sent.
 const SENT: [(bool, &[u8], &[u8], bool); 3] = [
     (
         false,
@@ -257,8 +258,9 @@ fn settings(alloc: Global, style: Style, stamp: Stamp) -> Settings {
     }
 }
 
-/// Returns how many bytes of the text of `Style::Hex` are written after this many bytes of `STREAM` were read: the lines of
-/// all pieces that have ended. Its pieces end after 5, 8, 15 and 19 bytes, and their lines have 15, 9, 9 and 15.
+/// Returns how many bytes of the text of `Style::Hex` are written after this many bytes of `STREAM` were read: the
+/// lines of all pieces that have ended. The pieces of `STREAM` end after 5, 8, 15 and 19 bytes, and their lines have
+/// 15, 9, 9 and 15 bytes.
 fn written_after(read: usize) -> usize {
     match read {
         0..5 => 0,
@@ -328,7 +330,8 @@ fn each_kind_has_its_colour(rt: HostRuntime) -> Result<(), Fail> {
 fn counts_are_written_after_each_interval(rt: HostRuntime) -> Result<(), Fail> {
     let alloc = rt.alloc();
     let settings = settings(alloc, Style::Hex, Stamp::Untimed);
-    // A read each 250 ms, of one byte: the fourth and the eighth end a second.
+    // Each read returns one byte, 250 ms after the read before it. So a second ends with the fourth read, and another
+    // with the eighth.
     let mut input = AnyInput::new(reader(
         b"\x02a\x00\x03b\x00\x02c\x00",
         usize::MAX,

@@ -6,7 +6,8 @@ ghost use Rattle.cobs_abi.specs.Encode.{Encodes, EncodesInPlace, EncodesTerminat
 use cobs::max_encoding_overhead;
 use cobs_abi::{Answer, done, encode_within, too_small, write_frame};
 
-/// Returns the length of the longest frame of a message of `message_len` bytes, or 0 if that number doesn't fit.
+/// Returns the length of the longest frame of a message of `message_len` bytes, or 0 if that length doesn't fit the
+/// type of the result.
 #[unsafe(no_mangle)]
 pub extern "C" fn jcobs_max_length(message_len: usize) -> usize
     ensures fits { max_encoded_len message_len < 2 ^ 64 → result ≡ max_encoded_len message_len }
@@ -29,8 +30,8 @@ pub extern "C" fn jcobs_encode(message: &[u8], frame: &mut [u8]) -> Answer
     done(message.len(), length)
 }
 
-/// Writes the frame of the message and a zero after it to the front of the buffer `frame`, if both fit. Otherwise nothing
-/// is written.
+/// Writes the frame of the message, followed by a zero, to the front of the buffer `frame`, if the frame and the zero
+/// fit. Otherwise nothing is written.
 #[unsafe(no_mangle)]
 pub extern "C" fn jcobs_encode_terminated(message: &[u8], frame: &mut [u8]) -> Answer
     ensures encodes { EncodesTerminated 0 message.now frame.old result frame.new }
@@ -48,9 +49,9 @@ pub extern "C" fn jcobs_encode_terminated(message: &[u8], frame: &mut [u8]) -> A
     done(message.len(), length + 1)
 }
 
-/// Encodes a message in its own buffer, if the longest frame of a message of `message_len` bytes fits. Otherwise nothing is
-/// written. The message lies in the buffer after the room for the other bytes of that frame, from the index
-/// JCOBS_MAX_OVERHEAD(message_len) on. Its frame is written to the front of the buffer.
+/// Encodes a message of `message_len` bytes in its own buffer, if the longest frame of such a message fits. Otherwise
+/// nothing is written. The message begins in the buffer at the index JCOBS_MAX_OVERHEAD(message_len), and its frame is
+/// written to the front of the buffer.
 #[unsafe(no_mangle)]
 pub extern "C" fn jcobs_encode_in_place(buffer: &mut [u8], message_len: usize) -> Answer
     ensures encodes { EncodesInPlace message_len buffer.old result buffer.new }

@@ -6,7 +6,7 @@ ghost use Rattle.cobs_abi.specs.Stream.{EncodesNext, Finishes, IsFreshEncoder};
 use cobs::UnbufferedEncoder;
 use cobs_abi::{Answer, encode_byte, encode_each, finish, finish_terminated};
 
-/// Puts the encoder back to the start, even if its state is corrupt: it has then taken nothing.
+/// Puts the encoder back to the start, even if its state is corrupt. The encoder has then taken no byte.
 #[unsafe(no_mangle)]
 pub extern "C" fn jcobs_encoder_reset(encoder: &mut UnbufferedEncoder)
     ensures fresh { IsFreshEncoder encoder.new }
@@ -51,7 +51,7 @@ pub extern "C" fn jcobs_encoder_finish(encoder: &mut UnbufferedEncoder, buffer: 
     finish(encoder, buffer)
 }
 
-/// Ends the message, as `jcobs_encoder_finish` does, and writes a zero after its frame, if both fit.
+/// Ends the message, as `jcobs_encoder_finish` does, and writes a zero after its frame, if the frame and the zero fit.
 #[unsafe(no_mangle)]
 pub extern "C" fn jcobs_encoder_finish_terminated(
     encoder: &mut UnbufferedEncoder,

@@ -15,7 +15,7 @@ struct Fed<'a> {
 }
 
 impl Check for Fed<'_> {
-    /// Checks that the result for each zero is the result of the piece before it.
+    /// Checks that the result for each zero is that of the piece that the zero ends.
     fn check<D: StreamingDecoder + Drop>(
         &self,
         rt: &impl Abort,
@@ -111,8 +111,8 @@ impl Check for Streamed<'_> {
     }
 }
 
-/// Checks each decoder with buffers of these lengths. Only a short list is fed byte by byte, because the reference
-/// reads each front again.
+/// Checks each decoder with buffers of these lengths. Only a short list is fed byte by byte, because for each byte the
+/// reference reads all bytes before it again.
 fn check_list(rt: &impl Abort, alloc: Global, list: &[u8], rooms: &[usize]) -> Result<(), Fail> {
     for room in rooms {
         check_all(rt, alloc, *room, &Streamed { list, room: *room })?;

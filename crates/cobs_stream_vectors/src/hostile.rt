@@ -5,7 +5,7 @@ use std::alloc::Global;
 use std::process::Abort;
 use std::test::Fail;
 
-/// For a buffer of this many bytes, bytes that lead from idle to each phase.
+/// The length of a buffer, and bytes that lead an idle decoder over this buffer to a phase: a row for each phase.
 const FRONTS: [(usize, Parts); 10] = [
     // idle, at the start and after a frame
     (4, &[]),
@@ -18,7 +18,7 @@ const FRONTS: [(usize, Parts); 10] = [
     // in a full block, and at its end
     (4, &[&[255, 1, 2]]),
     (254, &[&[255], &ONES]),
-    // over, in a block and at its end
+    // after a byte that didn't fit: in a block, and at its end
     (4, &[&[9, 1, 2, 3, 4, 5]]),
     (4, &[&[6, 1, 2, 3, 4, 5]]),
 ];
@@ -26,7 +26,8 @@ const FRONTS: [(usize, Parts); 10] = [
 /// The bytes that follow the write.
 const BEHIND: [&[u8]; 5] = [&[], &[1], &[3], &[2, 9], &[7, 8, 9, 1, 1, 1]];
 
-/// A buffer that is written to inside a piece: whatever the results are, the decoder is idle after the next zero.
+/// Writes to the buffer inside a piece, and passes more bytes. Whatever their results are, the decoder is idle after
+/// the next zero.
 #[derive(Drop)]
 struct Written<'a> {
     front: &'a [u8],
@@ -45,7 +46,7 @@ fn give<D: StreamingDecoder>(decoder: &mut D, bytes: &[u8], is_pushed: bool) {
     }
 }
 
-/// Checks that the decoder is idle: it reads the next frame.
+/// Checks that the decoder is idle, so that it decodes the next frame.
 fn check_idle<D: StreamingDecoder>(rt: &impl Abort, decoder: &mut D) {
     assert_eq!(rt; feed_all(rt, decoder, &[2, 5, 0]), CallResult::Length(1));
     assert!(rt; decoder.whole_buffer().starts_with(&[5]));
@@ -67,7 +68,7 @@ impl Check for Written<'_> {
     }
 }
 
-/// A reset inside a piece: the decoder is idle at once, and its buffer is as it was.
+/// Resets the decoder inside a piece. The decoder is idle at once, and its buffer is unchanged.
 #[derive(Drop)]
 struct Resets<'a> {
     front: &'a [u8],

@@ -10,7 +10,7 @@ use std::io::Read;
 use std::process::Abort;
 use std::test::Fail;
 
-/// The bytes that a reader returns, and how.
+/// The bytes that a reader returns, and in which reads.
 #[derive(Clone, Copy)]
 enum Given {
     /// The bytes, at most this many per read.
@@ -93,7 +93,7 @@ fn result_of(found: Found) -> Result<Next, ReadFault> {
     }
 }
 
-/// A reader, the result of each call, and how often it has been read then.
+/// A reader, the result of each call, and how often the reader has been read after these calls.
 type ReaderRow = (Given, &'static [Found], usize);
 
 /// Finds the frames of a reader.
@@ -127,13 +127,13 @@ fn find_in_each<D: FrameDecoder + Drop>(
     }
 }
 
-/// The end of a reader, after the end of a piece.
+/// The result at the end of a reader, if no piece is unfinished.
 const END: Found = Found::End { unfinished: false };
 
-/// A stream with a message, a broken piece, one that is too long for four bytes, and a message.
+/// A stream with a message, a broken piece, a piece that is too long for four bytes, and a message.
 const DAMAGED: &[u8] = &[0, 3, 7, 8, 0, 5, 1, 0, 6, 1, 2, 3, 4, 5, 0, 2, 9, 0];
 
-/// The outcomes of that stream.
+/// The outcomes of [`DAMAGED`] in a buffer of four bytes.
 const OUTCOMES: &[Found] = &[
     Found::Message(&[7, 8]),
     Found::Broken(1),
@@ -142,7 +142,7 @@ const OUTCOMES: &[Found] = &[
     END,
 ];
 
-/// Over a decoder of four bytes.
+/// Readers, for a decoder with a buffer of four bytes. The readers of a row are read one after another by one decoder.
 const READERS: [&[ReaderRow]; 12] = [
     // an unfinished piece continues with another reader
     &[

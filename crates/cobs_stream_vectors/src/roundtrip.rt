@@ -55,8 +55,8 @@ struct Pieces<'a> {
 }
 
 impl Check for Pieces<'_> {
-    /// Checks that each piece has no result or is an error, and that the sentinel has the result. After a piece that
-    /// was an error, each later one is an error too. The buffer then has the bytes of the message that fit.
+    /// Checks that each piece has no result or an error, and that the sentinel has the result `returned`. After a piece
+    /// with an error, each later piece has an error too. At the end, the buffer has the bytes of the message that fit.
     fn check<D: StreamingDecoder + Drop>(
         &self,
         rt: &impl Abort,

@@ -94,7 +94,7 @@ impl StreamingDecoder for CobsDecoderOwned {
     }
 }
 
-/// A test of a new streaming decoder, for each of the three.
+/// A test that is run with each of the three streaming decoders, each of them new.
 pub trait Check {
     fn check<D: StreamingDecoder + Drop>(
         &self,

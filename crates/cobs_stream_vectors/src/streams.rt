@@ -30,10 +30,11 @@ fn outcomes_of(alloc: Global, wanted: &[Wanted]) -> Result<Vec<FrameOutcome>, Al
 /// A stream, and its outcomes in a buffer of this many bytes.
 type Case = (usize, &'static [u8], &'static [Wanted]);
 
-/// Over four bytes: a message, a broken piece, a piece that is too long, and a message.
+/// A stream whose pieces, in a buffer of four bytes, are a message, a broken piece, a piece that is too long, and a
+/// message.
 const DAMAGED: [u8; 18] = [0, 3, 7, 8, 0, 5, 1, 0, 6, 1, 2, 3, 4, 5, 0, 2, 9, 0];
 
-/// Its outcomes.
+/// The outcomes of [`DAMAGED`] in a buffer of four bytes.
 const OUTCOMES: [Wanted; 4] = [
     Wanted::Message(&[7, 8]),
     Wanted::Broken(1),
@@ -193,7 +194,7 @@ fn a_stream_gives_the_same_outcomes_however_it_is_cut(rt: HostRuntime) -> Result
     check_cuts(&rt, rt.alloc(), &CASES)
 }
 
-/// A stream that has these outcomes, then this many others, and then these.
+/// A stream that has the outcomes `before`, then `own` other outcomes, and then the outcomes `behind`.
 #[derive(Drop)]
 struct Damage<'a> {
     stream: &'a [u8],
@@ -248,8 +249,8 @@ const PLACES: [(usize, usize, bool); 13] = [
     (16, 3, false),
 ];
 
-/// Checks that a stream which differs from the damaged one in one of its pieces has the outcomes of the other pieces,
-/// and this many of its own.
+/// Checks a stream that differs from the damaged stream in one piece. It has the outcomes of the other pieces and, in
+/// place of that piece's outcome, this many others.
 fn check_damage(
     rt: &impl Abort,
     alloc: Global,

@@ -1,4 +1,4 @@
--- Lemmas on the bytes that a call has read.
+-- Lemmas on the bytes of its input that a call has read.
 use Rattle.std.proofs.Common.{◌≡◌, ◌+◌, ◌<◌, ◌≤◌, ℕ, List, ◌++◌, length, Option, Some, None, Result, Ok, Err, ap, sym, ◌∙◌, append_assoc, arith, refl}
 use Rattle.std.specs.Prelude.{IsErrAnd}
 use Rattle.std.specs.Io.KnownBytes.{Consumes}
@@ -7,7 +7,7 @@ use Rattle.cobs_tool.specs.declared.fault.ToolFault.TheVariants.{InputTooLong, O
 use Rattle.cobs_tool.specs.declared.input.TheConstants.{READ_LEN}
 use Rattle.cobs_tool.specs.Input.{HasRead, max_input}
 
--- what two reads gave in turn
+-- the bytes that two reads returned one after the other
 pub Consumes-append : (a b c : Option (List ℕ)) (xs ys : List ℕ) → Consumes a b xs → Consumes b c ys → Consumes a c (xs ++ ys)
 Consumes-append None b c xs ys p q = tt
 Consumes-append (Some x) None c xs ys p q = absurd p

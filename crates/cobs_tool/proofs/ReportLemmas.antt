@@ -1,4 +1,4 @@
--- Lemmas on what becomes of the pieces of a stream, in words.
+-- Lemmas on the report of a stream: the line of each piece, and the last line.
 use Rattle.std.proofs.Common.{◌≡◌, ◌+◌, ◌<◌, ◌≤◌, ℕ, Bool, if◌then◌else◌, List, [], ◌∷◌, ◌++◌, length, codes, cond, Result, Ok, Err, is_ok, OnOk, refl, ap, sym, ◌∙◌, arith, append_assoc, append-nil, length-append, subst, take}
 use Rattle.std.proofs.lemmas.Fmt.{decimal_digit}
 use Rattle.std.specs.List.{flat_map}
@@ -28,11 +28,11 @@ pushed_line (Err v) old new line line' e pushed = tt
 
 -- PIECE BY PIECE
 
--- the report is said line by line
+-- the report has one line after another
 report_is : (stream : List ℕ) (n : ℕ) → n ≡ longest_message → report stream ≡ flat_map outcome_line (stream_outcomes stream n) ++ unfinished_line stream
 report_is stream n e = ap (λ k. flat_map outcome_line (stream_outcomes stream k) ++ unfinished_line stream) (sym e)
 
--- what no zero has ended in a stream is that of what follows a zero
+-- the bytes of a stream that no zero has ended are those after its last zero
 unended-behind : (law : StreamLaw) (front behind : List ℕ) → unended (front ++ 0 ∷ behind) ≡ unended behind
 unended-behind law front behind =
     ap unended (sym (append_assoc front (0 ∷ []) behind)) ∙ law.left (front ++ 0 ∷ []) behind ∙ ap (λ l. unended (l ++ behind)) (law.ended front)
@@ -70,7 +70,7 @@ pub record PieceReported (reader : ReaderState) (source : InMemory) (reader' : R
   pub fewer : length reader'.kept + length (bytes_left source') < length reader.kept + length (bytes_left source)
   pub idle : ReaderAfter reader' []
 
--- what was still to be reported, by the bytes that the reads gave
+-- the bytes that were still to be reported, given the bytes that the reads returned
 left_of-given : (reader : ReaderState) (source : InMemory) (reads : List Read) (source' : InMemory) → Runs MemoryStep source reads source'
     → left_of reader source ≡ (reader.kept ++ all_given reads) ++ bytes_left source'
 left_of-given reader source reads source' runs =
@@ -115,7 +115,7 @@ too_long_reported law reader source reader' source' next idle len =
 abbrev pub unfinished_text : Bool → List ℕ
 unfinished_text unfinished = if unfinished then codes "unfinished\n" else []
 
--- nothing is left after the end
+-- no byte is left after the end
 pub stream_end_reported : (reader : ReaderState) (source : InMemory) (reader' : ReaderState) (source' : InMemory) (unfinished : Bool)
     → ReadsNext MemoryStep source source' reader (Ok (nexts.End unfinished)) reader' → ReaderAfter reader [] → length reader'.buffer ≡ longest_message
     → report (left_of reader source) ≡ unfinished_text unfinished
@@ -128,7 +128,7 @@ stream_end_reported reader source reader' source' unfinished next idle len =
     ∙ report-none t (length reader'.buffer) len stated.0.none_ended
     ∙ ap unfinished_text (sym stated.2)
 
--- a call over 1 MiB or less meets no fault: no read fails, and one in 64 bytes is enough
+-- over a stream of 1 MiB or less a call has no fault: no read fails, and one read for each 64 bytes is few enough
 pub no_fault : (reader : ReaderState) (source : InMemory) (reader' : ReaderState) (source' : InMemory) (fault : ReadFault)
     → ReadsNext MemoryStep source source' reader (Err fault) reader' → ReaderAfter reader [] → length (left_of reader source) ≤ max_input → ⊥
 no_fault reader source reader' source' faults.Io next idle few =
@@ -153,7 +153,7 @@ report-start text kept left stream none nothing all = ap (λ l. l ++ report (kep
 pub text_all : (text text' line rest whole : List ℕ) → text ++ rest ≡ whole → rest ≡ line → text' ≡ text ++ line → text' ≡ whole
 text_all text text' line rest whole before last pushed = pushed ∙ ap (λ l. text ++ l) (sym last) ∙ before
 
--- the bytes that are still to be reported get fewer
+-- the number of bytes that are still to be reported decreases
 pub still_few : (reader : ReaderState) (source : InMemory) (reader' : ReaderState) (source' : InMemory) (outcome : Outcome) (most : ℕ)
     → PieceReported reader source reader' source' outcome → length (left_of reader source) ≤ most → length (left_of reader' source') ≤ most
 still_few reader source reader' source' outcome most piece few =

@@ -1,4 +1,4 @@
--- Lemmas on printed text.
+-- Lemmas on the text of bytes that are printed as digits with spaces between them.
 use Rattle.std.proofs.Common.{◌≡◌, ◌+◌, ◌/◌, ◌%◌, ◌<◌, ◌≤◌, ◌^◌, ◌-◌, ℕ, zero, suc, Bool, true, false, ◌&&◌, eqb, List, [], ◌∷◌, ◌++◌, map, length, take, get_or, slice_index, length-take, refl, ap, sym, ◌∙◌, append_assoc, arith}
 use Rattle.std.proofs.lemmas.Bool.Decides.{Decides-below_and, Decides-eqb}
 use Rattle.std.proofs.lemmas.Fmt.{hex_byte}
@@ -18,7 +18,7 @@ digit_glyph_is : (d : ℕ) → d < 16 → digit_glyph false d ≡ slice_index lo
 unfolding all_in_table
 digit_glyph_is d below = (Decides-below_and (λ k. eqb (digit_glyph false k) (slice_index lower_digits k)) (λ k. digit_glyph false k ≡ slice_index lower_digits k) all_in_table (λ k. Decides-eqb _ _) refl (λ _. refl) 16).0 refl d below
 
--- what `{:02x}` writes of a byte
+-- the text that `{:02x}` writes for a byte
 pub hex_of_is : (byte : ℕ) → byte < 256
     → padded_integral (format_spec 32 0 4 2 (2 ^ 64 - 1)) false [] (digits 16 false byte) ≡ hex_of byte
 unfolding encode_with

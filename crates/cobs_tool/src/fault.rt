@@ -1,4 +1,4 @@
-//! The faults of the program once its arguments have been read.
+//! The faults that end a mode early.
 ghost use Rattle.std.specs.Prelude.{◌≡◌};
 ghost use Rattle.cobs_tool.specs.declared.fault.ToolFault.TheVariants.{OutOfMemory};
 
@@ -10,7 +10,7 @@ pub enum ToolFault {
     /// A read of the input failed, or was interrupted. Nothing has been written.
     ReadFailed,
 
-    /// A write of the output failed. Part of it may have been written.
+    /// A write of the output failed. Part of the output may have been written.
     WriteFailed,
 
     /// Memory ran out. Nothing has been written.

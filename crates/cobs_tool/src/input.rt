@@ -16,10 +16,10 @@ pub const READ_LEN: usize = 8_192;
 ///
 /// - `ReadFailed`: a read failed. An interrupted read is a failed read, and isn't tried again.
 /// - `InputTooLong`: the input has more than [`MAX_INPUT`] bytes. No memory was allocated for the read that exceeded
-///   them.
+///   this limit.
 /// - `OutOfMemory`: memory for a read's bytes ran out.
 ///
-/// Nothing is read after a read that failed, returned 0 bytes or returned too many.
+/// Nothing is read after a read that failed, returned 0 bytes or exceeded the limit.
 pub fn read_input<R: Read>(alloc: Global, input: &mut R) -> Result<Vec<u8>, ToolFault>
     ensures read { HasRead (R.remaining input.old) (R.remaining input.new) result }
     ensures whole { IfOk result (λ bytes. IfSome (R.remaining input.old) (λ m. bytes.items ≡ m)) }

@@ -1,16 +1,15 @@
 //! Frames on the command line.
 //!
-//! `cobs_tool` reads standard input to its end, at most [`input::MAX_INPUT`] bytes, and then writes to standard
-//! output:
+//! `cobs_tool` reads standard input to its end, at most [`input::MAX_INPUT`] bytes, and then writes to standard output:
 //!
 //! | argument | input | output |
 //! |---|---|---|
 //! | none, or `show` | a message | its frame and a zero, as hexadecimal digits, on one line |
-//! | `encode` | a message | the same bytes raw |
+//! | `encode` | a message | its frame and a zero, as raw bytes |
 //! | `decode` | a stream of frames | a line for each piece of the stream that a zero ends |
 //!
-//! The exit status is 0. It is 1, with a line on standard error, if a read, a write or an allocation failed, and 2,
-//! with the usage, for other arguments.
+//! The exit status is 0 if nothing failed. It is 1, with a line on standard error, if the input is too long, or if a
+//! read, a write or an allocation failed. It is 2, with the usage, for other arguments.
 #![tactic(auto)]
 
 mod fault;
@@ -48,7 +47,7 @@ fn main(rt: HostRuntime) -> ExitCode {
     }
 }
 
-/// Returns the mode that the program's arguments ask for, or `None` if they ask for none or can't be read.
+/// Returns the mode that the program's arguments ask for, or `None` if they ask for no mode or can't be read.
 fn mode_of_arguments(rt: &HostRuntime) -> Option<Mode> {
     let words: Vec<String> = env::args(rt).ok()?.skip(1).collect(rt.alloc()).ok()?;
     mode_of(&words)

@@ -2,8 +2,8 @@
 //!
 //! A *growth* is an allocation of memory. Each test here except the last passes whichever growth fails: a mode writes
 //! its whole output, or returns `OutOfMemory` and writes nothing. The last test passes only if no growth fails.
-//! `tests/fail-alloc.sh` makes one growth fail in each run, the first one in the first run and so on, until the last
-//! test passes.
+//! `tests/fail-alloc.sh` makes one growth fail in each run: the first growth in the first run, the second growth in the
+//! second run, and so on, until the last test passes.
 use crate::fault::ToolFault;
 use crate::mode::Mode;
 use crate::modes::run_mode;
@@ -12,7 +12,7 @@ use std::io;
 use std::io::Write;
 use std::process::Abort;
 
-/// The output of a mode, in memory.
+/// The output of a mode, in an array, so that a write allocates nothing.
 #[derive(Drop)]
 struct Page {
     bytes: [u8; 128],
@@ -56,14 +56,15 @@ fn writes(rt: &impl Abort, alloc: Global, mode: &Mode, input: &[u8], output: &[u
     }
 }
 
-/// A message of two blocks, and the output of the two modes for messages.
+/// A message of two blocks. The outputs of `show` and `encode` for this message follow.
 const MESSAGE: &[u8] = b"hello\0";
 
 const SHOWN: &[u8] = b"06 68 65 6c 6c 6f 01 00\n";
 
 const ENCODED: &[u8] = b"\x06hello\x01\0";
 
-/// A stream of a message, the empty message, a broken piece and an unfinished one, and the output for it.
+/// A stream: a message, the empty message, a broken piece and an unfinished piece. The output of `decode` for this
+/// stream follows.
 const STREAM: &[u8] = b"\x06hello\0\x01\0\x03\x07\0\x02";
 
 const REPORT: &[u8] = b"message 5 68656c6c6f\nmessage 0\nbroken 1\nunfinished\n";

@@ -1,4 +1,4 @@
-//! Reads the arguments: the mode that they ask for.
+//! Finds the mode that the arguments ask for.
 ghost use Rattle.std.specs.Prelude.{◌≡◌, ◌↔◌, ◌⊎◌, [], ◌∷◌, codes, Some, None};
 ghost use Rattle.cobs_tool.specs.Words.{texts};
 
@@ -31,7 +31,7 @@ pub fn mode_of(words: &[String]) -> Option<Mode>
     }
 }
 
-/// Returns the mode with this name.
+/// Returns the mode with this name, if there is one.
 fn mode_named(word: &str) -> Option<Mode>
     ensures show { (result ≡ Some Mode.Show) ↔ (word.now ≡ codes "show") }
     ensures encode { (result ≡ Some Mode.Encode) ↔ (word.now ≡ codes "encode") }

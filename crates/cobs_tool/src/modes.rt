@@ -36,9 +36,9 @@ pub fn run_mode<R: Read, W: Write>(
 
 /// Prints the encoded frame of the input, and the zero after it, with two hexadecimal digits per byte.
 ///
-/// The whole input is one message. It is read to its end first, and the whole line is made before any of it is written.
-/// So after every fault except `WriteFailed` nothing has been written. After a `WriteFailed`, part of the line may have
-/// been written. Whether an interrupted write is tried again isn't specified.
+/// The whole input is one message. The input is read to its end, and the whole line is made, before any byte of the
+/// line is written. So after every fault except `WriteFailed` nothing has been written. After a `WriteFailed`, part of
+/// the line may have been written. Whether an interrupted write is tried again isn't specified.
 ///
 /// - `ReadFailed`: a read failed. An interrupted read is a failed read.
 /// - `InputTooLong`: the reader returned more than [`MAX_INPUT`] bytes.
@@ -64,7 +64,7 @@ pub fn run_show<R: Read, W: Write>(
 
 /// Writes the encoded frame of the input, and a zero after it.
 ///
-/// The whole input is one message. It is read as [`run_show`] reads it, with the same faults.
+/// The whole input is one message. The input is read in the same way as by [`run_show`], and the faults are the same.
 pub fn run_encode<R: Read, W: Write>(
     alloc: Global,
     input: &mut R,
@@ -82,10 +82,10 @@ pub fn run_encode<R: Read, W: Write>(
     write_output(output, &frame)
 }
 
-/// Prints the outcome of each piece of the input, as [`report_of`] says. The input is a stream of frames, each ended by
-/// a zero.
+/// Prints the lines that [`report_of`] returns for the pieces of the input. The input is a stream of frames, each ended
+/// by a zero.
 ///
-/// It is read as [`run_show`] reads it, with the same faults.
+/// The input is read in the same way as by [`run_show`], and the faults are the same.
 pub fn run_decode<R: Read, W: Write>(
     alloc: Global,
     input: &mut R,

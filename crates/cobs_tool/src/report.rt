@@ -10,7 +10,7 @@ use cobs::{CobsDecoderOwned, FrameReader, Next};
 use cobs_lines::InMemory;
 use std::alloc::{AllocError, Global};
 
-/// The length of the longest message that is decoded, 64 KiB: a piece that decodes to more is too long.
+/// The length of the longest message that is decoded, 64 KiB. A piece that decodes to more bytes is too long.
 pub const DECODE_BUFFER_LEN: usize = 65_536;
 
 /// Returns one line for each piece of the stream that a zero ends, in order, and then the line `unfinished` if a piece

@@ -10,10 +10,10 @@ use std::io::{self, ErrorKind, Read, Write};
 use std::process::Abort;
 use std::test::Fail;
 
-/// A mode, an input, and the output for it.
+/// A mode, an input, and the output of the mode for this input.
 type Row = (Mode, &'static [u8], &'static [u8]);
 
-/// The rows with which everything else is compared.
+/// The modes, inputs and outputs that most of these tests use.
 const ROWS: [Row; 11] = [
     (Mode::Show, b"hello", b"06 68 65 6c 6c 6f 00\n"),
     (Mode::Show, b"", b"01 00\n"),
@@ -103,7 +103,7 @@ fn words(alloc: Global, texts: &[&str]) -> Result<Vec<String>, AllocError> {
     Ok(words)
 }
 
-/// Checks that the words choose this mode, or none.
+/// Checks that the words of each row choose the mode of that row, or no mode.
 fn check_words(
     rt: &impl Abort,
     alloc: Global,
@@ -162,8 +162,8 @@ fn rows_are_written(rt: HostRuntime) {
     check_rows(&rt, rt.alloc(), &ROWS);
 }
 
-/// Makes the read with this number, if there is one, fail with this fault. There are as many reads as bytes, and one
-/// more for the end.
+/// Runs the row's mode, in which the read with the number `failing` fails with this fault, if there is such a read. A
+/// mode makes one read for each byte, and one more for the end.
 fn check_read(rt: &impl Abort, alloc: Global, row: &Row, fault: ErrorKind, failing: usize) {
     let (mode, bytes, written) = row;
     let mut input = ByteReader {
@@ -191,7 +191,8 @@ fn check_read(rt: &impl Abort, alloc: Global, row: &Row, fault: ErrorKind, faili
     }
 }
 
-/// Makes each read of each row fail, one at a time, with either fault, and then none.
+/// Checks each row: runs its mode once for each read and each of two faults, so that this read fails with this fault.
+/// The last number is that of no read, so that no read fails.
 fn check_reads(rt: &impl Abort, alloc: Global, rows: &[Row]) {
     for row in rows {
         let (_, bytes, _) = row;
@@ -207,7 +208,8 @@ fn each_read_may_fail(rt: HostRuntime) {
     check_reads(&rt, rt.alloc(), &ROWS);
 }
 
-/// Makes the write with this number fail, if there is one, and each flush if `fails_to_flush`.
+/// Runs the row's mode, in which the write with the number `failing` fails, if there is such a write. If
+/// `fails_to_flush` is set, each flush fails too.
 fn check_write(rt: &impl Abort, alloc: Global, row: &Row, failing: usize, fails_to_flush: bool) {
     let (mode, bytes, written) = row;
     let mut input = *bytes;
@@ -230,7 +232,8 @@ fn check_write(rt: &impl Abort, alloc: Global, row: &Row, failing: usize, fails_
     }
 }
 
-/// Makes each write of each row fail, one at a time, then none, and then the flush.
+/// Checks each row: runs its mode once for each write, so that this write fails, then once without a failure, and then
+/// once so that the flush fails.
 fn check_writes(rt: &impl Abort, alloc: Global, rows: &[Row]) {
     for row in rows {
         let (_, _, written) = row;
@@ -246,8 +249,8 @@ fn each_write_and_each_flush_may_fail(rt: HostRuntime) {
     check_writes(&rt, rt.alloc(), &ROWS);
 }
 
-/// Checks that the mode writes this many bytes for the longest input, and rejects an input that is a byte longer, and
-/// one without end.
+/// Checks that the mode writes `count` bytes for the longest input, and rejects an input that is a byte longer and an
+/// input without end.
 fn check_limit(rt: &impl Abort, alloc: Global, mode: &Mode, zeros: &[u8], count: usize) {
     let mut output = Vec::new(alloc);
     let mut longest = zeros.split_last().map_or(zeros, |(_, front)| front);

@@ -1,4 +1,4 @@
--- The bytes between two sentinels, and the message at the front of a buffer.
+-- Lemmas on the piece between two sentinels, and on the message at the front of a buffer.
 use Rattle.std.proofs.Common.{◌≢◌, ◌≤◌, ℕ, List, [], ◌∷◌, length, take, refl, arith, length-take}
 use Rattle.cobs.specs.Grammar.{HasNoZero, Reads}
 use Rattle.cobs.specs.Headline.{BeginsWith, IsPiece}
@@ -9,7 +9,7 @@ pub coded_piece : (s : ℕ) (bytes : List ℕ) → bytes ≢ [] → HasNoZero (x
 coded_piece s [] some nonzero = absurd (some refl)
 coded_piece s (byte ∷ bytes) some nonzero = grind arith
 
--- what reads as the front of a buffer reads as the message that is there, which the buffer holds
+-- a piece that reads as the front of a buffer reads as the message there, which fits the buffer
 pub reads_front : (f buffer m : List ℕ) (n : ℕ) → Reads f (take n buffer) → BeginsWith buffer n m → Reads f m
 reads_front f buffer m n reads begins = grind arith
 

@@ -10,7 +10,7 @@ pub const ONES: [u8; 254] = [1; 254];
 /// Two runs of 1,000 ones with a zero between them.
 pub const LONG_MESSAGE: Parts = &[&[1; 1000], &[0], &[1; 1000]];
 
-/// Their frame: each run is three full blocks and a block of 238 bytes.
+/// The frame of [`LONG_MESSAGE`]: each run is three full blocks and a block of 238 bytes.
 pub const LONG_FRAME: Parts = &[
     &[255],
     &ONES,
@@ -39,7 +39,7 @@ pub fn joined(alloc: Global, lists: &[&[u8]]) -> Result<Vec<u8>, AllocError> {
     Ok(whole)
 }
 
-/// Returns `count` times the same byte.
+/// Returns `count` bytes that all equal `byte`.
 pub fn repeated(alloc: Global, byte: u8, count: usize) -> Result<Vec<u8>, AllocError> {
     vec![in alloc; byte; count]
 }

@@ -52,7 +52,8 @@ pub fn reads_for(sentinel: u8, piece: &[u8], message: &[u8], buffer: &mut [u8]) 
     }
 }
 
-/// Decodes a short frame at once and any other one by a call, with the results of [`decode`].
+/// Decodes a short frame by [`decode_short`] and any other frame by [`decode`]. The result is always that of
+/// [`decode`].
 pub fn decode_either(source: &[u8], dest: &mut [u8]) -> Result<DecodeReport, DecodeError>
     ensures returned { result ≡ result_of_decode source.now (length dest.old) }
     ensures buffer { dest.new ≡ overwritten dest.old (first_output source.now) }
@@ -63,7 +64,8 @@ pub fn decode_either(source: &[u8], dest: &mut [u8]) -> Result<DecodeReport, Dec
     }
 }
 
-/// Decodes a short frame in place at once, and any other one by a call, with the results of [`decode_in_place_report`].
+/// Decodes a short frame by [`decode_short_in_place`] and any other frame by [`decode_in_place_report`]. The result is
+/// always that of [`decode_in_place_report`].
 pub fn decode_either_in_place(buffer: &mut [u8]) -> Result<DecodeReport, DecodeError>
     ensures returned { result ≡ in_place_report buffer.old }
     ensures buffer { buffer.new ≡ in_place buffer.old }
@@ -74,7 +76,7 @@ pub fn decode_either_in_place(buffer: &mut [u8]) -> Result<DecodeReport, DecodeE
     }
 }
 
-/// Decodes a frame that is known to be short, for which no other call is needed. Returns whether it was decoded.
+/// Decodes a frame that is known to be short. Returns whether [`decode_short`] decoded it, as it always does.
 pub fn decode_known_short(frame: &[u8], dest: &mut [u8]) -> bool
     requires nonzero { HasNoZero frame.now }
     requires few { (2 ≤ length frame.now) × (length frame.now ≤ 65) }
@@ -85,7 +87,8 @@ pub fn decode_known_short(frame: &[u8], dest: &mut [u8]) -> bool
     decode_short(frame, dest).is_some()
 }
 
-/// Decodes a frame in place that is known to be short, and whose blocks are all whole. Returns whether it was decoded.
+/// Decodes in place a frame that is known to be short, and whose blocks are all whole. Returns whether
+/// [`decode_short_in_place`] decoded it, as it always does.
 pub fn decode_known_short_in_place(frame: &mut [u8]) -> bool
     requires nonzero { HasNoZero frame.old }
     requires few { (2 ≤ length frame.old) × (length frame.old ≤ 65) }
@@ -226,14 +229,14 @@ pub fn frames_of(alloc: Global, messages: &[Vec<u8>]) -> Result<Option<Vec<u8>>,
     Ok(Some(encode_frames(alloc, messages)?))
 }
 
-/// Pushes a zero, which changes no byte of the buffer, in any phase and also if the caller wrote to it inside a piece.
+/// Pushes a zero, in any phase. No byte of the buffer changes, even if the caller wrote to the buffer inside a piece.
 pub fn push_zero(decoder: &mut CobsDecoderOwned)
     ensures same_bytes { owned_buffer decoder.new ≡ owned_buffer decoder.old }
 {
     let _returned = decoder.push(&[0]);
 }
 
-/// Pushes no bytes, which changes nothing, in any phase.
+/// Pushes no bytes, in any phase. Nothing changes.
 pub fn push_nothing(decoder: &mut CobsDecoder<'_>)
     ensures same_bytes { borrowed_buffer decoder.new ≡ borrowed_buffer decoder.old }
     ensures same_phase { borrowed_phase decoder.new ≡ borrowed_phase decoder.old }
@@ -373,7 +376,8 @@ pub fn buffer_len<const N: usize>(decoder: &CobsDecoderHeapless<N>) -> usize
     decoder.dest().len()
 }
 
-/// Does nothing. For each length there is a message of bytes with the longest frame that is possible.
+/// Does nothing when it runs. Its contract says that for each length there is a message with the longest frame that is
+/// possible.
 pub fn longest_frame(len: usize)
     ensures { (m : List ℕ) × (f : List ℕ) × (length m ≡ len) × All (λ byte. byte < 256) m × IsEncodedFrame f m
         × All (λ byte. byte < 256) f × (length f ≡ max_encoded_len len) }
@@ -393,7 +397,8 @@ pub fn copy_of(report: &DecodeReport) -> DecodeReport
     }
 }
 
-/// Returns whether two reports are equal: whether both sizes are.
+/// Returns whether two reports are equal. They are if their message lengths are equal, and the numbers of consumed
+/// bytes too.
 pub fn are_same_reports(first: &DecodeReport, second: &DecodeReport) -> bool
     ensures { IsTrue result ↔ ((parsed_size_of first.now ≡ parsed_size_of second.now)
         × (frame_size_of first.now ≡ frame_size_of second.now)) }
@@ -401,14 +406,14 @@ pub fn are_same_reports(first: &DecodeReport, second: &DecodeReport) -> bool
     first == second
 }
 
-/// Returns whether two errors are equal: whether their variants are, and the bytes that they count.
+/// Returns whether two errors are equal. They are if they are the same variant, with the same number of bytes.
 pub fn are_same_errors(first: &DecodeError, second: &DecodeError) -> bool
     ensures { IsTrue result ↔ (first.now ≡ second.now) }
 {
     first == second
 }
 
-/// Returns whether two errors of an encoder are equal. They are, because there is only one.
+/// Returns whether two errors of an encoder are equal. They always are, because there is only one such error.
 pub fn are_same_room_errors(first: &DestBufTooSmallError, second: &DestBufTooSmallError) -> bool
     ensures { IsTrue result }
 {

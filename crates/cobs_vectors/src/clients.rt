@@ -27,8 +27,8 @@ use cobs::{
 use std::alloc::{AllocError, Global};
 use std::mem;
 
-/// Handles a byte in an interrupt. Returns the length of the message that the byte ended. The message is sliced out of
-/// the buffer.
+/// Handles a byte in an interrupt. Returns the length of the message that the byte ended, or 0 if it ended none. The
+/// message is sliced out of the buffer.
 pub fn on_byte<const N: usize>(decoder: &mut CobsDecoderHeapless<N>, byte: u8) -> usize
     ensures { result ≤ N }
 {
@@ -80,7 +80,7 @@ pub fn longest<D: FrameDecoder>(decoder: &mut D, bytes: &[u8]) -> usize {
     longest
 }
 
-/// Returns how many bytes of a broken piece were decoded; they are sliced out of the buffer.
+/// Returns how many bytes of a broken piece were decoded. The decoded bytes are sliced out of the buffer.
 pub fn broken_part<D: FrameDecoder>(decoder: &mut D, bytes: &[u8]) -> usize
     requires { DecoderAfter (D.bytes decoder.old) (D.phase decoder.old) [] }
 {
@@ -138,7 +138,8 @@ pub fn end_alike<D: FrameDecoder>(decoder: &mut D, state: &mut DecoderState, byt
     }
 }
 
-/// Reads all frames of a reader, and slices each message out of the decoder's buffer. Returns the sum of their lengths.
+/// Reads all frames of a reader, and slices each message out of the decoder's buffer. Returns the sum of the messages'
+/// lengths.
 pub fn total<D: FrameDecoder, S: FrameSource>(
     reader: &mut FrameReader<D>,
     source: &mut S,
@@ -158,7 +159,7 @@ pub fn total<D: FrameDecoder, S: FrameSource>(
     total
 }
 
-/// Reads through the end of the next piece. Returns a copy of its decoded bytes if it is broken.
+/// Reads through the end of the next piece. Returns a copy of the piece's decoded bytes if the piece is broken.
 pub fn next_broken<D: FrameDecoder, S: FrameSource>(
     alloc: Global,
     reader: &mut FrameReader<D>,
@@ -277,8 +278,8 @@ pub fn frame_next(
     encoder.finalize(buffer)
 }
 
-/// Writes the frames of two messages to the front of one buffer by one encoder. At the end the buffer has the second
-/// frame.
+/// Writes the frames of two messages to the front of one buffer by one encoder, one after the other. At the end the
+/// buffer has the second frame.
 pub fn frame_two(
     first: &[u8],
     second: &[u8],
@@ -388,7 +389,8 @@ pub fn pieces_in(
     Ok(found)
 }
 
-/// Collects the pieces of a stream that comes in two chunks: they are those of the whole stream, wherever it is cut.
+/// Collects the pieces of a stream that comes in two chunks. The collected pieces are those of the whole stream,
+/// wherever the stream is cut.
 pub fn pieces_in_two(
     alloc: Global,
     first: &[u8],

@@ -1,4 +1,5 @@
-//! Coders that a user could write, proved from the laws only, and an encoder in a state that another program kept.
+//! Coders that a user could write, whose contracts are proved only from the laws, and an encoder whose state another
+//! program kept.
 ghost use Rattle.std.specs.Prelude.{◌≡◌, ◌≤◌, ◌<◌, ◌^◌, ◌↔◌, List, ℕ, length, take, IfOk, IsOk, IsTrue};
 ghost use Rattle.cobs.specs.Feed.{Feeds};
 ghost use Rattle.cobs.specs.FeedPiece.{TakesPiece};
@@ -46,7 +47,7 @@ pub fn encode_for_link(message: &[u8], dest: &mut [u8], sentinel: u8) -> usize
     encode_with_sentinel(message, dest, sentinel)
 }
 
-/// Changes a frame for 0 to one for a sentinel, in its own buffer. It then doesn't contain the sentinel.
+/// Changes a frame for 0 to a frame for a sentinel, in its own buffer. The changed frame doesn't contain the sentinel.
 pub fn change_sentinel(frame: &mut [u8], sentinel: u8)
     ensures changed { frame.new ≡ xor_each sentinel frame.old }
     ensures free { IsFrame frame.old → IsFreeOf sentinel frame.new }
@@ -155,7 +156,7 @@ pub fn feed_between(
     decoder.feed(buffer, byte)
 }
 
-/// Returns the kind of a frame. It goes from code to code.
+/// Returns the kind of a frame. It reads only the codes of the frame's blocks, one after another.
 pub fn kind_by_code(piece: &[u8]) -> FrameKind
     requires { IsPiece piece.now }
     ensures frame { (result ≡ FrameKind.NotAFrame) ↔ ¬ IsFrame piece.now }

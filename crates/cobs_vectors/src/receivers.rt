@@ -1,5 +1,5 @@
-//! Receivers that read the frames that `encode` wrote and nothing else, for each way of passing the bytes. Their
-//! contracts are proved only from the public clauses of `cobs`.
+//! Receivers that accept the frames that `encode` wrote and nothing else, one for each way of passing the bytes to a
+//! decoder. Their contracts are proved only from the public clauses of `cobs`.
 ghost use Rattle.std.specs.Prelude.{◌≡◌, ◌≢◌, ◌≤◌, ◌<◌, ◌↔◌, ◌∷◌, ◌++◌, [], All, length, take, List, ℕ, IfOk, IfSome, IsSomeAnd, IsTrue};
 ghost use Rattle.cobs.specs.Feed.{DecoderAfter, Idle};
 ghost use Rattle.cobs.specs.FeedPiece.{outcome_at};
@@ -31,8 +31,8 @@ pub fn end_piece<D: FrameDecoder>(decoder: &mut D) -> Option<usize>
     }
 }
 
-/// Reads a piece and its zero by any idle decoder. It returns a message exactly if the piece reads as that message and
-/// the buffer has room for it.
+/// Reads a piece and its zero by any idle decoder. It returns a message exactly if the piece reads as that message, and
+/// the buffer has room for the message.
 pub fn read_piece<D: FrameDecoder>(decoder: &mut D, ended: &[u8], piece: &[u8]) -> Option<usize>
     requires idle { D.phase decoder.old ≡ Idle }
     requires piece { IsPiece piece.now }
@@ -49,8 +49,8 @@ pub fn read_piece<D: FrameDecoder>(decoder: &mut D, ended: &[u8], piece: &[u8]) 
     }
 }
 
-/// Returns the outcome of a piece and its zero in any idle decoder. It depends only on the piece and the buffer's
-/// length.
+/// Returns the outcome of a piece and its zero in any idle decoder. The outcome depends only on the piece and the
+/// buffer's length.
 pub fn end_of<D: FrameDecoder>(decoder: &mut D, ended: &[u8], piece: &[u8]) -> PieceEnd
     requires idle { D.phase decoder.old ≡ Idle }
     requires piece { IsPiece piece.now }

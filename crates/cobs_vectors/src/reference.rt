@@ -1,9 +1,9 @@
-//! The format again, written to be plain instead of fast, to compare the library with it.
+//! A plain implementation of the format, with which tests compare the library.
 use std::alloc::{AllocError, Global};
 
 /// Returns the encoded frame of a message. Each run of nonzero bytes is cut into blocks of up to 254 bytes. The first
-/// block that is shorter implies the zero after the run. No zero follows the last run, so it needs no such block after
-/// a full one.
+/// block that is shorter implies the zero after the run. No zero follows the last run, so this run needs no shorter
+/// block after a full block.
 pub fn frame_of(alloc: Global, message: &[u8]) -> Result<Vec<u8>, AllocError> {
     let mut frame = Vec::new(alloc);
     let mut block = Vec::new(alloc);
@@ -41,13 +41,14 @@ fn append_block(frame: &mut Vec<u8>, block: &[u8]) -> Result<(), AllocError> {
 /// The bytes to which a list of nonzero bytes decodes.
 #[derive(Drop)]
 pub struct Reading {
-    /// The bytes of its blocks, with the zeros that join them.
+    /// The bytes of the list's blocks, with the zeros that join the blocks.
     pub output: Vec<u8>,
 
-    /// How many bytes of the output are kept: all of them, or, if the last block breaks off, those before its bytes.
+    /// How many bytes of the output are kept: all bytes or, if the last block breaks off, the bytes before those of
+    /// that block.
     pub kept: usize,
 
-    /// Whether its last block has as many bytes as its code says.
+    /// Whether the last block has as many bytes as its code says.
     pub is_whole: bool,
 }
 

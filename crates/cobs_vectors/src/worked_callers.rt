@@ -41,7 +41,7 @@ pub fn encode_by_state(alloc: Global, source: &[u8]) -> Result<Vec<u8>, AllocErr
     Ok(output)
 }
 
-/// Encodes a message of two pieces. They are taken exactly if the frame fits.
+/// Encodes a message of two pieces. Both pieces are taken exactly if the frame fits.
 pub fn encode_both(
     first: &[u8],
     second: &[u8],
@@ -58,7 +58,7 @@ pub fn encode_both(
     Ok(encoder.finalize())
 }
 
-/// Writes the first byte of a buffer. The decoder is then the same, with that byte.
+/// Writes a byte to the front of a decoder's buffer. Nothing else of the decoder changes.
 pub fn write_first<D: WriteBuffer>(decoder: &mut D, byte: u8)
     requires { 0 < length (D.bytes decoder.old) }
     ensures { decoder.new ≡ D.with_bytes decoder.old (slice_set (D.bytes decoder.old) 0 byte) }
@@ -67,7 +67,7 @@ pub fn write_first<D: WriteBuffer>(decoder: &mut D, byte: u8)
     dest[0] = byte;
 }
 
-/// Writes the first byte of a borrowed slice. The phase stays, and so does the slice that is borrowed.
+/// Writes the first byte of a borrowed slice. The phase doesn't change, and the decoder still borrows the same slice.
 pub fn write_first_borrowed(decoder: &mut CobsDecoder<'_>, byte: u8)
     requires { 0 < length (borrowed_buffer decoder.old) }
     ensures phase { borrowed_phase decoder.new ≡ borrowed_phase decoder.old }
@@ -77,8 +77,8 @@ pub fn write_first_borrowed(decoder: &mut CobsDecoder<'_>, byte: u8)
     write_first(decoder, byte);
 }
 
-/// Encodes messages as frames and decodes them, by any idle decoder whose buffer has room for each: the result is the
-/// messages.
+/// Encodes messages as a stream of frames, and decodes this stream by any idle decoder whose buffer has room for each
+/// message. The outcomes are the messages.
 pub fn send_and_receive<D: FrameDecoder>(
     alloc: Global,
     decoder: &mut D,

@@ -3,7 +3,7 @@ use Rattle.std.specs.Prelude.{ℕ, ◌≡◌, ◌≤◌, List, Option, option_ma
 use Rattle.cobs_watch.specs.declared.options.Task.{Task}
 use Rattle.cobs_watch.specs.declared.options.Task.TheVariants.{Show, Send}
 
--- a task that the command line offers: the longest message has at most 16 MiB
+-- a task for which the command line can ask: the longest message has at most 16 MiB
 abbrev pub IsOffered : Task → Type 0
 IsOffered (Show show) = show.settings.length ≤ 16777216
 IsOffered (Send settings) = Unit {0}

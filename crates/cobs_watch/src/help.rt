@@ -1,4 +1,4 @@
-//! The texts of the help.
+//! The texts that `--help` prints.
 
 /// Returns the help for the option of this name.
 pub(crate) fn of(name: &str) -> &'static str {
@@ -13,13 +13,13 @@ pub(crate) fn of(name: &str) -> &'static str {
             "Begin each line with its piece's number; pieces that\naren't shown count too"
         }
         "partial" => {
-            "Show what was decoded of broken and too long pieces,\nafter the word partial"
+            "Show the decoded bytes of broken and too long pieces,\nafter the word partial"
         }
         "time" => {
-            "Begin each line with its time: since the start, since\nthe last piece, or a date: start, last, utc or local"
+            "Begin each line with a time: start (since the start),\nlast (since the last piece), or utc or local (a date)"
         }
         "color" => {
-            "Colour each kind of piece: always, never or auto, which is\non a terminal, without NO_COLOR and --log"
+            "Colour each kind of piece: always, never or auto (only\non a terminal, without NO_COLOR and --log)"
         }
         _ => of_pieces(name),
     }
@@ -34,42 +34,43 @@ fn of_pieces(name: &str) -> &'static str {
         "min" => "Show pieces of at least N decoded bytes",
         "max" => "Show pieces of at most N decoded bytes",
         "prefix" => {
-            "Show messages that begin with these bytes; with --partial\nalso other pieces"
+            "Show messages that begin with these bytes; with --partial\nalso other pieces that do"
         }
         "crc" => {
             "The checksum at the end of each message, by its name\nor parameters: see below"
         }
         "crc-order" => {
-            "Its first byte: big (the highest) or little (the\nlowest); without this little if it is reflected"
+            "The first byte of the checksum: big (the highest) or\nlittle (the lowest); little by default if reflected"
         }
         "length" => "The longest message, in bytes",
         "sentinel" => "The byte that ends each frame",
         "skip-first" => "Skip all bytes up to the first sentinel, as after\neach hang-up",
-        "count" => "At the end, not at Ctrl-C, count pieces and bytes\non standard error",
-        "count-every" => "Count so far, each time that bytes come SECONDS\nafter the last count",
-        "path" => "The device, FIFO or file that is shown; - or none\nis standard input",
-        "reconnect" => "Wait for the path, and open it again after a\nhang-up; no stty is run",
-        "log" => "Append what is shown to this file too",
-        "hex" => "Each line is the hexadecimal digits of a message",
+        "count" => "Count pieces and bytes on standard error at the\nend, but not at Ctrl-C",
+        "count-every" => "Write the counts so far when bytes arrive, at\nmost once in SECONDS",
+        "path" => "The device, FIFO or file that is shown; - or no\nPATH is standard input",
+        "reconnect" =>
+            "Wait until PATH can be opened, and open it again\nafter a hang-up; stty isn't run",
+        "log" => "Append the output to this file too",
+        "hex" => "Each line has the hexadecimal digits of a message",
         _ => "",
     }
 }
 
-/// Examples of `show`, below the options.
+/// The examples of `show`, which the help has below the options.
 pub(crate) const SHOW_EXAMPLES: &str = "Examples:
   cobs_watch --time local --number /dev/ttyUSB0
   cobs_watch --json --only message /dev/ttyUSB0 > log.json
   cobs_watch --crc crc-16-modbus --only bad-crc --hexdump < /dev/ttyUSB0
 
 Set a serial line first: stty -F /dev/ttyUSB0 raw -echo 115200
-A device that is unplugged needs that each time: the manual has a loop for it.
+A device that was unplugged needs stty again: the manual has a loop for this.
 A second program sends while the first one shows: cobs_watch send > /dev/ttyUSB0
 
 Checksums: crc-8, crc-16-ccitt-false, crc-16-modbus, crc-16-xmodem,
-  crc-16-kermit, crc-16-arc, crc-32, crc-32c, or as poly=0x1021,init=0xffff,
-  with width=32, xorout=N and reflected if they are so";
+  crc-16-kermit, crc-16-arc, crc-32, crc-32c; or poly=0x1021,init=0xffff,
+  and as needed width=32, xorout=N and reflected, with commas between them";
 
-/// Examples of `send`, below the options.
+/// The examples of `send`, which the help has below the options.
 pub(crate) const SEND_EXAMPLES: &str = "Examples:
   printf 'ping\\n' | cobs_watch send > /dev/ttyUSB0
   cobs_watch send --crc crc-16-modbus < lines.txt > /dev/ttyUSB0

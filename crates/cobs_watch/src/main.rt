@@ -40,16 +40,16 @@ use values::wrong;
 /// How many bytes of output are held before they are written, 128 KiB: as many as the digits of a chunk of input.
 const OUTPUT_LEN: usize = 131_072;
 
-/// The system's number for the last failure of a read or a write, if there is one.
+/// The system's error number of the last read or write that failed, if there is one.
 type Reason = Cell<Option<i32>>;
 
 /// The reasons why `show` failed.
 #[derive(Drop)]
 struct Reasons {
-    /// The last error of its input and of standard output.
+    /// The last error of the input or of standard output.
     stream: Reason,
 
-    /// The error of its log. After it, nothing is written to the log.
+    /// The error of the log. After this error, nothing is written to the log.
     log: Reason,
 }
 
@@ -66,7 +66,7 @@ fn main(rt: HostRuntime) -> ExitCode {
 /// Does what the arguments ask for, and returns the status.
 ///
 /// # Errors
-/// Memory ran out before the first read, or the clock can't be read.
+/// Returns an error if memory runs out before the first read, or if the clock can't be read.
 fn run(rt: &HostRuntime) -> anyhow::Result<ExitCode> {
     let words = match words_of(rt) {
         Ok(words) => words,
@@ -80,10 +80,10 @@ fn run(rt: &HostRuntime) -> anyhow::Result<ExitCode> {
     }
 }
 
-/// Returns the arguments; the first one is the program's own name.
+/// Returns the arguments. The first argument is the program's own name.
 ///
 /// # Errors
-/// A wrong argument if one isn't UTF-8, and an error if memory runs out.
+/// Returns an error if an argument isn't UTF-8, and if memory runs out.
 fn words_of(rt: &HostRuntime) -> Result<Vec<String>, clap::Error> {
     match env::args(rt) {
         Ok(words) => Ok(words.collect(rt.alloc())?),
@@ -107,8 +107,9 @@ fn no_task(rt: &HostRuntime, error: &clap::Error) -> ExitCode {
     faulted(rt, error.into(), reason)
 }
 
-/// Returns whether lines have colours if the arguments don't say it. They have colours if standard output is a terminal
-/// with colours, and the variable `NO_COLOR` is unset or empty.
+/// Returns whether lines have colours if the arguments don't say so. They have colours if standard output is a
+/// terminal, the variable `TERM` is set and not `dumb`, and `NO_COLOR` is unset or empty. A value that isn't UTF-8 is
+/// set, and not empty.
 fn auto_color(rt: &HostRuntime) -> bool {
     let no_color = match env::var(rt, "NO_COLOR") {
         Ok(value) => !value.is_empty(),
@@ -191,9 +192,9 @@ fn show(rt: &HostRuntime, task: &ShowTask<'_>, zone: TimeZone<'_>) -> anyhow::Re
     }
 }
 
-/// Opens a log, and duplicates its descriptor: the duplicate is never 0, 1 or 2. The first descriptor can have the
-/// number of standard output or standard error, if that is closed. The log would then contain everything that the
-/// program writes there.
+/// Opens a log, and returns a duplicate of its descriptor, which is never 0, 1 or 2. If standard output or standard
+/// error is closed, the first descriptor can have the number of that stream. The log would then contain everything that
+/// the program writes to that stream.
 fn open_log(rt: &HostRuntime, path: &str) -> io::Result<File> {
     let first = File::options().append(true).create(true).open(rt, path)?;
     first.try_clone()
@@ -217,8 +218,8 @@ impl<'a> Opener<Line<'a>> for Device<'a> {
     }
 }
 
-/// Opens a line that is opened again after each hang-up. If it can't be opened yet, that is reported, and the program
-/// waits for it.
+/// Opens the line of a device that is opened again after each hang-up. If the line can't be opened yet, reports this on
+/// standard error and returns `None`; the program then waits for the line.
 fn first_line<'a>(rt: &HostRuntime, device: &Device<'a>) -> Option<Line<'a>> {
     match device.open() {
         Ok(line) => Some(line),
@@ -229,7 +230,7 @@ fn first_line<'a>(rt: &HostRuntime, device: &Device<'a>) -> Option<Line<'a>> {
     }
 }
 
-/// Writes the head of a capture, if the style is one.
+/// Writes the header of a capture file, if the style is `Pcap`.
 fn begin<W: Write + Drop>(output: &mut BufWriter<W>, style: Style) -> io::Result<()>
     requires flushed { writer_buffer output.old ≡ [] }
     ensures flushed { OnOk result (writer_buffer output.new ≡ []) }
@@ -298,7 +299,8 @@ fn send(rt: &HostRuntime, settings: &send::Settings) -> anyhow::Result<ExitCode>
     ) {
         Ok(true) => Ok(ExitCode::SUCCESS),
         Ok(false) => Ok(ExitCode::FAILURE),
-        // If the system failed the read, there is a reason. If memory ran out for a line, there is none.
+        // If the read failed in the system, `reason` has the error number. If memory ran out for a line, `reason` has
+        // none.
         Err(WatchFault::ReadFailed) if reason.get().is_none() => {
             Ok(faulted(rt, WatchFault::OutOfMemory, None))
         }
@@ -312,8 +314,8 @@ fn not_opened(rt: &HostRuntime, path: &str, error: &io::Error) -> ExitCode {
     ExitCode::FAILURE
 }
 
-/// Returns the status of `show` after this fault. If its log couldn't be written, or the file at its path couldn't be
-/// read, the message names that file.
+/// Reports a fault of `show`, and returns the status. If the log couldn't be written, or the file at the path couldn't
+/// be read, the report names that file.
 fn show_faulted(
     rt: &HostRuntime,
     task: &ShowTask<'_>,
@@ -333,7 +335,8 @@ fn show_faulted(
     ExitCode::FAILURE
 }
 
-/// Returns the status of the program after this fault: success if nobody reads the output any more.
+/// Reports a fault, and returns the status of the program. If nobody reads the output any more, nothing is reported,
+/// and the status is success.
 fn faulted(rt: &HostRuntime, fault: WatchFault, reason: Option<i32>) -> ExitCode {
     if fault == WatchFault::OutputClosed {
         return ExitCode::SUCCESS;

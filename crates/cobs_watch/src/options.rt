@@ -12,7 +12,7 @@ use cobs_live::shown::{Settings, Style, View};
 use cobs_live::tally::Counting;
 use std::alloc::{AllocError, Global};
 
-/// The length in bytes of the longest message that may be asked for, 16 MiB.
+/// The greatest value of the option `--length`, 16 MiB.
 const MAX_LENGTH: u64 = 16_777_216;
 
 /// The path that means standard input.
@@ -51,9 +51,9 @@ pub(crate) struct ShowTask<'a> {
 }
 
 /// Returns the task that the words ask for. The first word is the program's own name. `auto_color` says whether lines
-/// have colours if the words don't say.
+/// have colours if the words don't say so.
 ///
-/// A request for help or for the version has an error as its result too, with the text to print and the status.
+/// For a request for help or for the version the result is also an error, which has the text to print and the status.
 pub(crate) fn task_of<'a>(
     alloc: Global,
     words: &'a [String],
@@ -140,7 +140,7 @@ fn with_styles<'a>(alloc: Global, command: Command<'a>) -> Result<Command<'a>, E
     Ok(command.arg(bytes)?.arg(bare_style(alloc, "pcap")?)?)
 }
 
-/// Adds the options for other columns of a line to the command.
+/// Adds the options for the number, the time, the colour and the partial bytes of a piece to the command.
 fn with_columns<'a>(alloc: Global, command: Command<'a>) -> Result<Command<'a>, Error> {
     let time = option(alloc, "time", "CLOCK")
         .short('t')
@@ -202,7 +202,7 @@ fn with_line<'a>(alloc: Global, command: Command<'a>) -> Result<Command<'a>, Err
     Ok(command.arg(path)?.arg(reconnect)?.arg(log)?)
 }
 
-/// Returns which time was asked for. A capture always has dates.
+/// Returns which time was asked for. If a capture was asked for, the times are dates.
 fn stamp_of(matches: &ArgMatches<'_>) -> Stamp {
     match matches.get_str("time") {
         Some("start") => Stamp::Start,
@@ -213,7 +213,8 @@ fn stamp_of(matches: &ArgMatches<'_>) -> Stamp {
     }
 }
 
-/// Returns whether lines have colours. With a log they have none, because the log has the same bytes.
+/// Returns whether lines have colours. With a log, lines have no colours, because the log gets the same bytes as the
+/// output.
 ///
 /// # Errors
 /// An error if both colours and a log were asked for.
@@ -255,6 +256,7 @@ fn show_task<'a>(
     ensures paths { IfOk result (HasPaths (first_value (found_of matches.now) (codes "path"))
         (first_value (found_of matches.now) (codes "log"))) }
 {
+    // The option `--length` has a default, so there is always a number.
     let length = number_of(alloc, matches, "length", MAX_LENGTH)?.unwrap_or(0);
     let every = number_of(alloc, matches, "count-every", u32::MAX.into())?;
     Ok(Task::Show(ShowTask {

@@ -8,7 +8,7 @@ use cobs_live::crc::{Crc, Params};
 use cobs_live::shown::Filter;
 use std::alloc::Global;
 
-/// Returns an error of the command line.
+/// Returns an error of the command line, with this message.
 pub(crate) fn wrong<T>(alloc: Global, message: &str) -> Result<T, Error>
     ensures error { IsErr result }
 {
@@ -33,7 +33,7 @@ pub(crate) fn number_of(
         Some(_) | None => wrong(
             alloc,
             &format!(in alloc;
-                "the value '{text}' of '--{name}' isn't a number from 0 to {max}, decimal or behind 0x"
+                "the value '{text}' of '--{name}' isn't a number from 0 to {max}, decimal, or hexadecimal after 0x"
             )?,
         ),
     }
@@ -56,7 +56,8 @@ pub(crate) fn sentinel_of(alloc: Global, matches: &ArgMatches<'_>) -> Result<u8,
 /// Returns the checksum that was asked for, if any.
 ///
 /// # Errors
-/// An error if no checksum has that name. If the text has parameters, the error names a part that isn't one.
+/// An error if the text is neither the name of a check nor a list of the parameters of one. If a part of the text isn't
+/// a parameter, the error names that part.
 pub(crate) fn checksum_of(
     alloc: Global,
     matches: &ArgMatches<'_>,
@@ -125,7 +126,8 @@ impl Written {
     }
 }
 
-/// Returns the parameters of the check with this name, or those that are written, such as `poly=0x1021,init=0xffff`.
+/// Returns the parameters of the check with this name, or the parameters that the text lists, as in
+/// `poly=0x1021,init=0xffff`.
 fn params_of(alloc: Global, text: &str) -> Result<Params, Error>
     ensures sized { IfOk result (λ params. (0 < params.size) × (params.size ≤ 4)) }
 {
@@ -158,7 +160,7 @@ fn params_of(alloc: Global, text: &str) -> Result<Params, Error>
     }
 }
 
-/// Converts written parameters to those of the table, if they fit the width of the check.
+/// Converts parameters as the user writes them to [`Params`], if they fit the width of the check.
 fn sized(written: &Written) -> Option<Params>
     ensures sized { IfSome result (λ params. (0 < params.size) × (params.size ≤ 4)) }
 {

@@ -126,7 +126,8 @@ fn a_failed_write_ends_a_run(rt: HostRuntime) -> Result<(), Fail> {
     Ok(())
 }
 
-/// Opens a line with these bytes. Every second attempt to open it succeeds, three in all.
+/// Opens a line with these bytes. Every second attempt to open it succeeds, three in all: two lines break after 8
+/// bytes, the third has nothing to read yet.
 #[derive(Drop)]
 struct Plug<'a> {
     bytes: &'a [u8],
@@ -170,7 +171,7 @@ fn a_line_is_opened_again_after_a_hang_up(rt: HostRuntime) -> Result<(), Fail> {
 /// A frame; the line may hang up at each of its bytes.
 const CUT: &[u8] = b"\x03ab\x05cdef\x00";
 
-/// The text for a hang-up by style: if no frame had begun, and if one had.
+/// The text for a hang-up, by style: first if no frame had begun, and then if a frame had begun.
 const HUNG_UP: [(Style, &[u8], &[u8]); 7] = [
     (Style::Hex, b"hung up\n", b"unfinished\nhung up\n"),
     (Style::Text, b"hung up\n", b"unfinished\nhung up\n"),
@@ -253,6 +254,7 @@ fn a_frame_that_a_failed_read_cuts_is_no_message(rt: HostRuntime) -> Result<(), 
                 &mut Vec::new(alloc),
             );
             assert_eq!(rt; shown, Err(WatchFault::ReadFailed));
+            // After a failed read only `unfinished` is shown, which is the text for a hang-up without `hung up`.
             let unfinished = if cut == 0 {
                 0
             } else {

@@ -1,12 +1,12 @@
--- The frame is ended in the buffer without its last byte, and the zero is written after it (`Finishes-terminated`); if
--- that has no room, the call fails (`Finishes-no_room`).
+-- The frame is ended in the buffer without its last byte, and the zero is written after the frame
+-- (`Finishes-terminated`). If the frame doesn't fit there, the call fails (`Finishes-no_room`).
 use Rattle.std.proofs.Common.{◌-◌, ◌∙◌, ◌++◌, ◌∷◌, [], ℕ, List, length, length-take-le, refl, sym, subst, arith}
 use Rattle.cobs.specs.Grammar.{IsEncodedFrame}
 use Rattle.cobs_abi.specs.Frames.{IsFrameOnWire, IsTerminatedFrame}
 use Rattle.cobs_abi.proofs.FinishLemmas.{Finishes-finalized, Finishes-no_room, Finishes-refused, Finishes-terminated, xor_each-zero}
 use Rattle.cobs_abi.proofs.encoding.finish_terminated.Goals as goal
 
--- a frame and a zero, as the one for the sentinel 0
+-- a frame and a zero are the frame for the sentinel 0 and its sentinel
 ended : (x m : List ℕ) → IsFrameOnWire x m → IsTerminatedFrame 0 (x ++ 0 ∷ []) m
 ended x m w = (x, (subst (λ (g : List ℕ). IsEncodedFrame g m) (sym (xor_each-zero x)) w.0, w.1), refl)
 

@@ -1,5 +1,5 @@
--- A broken frame gave d bytes, which are not more than the bytes before its end (`broken-within`), and after them the
--- buffer is as it was (`behind-kept`); so the end is found by a search from d on (`head-drop`).
+-- A broken frame decodes to d bytes, and d is at most the frame's length (`broken-within`). The buffer is unchanged
+-- after these d bytes (`behind-kept`). So a search from index d on finds the frame's end (`head-drop`).
 use Rattle.std.proofs.Common.{◌≡◌, ◌∙◌, ◌+◌, ◌-◌, ℕ, List, Err, length, min, drop, take, sym, ap, arith, length-drop, length-take-le, take_all}
 use Rattle.cobs.specs.Decode.{result_in_place}
 use Rattle.cobs.specs.Stream.{head}

@@ -1,5 +1,6 @@
--- The bytes before the first sentinel, changed by it, are the head of the changed buffer, and so are the result and the
--- buffer (`front-result`, `front-buffer`). If there are none, nothing is decoded (`sentinel-result`, `sentinel-buffer`).
+-- The bytes before the first sentinel, XORed with it, are the head of the XORed buffer. So the result and the buffer
+-- are those of that head (`front-result`, `front-buffer`). If no byte precedes the sentinel, nothing is decoded
+-- (`sentinel-result`, `sentinel-buffer`).
 use Rattle.std.proofs.Common.{◌∙◌, ◌++◌, ℕ, List, length, drop, ap}
 use Rattle.cobs_abi.specs.Answer.{result_by, head_end}
 use Rattle.cobs.specs.Sentinel.{xor_each}

@@ -1,5 +1,5 @@
--- An error of `decode` is that of the first piece (`report_result-err`), so the piece's end is what was consumed; the
--- buffer is too small only if the piece's output is longer (`too_long-output`).
+-- An error of `decode` is that of the first piece (`report_result-err`), so the bytes through the piece's end were
+-- consumed. The buffer is too small only if the piece's output is longer than the buffer (`too_long-output`).
 use Rattle.std.proofs.Common.{◌≡◌, ℕ, List, Err, sym, ap, ◌∙◌, length, arith}
 use Rattle.cobs.specs.Decode.{len_through_piece, outcome_result, result_of_decode}
 use Rattle.cobs.specs.Stream.{outcome_of}

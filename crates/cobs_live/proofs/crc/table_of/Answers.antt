@@ -1,4 +1,4 @@
--- The words before the place are right, and so is the one that is set there (`below_more`).
+-- The entries before the index are right, and so is the entry that is set at the index (`below_more`).
 use Rattle.std.proofs.Common.{arith, length-set}
 use Rattle.std.proofs.lemmas.Grind.{get_or-set_at}
 use Rattle.std.proofs.lemmas.List.{get_or-set_other}

@@ -1,5 +1,5 @@
--- The run is made of characters that are written as they are. A character more is a run that ends at the next boundary
--- (`past_char`, `past_char_run`), and plain bytes after it are added at once (`run_past`).
+-- The characters of the run need no escape. With one character more, the run ends at the next boundary (`past_char`,
+-- `past_char_run`). Plain bytes after this character are added at once (`run_past`).
 use Rattle.std.proofs.Common.{◌≡◌, ◌+◌, ◌++◌, ℕ, List, drop, subst, rules}
 use Rattle.std.specs.Char.{encode_utf8}
 use Rattle.std.specs.Str.{IsCharBoundary}

@@ -1,5 +1,5 @@
--- What is written is the visible run, and then the escape of the next character (`front_escaped`), if there is one
--- (`front_ended`).
+-- The call writes the visible run and, if a character follows the run, the escape of that character (`front_escaped`).
+-- If none follows, the text has ended (`front_ended`).
 use Rattle.std.proofs.Common.{◌≡◌, ◌++◌, ℕ, List, length, take, drop, rules}
 use Rattle.std.proofs.KnownBytes.{Appends-trans}
 use Rattle.std.specs.Char.{encode_utf8}

@@ -1,4 +1,5 @@
--- The text is what is written first, followed by what the next call writes (`behind`, `behind_two`).
+-- The text is the bytes that are written first, followed by the bytes that the next call writes (`behind`,
+-- `behind_two`).
 use Rattle.std.proofs.Common.{ℕ, List, ◌++◌, append_assoc, codes, subst, Option, Result}
 use Rattle.std.specs.Prelude.{OnOk}
 use Rattle.std.specs.Fmt.{decimal}

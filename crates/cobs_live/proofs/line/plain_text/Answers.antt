@@ -1,5 +1,5 @@
--- The characters that were read have no control character, and the others are UTF-8; so at the end, bytes are plain if
--- they are UTF-8 and have none.
+-- No character so far is hidden, and the remaining bytes are UTF-8. So at the end, the bytes are UTF-8 without hidden
+-- characters.
 use Rattle.std.proofs.Common.{◌≡◌, ◌==◌, ℕ, List, Bool, true, false, not, IsUtf8, chars, length, refl, sym, ◌∙◌}
 use Rattle.std.proofs.lemmas.Bool.{and_from, and_parts, eq-eqb, false≢true}
 use Rattle.std.proofs.lemmas.Str.{IsUtf8-past_char, chars_past_char, utf8_valid_len-IsUtf8}

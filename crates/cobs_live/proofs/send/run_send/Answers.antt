@@ -1,5 +1,5 @@
--- The lines so far are sent, and each iteration adds one (`SentSoFar-skipped` for one that isn't sent). The call ends
--- with the input (`sent_all`), or with a fault after them (`send_failed`, `unsent`).
+-- The lines so far are sent, and each iteration adds a line (`SentSoFar-skipped` if that line isn't sent). The call
+-- ends with the input (`sent_all`), or with a fault after these lines (`send_failed`, `unsent`).
 use Rattle.std.proofs.Common.{◌≡◌, ◌≢◌, ◌∷◌, ◌++◌, ◌∙◌, refl, ℕ, List, [], length, ap, arith, rules, IfSome}
 use Rattle.std.specs.Io.{StopsAt}
 use Rattle.std.specs.Io.BufRead.{take_through}

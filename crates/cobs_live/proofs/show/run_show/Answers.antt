@@ -1,5 +1,5 @@
--- What is shown so far is what `show_next` shows, read after read; a fault (`shown-fault`) or the end (`shown-ended`) is
--- added to it.
+-- The text so far is the text that `show_next` shows, read after read. At the end, the text of a fault (`shown-fault`)
+-- or of the end of the input (`shown-ended`) is added.
 use Rattle.std.proofs.Common.{rules, [], Some}
 use Rattle.std.proofs.KnownBytes.{Consumes-nil}
 use Rattle.cobs_live.proofs.RunLemmas.{HasShownSoFar-live, shown-ended, shown-fault, unfinished-fault}

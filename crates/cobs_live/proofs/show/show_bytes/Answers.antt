@@ -1,5 +1,5 @@
--- The first `at` bytes are shown (`ShowsBytes`). An iteration shows a piece more (`ShowsBytes-piece`), or the rest, in
--- which no piece ends (`ShowsBytes-rest`).
+-- The first `at` bytes are shown (`ShowsBytes`). An iteration shows one piece more (`ShowsBytes-piece`), or takes the
+-- remaining bytes, in which no piece ends (`ShowsBytes-rest`).
 use Rattle.std.proofs.Common.{◌≡◌, ◌+◌, ◌-◌, ◌++◌, ℕ, List, length, take, drop, refl, ap, sym, ◌∙◌, arith, length-take, length-drop, take_all}
 use Rattle.cobs.specs.FeedPiece.{outcome_at}
 use Rattle.cobs_live.specs.Seen.{Seen, seen_in}

@@ -1,5 +1,5 @@
--- A checksum has as many bytes as its parameters say (`length-sum`), so a message with its checksum is split where they
--- were joined (`body-back`), and the checksum is right (`checked-back`).
+-- A checksum has as many bytes as its parameters say (`length-sum`). So a message with its checksum is split at the
+-- index at which the two were joined (`body-back`), and the checksum is right (`checked-back`).
 use Rattle.std.proofs.Common.{◌≡◌, ℕ, Bool, true, false, List, ◌++◌, length, reverse, refl, sym, ap, arith, length-append, length-take-le, Some}
 use Rattle.std.proofs.lemmas.List.{length-reverse, take_all, take-append-le}
 use Rattle.std.proofs.lemmas.Bool.Decides.{Decides-eqb}

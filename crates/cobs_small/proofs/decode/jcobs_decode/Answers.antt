@@ -1,4 +1,4 @@
--- If the piece is too long, `too_long` says what is returned and what the buffer holds.
+-- If the piece is too long, `too_long` gives the result and the contents of the buffer.
 use Rattle.std.proofs.Common.{◌≡◌, ℕ, List, length, Option, Some, subst, sym}
 use Rattle.cobs.specs.FirstPiece.{end_of_first}
 use Rattle.cobs.specs.declared.PieceEnd.{PieceEnd}

@@ -1,4 +1,5 @@
--- The frame is written to the buffer without its last byte, and the zero after it (`Writes-terminated`).
+-- The frame is written to the buffer without the buffer's last byte, and the zero is written after the frame
+-- (`Writes-terminated`).
 use Rattle.std.proofs.Common.{◌≡◌, ◌≢◌, ◌≤◌, ◌<◌, ◌+◌, ◌-◌, ℕ, List, length, take, length-take-le, refl, sym, ap, ◌∙◌, subst, arith, inl, inr}
 use Rattle.std.proofs.lemmas.Bool.{cases_lt, eqb-false}
 use Rattle.cobs.specs.Grammar.{IsEncodedFrame}

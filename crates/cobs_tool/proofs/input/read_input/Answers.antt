@@ -1,4 +1,4 @@
--- The bytes so far and those of this read are more than the limit (`HasRead-too_long`), or had no memory
+-- The bytes so far and those of this read are more than the limit (`HasRead-too_long`), or there was no memory for them
 -- (`HasRead-no_memory`).
 use Rattle.std.proofs.Common.{◌++◌, take, arith, length-append}
 use Rattle.cobs_tool.proofs.InputLemmas.{Consumes-append, HasRead-too_long, HasRead-no_memory}

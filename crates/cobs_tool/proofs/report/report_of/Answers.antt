@@ -1,6 +1,6 @@
 -- The text so far and the report of the bytes that are left are together the report of the stream. Each result of the
--- reader adds its line (`message_reported`, `broken_reported`, `too_long_reported`) and leaves fewer bytes; the end of
--- the stream adds the last (`stream_end_reported`).
+-- reader adds its line (`message_reported`, `broken_reported`, `too_long_reported`) and leaves fewer bytes. The end of
+-- the stream adds the last line (`stream_end_reported`).
 use Rattle.std.proofs.Common.{ℕ, ◌++◌, length, string_bytes, take, ap, sym, ◌∙◌, arith, append-nil, length-take-le}
 use Rattle.std.proofs.lemmas.List.{length-replicate}
 use Rattle.cobs.specs.Fields.Decoders.{owned_buffer}

@@ -1,5 +1,5 @@
--- A read shows the bytes that it gave, behind those of the stream so far; `RunLemmas` has a lemma for each part of the
--- state (`more-ended`, `more-left`, `more-tallied`, `more-timed`). On every way out the reads stay a live stream
+-- The call shows the bytes that the read returned, after those of the stream so far. `RunLemmas` has a lemma for each
+-- part of the state (`more-ended`, `more-left`, `more-tallied`, `more-timed`). On every path the run stays live
 -- (`live-next`).
 use Rattle.std.proofs.Common.{◌≡◌, ℕ, Bool, ◌++◌, Option, subst, List, length, take, drop, ap, ◌∙◌, sym, length-take-le, arith}
 use Rattle.std.proofs.KnownBytes.{Appends-kept}
