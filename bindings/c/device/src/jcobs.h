@@ -129,9 +129,9 @@ extern "C" {
 #define JCOBS_API
 #endif
 
-/* JCOBS_STATUS is the type of the member status of jcobs_answer. It has the size of unsigned int in every language, on
- * every target and with -fshort-enums. It is the enum jcobs_status if the header can tell that the enum has this size;
- * then -Wswitch checks a switch over the status. Otherwise it is unsigned int. */
+/* JCOBS_STATUS is the type of the member status of jcobs_answer. This type has the size of unsigned int in every
+ * language, on every target and with -fshort-enums. The type is the enum jcobs_status if the header can make sure that
+ * the enum has this size; then -Wswitch checks a switch over the status. Otherwise the type is unsigned int. */
 #if (defined(__cplusplus) && __cplusplus >= 201103L) || (defined(__STDC_VERSION__) && __STDC_VERSION__ >= 202311L)
 #define JCOBS_ENUM(name) enum name : unsigned int
 #define JCOBS_STATUS jcobs_status
