@@ -1,34 +1,34 @@
 /* jcobs.c: the calls of jcobs.h in one file of C, for any processor and compiler. Written by translate.py: don't edit it.
  *
- * Compile it with your program, by C99 or later or as C++, with jcobs.h beside it or in the include path. It has no
- * variables that stay, only a constant table with the texts of jcobs_strerror. It allocates nothing, and names no function
- * of a C library; a compiler may call memset or memcpy for some of its lines.
+ * Compile this file with your program, as C99 or later or as C++, with jcobs.h in the same folder or in the include path.
+ * The file has no static variables except a constant table of the texts of jcobs_strerror. It allocates no memory, and
+ * calls no function of a C library; a compiler may call memset or memcpy for some of its lines.
  *
- * What is proved: the functions of crates/cobs_small, for lengths of 64 bits, on any contents of the buffers and the
- * states. Each meets its contract, accesses only the buffers that it is given, and returns. The comment above a call says
- * what its contract says, in short, and names the file of crates/cobs_small/src in which it is. The words of the contracts
- * are defined in crates/cobs_abi/specs and crates/cobs/specs.
+ * What is proved: each function of crates/cobs_small meets its contract, accesses only the buffers that are passed to it,
+ * and returns. The proofs are for lengths of 64 bits and for any contents of the buffers and states. The comment above a
+ * call summarizes its contract, and names the file of crates/cobs_small/src that has the contract. The words of the
+ * contracts are defined in crates/cobs_abi/specs and crates/cobs/specs.
  *
- * What is not proved, but tested: that this text does the same. translate.py wrote each function from the one in Rattle,
- * and your compiler compiles it. Lengths have the width of your size_t. bindings/c/tests/translated.py, which shares
- * nothing with translate.py, compares the two texts: conditions, loops, operators, numbers, calls and the use of names.
- * bindings/c/tests/run.sh compares two million calls with those of the proved module itself. This script and
- * tests/device.sh run this file on processors with 16, 32 and 64 bits and both byte orders: the vectors of conformance/
- * (except on the processor with 16 bits), and random calls compared with plain C, with states of random bytes. The calls
- * from jcobs_xor on are written by hand, and tested in the same way.
+ * What is tested, not proved: that this file does what the functions in Rattle do. translate.py translated each function
+ * from Rattle, and your compiler compiles it. Lengths have the width of your size_t. bindings/c/tests/translated.py,
+ * which shares no code with translate.py, compares both texts: conditions, loops, operators, numbers, calls and the use
+ * of names. bindings/c/tests/run.sh compares two million calls of this file with calls of the proved module itself.
+ * run.sh and tests/device.sh run this file on processors of both byte orders, whose size_t has 16, 32 or 64 bits. They run
+ * the cases of conformance/ (except where size_t has 16 bits), and compare random calls, with states of random bytes,
+ * with plain C. The functions from jcobs_xor on are written by hand, and tested in the same way.
  */
 #include "jcobs.h"
 
 #include <limits.h>
 
-/* These don't compile for a processor that this file isn't for: one whose bytes have more than 8 bits, or whose size_t is
- * shorter than unsigned int. */
+/* These two types don't compile if this file doesn't support the processor: if bytes have more than 8 bits, or if size_t
+ * is shorter than unsigned int. */
 typedef char jcobs_bytes_have_8_bits[CHAR_BIT == 8 ? 1 : -1];
 typedef char jcobs_size_t_is_no_shorter_than_int[sizeof(size_t) >= sizeof(unsigned int) ? 1 : -1];
 
-/* Functions that a loop over bytes calls become part of it (JCOBS_INLINE). Some that have such a loop stay functions of
- * their own (JCOBS_APART), so that the loop has all registers of a small processor; x86-64 has more of them, and a call
- * costs as much there as some bytes. */
+/* A function that a loop over bytes calls is inlined into the loop (JCOBS_INLINE). Some functions that contain such a
+ * loop aren't inlined (JCOBS_APART), so that the loop can use all registers of a small processor. On x86-64 they may be
+ * inlined: this processor has more registers, and a call takes as long as some bytes. */
 #ifdef __GNUC__
 #define JCOBS_INLINE __inline__ __attribute__((always_inline))
 #ifdef __x86_64__
@@ -41,31 +41,32 @@ typedef char jcobs_size_t_is_no_shorter_than_int[sizeof(size_t) >= sizeof(unsign
 #define JCOBS_APART
 #endif
 
-/* A frame is a sequence of blocks. A block is a code, from 1 to 255, and after it code - 1 bytes, none of which is 0. A block
- * with the code 255 is full. The message is the bytes of the blocks without their codes, and a zero between two blocks if the
- * first one isn't full. The last block is open while more bytes may come.
+/* A frame is a sequence of blocks. A block is a code, from 1 to 255, followed by code - 1 bytes, none of which is 0. A
+ * block with the code 255 is full. The message consists of the bytes of the blocks without their codes, with a zero
+ * between two blocks unless the first of the two is full. The last block is open while more bytes may come.
  *
- * What the members of the states mean, which jcobs.h declares:
+ * jcobs.h declares the states. Their members have these meanings:
  *
- * - of a decoder: written bytes of the open message are in the buffer, and the open block lacks missing bytes. joint is 1
- *   after the code of a block that isn't full: a zero joins the next block to it, if there is one. It is 0 at the start, and
- *   after the code of a full block. too_long is 1 if a byte of the message had no room: the rest of the piece is skipped;
- * - of an encoder: the code of the open block belongs at index, and the taken bytes of that block are in the buffer after
- *   this place. full is 1 if the last byte made a block full: the frame ends with that block, unless another byte comes.
+ * - In a decoder, the first `written` bytes of the buffer are the open message so far, and the open block still needs
+ *   `missing` bytes. joint is 1 after the code of a block that isn't full: if another block follows, the message has a
+ *   zero between the two. joint is 0 at the start, and after the code of a full block. too_long is 1 if there was no room
+ *   for a byte of the message: then the rest of the piece is skipped.
+ * - In an encoder, the code of the open block belongs at `index` of the buffer, and the `taken` bytes of this block
+ *   follow it. full is 1 if the last byte made a block full: the frame ends with this block, unless another byte comes.
  *
- * They may have any other values. Each value but 0 of joint, too_long and full counts as 1. */
+ * A member may also have any other value. In joint, too_long and full each value except 0 has the meaning of 1. */
 
-/* How a piece of a stream ended. A piece is what is between two zeros: a frame, or one that is broken. */
+/* How a piece of a stream ended. A piece is the bytes between two zeros: a frame, or a broken frame. */
 enum jcobs_end_kind {
-    JCOBS_END_MESSAGE,  /* it is the frame of a message with this many bytes */
-    JCOBS_END_BROKEN,   /* it breaks off inside a block, and decodes to this many bytes */
-    JCOBS_END_TOO_LONG, /* it decodes to more bytes than the buffer has room for */
-    JCOBS_END_NONE      /* it hasn't ended, or there is none: the numbers say nothing */
+    JCOBS_END_MESSAGE,  /* the piece is the frame of a message; count is the message's length */
+    JCOBS_END_BROKEN,   /* the piece breaks off inside a block; count is the length of its output */
+    JCOBS_END_TOO_LONG, /* the output of the piece is longer than the buffer */
+    JCOBS_END_NONE      /* the piece hasn't ended, or there is no piece: count has no meaning */
 };
 
 typedef struct jcobs_end {
     enum jcobs_end_kind kind;
-    size_t count; /* how many bytes, of a message or a broken piece */
+    size_t count; /* the length of a message, or of the output of a broken piece */
 } jcobs_end;
 
 static JCOBS_INLINE jcobs_end jcobs_make_end(enum jcobs_end_kind kind, size_t count)
@@ -77,7 +78,7 @@ static JCOBS_INLINE jcobs_end jcobs_make_end(enum jcobs_end_kind kind, size_t co
     return end;
 }
 
-/* The same, and how many bytes were consumed. */
+/* A jcobs_end with the number of bytes that were consumed. */
 typedef struct jcobs_piece {
     enum jcobs_end_kind kind;
     size_t count;
@@ -94,7 +95,7 @@ static JCOBS_INLINE jcobs_piece jcobs_make_piece(enum jcobs_end_kind kind, size_
     return piece;
 }
 
-/* The length of an encoder's frame, if it fits the buffer. */
+/* Whether an encoder's frame fits the buffer, and the frame's length if it fits. */
 typedef struct jcobs_frame {
     int fits;
     size_t length;
@@ -124,7 +125,7 @@ static JCOBS_INLINE size_t jcobs_min(size_t a, size_t b)
     return a < b ? a : b;
 }
 
-/* Returns the sum, or the other number if the sum doesn't fit. */
+/* Returns the sum of a and b, or the number `other` if the sum doesn't fit a size_t. */
 static size_t jcobs_sum_or(size_t a, size_t b, size_t other)
 {
     return b > (size_t)-1 - a ? other : a + b;
@@ -983,9 +984,9 @@ unsigned int jcobs_frame_kind(const void *bytes, size_t len)
     return jcobs_kind_by_blocks(data, len);
 }
 
-/* The calls from here on are written by hand, around those above. */
+/* The calls from here on are written by hand. They call the functions above. */
 
-/* XORs each byte with the sentinel: that makes a frame for the sentinel 0 one for this sentinel, and the reverse. */
+/* XORs each byte with the sentinel. This turns a frame for the sentinel 0 into a frame for this sentinel, or back. */
 static void jcobs_xor(void *bytes, size_t len, unsigned char sentinel)
 {
     unsigned char *const data = (unsigned char *)bytes;
@@ -1013,9 +1014,10 @@ jcobs_answer jcobs_encode_terminated_with_sentinel(const void *message, size_t m
     return answer;
 }
 
-/* Decodes the whole blocks of the frame that ends at the first sentinel, by the steps of a decoder. If they are followed
- * by a block that is cut short, the decoder takes a 1 for it, the code of a block without bytes: so it writes the zero
- * between the whole blocks and that one, and nothing of that one. */
+/* Decodes the whole blocks of the frame that ends at the first sentinel, with the steps of a streaming decoder. If a
+ * block that is cut short follows the whole blocks, the decoder is fed a 1 in place of this block. A 1 is the code of a
+ * block without bytes, so the decoder writes the zero between the whole blocks and the cut block, and no byte of the cut
+ * block. */
 jcobs_answer jcobs_decode_with_sentinel(const void *source, size_t source_len, void *message, size_t message_size,
                                         unsigned char sentinel)
 {
@@ -1024,7 +1026,7 @@ jcobs_answer jcobs_decode_with_sentinel(const void *source, size_t source_len, v
     jcobs_decoder decoder = JCOBS_DECODER_INIT;
     jcobs_answer answer = {JCOBS_EMPTY, 0, 0};
     size_t frame_len = 0;
-    size_t whole_len = 0; /* of the whole blocks */
+    size_t whole_len = 0; /* the length of the whole blocks */
 
     if (source_len == 0) {
         return answer;
@@ -1042,7 +1044,7 @@ jcobs_answer jcobs_decode_with_sentinel(const void *source, size_t source_len, v
         jcobs_decoder_take_byte(&decoder, message_bytes, message_size, 1);
     }
     answer = jcobs_decoder_feed(&decoder, message, message_size, 0);
-    if (answer.status == JCOBS_MORE) { /* the frame has no bytes, as an empty message */
+    if (answer.status == JCOBS_MORE) { /* the frame has no bytes: it is an empty message */
         answer.status = JCOBS_OK;
     }
     if (answer.status == JCOBS_OK && whole_len < frame_len) {
@@ -1052,7 +1054,7 @@ jcobs_answer jcobs_decode_with_sentinel(const void *source, size_t source_len, v
     return answer;
 }
 
-/* XORs the frame, and decodes it as one for the sentinel 0. */
+/* XORs the frame with the sentinel, and decodes it as a frame for the sentinel 0. */
 jcobs_answer jcobs_decode_in_place_with_sentinel(void *buffer, size_t buffer_len, unsigned char sentinel)
 {
     const unsigned char *const buffer_bytes = (const unsigned char *)buffer;
@@ -1062,7 +1064,7 @@ jcobs_answer jcobs_decode_in_place_with_sentinel(void *buffer, size_t buffer_len
     while (frame_len < buffer_len && buffer_bytes[frame_len] != sentinel) {
         frame_len++;
     }
-    if (frame_len == 0 && buffer_len > 0) { /* the frame has no bytes, as an empty message */
+    if (frame_len == 0 && buffer_len > 0) { /* the frame has no bytes: it is an empty message */
         return answer;
     }
     jcobs_xor(buffer, frame_len, sentinel);
@@ -1100,7 +1102,8 @@ jcobs_answer jcobs_encoder_finish_terminated_with_sentinel(jcobs_encoder *encode
 
 size_t jcobs_strerror(unsigned int status, char *text, size_t text_size)
 {
-    /* By the status; the last one is for other numbers. The array has room for the longest, and needs no pointers. */
+    /* The descriptions in the order of the statuses; the last description is for other numbers. Each row has room for the
+     * longest description, so no pointers are needed. */
     static const char descriptions[][sizeof "the frame breaks off inside a block"] = {
         "done",
         "more bytes are needed",
