@@ -138,8 +138,8 @@ enum {
 
 /* How much of a frame is in the buffer. */
 typedef struct jcobs_progress {
-    size_t index;       /* where the code of the open block belongs */
-    unsigned char code; /* the code that the open block has so far: one more than the number of its bytes */
+    size_t index;       /* the index at which the code of the open block belongs */
+    unsigned char code; /* the code of the open block so far: one more than the number of its bytes */
     int is_full;        /* whether the last block is full: then no block is open, and the frame ends at index */
 } jcobs_progress;
 
@@ -196,8 +196,8 @@ static JCOBS_APART size_t jcobs_find_end(const unsigned char *source, size_t sou
     return end;
 }
 
-/* Returns the piece that ended, with this many bytes of output, with this many bytes of its last block missing,
- * and with this many bytes consumed. */
+/* Returns how a piece ended that has this many bytes of output, and of whose last block this many bytes are
+ * missing, and how many bytes were consumed. */
 static JCOBS_INLINE jcobs_piece jcobs_ended_piece(size_t written, size_t missing, size_t consumed)
 {
     if (missing == 0) {
@@ -257,8 +257,9 @@ static jcobs_answer jcobs_ok_answer(size_t consumed, size_t length)
 }
 
 /* Decodes the first frame of the source to the front of message.
- * Proved, by the contract in decode.rt: the result and every byte of the buffer depend only on the source and
- * message_size, as COBS is defined; a buffer as long as the source is never too small. */
+ * Proved, by the contract in decode.rt: the result and the written bytes are those that the definition of COBS
+ * gives for the source and message_size, and all other bytes of the buffer are as they were. A buffer as long as
+ * the source is never too small. */
 jcobs_answer jcobs_decode(const void *source, size_t source_len, void *message, size_t message_size)
 {
     jcobs_piece piece = jcobs_decode_piece((const unsigned char *)source, source_len, (unsigned char *)message,
@@ -278,7 +279,7 @@ jcobs_answer jcobs_decode(const void *source, size_t source_len, void *message, 
 }
 
 /* Makes the decoder idle, even if its state is corrupt.
- * Proved, by the contract in decoder.rt: then the decoder has taken nothing, whatever its state was. */
+ * Proved, by the contract in decoder.rt: after the call the decoder has taken no byte, whatever its state was. */
 void jcobs_decoder_reset(jcobs_decoder *decoder)
 {
     jcobs_decoder_start(decoder);
@@ -402,8 +403,8 @@ static JCOBS_INLINE size_t jcobs_decoder_length(const jcobs_decoder *decoder, si
     return jcobs_min(decoder->written, buffer_size);
 }
 
-/* Returns the result of a call that took len bytes or those through this piece's end, if it has ended. The buffer
- * has buffer_size bytes. */
+/* Returns the result of a call that took the bytes through the end of this piece, if it has ended, or otherwise
+ * all len bytes. The buffer has buffer_size bytes. */
 static JCOBS_INLINE jcobs_answer jcobs_decoder_answer(const jcobs_decoder *decoder, jcobs_piece piece, size_t len,
                                                       size_t buffer_size)
 {
@@ -424,8 +425,8 @@ static JCOBS_INLINE jcobs_answer jcobs_decoder_answer(const jcobs_decoder *decod
 /* Takes bytes of the stream, through the zero that ends the first piece, or all of them if no piece ends. Even if
  * the state is corrupt, nothing outside the buffers is accessed.
  * Proved, by the contract in decoder.rt: the result, the state and the buffer are those that the definition of the
- * stream has after these bytes, however it is cut into calls. In every state consumed and length are within bytes
- * and buffer. */
+ * stream gives after these bytes, however the stream is cut into calls. In every state consumed is at most the
+ * number of bytes passed, and length is at most buffer_size. */
 jcobs_answer jcobs_decoder_push(jcobs_decoder *decoder, void *buffer, size_t buffer_size, const void *bytes, size_t len)
 {
     jcobs_piece piece = jcobs_decoder_take(decoder, (unsigned char *)buffer, buffer_size, (const unsigned char *)bytes,
@@ -451,8 +452,8 @@ static JCOBS_INLINE jcobs_end jcobs_decoder_step(jcobs_decoder *decoder, unsigne
 
 /* Takes one byte of the stream, as a push of that byte does.
  * Proved, by the contract in decoder.rt: the result, the state and the buffer are those that the definition of the
- * stream has after these bytes, however it is cut into calls. In every state consumed and length are within bytes
- * and buffer. */
+ * stream gives after these bytes, however the stream is cut into calls. In every state consumed is at most the
+ * number of bytes passed, and length is at most buffer_size. */
 jcobs_answer jcobs_decoder_feed(jcobs_decoder *decoder, void *buffer, size_t buffer_size, unsigned char byte)
 {
     jcobs_end end = jcobs_decoder_step(decoder, (unsigned char *)buffer, buffer_size, byte);
@@ -476,7 +477,7 @@ static size_t jcobs_max_overhead(size_t message_len)
 }
 
 /* Returns the length of the longest frame of a message of message_len bytes, or 0 if that number doesn't fit.
- * Proved, by the contract in encode.rt: the result is that number if it is below 2 to the 64th, and 0 if not. */
+ * Proved, by the contract in encode.rt: the result is this length if it is below 2 to the 64th, and 0 otherwise. */
 size_t jcobs_max_length(size_t message_len)
 {
     return jcobs_sum_or(message_len, jcobs_max_overhead(message_len), 0);
@@ -512,8 +513,8 @@ static int jcobs_extra_codes_fit(unsigned char code, const unsigned char *bytes,
 }
 
 /* Returns whether room bytes, counted from the code of an open block, are enough for the frame if the block takes
- * these bytes. It reads the bytes only if their number doesn't decide that. data_len is how many bytes of the
- * message the open block and those after it then have. */
+ * these bytes. It reads the bytes only if their number doesn't decide that. data_len is the number of bytes of the
+ * message in the open block and the blocks after it, with these bytes. */
 static JCOBS_INLINE int jcobs_has_room(unsigned char code, const unsigned char *bytes, size_t len, size_t room)
 {
     size_t taken = (size_t)code - 1;
@@ -526,9 +527,9 @@ static JCOBS_INLINE int jcobs_has_room(unsigned char code, const unsigned char *
     return jcobs_covers_overhead(data_len, spare) || jcobs_extra_codes_fit(code, bytes, len, spare);
 }
 
-/* Writes the frame of the message, and returns its length. index is where the code of the open block belongs, and
- * next where the next byte does. No part has more bytes than the open block has room for, so no byte needs a test
- * whether the block is full. */
+/* Writes the frame of the message, and returns its length. The code of the open block belongs at index, and the
+ * next byte at next. No part has more bytes than the open block has room for, so no byte needs a test whether the
+ * block is full. */
 static size_t jcobs_write_blocks(const unsigned char *message, size_t message_len, unsigned char *frame)
 {
     size_t index = 0;
@@ -578,8 +579,8 @@ static jcobs_answer jcobs_too_small_answer(void)
 }
 
 /* Writes the frame of the message to the front of the buffer frame, if it fits. Otherwise nothing is written.
- * Proved, by the contract in encode.rt: if the frame fits, it is the message's, and bytes after it are as they
- * were; if it doesn't, the status is TOO_SMALL, and the buffer is as it was. */
+ * Proved, by the contract in encode.rt: if the frame of the message fits, the buffer begins with it, and the bytes
+ * after it are as they were. Otherwise the status is TOO_SMALL, and the buffer is as it was. */
 jcobs_answer jcobs_encode(const void *message, size_t message_len, void *frame, size_t frame_size)
 {
     size_t length = jcobs_write_frame((const unsigned char *)message, message_len, (unsigned char *)frame, frame_size);
@@ -592,8 +593,8 @@ jcobs_answer jcobs_encode(const void *message, size_t message_len, void *frame, 
 
 /* Writes the frame of the message and a zero after it to the front of the buffer frame, if both fit. Otherwise
  * nothing is written.
- * Proved, by the contract in encode.rt: if the frame and the zero fit, they are the message's, and bytes after
- * them are as they were; if they don't, the status is TOO_SMALL, and the buffer is as it was. */
+ * Proved, by the contract in encode.rt: if the frame of the message and the zero fit, the buffer begins with them,
+ * and the bytes after them are as they were. Otherwise the status is TOO_SMALL, and the buffer is as it was. */
 jcobs_answer jcobs_encode_terminated(const void *message, size_t message_len, void *frame, size_t frame_size)
 {
     unsigned char *const frame_bytes = (unsigned char *)frame;
@@ -656,7 +657,7 @@ static jcobs_progress jcobs_encoder_progress(const jcobs_encoder *encoder)
     return jcobs_make_progress(encoder->index, (unsigned char)(encoder->taken + 1), encoder->full != 0);
 }
 
-/* Encodes a message in its own buffer, in which it lies after the room for the other bytes of the longest frame.
+/* Encodes a message in its own buffer, in which the message begins at index JCOBS_MAX_OVERHEAD(message_len).
  * Returns the length of the frame in bytes. */
 static size_t jcobs_write_in_place(unsigned char *buffer, size_t buffer_size, size_t message_len)
 {
@@ -673,8 +674,9 @@ static size_t jcobs_write_in_place(unsigned char *buffer, size_t buffer_size, si
 /* Encodes a message in its own buffer, if the longest frame of a message of message_len bytes fits. Otherwise
  * nothing is written. The message lies in the buffer after the room for the other bytes of that frame, from the
  * index JCOBS_MAX_OVERHEAD(message_len) on. Its frame is written to the front of the buffer.
- * Proved, by the contract in encode.rt: if the longest frame fits, the buffer begins with the message's, and bytes
- * after that are as they were; if it doesn't, the status is TOO_SMALL, and the buffer is as it was. */
+ * Proved, by the contract in encode.rt: if the longest frame fits, the buffer begins with the frame of the
+ * message, and the bytes after this frame are as they were. Otherwise the status is TOO_SMALL, and the buffer is
+ * as it was. */
 jcobs_answer jcobs_encode_in_place(void *buffer, size_t buffer_size, size_t message_len)
 {
     if (buffer_size < message_len || buffer_size - message_len < jcobs_max_overhead(message_len)) {
@@ -685,7 +687,7 @@ jcobs_answer jcobs_encode_in_place(void *buffer, size_t buffer_size, size_t mess
 }
 
 /* Puts the encoder back to the start, even if its state is corrupt: it has then taken nothing.
- * Proved, by the contract in encoder.rt: then the encoder has taken nothing, whatever its state was. */
+ * Proved, by the contract in encoder.rt: after the call the encoder has taken no byte, whatever its state was. */
 void jcobs_encoder_reset(jcobs_encoder *encoder)
 {
     jcobs_encoder_start(encoder);
@@ -754,9 +756,9 @@ static JCOBS_INLINE size_t jcobs_encoder_length(const jcobs_encoder *encoder)
 
 /* Takes the next bytes of a message, if the frame of all bytes so far fits the buffer. Even if the state is
  * corrupt, nothing outside the buffers is accessed.
- * Proved, by the contract in encoder.rt: the status is OK exactly if the frame of all that was taken and these
- * bytes fits. If it isn't OK, the state and the buffer are as they were. In every state consumed and length are
- * within bytes and buffer. */
+ * Proved, by the contract in encoder.rt: the status is OK exactly if the frame of the message so far, with these
+ * bytes, fits. If it isn't OK, the state and the buffer are as they were. In every state consumed is at most the
+ * number of bytes passed, and length is at most buffer_size. */
 jcobs_answer jcobs_encoder_push(jcobs_encoder *encoder, void *buffer, size_t buffer_size, const void *bytes, size_t len)
 {
     if (!jcobs_encoder_try_append(encoder, (unsigned char *)buffer, buffer_size, (const unsigned char *)bytes, len)) {
@@ -765,8 +767,9 @@ jcobs_answer jcobs_encoder_push(jcobs_encoder *encoder, void *buffer, size_t buf
     return jcobs_ok_answer(len, jcobs_encoder_length(encoder));
 }
 
-/* Does what jcobs_encoder_append_byte does, and returns the length of the frame so far: in each case it ends after
- * the byte at next. Compilers make fewer instructions of this form for one byte, and more for a loop. */
+/* Does what jcobs_encoder_append_byte does, and returns the length of the frame so far. In each case the frame
+ * ends after the byte at index next. For a single byte compilers make fewer instructions of this form than of
+ * jcobs_encoder_append_byte; for a loop they make more. */
 static JCOBS_INLINE size_t jcobs_encoder_append_and_measure(jcobs_encoder *encoder, unsigned char *buffer,
                                                             unsigned char byte)
 {
@@ -792,8 +795,8 @@ static JCOBS_INLINE size_t jcobs_encoder_append_and_measure(jcobs_encoder *encod
     return next + 1;
 }
 
-/* Takes the next byte of a message, if the frame of all bytes so far fits the buffer. It isn't written in
- * jcobs_encoder_feed, because avr-gcc's code would then take a tenth more time. */
+/* Takes the next byte of a message, if the frame of all bytes so far fits the buffer. It is a separate function:
+ * as a part of jcobs_encoder_feed it would take a tenth more time in avr-gcc's code. */
 static jcobs_answer jcobs_encoder_feed_byte(jcobs_encoder *encoder, unsigned char *buffer, size_t buffer_size,
                                             unsigned char byte)
 {
@@ -806,9 +809,9 @@ static jcobs_answer jcobs_encoder_feed_byte(jcobs_encoder *encoder, unsigned cha
 }
 
 /* Takes the next byte of a message, as a push of that byte does.
- * Proved, by the contract in encoder.rt: the status is OK exactly if the frame of all that was taken and these
- * bytes fits. If it isn't OK, the state and the buffer are as they were. In every state consumed and length are
- * within bytes and buffer. */
+ * Proved, by the contract in encoder.rt: the status is OK exactly if the frame of the message so far, with these
+ * bytes, fits. If it isn't OK, the state and the buffer are as they were. In every state consumed is at most the
+ * number of bytes passed, and length is at most buffer_size. */
 jcobs_answer jcobs_encoder_feed(jcobs_encoder *encoder, void *buffer, size_t buffer_size, unsigned char byte)
 {
     return jcobs_encoder_feed_byte(encoder, (unsigned char *)buffer, buffer_size, byte);
@@ -829,9 +832,9 @@ static jcobs_frame jcobs_encoder_close(jcobs_encoder *encoder, unsigned char *bu
 
 /* Ends the message, if its frame fits the buffer. Even if the state is corrupt, nothing outside the buffers is
  * accessed, and the returned length is at most the buffer's.
- * Proved, by the contract in encoder.rt: if the frame of all that was taken fits, the buffer begins with it, and
- * the encoder has taken nothing; if it doesn't, the status is TOO_SMALL, and the state and the buffer are as they
- * were. */
+ * Proved, by the contract in encoder.rt: if the frame of all bytes that were taken fits, the buffer begins with
+ * it, and the encoder is in its initial state. Otherwise the status is TOO_SMALL, and the state and the buffer are
+ * as they were. */
 jcobs_answer jcobs_encoder_finish(jcobs_encoder *encoder, void *buffer, size_t buffer_size)
 {
     if (buffer_size == 0) {
@@ -845,9 +848,9 @@ jcobs_answer jcobs_encoder_finish(jcobs_encoder *encoder, void *buffer, size_t b
 }
 
 /* Ends the message, as jcobs_encoder_finish does, and writes a zero after its frame, if both fit.
- * Proved, by the contract in encoder.rt: if the frame of all that was taken and the zero fit, the buffer begins
- * with them, and the encoder has taken nothing; if they don't, the status is TOO_SMALL, and the state and the
- * buffer are as they were. */
+ * Proved, by the contract in encoder.rt: if the frame of all bytes that were taken and the zero fit, the buffer
+ * begins with them, and the encoder is in its initial state. Otherwise the status is TOO_SMALL, and the state and
+ * the buffer are as they were. */
 jcobs_answer jcobs_encoder_finish_terminated(jcobs_encoder *encoder, void *buffer, size_t buffer_size)
 {
     unsigned char *const buffer_bytes = (unsigned char *)buffer;
@@ -865,8 +868,8 @@ jcobs_answer jcobs_encoder_finish_terminated(jcobs_encoder *encoder, void *buffe
     return jcobs_too_small_answer();
 }
 
-/* Returns how many bytes come before the first zero: all of them if there is none. With four bytes in a round it
- * needs half the instructions. */
+/* Returns how many bytes come before the first zero: all of them if there is none. The loop tests four bytes in
+ * each round, and so needs half the instructions. */
 static JCOBS_APART size_t jcobs_length_to_zero(const unsigned char *bytes, size_t len)
 {
     const unsigned char *rest = bytes;
@@ -888,7 +891,7 @@ static JCOBS_APART size_t jcobs_length_to_zero(const unsigned char *bytes, size_
 
 /* Decodes in place the frame of frame_len bytes that the buffer begins with, one byte after another, and returns
  * the message's length. Every byte after the message is as it was. No byte of the frame is a zero. If the last
- * block is cut off, it returns JCOBS_END_BROKEN, with the length of the message of the blocks before. */
+ * block is cut off, it returns JCOBS_END_BROKEN, with the length of the output of the blocks before it. */
 static JCOBS_APART jcobs_end jcobs_decode_blocks(unsigned char *buffer, size_t frame_len)
 {
     size_t read = 0;
@@ -936,8 +939,8 @@ static jcobs_answer jcobs_in_place_answer(size_t consumed, size_t buffer_len, jc
 }
 
 /* Decodes the frame at the front of the buffer in place.
- * Proved, by the contract in in_place.rt: the result and every byte of the buffer depend only on the buffer, as
- * COBS is defined. */
+ * Proved, by the contract in in_place.rt: the result and every byte of the buffer are those that the definition of
+ * COBS gives for the bytes that the buffer had. */
 jcobs_answer jcobs_decode_in_place(void *buffer, size_t buffer_len)
 {
     unsigned char *const buffer_bytes = (unsigned char *)buffer;
@@ -973,7 +976,7 @@ static enum jcobs_kind jcobs_kind_by_blocks(const unsigned char *bytes, size_t l
 
 /* Returns whether the bytes are a frame, and if so, whether it is the one that encoders write for its message.
  * Proved, by the contract in kind.rt: the result is NOT_A_FRAME exactly if the bytes are no frame, and CANONICAL
- * exactly if they are the one that encoders write. */
+ * exactly if they are the frame that encoders write. */
 unsigned int jcobs_frame_kind(const void *bytes, size_t len)
 {
     const unsigned char *const data = (const unsigned char *)bytes;
