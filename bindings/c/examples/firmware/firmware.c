@@ -21,7 +21,7 @@
 static volatile unsigned char ring[256]; /* indices of 8 bits wrap around at its length; one place stays free */
 static volatile unsigned char ring_head; /* the interrupt handler writes here */
 static volatile unsigned char ring_tail; /* the main loop reads here */
-static volatile unsigned char ring_cut;  /* set when a byte is lost; all later bytes are lost until the main loop clears it */
+static volatile unsigned char ring_cut;  /* bytes are lost while this is set; the main loop clears it */
 static volatile unsigned char overruns;
 
 void uart_received(unsigned char byte) /* called by the interrupt handler */
