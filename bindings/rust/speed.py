@@ -2,7 +2,8 @@
 """Prints tables of speeds relative to the crate `cobs`, from the measurements of bench/run.sh.
 
 usage: speed.py CSV.. -- CSV..    for README.md
-       speed.py below             for docs/PERFORMANCE.md: each call and kind of messages below 0.8 of the speed of `cobs`, from bench/results
+       speed.py below             for docs/PERFORMANCE.md: each call and kind of messages below 0.8 of the speed of `cobs`,
+                                  from bench/results
 
 The files after the two dashes are of programs with link-time optimization. If a measurement was repeated, the highest speed
 counts. A line of a file has a speed for each implementation, in the order of WHO in bench/src/calls.rs.
