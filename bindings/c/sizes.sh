@@ -1,7 +1,7 @@
 #!/bin/sh
-# Prints how many bytes the libraries of prebuilt/ add to a program that makes some calls, as a table: sizes.sh [--write]
+# Prints a table of how many bytes the libraries of prebuilt/ add to a program that makes some calls: sizes.sh [--write]
 #
-# --write puts the table into README.md. It needs the linkers of both processors: Debian's binutils and
+# --write puts the table into README.md. The script needs the linkers of both processors: Debian's binutils and
 # binutils-aarch64-linux-gnu.
 #
 # The names of the rows are Markdown.

@@ -1,11 +1,12 @@
 #!/usr/bin/env python3
-"""Prints tables of speeds beside the crate `cobs`, from what bench/run.sh has measured.
+"""Prints tables of speeds relative to the crate `cobs`, from the measurements of bench/run.sh.
 
 usage: speed.py CSV.. -- CSV..    for README.md
-       speed.py below             for docs/PERFORMANCE.md: each call and kind of messages below 0.8 of `cobs`, from bench/results
+       speed.py below             for docs/PERFORMANCE.md: each call and kind of messages below 0.8 of the speed of `cobs`,
+                                  from bench/results
 
-The files after the two dashes are of programs with link-time optimization. Of each measurement the best one counts. A line of
-a file has a speed for each implementation, in the order of WHO in bench/src/calls.rs.
+The files after the two dashes are of programs with link-time optimization. If a measurement was repeated, the highest speed
+counts. A line of a file has a speed for each implementation, in the order of WHO in bench/src/calls.rs.
 """
 import re
 import statistics
@@ -24,7 +25,7 @@ NAMES = {
 }  # fmt: skip
 BENCH = Path(__file__).resolve().parents[2] / "bench"
 CALLS = BENCH / "src/calls.rs"
-# Why a call is slower than that of `cobs`, in the rows below LEAST.
+# The reasons why a call is slower than the call of `cobs`, for the rows below LEAST.
 LEAST = 0.8
 SHORT, INLINED = 1, 2
 REASONS = {
@@ -37,7 +38,7 @@ PLACES = [WHO.index(name) for name in ("libjcobs", "jcobs", "cobs")]
 
 
 def best(files):
-    """For each call and kind of messages the best speeds: of libjcobs, of this crate, and of the crate `cobs`."""
+    """Returns the highest speeds of libjcobs, of this crate, and of the crate `cobs`, for each call and kind of messages."""
     found = {}
     for file in files:
         for line in Path(file).read_text().splitlines():
@@ -48,7 +49,7 @@ def best(files):
 
 
 def ratios(found, call, other):
-    """A cell: how many times as fast as another this crate is, in the middle of all kinds, and where it is slowest."""
+    """Returns a cell: the speed of this crate divided by that of another, as the median over all kinds, and for the slowest kind."""
     rows = [(speeds[1] / speeds[other], kind) for (name, kind), speeds in found.items() if name == call and speeds[other]]
     if not rows:
         return "-"
@@ -57,7 +58,7 @@ def ratios(found, call, other):
 
 
 def full_names():
-    """The calls with their names, each of which has its function."""
+    """Yields the calls with their names; each name contains its function."""
     base = ""
     for call, name in NAMES.items():
         base = base if name.startswith("of ") else name.partition(" of ")[0]
@@ -66,14 +67,14 @@ def full_names():
 
 
 def ratios_of(file):
-    """For each call the kinds of messages, with the ratio to the crate `cobs` in this file of bench/results."""
+    """Returns the kinds of messages for each call, with the ratio to the crate `cobs` in this file of bench/results."""
     table = file.read_text().partition("| / the crate `cobs` |")[2].partition("\n\n")[0]
     head, _, *rows = [[cell.strip() for cell in line.strip("| ").split("|")] for line in table.splitlines()]
     return {call: [(row[0], float(row[at])) for row in rows if row[at] != "-"] for at, call in enumerate(head, 1)}
 
 
 def below():
-    """The rows of the table of what is below LEAST, without and with link-time optimization."""
+    """Yields the rows of the table of ratios below LEAST, without and with link-time optimization."""
     tables = [ratios_of(BENCH / "results" / name) for name in ("rust.txt", "rust-lto.txt")]
     for call, name in full_names():
         cells = [[f"{kind} {ratio:.2f}" for kind, ratio in table[call] if ratio < LEAST] for table in tables]
@@ -83,7 +84,7 @@ def below():
 
 
 def slower(found):
-    """Where the crate `cobs` is faster: for each such call the kinds of messages, or how many if they are many."""
+    """Returns, for each call for which the crate `cobs` is faster, the kinds of messages, or their number if it is large."""
     parts = {}
     for call, name in full_names():
         kinds = [kind for (of, kind), speeds in found.items() if of == call and speeds[2] and speeds[1] < speeds[2]]

@@ -3,11 +3,12 @@
 
 usage: translate.py [TO [CRATES]]
 
-Drops what is for the prover, such as contracts, ghost fields and laws, and gives the names that Rust has: of modules, of
-the vectors and of memory, where Rust has no allocator to pass. Function bodies stay as they are otherwise, except for
-BY_TARGET, and docs except for REWORDED. A form that it doesn't know is an error, with its file and line. Then rustfmt lays
-the files out.
-tests/proved.py says what may differ.
+Drops the parts for the prover, such as contracts, ghost fields and laws. Replaces names of Rattle by those of Rust: names of
+modules, of vectors and of memory, because no allocator is passed in Rust. Otherwise the bodies of functions don't change, except
+for BY_TARGET, and the docs don't change, except for REWORDED. A form that the script doesn't know is an error, with its file and
+line. At the end rustfmt formats the files.
+
+tests/proved.py names the differences that are permitted.
 """
 import re
 import subprocess
@@ -15,14 +16,14 @@ import sys
 from pathlib import Path
 
 HERE = Path(__file__).resolve().parent
-# The crates, their modules here, and the files of each that are left out: proofs for callers, and types and vectors whose
-# signatures in the crate `cobs` differ, so that the files outside of src/proved have them, over the proved functions.
+# The crates, their modules here, and the files of each crate that are left out: proofs for callers, and items whose signatures
+# in the crate `cobs` differ. The files outside of src/proved define these items over the proved functions.
 SOURCES = {
     "cobs": ("crate::proved", ("laws.rt", "laws/", "dec/buffered.rt", "dec/heapless.rt", "enc/encoder.rt", "enc/vector.rt")),
     "cobs_bytes": ("crate::proved::cobs_bytes", ()),
 }
-# The items of other files that are left out for the same reason. `encode_frames` takes any iterator of messages there, and
-# here it would need them in one slice of vectors.
+# The items of other files that are left out for the same reason. For example, `encode_frames` in src/frames.rs takes any
+# iterator of messages; the proved function takes a slice of vectors.
 LEFT_OUT = set(
     "encode_with_sentinel encode_including_sentinels decode_vec decode_vec_with_sentinel DecodeVecError DecodingResult"
     " WriteBuffer encode_frames encode_frames_room write_frames".split()
@@ -34,11 +35,11 @@ PATHS = {
     "std::io::Read": "std::io::Read",
     "memchr": "memchr",
 }
-# Names that Rust has no use for.
+# Imports that Rust doesn't need.
 DROPPED = ("std::alloc::Global", "std::marker::Model", "serde::", "thiserror::", "cobs::laws")
 DERIVES = ("Debug", "Clone", "Copy", "PartialEq", "Eq", "Hash")
 NOT_DERIVED = ("Drop", "Error", "Serialize", "Deserialize")
-# What Rust programs expect of a type beside what its source derives.
+# The derives that Rust programs expect of a type, besides those of its source.
 MORE_DERIVES = {
     "DecodeError": DERIVES,
     "DestBufTooSmallError": DERIVES,
@@ -60,9 +61,11 @@ MORE_DERIVES = {
     "Recorded": ("Debug", "Clone"),
     "FrameReader": ("Debug", "Clone"),
 }
-# Results and errors, which may be stored and logged: they derive what the features `serde` and `defmt` are for.
+# Results and errors, which programs may store and log: with the features `serde` and `defmt` they derive the traits of these
+# crates.
 STORED = set("DecodeError DestBufTooSmallError DecodeReport PushError FrameKind PieceEnd Next ReadFault FrameOutcome".split())
-# What the docs say otherwise here, where the decoders have the signatures of the crate `cobs`, and no reader sees a contract.
+# Texts of the docs that are replaced here, because the decoders have the signatures of the crate `cobs`, and the reader sees no
+# contract.
 REWORDED = {
     "This decoder returns the same results as [`CobsDecoder`](crate::CobsDecoder).": "The `feed` of this decoder returns the same"
     " results as that of [`CobsDecoder`](crate::CobsDecoder).",
@@ -87,26 +90,27 @@ REWORDED = {
 }
 # The traits whose methods an example calls. `UnbufferedDecoder` has `feed_piece` itself.
 TRAITS = {"FrameDecoder": "feed_byte|feed_piece|buffer", "FrameSource": "read_some"}
-# Functions whose result depends on the target, and that result here. No proof rests on it.
+# Functions whose result depends on the target, and their result here. No proof depends on this result.
 BY_TARGET = {"cobs_bytes::has_vectors": {"true": "crate::simd::HAS_VECTORS"}}
-# Calls that are `const fn` in the crate `cobs`, or called by one; and those that make and copy plain values, so that these can
-# be in a constant or a static.
+# Calls that are `const fn` in the crate `cobs`, or that such a call calls; and calls that make or copy plain values, so that
+# these values can be in a constant or a static.
 CONST = set(
     "max_encoding_overhead max_encoding_length UnbufferedDecoder::new UnbufferedDecoder::from_phase UnbufferedDecoder::phase"
     " UnbufferedDecoder::is_idle UnbufferedEncoder::new UnbufferedEncoder::from_progress UnbufferedEncoder::progress"
     " DecodeReport::parsed_size DecodeReport::frame_size FrameReader::new FrameReader::decoder Recorded::new".split()
 )
-# Calls for one byte or a short frame, which are to be compiled into the caller's loop.
+# Calls for one byte or a short frame, which rustc should inline into the caller's loop.
 INLINE = set(
     "decode_with_sentinel UnbufferedDecoder::feed_piece DecoderState::feed EncoderState::push UnbufferedEncoder::progress"
     " UnbufferedEncoder::from_progress".split()
 )
-# Functions whose marks differ from those of the proved source. The first two decode long frames: here a call for short frames
-# is their only caller, and saves fewer registers if they aren't compiled into it. In C a function of its own calls them. The
-# third one is apart in the proved source for compilers that can't see that two slices don't overlap; rustc can.
+# Functions whose attributes for inlining differ from those of the proved source. The first two decode long frames. Here a call
+# for short frames is their only caller, and it saves fewer registers if they aren't inlined; in C a separate function calls
+# them. The third one isn't inlined in the proved source, for compilers that can't see that two slices don't overlap; rustc can
+# see it.
 APART = {"decode_long", "decode_blocks_in_place"}
 INTO_CALLER = {"cobs_bytes::copy_slice"}
-# Calls whose result is all that they are for: the lint says so if it isn't used.
+# Calls that have no effect except their result: a lint warns if the result isn't used.
 MUST_USE = set(
     "PieceEnd::reported DecodeReport::parsed_size DecodeReport::frame_size EncoderState::can_push EncoderState::finalize"
     " UnbufferedDecoder::new UnbufferedDecoder::from_phase UnbufferedDecoder::phase UnbufferedDecoder::is_idle"
@@ -120,7 +124,7 @@ NAMED = r"(?:fn|struct|enum|trait|type) (\w+)"
 
 
 class Source:
-    """The lines of a file, and where the translation has come to."""
+    """The lines of a file, and the index of the next line to translate."""
 
     def __init__(self, path, name, crate):
         self.name, self.crate, self.at, self.owner, self.function = name, crate, 0, "", ""
@@ -147,7 +151,7 @@ class Source:
 
 
 def bare(line):
-    """A line of code without its strings, characters and comment."""
+    """Returns a line of code without its strings, characters and comment."""
     line = re.sub(r'b?"(\\.|[^"\\])*"', '""', line)
     line = re.sub(r"b?'(\\.|[^'\\])'", "''", line)
     return line.split("//")[0].rstrip()
@@ -189,14 +193,14 @@ def doc(source, lines):
 
 
 def linked(source, name):
-    """A link to a name; with its path, if this file doesn't have it. What the crate doesn't have is only named."""
+    """Returns a link to a name, with its path if this file doesn't have the name. A name that the crate doesn't have gets no link."""
     if name in source.words - left_out:
         return f"[`{name}`]"
     return f"[`{name}`](crate::{name})" if name in exported()[0] else f"`{name}`"
 
 
 def exported():
-    """The names that the crate exports, and those of them that are translated."""
+    """Returns the names that the crate exports, and those of them that are translated."""
     text = "".join((HERE / "src" / name).read_text() for name in ("lib.rs", "dec.rs", "enc.rs"))
     of_proved = " ".join(re.findall(r"^pub use crate::proved::(.*?);", text, re.M | re.S))
     others = " ".join(re.findall(r"^pub use (?:crate::)?(?!proved)\w+::([^*;]*);", text, re.M | re.S))
@@ -206,7 +210,7 @@ def exported():
 
 
 def is_shown(source, sign):
-    """Whether the comment that ends before this line is one of a translated item that the crate exports, or in one."""
+    """Returns whether the comment that ends before this line belongs to a translated item that the crate exports."""
     head = next((line for line in source.lines[source.at :] if line.strip() and not line.strip().startswith(("//", "#"))), "")
     named = re.match(rf"{ITEM}|pub (?:struct|enum|trait|type) (\w+)", head)
     name = (named[1] or named[2]) if named else source.owner
@@ -214,7 +218,7 @@ def is_shown(source, sign):
 
 
 def doctest(example):
-    """An example of a public item: it imports the names that it has of the crate. Lines round it aren't shown."""
+    """Returns an example of a public item. It imports the crate's names that it uses. The lines around it are hidden in the docs."""
     text = "\n".join(example)
     text = re.sub(r"(assert(?:_eq|_ne)?!\()rt; ?", r"\1", text)
     text = re.sub(r"\.(to_vec|to_string)\(alloc\)\?", r".\1()", text)
@@ -234,14 +238,14 @@ def doctest(example):
 
 
 def without_allocator(text):
-    """A text in which no allocator is passed."""
+    """Returns a text in which no allocator is passed."""
     text = re.sub(r"\balloc: Global,?[ \n]*", "", text)
     text = text.replace("Vec::from_slice(alloc, ", "crate::memory::copied(")
     return re.sub(r"\(alloc(?:, |(?=\)))", "(", text)
 
 
 def paths(source, statement):
-    """A `use`, with the paths of Rust; nothing if Rust doesn't need it."""
+    """Returns a `use` with the paths of Rust, or nothing if Rust doesn't need it."""
     flat = re.sub(r"\s+", " ", statement).strip()
     head, path = re.match(r"((?:pub(?:\(crate\))? )?use )(.*);$", flat).groups()
     if path.startswith(DROPPED):
@@ -260,7 +264,7 @@ def paths(source, statement):
 
 
 def derives(source, line, name):
-    """The derives of a type: those of Rust, of serde and of defmt, and which are dropped."""
+    """Returns the derives of a type: those of Rust, of serde and of defmt; other derives are dropped."""
     listed = [word.strip() for word in re.match(r"#\[derive\((.*)\)\]$", line).group(1).split(",")] if line else []
     if unknown := [word for word in listed if word not in DERIVES + NOT_DERIVED]:
         source.fail(f"it derives {unknown[0]}")
@@ -275,7 +279,7 @@ def derives(source, line, name):
 
 
 def display(source, name, item):
-    """The text of an error, by its `error` attributes, which are dropped."""
+    """Returns the text of an error, from its `error` attributes, which are dropped."""
     arms, kept, text = [], [], None
     for line in item:
         if found := re.match(r'\s*#\[error\((".*")\)\]$', line):
@@ -302,7 +306,7 @@ def display(source, name, item):
 
 
 def signature(source):
-    """A function's head, without its contract: its lines, up to the brace or the semicolon."""
+    """Returns the lines of a function's head without its contract, up to the brace or the semicolon."""
     head = []
     while not head or sum(bare(line).count("(") - bare(line).count(")") for line in head):
         head.append(source.lines[source.at])
@@ -348,7 +352,7 @@ def code(source, line):
 
 
 def without_label(source, line):
-    """The head of a loop without its label, which a proof names, if no line of the loop does."""
+    """Returns the head of a loop. A label that only a proof names is dropped."""
     if found := re.match(r"(\s*)('\w+): (?=(for|while|loop)\b)", line):
         end = source.lines.index(found[1] + "}", source.at)
         if not any(re.search(rf"{found[2]}\b", bare(inner)) for inner in source.lines[source.at : end]):
@@ -357,7 +361,7 @@ def without_label(source, line):
 
 
 def attribute(source, out, text):
-    """An attribute: those about proofs go, and a derive waits for its type."""
+    """Translates an attribute. Attributes about proofs are dropped, and a derive is kept until its type follows."""
     if text.startswith(("#[tactic", "#![tactic")):
         source.skip()
     elif text.startswith("#[derive("):
@@ -426,7 +430,7 @@ def without_comment(out):
 
 
 def typed(source, out, name):
-    """The rest of a type whose head is the last line of `out`."""
+    """Translates the rest of a type whose head is the last line of `out`."""
     (derive, place), source.derive = source.derive or ("", len(out) - 1), None
     while source.lines[source.at - 1] != "}" and not out[-1].endswith(";"):
         step(source, out)
@@ -439,7 +443,7 @@ def typed(source, out, name):
 
 
 def items(lines):
-    """The items of a file, each with the comments and attributes before it."""
+    """Yields the items of a file, each with the comments and attributes before it."""
     begun, depth = 0, 0
     for at, line in enumerate(lines):
         text = bare(line)
@@ -451,12 +455,12 @@ def items(lines):
 
 
 def head_of(item):
-    """An item's first line of code."""
+    """Returns the first line of code of an item."""
     return next((line for line in item if line and not re.match(r"\s*(//|#)", line)), "")
 
 
 def feature_of(item):
-    """The feature that an item needs."""
+    """Returns the feature that an item needs."""
     text = "\n".join(bare(line) for line in item if not line.strip().startswith("//"))
     for feature in ("std", "alloc"):
         words = "|".join([FEATURES[feature], *(rf"\b{name}\b" for name in needing[feature])])
@@ -466,7 +470,7 @@ def feature_of(item):
 
 
 def find_needing(files):
-    """Fills `needing`: the names of the items that need a feature, by what they or the items that they name have."""
+    """Fills `needing` with the names of the items that need a feature, because they, or items that they name, use it."""
     count = -1
     while count != (count := sum(map(len, needing.values()))):
         for lines in files:
@@ -477,7 +481,7 @@ def find_needing(files):
 
 
 def guarded(item, code):
-    """An item under the feature that it needs; of a `use`, the names that need one apart, and only those in `code` and here."""
+    """Returns an item under the feature that it needs. Of a `use`, the names that need a feature are separate, and only names in `code` stay."""
     head = head_of(item)
     if re.match(r"(pub(\(crate\))? )?use ", head):
         at = item.index(head)
@@ -505,7 +509,7 @@ def guarded(item, code):
 
 
 def header(source, text):
-    """The lines above a file."""
+    """Returns the lines at the top of a file."""
     made = f"// Made by bindings/rust/translate.py from `{source.name}`: change that file, and run it again.\n"
     if source.name.endswith("cobs/src/lib.rt"):
         children = [crate for crate in SOURCES if crate != "cobs"]
@@ -550,7 +554,7 @@ def translated(source):
 
 
 def find_left_out(crates):
-    """Fills `left_out`: the names of LEFT_OUT, and those of the files that are left out."""
+    """Fills `left_out` with the names of LEFT_OUT, and those of the files that are left out."""
     for crate, (_, files) in SOURCES.items():
         for file in files:
             if file.endswith(".rt") and file != "laws.rt":
@@ -559,7 +563,7 @@ def find_left_out(crates):
 
 
 def name_of(head):
-    """The name of the item whose first line this is, or of the type that it implements something for."""
+    """Returns the name of the item whose first line this is, or of the type for which the item implements something."""
     named = re.match(rf"(?:pub(?:\(crate\))? )?{NAMED}|impl(?:<.*?>)? (?:[\w:]+(?:<.*>)? for )?(\w+)", head)
     return named and (named[1] or named[2])
 

@@ -1,15 +1,16 @@
 #!/bin/sh
 # Runs the tests of the crate `cobs` 0.5.1 over this crate: upstream-tests.sh FOLDER
 #
-# It also compares each call with the crate's, if FOLDER has src/lib.rs (tests/beside_crate/compare.rs).
+# If FOLDER has src/lib.rs, the script also compares each call with the call of the crate `cobs`
+# (tests/beside_crate/compare.rs).
 #
-# FOLDER has them as the crate does, in the test modules at the ends of src/*.rs, or in files where a line
+# FOLDER has the tests as the crate has them, in the test modules at the ends of src/*.rs, or in files in which a line
 #
 #     // ===== src/enc.rs (test module) =====
 #
-# stands before each module. They are laid out in a folder of their own, in a project that depends on this crate under the
-# name `cobs`, and on Debian's librust-quickcheck-dev, so nothing is fetched. The names of the tests that don't pass are
-# compared with the table under "The tests of the crate" in README.md: both must be the same.
+# precedes each module. The script writes the tests to a separate project, which depends on this crate under the name `cobs`,
+# and on Debian's librust-quickcheck-dev, so nothing is downloaded. The names of the tests that don't pass must be the names in
+# the section "The tests of the crate" of README.md.
 set -eu
 if [ $# -ne 1 ] || [ ! -d "$1" ]; then
     echo "usage: $0 FOLDER" >&2
@@ -29,7 +30,7 @@ trap 'rm -rf "$work"' EXIT
 mkdir "$work/src"
 "$here/tests/offline.sh" "$work" || exit 0
 
-# Each module FILE of the crate: its names, then its tests.
+# Writes each module FILE of the crate: its names, and then its tests.
 cut_modules() { # FILE..
     awk -v folder="$work/src" '
         FNR == 1 { name = FILENAME; sub(/.*\//, "", name); inside = 0 }
@@ -41,7 +42,7 @@ cut_modules() { # FILE..
 cd "$tests"
 marked=$(grep -l '^// ===== src/[a-z]*\.rs (test module) =====' -- * 2>/dev/null || true)
 if [ -n "$marked" ]; then
-    # One name a line.
+    # Prints one name per line.
     # shellcheck disable=SC2086
     cut_modules $marked
 elif [ -d src ]; then
@@ -94,7 +95,7 @@ fi
 passed=$(grep -c '^test .* \.\.\. ok$' said || true)
 echo "= $passed tests of the crate pass; $(wc -l <found) don't, as the table in README.md says"
 
-# Every call beside the crate's, if its sources are there as cargo downloads them.
+# Compares every call with the crate's, if FOLDER has the crate's sources as cargo downloads them.
 if [ ! -f "$tests/src/lib.rs" ]; then
     echo "not compared with the crate: $tests/src/lib.rs isn't there"
     exit 0

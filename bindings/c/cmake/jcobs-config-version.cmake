@@ -1,4 +1,4 @@
-# Serves a request for this version, or for an earlier one with the same major number.
+# Accepts a request for this version, or for an earlier version with the same major number.
 set(PACKAGE_VERSION 1.0.0)
 string(REGEX REPLACE "[.].*" "" _jcobs_major "${PACKAGE_VERSION}")
 set(PACKAGE_VERSION_COMPATIBLE TRUE)

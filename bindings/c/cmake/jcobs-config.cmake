@@ -1,9 +1,9 @@
-# find_package(jcobs) defines the target jcobs::jcobs: the static library, and where its headers are. If the shared library
-# is installed too, it is the target jcobs::shared.
+# find_package(jcobs) defines the target jcobs::jcobs, which is the static library with the folder of its headers. If the shared
+# library is installed too, the target jcobs::shared is that library.
 #
-# This file is installed to lib/cmake/jcobs of a prefix, and finds the library there. In the repository, with
-# CMAKE_PREFIX_PATH naming bindings/c, it takes the one of prebuilt/ for the target's processor.
-if(EXISTS "${CMAKE_CURRENT_LIST_DIR}/jcobs-targets.cmake") # what CMake has compiled and installed
+# This file is installed to lib/cmake/jcobs of a prefix, and finds the library in that prefix. In the repository, if
+# CMAKE_PREFIX_PATH names bindings/c, the file finds the library of prebuilt/ for the target's processor.
+if(EXISTS "${CMAKE_CURRENT_LIST_DIR}/jcobs-targets.cmake") # jcobs.c was compiled and installed by CMake
     include("${CMAKE_CURRENT_LIST_DIR}/jcobs-targets.cmake")
     return()
 endif()

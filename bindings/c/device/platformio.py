@@ -1,4 +1,4 @@
-"""Takes the archive that is built for the board's processor in a PlatformIO project, and jcobs.c for any other."""
+"""In a PlatformIO project, links the archive for the board's processor. For a processor without an archive, jcobs.c is compiled."""
 
 from os.path import join
 

@@ -1,4 +1,4 @@
-// Messages and frames as vectors and views, in C++17.
+// Encodes and decodes messages in vectors and views, in C++17.
 #include <jcobs.hpp>
 
 #include <algorithm>
@@ -9,7 +9,7 @@
 
 using bytes = std::vector<unsigned char>;
 
-// The frame of a message, with its terminator.
+// Returns the frame of a message, with a zero after it.
 static bytes encode(jcobs::view message)
 {
     bytes frame(jcobs::max_length(message.size()) + 1);
@@ -17,7 +17,7 @@ static bytes encode(jcobs::view message)
     return frame;
 }
 
-// The message of the first frame of a source, if there is one and it isn't broken.
+// Returns the message of the first frame of a source, unless there is no frame or the frame is broken.
 static std::optional<bytes> decode(jcobs::view source)
 {
     bytes message(source.size());
@@ -47,7 +47,7 @@ int main()
 {
     using namespace std::string_view_literals;
 
-    const bytes none; // its data() may be null
+    const bytes none; // its data() may return null
     const jcobs::view messages[] = {"hello"sv, none, "a\0b"sv, "a longer one"sv};
     bytes stream;
     for (const jcobs::view message : messages) {

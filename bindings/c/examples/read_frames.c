@@ -1,7 +1,7 @@
-/* Reads frames from standard input as they come, and prints what each one is: read_frames [CHUNK [ROOM]].
+/* Reads frames from standard input as they arrive, and prints each message or error: read_frames [CHUNK [ROOM]].
  *
- * At most CHUNK bytes are read at a time (4,096 if not given), and the buffer for messages has ROOM bytes (1,024 if not
- * given). What is printed is the same for every CHUNK. */
+ * At most CHUNK bytes are read at a time (default 4,096), and the buffer for messages has ROOM bytes (default 1,024).
+ * The output is the same for every CHUNK. */
 #define _POSIX_C_SOURCE 200809L
 #include <jcobs.h>
 
@@ -38,7 +38,7 @@ static void print_answer(jcobs_answer answer, const unsigned char *buffer)
     }
 }
 
-/* Waits for bytes and reads them. Returns 0 at the end of the input, and -1 if that failed. */
+/* Waits for bytes and reads them. Returns the number of bytes, 0 at the end of the input, or -1 if the read failed. */
 static ssize_t read_some(int fd, unsigned char *bytes, size_t len)
 {
     struct pollfd wait = {0, POLLIN, 0};

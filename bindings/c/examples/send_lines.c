@@ -1,6 +1,6 @@
-/* Sends each line of standard input, without its newline, as a frame on standard output with a zero after it.
+/* Encodes each line of standard input, without its newline, and writes the frame and a zero to standard output.
  *
- * A line is given to the encoder in pieces, as they are read, so only the frame is kept. */
+ * The encoder takes each line in the pieces in which it is read, so only the frame is kept in memory. */
 #include <jcobs.h>
 
 #include <stdio.h>
@@ -12,7 +12,7 @@
 /* The frame of the longest line, and the zero after it. */
 static unsigned char frame[ROOM + 1];
 
-/* Ends the frame of a line and sends it; returns 0 if that failed. */
+/* Ends the frame of a line and writes it. Returns 0 if the write failed. */
 static int send_frame(jcobs_encoder *encoder)
 {
     size_t length = jcobs_encoder_finish(encoder, frame, ROOM).length;
@@ -25,7 +25,7 @@ int main(void)
 {
     jcobs_encoder encoder = JCOBS_ENCODER_INIT;
     unsigned char piece[256];
-    size_t begun = 0; /* bytes of a line that has no newline yet */
+    size_t begun = 0; /* how many bytes of the current line were taken */
     size_t n;
 
     while ((n = fread(piece, 1, sizeof piece, stdin)) > 0) {

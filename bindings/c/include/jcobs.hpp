@@ -1,5 +1,5 @@
-// jcobs.hpp: jcobs.h for C++17. It has only inline functions, allocates nothing, and throws only the exceptions of a
-// callback.
+// jcobs.hpp: the calls of jcobs.h for C++17. The functions of this header are inline and allocate nothing. They throw
+// only if a callback throws.
 //
 // To receive, in reads of any size:
 //
@@ -33,9 +33,9 @@
 //         sender.reset();
 //     }
 //
-// In jcobs.h the lines below each prototype describe status, consumed and length. The preconditions of jcobs.h hold here too,
-// except those about lengths, because a view has its length. Buffers must not overlap, and nothing else may change them while
-// a call runs.
+// jcobs.h describes the status, consumed and length that each call returns. The preconditions of jcobs.h apply here
+// too, except those about lengths, because a view contains its length. Buffers must not overlap, and nothing else may
+// change them while a call runs.
 #ifndef JCOBS_HPP
 #define JCOBS_HPP
 
@@ -48,7 +48,7 @@
 #include <type_traits>
 #include <utility>
 
-// With this attribute Clang warns of a view that outlives the temporary that has its bytes.
+// With this attribute Clang warns if a view outlives the temporary object that owns its bytes.
 #if defined(__has_cpp_attribute)
 #if __has_cpp_attribute(gsl::Pointer)
 #define JCOBS_POINTER [[gsl::Pointer]]
@@ -64,8 +64,8 @@ namespace jcobs
 namespace detail
 {
 
-// Whether a range's elements are contiguous bytes of any type. An array of char isn't accepted, because its '\0' would be part
-// of the bytes.
+// Whether the elements of a range are contiguous bytes of any type. An array of char isn't accepted, because its '\0'
+// would be one of the bytes.
 template <class Range, class Byte, class = void> struct is_bytes : std::false_type {
 };
 template <class Range, class Byte>
@@ -79,8 +79,9 @@ struct is_bytes<
                                                                 std::is_same_v<std::remove_const_t<element>, char>);
 };
 
-// Whether a range is a temporary that has bytes of its own, which end with it. A range has bytes of its own if those of a const
-// range of this type are const. A const view can still return bytes that aren't const.
+// Whether a range is a temporary object that owns its bytes, which are destroyed with the object. A range owns its
+// bytes if a const range of this type has const bytes. A view owns no bytes: a const view may have bytes that aren't
+// const.
 template <class Range, class = void> struct is_temporary : std::false_type {
 };
 template <class Range>
@@ -90,10 +91,11 @@ struct is_temporary<Range, std::enable_if_t<!std::is_lvalue_reference_v<Range> &
 
 } // namespace detail
 
-// A pointer to bytes and their number, like std::span of C++20. A view can be made from any container or view of bytes:
-// unsigned char, char, std::byte. For an array of char, which may end with a '\0', pass a pointer and a length. A
-// temporary can be read as long as it lives. A buffer to write to can't be made from a temporary, because the written bytes
-// would end with it.
+// A pointer to bytes and the number of bytes, like std::span of C++20. A view can be made from any container or view of
+// bytes (unsigned char, char or std::byte). For an array of char, which may end with a '\0', pass a pointer and a
+// length. A view for reading can be made from a temporary object, and is valid while this object lives. A view for
+// writing can't be made from a temporary object that owns its bytes, because the written bytes would be destroyed with
+// the object.
 template <class Byte> class JCOBS_POINTER basic_view
 {
     using anything = std::conditional_t<std::is_const_v<Byte>, const void, void>;
@@ -146,19 +148,21 @@ template <class Byte> class JCOBS_POINTER basic_view
 using view = basic_view<const unsigned char>; // bytes that are read
 using buffer = basic_view<unsigned char>;     // bytes that are written
 
-// Returns the length of the longest frame of a message of this length, without a terminator, or 0 if it doesn't fit a size_t.
+// Returns the length of the longest frame of a message of message_len bytes, without a sentinel. Returns 0 if this
+// length doesn't fit a size_t.
 [[nodiscard]] constexpr std::size_t max_length(std::size_t message_len) noexcept
 {
     return JCOBS_MAX_LENGTH(message_len) < message_len ? 0 : JCOBS_MAX_LENGTH(message_len);
 }
 
-// Returns how many bytes longer that frame is than its message.
+// Returns by how many bytes the longest frame of a message of message_len bytes is longer than the message.
 constexpr std::size_t max_overhead(std::size_t message_len) noexcept
 {
     return JCOBS_MAX_OVERHEAD(message_len);
 }
 
-// Encode a message to the front of a buffer, without a terminator or with one.
+// encode writes the frame of a message to the front of a buffer. encode_terminated also writes the sentinel after the
+// frame.
 [[nodiscard]] inline jcobs_answer encode(view message, buffer frame) noexcept
 {
     return jcobs_encode(message.data(), message.size(), frame.data(), frame.size());
@@ -176,7 +180,8 @@ constexpr std::size_t max_overhead(std::size_t message_len) noexcept
     return jcobs_encode_terminated_with_sentinel(message.data(), message.size(), frame.data(), frame.size(), sentinel);
 }
 
-// Encodes the message that begins at index max_overhead(message_len) of the buffer, to the front of the buffer.
+// Encodes a message in its own buffer. Before the call the message begins at index max_overhead(message_len) of the
+// buffer. After the call the frame begins at index 0.
 [[nodiscard]] inline jcobs_answer encode_in_place(buffer bytes, std::size_t message_len) noexcept
 {
     return jcobs_encode_in_place(bytes.data(), bytes.size(), message_len);
@@ -188,13 +193,14 @@ constexpr std::size_t max_overhead(std::size_t message_len) noexcept
     return jcobs_decode(source.data(), source.size(), message.data(), message.size());
 }
 
-// Decodes the frame at the front of the source, for this sentinel. No sentinel is skipped: one in front is an empty message.
+// Decodes the frame at the front of the source, for this sentinel. No sentinel is skipped: if the source begins with a
+// sentinel, the message is empty.
 [[nodiscard]] inline jcobs_answer decode_with_sentinel(view source, buffer message, unsigned char sentinel) noexcept
 {
     return jcobs_decode_with_sentinel(source.data(), source.size(), message.data(), message.size(), sentinel);
 }
 
-// Decode the frame at the front of a buffer in place.
+// Decode the frame at the front of a buffer in place, for the sentinel 0 or for this sentinel.
 [[nodiscard]] inline jcobs_answer decode_in_place(buffer bytes) noexcept
 {
     return jcobs_decode_in_place(bytes.data(), bytes.size());
@@ -204,15 +210,16 @@ constexpr std::size_t max_overhead(std::size_t message_len) noexcept
     return jcobs_decode_in_place_with_sentinel(bytes.data(), bytes.size(), sentinel);
 }
 
-// Returns whether bytes are a frame, and whether they are the shortest one of its message. They have no sentinel around them.
+// Returns whether bytes, without sentinels around them, are a frame, and whether they are the shortest frame of its
+// message.
 [[nodiscard]] inline jcobs_kind frame_kind(view bytes) noexcept
 {
     return static_cast<jcobs_kind>(jcobs_frame_kind(bytes.data(), bytes.size()));
 }
 
-// Receives a stream of frames in pieces of any size, and keeps the open message in a buffer, which must outlive it. Each
-// frame is followed by the sentinel. It can be moved, but not by a callback of its push. A receiver that was moved from is
-// idle, and has no buffer.
+// Decodes a stream of frames, which may be passed in pieces of any size, to a buffer. The sentinel follows each frame.
+// The buffer must outlive the receiver. A receiver can be moved, but not in a callback of its own push. A receiver that
+// was moved from is idle, and has no buffer.
 class receiver
 {
   public:
@@ -235,9 +242,10 @@ class receiver
         return *this;
     }
 
-    // Calls on_message(view) for each message that ends in these bytes, and on_error(jcobs_answer) for each frame that
-    // is broken or too long. The message is in the buffer until the next push. If one of the two throws, the bytes through
-    // that frame are taken, and those after it are not. The receiver is then idle, and the next push begins a new frame.
+    // Calls on_message(view) for each message whose frame ends in these bytes, and on_error(jcobs_answer) for each
+    // frame that is broken or too long. A message is in the buffer while on_message runs; then the next frame may
+    // overwrite it. If a callback throws, the push has taken the bytes through the frame of this callback, and no bytes
+    // after the frame. The receiver is then idle, and the next push begins a new frame.
     template <class OnMessage, class OnError> void push(view bytes, OnMessage &&on_message, OnError &&on_error)
     {
         consumed_ = 0;
@@ -252,19 +260,19 @@ class receiver
         }
     }
 
-    // Does the same, and ignores frames that are broken or too long.
+    // Calls on_message(view) as the other push does, and ignores frames that are broken or too long.
     template <class OnMessage> void push(view bytes, OnMessage &&on_message)
     {
         push(bytes, std::forward<OnMessage>(on_message), [](jcobs_answer) {});
     }
 
-    // Returns how many bytes the last push has taken: all, unless a callback threw.
+    // Returns how many bytes the last push took: all of its bytes, unless a callback threw.
     [[nodiscard]] std::size_t consumed() const noexcept
     {
         return consumed_;
     }
 
-    // Takes one byte. The message, if the status is JCOBS_OK, is the first bytes of the buffer.
+    // Takes one byte. If the status is JCOBS_OK, the message is the first `length` bytes of the buffer.
     [[nodiscard]] jcobs_answer feed(unsigned char byte) noexcept
     {
         const auto fed = static_cast<unsigned char>(byte ^ sentinel_);
@@ -284,8 +292,9 @@ class receiver
     }
 
   private:
-    // Takes at least one byte, through the sentinel that ends a frame. For another sentinel than 0 it feeds
-    // the bytes one by one, because the archives for devices have no call for that.
+    // Takes the bytes through the sentinel that ends the first frame, or all bytes if no frame ends. There is at least
+    // one byte. For a sentinel other than 0 the bytes are fed one by one, because the archives for devices don't have
+    // jcobs_decoder_push_with_sentinel.
     jcobs_answer next(const unsigned char *bytes, std::size_t len) noexcept
     {
         if (sentinel_ == 0)
@@ -305,8 +314,8 @@ class receiver
     unsigned char sentinel_;
 };
 
-// Encodes messages that come in pieces, each to the front of a buffer, which must outlive it. It can be moved. A sender
-// that was moved from has taken nothing, and has no buffer.
+// Encodes messages that come in pieces, one message after another, to the front of a buffer. The buffer must outlive
+// the sender. A sender can be moved. A sender that was moved from has taken no bytes, and has no buffer.
 class sender
 {
   public:
@@ -326,8 +335,8 @@ class sender
         return *this;
     }
 
-    // Takes the next bytes, or the next byte, of the message. Returns false if the frame with them doesn't fit; then nothing
-    // has changed.
+    // push takes the next bytes of the message, and feed takes the next byte. They return false if the frame with these
+    // bytes doesn't fit the buffer; then nothing has changed.
     [[nodiscard]] bool push(view bytes) noexcept
     {
         return jcobs_encoder_push(&encoder_, buffer_.data(), buffer_.size(), bytes.data(), bytes.size()).status ==
@@ -338,9 +347,10 @@ class sender
         return jcobs_encoder_feed(&encoder_, buffer_.data(), buffer_.size(), byte).status == JCOBS_OK;
     }
 
-    // End the message and return its frame, without a terminator or with one, for the sentinel. The frame is in the buffer
-    // until the next push. If it doesn't fit, an empty view is returned, and nothing has changed; reset forgets the message.
-    // Without a terminator that happens only if the buffer is empty.
+    // finish ends the message and returns its frame for the sentinel. finish_terminated also writes the sentinel after
+    // the frame, and returns the frame with the sentinel. The returned bytes are in the buffer until the next push. If
+    // they don't fit, the result is an empty view, and nothing has changed; reset drops the message. The result of
+    // finish is empty only if the buffer is empty.
     [[nodiscard]] view finish(unsigned char sentinel = 0) noexcept
     {
         return for_sentinel(jcobs_encoder_finish(&encoder_, buffer_.data(), buffer_.size()), sentinel);
@@ -357,8 +367,8 @@ class sender
     }
 
   private:
-    // Returns the frame of this length, for the sentinel. Its bytes are XORed here, because the archives for devices have no
-    // call for that.
+    // Returns the frame that the call has finished, with each byte XORed with the sentinel. The bytes are XORed here,
+    // because the archives for devices don't have the calls that finish a frame for another sentinel.
     view for_sentinel(jcobs_answer answer, unsigned char sentinel) noexcept
     {
         for (std::size_t i = 0; sentinel != 0 && i < answer.length; i++)

@@ -1,4 +1,4 @@
-"""The expressions of Rattle as those of C."""
+"""Translates the expressions of Rattle to expressions of C."""
 
 import re
 
@@ -6,18 +6,18 @@ import names
 from kinds import BOOL, BYTE, END, FRAME, NUMBERS, PIECE, SCALARS, USIZE, Kinds, Slice, Value
 from rattle import Unknown
 
-# What jcobs.h calls these.
+# The names of these types in jcobs.h.
 CONSTANTS = {it: f"JCOBS_{it}" for it in "OK MORE TOO_SMALL BROKEN EMPTY NOT_A_FRAME CANONICAL LONGER".split()}
 COMPARED = ("==", "!=", "<", ">", "<=", ">=")
 MIRRORED = {"<": ">", ">": "<", "<=": ">=", ">=": "<="}  # with the constant on the right
-# How strongly C's operators bind; unary ones and casts are 15, and what has no operator 20.
+# The precedence of C's operators. Unary operators and casts have 15, and an expression without an operator has 20.
 LEVELS = {"||": 1, "&&": 2, "|": 3, "^": 4, "&": 5, "==": 6, "!=": 6, "<": 7, ">": 7, "<=": 7, ">=": 7, "+": 9, "-": 9}
 LEVELS |= {"*": 10, "/": 10, "%": 10}
 SIMPLE = ("path", "number", "bool", "field", "index", "binary")
 
 
 class Expressions(Kinds):
-    """The expressions of a function; env has what each name stands for."""
+    """Translates the expressions of a function. env has the meaning of each name."""
 
     def value(self, tree, expected=None):
         method = getattr(self, f"on_{tree[0]}", None)
@@ -53,7 +53,7 @@ class Expressions(Kinds):
         return Value(text, item[2], literal=True)
 
     def number(self, tree):
-        """The value of a constant expression."""
+        """Returns the value of a constant expression."""
         if tree[0] == "number":
             return int(tree[1])
         if tree[0] == "as":
@@ -67,20 +67,20 @@ class Expressions(Kinds):
         raise Unknown(f"{self.name}: constant {tree}")
 
     def ended(self, variant, words, expected=END):
-        """How a piece or a frame ended, and its numbers; those that it hasn't are 0."""
+        """Returns the end of a piece or a frame, and its numbers. A number that the end doesn't have is 0."""
         kind = PIECE if expected == PIECE else END
         words = [self.end_kind(variant), *words, *["0"] * (1 + (kind == PIECE) - len(words))]
         return Value(f"jcobs_make_{kind[0]}({', '.join(words)})", kind)
 
     def end_kind(self, variant):
-        """The kind of end that a variant says."""
+        """Returns the kind of end that a variant stands for."""
         kinds = [kind for kind, variants in names.ENDS.items() if variant.rsplit("::", 1)[-1] in variants]
         if len(kinds) != 1:
             raise Unknown(f"{self.name}: {variant} is no end")
         return kinds[0]
 
     def constructed(self, name, values, item):
-        """A variant of an enum."""
+        """Translates a variant of an enum."""
         kind = name.rsplit("::", 1)[1]
         if not any(fields for _, fields in item[2]):
             return Value(self.out.variant(item, kind), ("path", item[1], []))
@@ -155,7 +155,7 @@ class Expressions(Kinds):
         if a.literal != b.literal:
             a.kind = b.kind = b.kind if a.literal else a.kind
         level = LEVELS[sign]
-        # Compilers ask for brackets round && in ||.
+        # Compilers warn of && in || without brackets.
         text = f"{a.at(2 if logical and a.level > 2 else level + (a.level == 2 and sign == '||') * 9)} {sign} "
         text += b.at(level + 1 + (b.level == 2 and sign == "||") * 9)
         if logical or sign in COMPARED:
@@ -165,7 +165,7 @@ class Expressions(Kinds):
         return Value(text, a.kind, level)
 
     def without_casts(self, a, b, sign):
-        """Without the casts of a byte to a size_t that C makes by itself: beside a size_t, or beside a constant in a comparison."""
+        """Drops the casts of a byte to a size_t that C makes by itself: next to a size_t, or next to a constant in a comparison."""
         if (a.kind, b.kind) == (USIZE, USIZE):
             if b.widened and (not a.literal or sign in COMPARED) and not a.widened:
                 b = b.widened
@@ -174,7 +174,7 @@ class Expressions(Kinds):
         return a, b
 
     def is_simple(self, tree):
-        """Whether an if is a value of C."""
+        """Returns whether an if can be an expression in C."""
         _, condition, then, other = tree
         if condition[0] == "let" or not other:
             return False
@@ -189,7 +189,7 @@ class Expressions(Kinds):
         return Value(f"{self.value(tree[1]).at(1)} ? {a.at(1)} : {b.at(0)}", b.kind if a.literal else a.kind, 0)
 
     def on_match(self, tree, expected):
-        """Some end, with the consumed bytes, or none, whose numbers say nothing."""
+        """Returns an end with the number of consumed bytes, or no end, whose numbers have no meaning."""
         (some, with_count), (none, nothing) = tree[2]
         end, name = self.value(tree[1]), some[2][0][1]
         if end.kind != END or none != ("variant", "None", []) or nothing != [("value", ("path", "None"))]:
@@ -198,7 +198,7 @@ class Expressions(Kinds):
         return self.value(with_count[0][1], PIECE)
 
     def is_with_count(self, tree):
-        """Whether a match is `Some(end) => Some((end, count))`, and nothing for nothing."""
+        """Returns whether a match is `Some(end) => Some((end, count))`, and `None` for `None`."""
         arms = [body for _, body in tree[2]] if tree[0] == "match" else []
         return len(arms) == 2 and arms[0][0][1][:2] == ("call", "Some") and arms[0][0][1][2][0][0] == "tuple"
 
@@ -218,7 +218,7 @@ class Expressions(Kinds):
         return self.called(self.find(name), args)
 
     def wrapped(self, name, tree, expected):
-        if expected == BOOL:  # a Result of nothing
+        if expected == BOOL:  # a Result without a value
             return Value("1" if name == "Ok" else "0", BOOL, literal=True)
         if expected == FRAME:
             return Value(f"jcobs_make_frame({f'1, {self.value(tree).text}' if name == 'Ok' else '0, 0'})", FRAME)
@@ -232,7 +232,7 @@ class Expressions(Kinds):
         return of if of.kind == END else self.ended(name, [of.text])
 
     def want_simple(self, *values):
-        """These are written twice, so none calls anything."""
+        """Checks that these expressions, which are written twice, contain no call."""
         for value in values:
             if re.search(r"\w\(", value.text):
                 raise Unknown(f"{self.name}: {value.text} twice")
@@ -262,7 +262,7 @@ class Expressions(Kinds):
         return Value(f"{name}({', '.join(words)})", there.kind_of(item[3]))
 
     def known_result(self, there, item, args):
-        """The result of a function that is a match of an argument, if this is an end without numbers."""
+        """Returns the result of a function that is a match of an argument, if the argument is an end without numbers."""
         of = item[4][0][1] if isinstance(item[4], list) and len(item[4]) == 1 and item[4][0][0] == "value" else ("none",)
         if of[0] != "match" or of[1] not in [("path", name) for name, _ in item[2]] or len(args) != len(item[2]):
             return None
@@ -276,7 +276,7 @@ class Expressions(Kinds):
         return None
 
     def is_same(self, item):
-        """Whether a function gives what it takes: in C both are a jcobs_end of the same kind."""
+        """Returns whether a function returns its argument unchanged: in C both are a jcobs_end of the same kind."""
         body = item[4]
         if not (isinstance(body, list) and len(body) == 1 and body[0][0] == "value" and body[0][1][0] == "match"):
             return False
@@ -293,7 +293,7 @@ class Expressions(Kinds):
         return True
 
     def start(self, tree):
-        """The struct of jcobs.h of which this is the start, with each member 0."""
+        """Returns the struct of jcobs.h whose initial state this is, with each member 0."""
         while tree[0] in ("call", "path"):
             is_other = tree[1] == "None" or tree[1] in self.env if tree[0] == "path" else tree[2]
             if is_other or self.variant(tree[1]):
@@ -309,7 +309,7 @@ class Expressions(Kinds):
         return self.out.started(self.find(tree[1])[2], self)
 
     def resets(self, item):
-        """The struct that a method only puts back to the start."""
+        """Returns the struct that a method only resets to its initial state."""
         if not isinstance(item[4], list) or len(item[4]) != 1 or item[4][0][:3] != ("assign", "=", ("deref", ("path", "self"))):
             return None
         return self.start(item[4][0][3])

@@ -1,4 +1,4 @@
-"""One function of Rattle as a function of C."""
+"""Translates one function of Rattle to a function of C."""
 
 import re
 import textwrap
@@ -8,7 +8,7 @@ from kinds import Slice, Value
 from rattle import Unknown
 from statements import INDENT, Statements
 
-# Functions that a loop over bytes calls: its state stays in registers if they are part of it.
+# Functions that a loop over bytes calls. They are inlined, so that the loop's state stays in registers.
 INLINE = {"take_byte", "append"}
 TYPED = re.compile(r"    (const )?(enum |unsigned |JCOBS_)?[a-zA-Z_]+ \**(const )?\w+( = .*)?[;,]$")
 
@@ -20,7 +20,7 @@ class Function(Statements):
         self.key = (path, self.name)
         self.is_exported = any("no_mangle" in it for it in self.attributes)
         self.name_here = self.name  # of the function whose body this is
-        self.passed, self.constants = {}, {}  # what it calls this function's parameters, and its parameters that are constants
+        self.passed, self.constants = {}, {}  # its names of this function's parameters, and its parameters that are constants
         self.lines, self.depth, self.env, self.declared_names = [], 1, {}, {}
 
     def take_body(self, crate, path, item, args, converted=None):
@@ -35,7 +35,7 @@ class Function(Statements):
         self.constants |= {name: arg for (name, _), arg in zip(item[2], args) if arg[0] != "path"}
 
     def other(self, crate, path, name):
-        """What stands for another function, or a constant, of another file."""
+        """Returns the C name of a function or a constant of another file."""
         return Function(self.out, crate, path, ("fn", name, [], None, [], [], []))
 
     def written(self):
@@ -58,7 +58,7 @@ class Function(Statements):
         return "\n".join([self.comment(), *self.head(params), "{", *lines, "}"])
 
     def parameters(self):
-        """The parameters of C, and what each name of Rattle stands for."""
+        """Returns the parameters in C, and the meaning of each name of Rattle."""
         words, given = [], self.out.calls[self.name].params if self.is_exported else None
         at = 0
         for name, kind in self.params:
@@ -81,20 +81,20 @@ class Function(Statements):
         return words
 
     def c_name(self, name):
-        """The name of a parameter or a variable in C."""
+        """Returns the name of a parameter or a variable in C."""
         return names.VARIABLES.get(self.name_here, {}).get(name) or names.VARIABLES[""].get(name, name)
 
     def length_name(self, name, is_mutable):
-        """The number of bytes of a slice: of those that are there, or of the room of a buffer."""
+        """Returns the name of a slice's length: the number of bytes that are there, or the room of a buffer."""
         wanted = self.c_name(f"{name}_len")
         return wanted if wanted != f"{name}_len" else f"{self.c_name(name)}_{'size' if is_mutable else 'len'}"
 
     def name_of_self(self, kind):
-        """A method's object: the last word of its type."""
+        """Returns the name of a method's object: the last word of its type."""
         return self.out.struct(self.item(kind), self).rsplit("_", 1)[-1]
 
     def with_pointers(self, text):
-        """An exported function's void pointers, cast where they are passed on, or in variables if bytes are read or written."""
+        """Casts the void pointers of an exported function: at each call that they are passed to, or in variables if their bytes are read or written."""
         for name, kind in self.params if self.is_exported else []:
             if not is_slice(kind):
                 continue
@@ -117,7 +117,7 @@ class Function(Statements):
         return "/* " + "\n * ".join(lines) + " */"
 
     def in_c(self, text):
-        """A comment, with the names that things have in C."""
+        """Returns a comment with the names of C."""
         for old, new in [*names.COMMENTS[""], *names.COMMENTS.get(self.name_here, [])]:
             if old in text:
                 self.out.replaced.add((self.name_here, old))
@@ -125,7 +125,7 @@ class Function(Statements):
         return re.sub(r"\[?`([^`]*)`\]?(\([^)]*\))?", lambda found: self.word_in_c(found[1]), text)
 
     def word_in_c(self, word):
-        """What stands in quotes in a comment: the name of a parameter or a variable, a number, or another function."""
+        """Translates a text in quotes in a comment: the name of a parameter or a variable, a number, or another function."""
         if self.c_name(word) != word or word in self.known_names():
             return self.c_name(word)
         if word in self.out.calls or not re.search(r"[A-Za-z]", word) or any(word in fields for fields in self.out.given):
@@ -133,7 +133,7 @@ class Function(Statements):
         raise Unknown(f"{self.name}: its comment names {word}, which C doesn't know")
 
     def known_names(self):
-        """The names that its comments may have: of its parameters, its variables and the members of structs."""
+        """Returns the names that its comments may contain: its parameters, its variables and the members of structs."""
         found = re.findall(r"'(?:name|for|field)', '(\w+)'", str(self.body))
         return {name for name, _ in self.params} | set(found)
 
@@ -150,7 +150,7 @@ class Function(Statements):
 
 
 def with_results(body, name, length, other):
-    """The statements of a function, with these results in place of a length and of an error."""
+    """Returns the statements of a function, with these results in place of a length and of an error."""
 
     def put(tree, found):
         if tree == ("path", name):
@@ -171,7 +171,7 @@ def with_results(body, name, length, other):
 
 
 def wrapped(head):
-    """The lines of a function's head, or of a statement with a call."""
+    """Returns the lines of a function's head, or of a statement with a call."""
     if len(head) <= 120 or "(" not in head or "/*" in head:
         return [head]
     begun = head.index("(") + 1
@@ -186,7 +186,7 @@ def wrapped(head):
 
 
 def declarations(lines):
-    """How many of a function's first lines declare variables."""
+    """Returns how many of a function's first lines declare variables."""
     count = 0
     for i, line in enumerate(lines):
         is_continued = i > 0 and i == count and lines[i - 1].endswith(",")

@@ -1,4 +1,4 @@
-"""What jcobs.h declares, and what crates/cobs_small says of each call."""
+"""Reads the declarations of jcobs.h, and the contracts of the calls in crates/cobs_small."""
 
 import re
 from dataclasses import dataclass
@@ -6,32 +6,35 @@ from dataclasses import dataclass
 from rattle import Unknown
 
 SIZES = {"size_t": 8, "unsigned char": 1, "JCOBS_STATUS": 4}
-# What a clause says, by its first words: a sentence for those who read jcobs.c alone.
+# For the first words of a clause, a sentence that says the same to readers of jcobs.c.
 SAYS = {
-    "Decodes ": """the result and every byte of the buffer depend only on the source and message_size, as COBS is defined;
-        a buffer as long as the source is never too small.""",
-    "DecodesInPlace ": "the result and every byte of the buffer depend only on the buffer, as COBS is defined.",
-    "DecodesNext ": """the result, the state and the buffer are those that the definition of the stream has after these
-        bytes, however it is cut into calls. In every state consumed and length are within bytes and buffer.""",
-    "Encodes ": """if the frame fits, it is the message's, and bytes after it are as they were; if it doesn't, the status
-        is TOO_SMALL, and the buffer is as it was.""",
-    "EncodesInPlace ": """if the longest frame fits, the buffer begins with the message's, and bytes after that are as they
-        were; if it doesn't, the status is TOO_SMALL, and the buffer is as it was.""",
-    "EncodesNext ": """the status is OK exactly if the frame of all that was taken and these bytes fits. If it isn't OK, the
-        state and the buffer are as they were. In every state consumed and length are within bytes and buffer.""",
-    "EncodesTerminated 0 ": """if the frame and the zero fit, they are the message's, and bytes after them are as they were;
-        if they don't, the status is TOO_SMALL, and the buffer is as it was.""",
-    "Finishes 0 ": """if the frame of all that was taken fits, the buffer begins with it, and the encoder has taken nothing;
-        if it doesn't, the status is TOO_SMALL, and the state and the buffer are as they were.""",
-    "Finishes 1 ": """if the frame of all that was taken and the zero fit, the buffer begins with them, and the encoder has
-        taken nothing; if they don't, the status is TOO_SMALL, and the state and the buffer are as they were.""",
-    "IsFreshDecoder ": "then the decoder has taken nothing, whatever its state was.",
-    "IsFreshEncoder ": "then the encoder has taken nothing, whatever its state was.",
-    "IsKindOf ": """the result is NOT_A_FRAME exactly if the bytes are no frame, and CANONICAL exactly if they are the one that
+    "Decodes ": """the result and the written bytes are those that the definition of COBS gives for the source and
+        message_size, and all other bytes of the buffer are as they were. A buffer as long as the source is never too small.""",
+    "DecodesInPlace ": """the result and every byte of the buffer are those that the definition of COBS gives for the bytes that
+        the buffer had.""",
+    "DecodesNext ": """the result, the state and the buffer are those that the definition of the stream gives after these
+        bytes, however the stream is cut into calls. In every state consumed is at most the number of bytes passed, and
+        length is at most buffer_size.""",
+    "Encodes ": """if the frame of the message fits, the buffer begins with it, and the bytes after it are as they were.
+        Otherwise the status is TOO_SMALL, and the buffer is as it was.""",
+    "EncodesInPlace ": """if the longest frame fits, the buffer begins with the frame of the message, and the bytes after this
+        frame are as they were. Otherwise the status is TOO_SMALL, and the buffer is as it was.""",
+    "EncodesNext ": """the status is OK exactly if the frame of the message so far, with these bytes, fits. If it isn't OK, the
+        state and the buffer are as they were. In every state consumed is at most the number of bytes passed, and length is
+        at most buffer_size.""",
+    "EncodesTerminated 0 ": """if the frame of the message and the zero fit, the buffer begins with them, and the bytes after
+        them are as they were. Otherwise the status is TOO_SMALL, and the buffer is as it was.""",
+    "Finishes 0 ": """if the frame of all bytes that were taken fits, the buffer begins with it, and the encoder is in its
+        initial state. Otherwise the status is TOO_SMALL, and the state and the buffer are as they were.""",
+    "Finishes 1 ": """if the frame of all bytes that were taken and the zero fit, the buffer begins with them, and the encoder is
+        in its initial state. Otherwise the status is TOO_SMALL, and the state and the buffer are as they were.""",
+    "IsFreshDecoder ": "after the call the decoder has taken no byte, whatever its state was.",
+    "IsFreshEncoder ": "after the call the encoder has taken no byte, whatever its state was.",
+    "IsKindOf ": """the result is NOT_A_FRAME exactly if the bytes are no frame, and CANONICAL exactly if they are the frame that
         encoders write.""",
     "ReportsIdle ": "the result is 1 exactly if no piece is open.",
-    "max_encoded_len message_len < 2 ^ 64 →": "the result is that number if it is below 2 to the 64th,",
-    "2 ^ 64 ≤ max_encoded_len message_len →": "and 0 if not.",
+    "max_encoded_len message_len < 2 ^ 64 →": "the result is this length if it is below 2 to the 64th,",
+    "2 ^ 64 ≤ max_encoded_len message_len →": "and 0 otherwise.",
 }
 
 
@@ -44,7 +47,7 @@ class Call:
 
 
 def structs(header):
-    """For each struct the offsets of its members in a build for 64 bits: the type and the name of each."""
+    """For each struct its members by their offset in a build for 64 bits: the type and the name of each member."""
     found = {}
     for name, body in re.findall(r"^typedef struct (\w+) \{\n(.*?)^\}", header, re.S | re.M):
         at, members = 0, {}
@@ -75,7 +78,7 @@ def calls(header):
 
 
 def contracts(sources):
-    """For each call of these .rt files: its doc comment, what its clauses say, and the file's name."""
+    """For each call of these .rt files: its doc comment, its clauses in words, and the file's name."""
     found = {}
     pattern = r'((?:^///[^\n]*\n)+)^#\[unsafe\(no_mangle\)\]\n^pub extern "C" fn (\w+)(.*?)^\{'
     for path in sources:
@@ -89,7 +92,7 @@ def contracts(sources):
 
 
 def in_words(clause):
-    """What a clause says. One that begins otherwise than those of SAYS is an error."""
+    """Returns the sentence of SAYS for a clause. A clause that has none is an error."""
     text = " ".join(clause.split()) + " "
     said = [" ".join(words.split()) for start, words in SAYS.items() if text.startswith(start)]
     if len(said) != 1:

@@ -1,8 +1,9 @@
-"""The types of Rattle as those of C.
+"""Translates the types of Rattle to types of C.
 
-A struct is one of C, and so is a slice's pointer and length. An enum without fields is the one of jcobs.h with these variants. How
-a piece or a frame ended, an enum with fields, an Option or a Result, is a jcobs_end; with the number of consumed bytes it is a
-jcobs_piece. A Result of a length whose error says nothing is a jcobs_frame. A Result of nothing is an int, whether it is Ok.
+A struct becomes a struct of C. A slice becomes a pointer and a length. An enum without fields becomes the enum of jcobs.h with these
+variants. The end of a piece or a frame (an enum with fields, an Option or a Result) becomes a jcobs_end; with the number of consumed
+bytes it becomes a jcobs_piece. A Result of a length whose error has no value becomes a jcobs_frame. A Result without a value becomes
+an int that says whether it is Ok.
 """
 
 import re
@@ -39,18 +40,18 @@ class Slice:
 
 
 class Kinds:
-    """What a function knows of types."""
+    """The types that a function knows."""
 
     def find(self, name):
         return self.out.program.find(name, self.path, self.crate)
 
     def item(self, kind):
-        """The struct or the enum of a type, through a reference."""
+        """Returns the struct or the enum of a type, or of the type to which a reference refers."""
         kind = kind[2] if kind[0] == "ref" else kind
         return self.find(kind[1])[2] if kind[0] == "path" else None
 
     def kind_of(self, kind):
-        """A type as values have it: that of C, for an enum with fields, an Option or a Result."""
+        """Returns the type of a value. For an enum with fields, an Option or a Result it is the type of C."""
         if kind is None or kind[0] != "path" or kind[1] in SCALARS:
             return kind
         if kind[1] == "Result" and kind[2][0] == ("tuple", []):
@@ -87,7 +88,7 @@ class Kinds:
         return f"{text}{'' if text.endswith('*') else ' '}{name}"
 
     def variant(self, name):
-        """The enum of which a path names a variant."""
+        """Returns the enum whose variant a path names."""
         if "::" not in name:
             return None
         owner, _, last = name.rpartition("::")

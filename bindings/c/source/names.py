@@ -1,6 +1,6 @@
-"""Names and comments that jcobs.c has in place of those of Rattle, in the words of jcobs.h, for readers of C."""
+"""Names and comments of jcobs.c that replace those of the Rattle sources. They use the words of jcobs.h."""
 
-# Functions. The others have their names in Rattle, after jcobs_ or the name of their type.
+# Functions. Each other function keeps its name in Rattle, after jcobs_ or the name of its type.
 FUNCTIONS = {
     "UnbufferedDecoder::end": "jcobs_decoder_end_piece",
     "UnbufferedDecoder::feed_each": "jcobs_decoder_take",
@@ -27,8 +27,9 @@ FUNCTIONS = {
     "too_small": "jcobs_too_small_answer",
     "write_each": "jcobs_write_blocks",
 }
-# Parameters and variables, by the function; those of "" in each. The length of the slice `NAME` is `NAME_len` if its bytes are there,
-# and `NAME_size` if it is a buffer's room. A call of jcobs.h and the functions that it calls have the same names.
+# Parameters and variables of each function; the names under "" apply to every function. The length of the slice `NAME` is
+# `NAME_len` if its bytes are there, and `NAME_size` if the slice is a buffer with room. A call of jcobs.h and the functions
+# that it calls use the same names.
 VARIABLES = {
     "": {"bytes_len": "len"},
     "UnbufferedDecoder::end": {"len": "buffer_size", "ended": "before"},
@@ -61,34 +62,35 @@ VARIABLES = {
     "try_encode_each": {"source": "message", "dest": "frame"},
     "write_each": {"source": "message", "dest": "frame", "len": "part_len"},
 }
-# Functions that are called once, by a call of jcobs.h, and aren't written there: for an AVR the step would be a tenth slower.
+# Functions that only one call of jcobs.h calls, and that stay separate functions: inlined, the step would be a tenth slower on
+# an AVR.
 APART = {"encode_byte", "decode_zero"}
-# Functions for what happens once in a piece, called for each byte of it (JCOBS_RARE in top.c).
+# Functions for a byte that comes once in a piece, called by a function that takes each byte (JCOBS_RARE in top.c).
 RARE = {"decode_zero"}
-# Functions whose value is written where they are called.
+# Functions whose value replaces each call of them.
 WRITTEN_OUT = {"UnbufferedDecoder::is_idle"}
-# A number that has a name.
+# Numbers that have a name.
 NUMBERS = {"254": "FULL_BLOCK_BYTES"}
-# Structs that jcobs.h doesn't have: what they are, and what their members are.
+# Structs that jcobs.h doesn't have: a comment for the struct, and a comment for each member.
 STRUCTS = {
     "EncoderProgress": (
         "How much of a frame is in the buffer.",
         {
-            "index": "where the code of the open block belongs",
-            "code": "the code that the open block has so far: one more than the number of its bytes",
+            "index": "the index at which the code of the open block belongs",
+            "code": "the code of the open block so far: one more than the number of its bytes",
             "is_full": "whether the last block is full: then no block is open, and the frame ends at index",
         },
     ),
 }
-# How a piece or a frame ended, by the variants of Rattle that say it.
+# For each way in which a piece or a frame can end, the variants of Rattle that stand for it.
 ENDS = {
     "JCOBS_END_NONE": ("None", "EmptyFrame"),
     "JCOBS_END_MESSAGE": ("Message", "Some", "Ok"),
     "JCOBS_END_BROKEN": ("Broken", "InvalidFrame"),
     "JCOBS_END_TOO_LONG": ("TooLong", "TargetBufTooSmall"),
 }
-# Comments: a text in the comments of a function, and its text in C; those of "" in each. The words in quotes that are left are
-# names of C.
+# Comments: for each function, a text in its comments in Rattle, and the text that replaces it in C. The texts under "" apply to
+# every function. The words in backticks that are left are names in C.
 COMMENTS = {
     "": [(" (A choice of this library.)", "")],
     "UnbufferedDecoder::end": [("`len` is the buffer's length.", "It returns how the piece ended. The buffer has buffer_size bytes.")],
@@ -105,13 +107,14 @@ COMMENTS = {
     "UnbufferedEncoder::append_byte": [(", for which there is room.", ", for which there is room: the step of the loop that encodes in place.")],
     "UnbufferedEncoder::append_one": [(
         "Takes the next byte of the message, for which there is room, and returns the length of the frame so far.",
-        "Does what jcobs_encoder_append_byte does, and returns the length of the frame so far: in each case it ends after the byte at next."
-        " Compilers make fewer instructions of this form for one byte, and more for a loop.",
+        "Does what jcobs_encoder_append_byte does, and returns the length of the frame so far. In each case the frame ends after the"
+        " byte at index next. For a single byte compilers make fewer instructions of this form than of"
+        " jcobs_encoder_append_byte; for a loop they make more.",
     )],
     "UnbufferedEncoder::feed_len": [(
         "if the frame of all bytes so far fits the buffer.",
-        "if the frame of all bytes so far fits the buffer. It isn't written in jcobs_encoder_feed, because avr-gcc's code would then"
-        " take a tenth more time.",
+        "if the frame of all bytes so far fits the buffer. It is a separate function: as a part of jcobs_encoder_feed it would"
+        " take a tenth more time in avr-gcc's code.",
     )],
     "UnbufferedEncoder::finalize": [(
         "Ends the message, and returns",
@@ -121,35 +124,35 @@ COMMENTS = {
     "UnbufferedEncoder::push_each": [(", one at a time.", ", if the frame of all bytes so far fits the buffer, and returns whether it does.")],
     "decode_blocks_each": [(
         " This function is small, and uses no vectors.",
-        " No byte of the frame is a zero. If the last block is cut off, it returns JCOBS_END_BROKEN, with the length of the message of the"
-        " blocks before.",
+        " No byte of the frame is a zero. If the last block is cut off, it returns JCOBS_END_BROKEN, with the length of the output"
+        " of the blocks before it.",
     )],
     "decode_each": [(", and the counts are within the bytes and the buffer.", ".")],
     "decode_piece": [("Returns `None` if the source has no piece.", "It returns JCOBS_END_NONE if there is no piece.")],
     "encode_each": [(", and the counts are within the bytes and the buffer.", ".")],
     "encode_in_place": [(
         "in its own buffer, and returns the length of its frame in bytes.",
-        "in its own buffer, in which it lies after the room for the other bytes of the longest frame. Returns the length of the"
+        "in its own buffer, in which the message begins at index JCOBS_MAX_OVERHEAD(message_len). Returns the length of the"
         " frame in bytes.",
     )],
     "end_of": [("the frame that an encoder has written so far", "the frame, if the message ends with the bytes that were taken")],
     "ended": [(
         "the result of `decode_piece` for a piece with `written` bytes of output, if `missing` bytes of its last block are missing and"
         " `at` bytes of the source were consumed",
-        "the piece that ended, with this many bytes of output, with this many bytes of its last block missing, and with this many bytes"
-        " consumed",
+        "how a piece ended that has this many bytes of output, and of whose last block this many bytes are missing, and how many"
+        " bytes were consumed",
     )],
     "has_room": [(
         "The bytes are read only if their number doesn't decide whether the frame fits.",
-        "The bytes are read only if their number doesn't decide whether the frame fits. data_len is how many bytes of the message the open block and those"
-        " after it then have.",
+        "The bytes are read only if their number doesn't decide whether the frame fits. data_len is the number of bytes of the message in"
+        " the open block and the blocks after it, with these bytes.",
     )],
     "kind_by_blocks": [(
         ", as [`frame_kind`] does. This function goes from one code to the next, and doesn't search the bytes for a zero.",
         ", given bytes without a zero. It goes from one code to the next.",
     )],
     "leading_zeros": [(" [`decode`](crate::decode) skips these zeros before a frame.", "")],
-    "len_to_zero": [(" The function uses no vectors, so that it is small.", " With four bytes in a round it needs half the instructions.")],
+    "len_to_zero": [(" The function uses no vectors, so that it is small.", " The loop tests four bytes in each round, and so needs half the instructions.")],
     "result_by": [(
         "a call that took `consumed` bytes and decoded them into a buffer of `room` bytes. `size` is the message's length, or the"
         " error.",
@@ -161,8 +164,8 @@ COMMENTS = {
     "result_of": [(
         "a call that decoded `len` bytes into a buffer of `room` bytes. If a piece has ended, `found` says how it ended, and how"
         " many bytes there are through its end",
-        "a call that took `len` bytes or, if a piece has ended in them, those through its end. The buffer has `room` bytes."
-        " `found` says whether and how the piece has ended",
+        "a call that took the bytes through the end of this piece, if it has ended, or otherwise all `len` bytes. The buffer has"
+        " `room` bytes",
     )],
     "take_one": [(
         "Takes a byte of a piece, writes its output to the buffer, and returns how many bytes of the open message the buffer then holds.",
@@ -171,7 +174,7 @@ COMMENTS = {
     )],
     "write_each": [(
         "Does what [`encode`](crate::encode) does, one byte at a time.",
-        "Writes the frame of the message, and returns its length. index is where the code of the open block belongs, and next where the"
-        " next byte does. No part has more bytes than the open block has room for, so no byte needs a test whether the block is full.",
+        "Writes the frame of the message, and returns its length. The code of the open block belongs at index, and the next byte at"
+        " next. No part has more bytes than the open block has room for, so no byte needs a test whether the block is full.",
     )],
 }

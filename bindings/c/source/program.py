@@ -1,4 +1,4 @@
-"""The items of the crates that jcobs.c is made of, and what each name means in a file."""
+"""Finds the items of the crates from which jcobs.c is made, and the meaning of each name in a file."""
 
 import re
 
@@ -9,7 +9,7 @@ CRATES = ["cobs_small", "cobs_abi", "cobs"]
 
 
 class Program:
-    """All items of the crates: each as its crate, its file and what rattle.py has read."""
+    """All items of the crates. Each has its crate, its file and the tuple that rattle.py has read."""
 
     def __init__(self, crates):
         self.files, self.named = {}, {}
@@ -24,7 +24,7 @@ class Program:
         except Unknown:
             if crate != "cobs":
                 raise
-            items = []  # a file that the coder for devices has nothing of, or a name of it isn't found
+            items = []  # the coder for devices uses nothing of this file, or a name in it isn't found
         for item in items:
             if item[0] != "use":
                 self.named.setdefault((crate, item[1]), []).append((crate, path, item))
@@ -32,7 +32,7 @@ class Program:
         self.files[path] = ({it[1]: (crate, path, it) for it in items if it[0] != "use"}, uses)
 
     def find(self, name, path, crate):
-        """What the name means in this file of this crate."""
+        """Returns the item that a name means in this file of this crate."""
         names, uses = self.files[path]
         if name in names:
             return names[name]
@@ -49,7 +49,7 @@ class Program:
         raise Unknown(f"{path.name}: {name} isn't found")
 
     def nearest(self, name, found, words):
-        """The one of these whose path has the most words of the import."""
+        """Returns the item whose path has the most words of the import."""
         near = [sum(word in (*path.parts, path.stem) for word in words) for _, path, _ in found]
         if near.count(max(near)) > 1:
             raise Unknown(f"{name} is more than one item")

@@ -1,6 +1,6 @@
-"""Reads the part of Rattle that the coder for devices is written in: items as tuples.
+"""Reads the part of Rattle in which the coder for devices is written, and returns its items as tuples.
 
-What is for the prover is dropped: clauses, ghost imports, laws. A form that isn't known is an error, with its file and line.
+The parts for the prover (clauses, ghost imports, laws) are dropped. A form that isn't known is an error, with its file and line.
 """
 
 from syntax import Syntax
@@ -17,7 +17,7 @@ class Reader(Syntax):
         return found
 
     def before_item(self):
-        """An item's docs and attributes; whether it is public doesn't matter."""
+        """Reads an item's docs and attributes, and ignores whether the item is public."""
         docs, attributes = [], []
         while True:
             if self.kind() == "doc":

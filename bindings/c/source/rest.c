@@ -1,6 +1,6 @@
-/* The calls from here on are written by hand, around those above. */
+/* The calls from here on are written by hand. They call the functions above. */
 
-/* XORs each byte with the sentinel: that makes a frame for the sentinel 0 one for this sentinel, and the reverse. */
+/* XORs each byte with the sentinel. This turns a frame for the sentinel 0 into a frame for this sentinel, or back. */
 static void jcobs_xor(void *bytes, size_t len, unsigned char sentinel)
 {
     unsigned char *const data = (unsigned char *)bytes;
@@ -28,9 +28,10 @@ jcobs_answer jcobs_encode_terminated_with_sentinel(const void *message, size_t m
     return answer;
 }
 
-/* Decodes the whole blocks of the frame that ends at the first sentinel, by the steps of a decoder. If they are followed
- * by a block that is cut short, the decoder takes a 1 for it, the code of a block without bytes: so it writes the zero
- * between the whole blocks and that one, and nothing of that one. */
+/* Decodes the whole blocks of the frame that ends at the first sentinel, with the steps of a streaming decoder. If a
+ * block that is cut short follows the whole blocks, the decoder is fed a 1 in place of this block. A 1 is the code of a
+ * block without bytes, so the decoder writes the zero between the whole blocks and the cut block, and no byte of the cut
+ * block. */
 jcobs_answer jcobs_decode_with_sentinel(const void *source, size_t source_len, void *message, size_t message_size,
                                         unsigned char sentinel)
 {
@@ -39,7 +40,7 @@ jcobs_answer jcobs_decode_with_sentinel(const void *source, size_t source_len, v
     jcobs_decoder decoder = JCOBS_DECODER_INIT;
     jcobs_answer answer = {JCOBS_EMPTY, 0, 0};
     size_t frame_len = 0;
-    size_t whole_len = 0; /* of the whole blocks */
+    size_t whole_len = 0; /* the length of the whole blocks */
 
     if (source_len == 0) {
         return answer;
@@ -57,7 +58,7 @@ jcobs_answer jcobs_decode_with_sentinel(const void *source, size_t source_len, v
         jcobs_decoder_take_byte(&decoder, message_bytes, message_size, 1);
     }
     answer = jcobs_decoder_feed(&decoder, message, message_size, 0);
-    if (answer.status == JCOBS_MORE) { /* the frame has no bytes, as an empty message */
+    if (answer.status == JCOBS_MORE) { /* the frame has no bytes: it is an empty message */
         answer.status = JCOBS_OK;
     }
     if (answer.status == JCOBS_OK && whole_len < frame_len) {
@@ -67,7 +68,7 @@ jcobs_answer jcobs_decode_with_sentinel(const void *source, size_t source_len, v
     return answer;
 }
 
-/* XORs the frame, and decodes it as one for the sentinel 0. */
+/* XORs the frame with the sentinel, and decodes it as a frame for the sentinel 0. */
 jcobs_answer jcobs_decode_in_place_with_sentinel(void *buffer, size_t buffer_len, unsigned char sentinel)
 {
     const unsigned char *const buffer_bytes = (const unsigned char *)buffer;
@@ -77,7 +78,7 @@ jcobs_answer jcobs_decode_in_place_with_sentinel(void *buffer, size_t buffer_len
     while (frame_len < buffer_len && buffer_bytes[frame_len] != sentinel) {
         frame_len++;
     }
-    if (frame_len == 0 && buffer_len > 0) { /* the frame has no bytes, as an empty message */
+    if (frame_len == 0 && buffer_len > 0) { /* the frame has no bytes: it is an empty message */
         return answer;
     }
     jcobs_xor(buffer, frame_len, sentinel);
@@ -115,7 +116,8 @@ jcobs_answer jcobs_encoder_finish_terminated_with_sentinel(jcobs_encoder *encode
 
 size_t jcobs_strerror(unsigned int status, char *text, size_t text_size)
 {
-    /* By the status; the last one is for other numbers. The array has room for the longest, and needs no pointers. */
+    /* The descriptions in the order of the statuses; the last description is for other numbers. Each row has room for the
+     * longest description, so no pointers are needed. */
     static const char descriptions[][sizeof "the frame breaks off inside a block"] = {
         "done",
         "more bytes are needed",

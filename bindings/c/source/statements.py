@@ -1,4 +1,4 @@
-"""The statements of Rattle as those of C."""
+"""Translates the statements of Rattle to statements of C."""
 
 import re
 import textwrap
@@ -12,7 +12,7 @@ INDENT = "    "
 
 
 class Statements(Expressions):
-    """The statements of a function, put into `lines`.
+    """Translates the statements of a function, and adds them to `lines`.
 
     The value of a block is returned, assigned to the values of `keep`, or dropped.
     """
@@ -33,7 +33,7 @@ class Statements(Expressions):
                 getattr(self, f"do_{statement[0]}")(statement)
 
     def inside(self, statements, returns=False, keep=None):
-        """A block in brackets, whose names end with it."""
+        """Translates a block in brackets, outside of which its names have no meaning."""
         saved = dict(self.env)
         self.depth += 1
         self.block(statements, returns, keep)
@@ -63,7 +63,7 @@ class Statements(Expressions):
         return None
 
     def whole_copy(self, statements):
-        """Assignments to each member of a struct from another, as one, and their number."""
+        """Returns assignments to each member of a struct from another struct as one assignment, and their number."""
         first = statements[0]
         if first[0] != "assign" or first[1] != "=" or first[2][0] != "field" or first[3][0] != "field":
             return None
@@ -111,7 +111,7 @@ class Statements(Expressions):
             self.put(f"{to.text} = (unsigned char)({to.text} {sign[0]} {value.at(10)});")
 
     def shortened(self, to, right):
-        """A slice in variables that loses its first bytes."""
+        """Translates a slice in variables that loses its first bytes."""
         if right[0] != "borrow" or right[2][0] != "index" or self.value(right[2][1]) is not to:
             raise Unknown(f"{self.name}: {to.pointer} becomes another slice")
         _, begin, end = right[2][2]
@@ -202,7 +202,7 @@ class Statements(Expressions):
         return None
 
     def let_part(self, name, part):
-        """A part of a slice that loses its first bytes later, or is in a block, where the numbers of its ends may change."""
+        """Translates a part of a slice that loses its first bytes later, or is in a block in which the indices of its ends may change."""
         const = "" if part.mutable else "const "
         self.put(f"{const}unsigned char *{name} = {part.pointer};")
         length = f"{name}_{'size' if part.mutable else 'len'}"
@@ -210,7 +210,7 @@ class Statements(Expressions):
         self.env[name] = Slice(name, length, part.mutable)
 
     def kind_of_branches(self, tree):
-        """The type of a match or an if, by the first of its values that isn't a constant."""
+        """Returns the type of a match or an if: the type of its first value that isn't a constant."""
         bodies = [arm for _, arm in tree[2]] if tree[0] == "match" else tree[2:]
         for statement in (it for body in bodies for it in body if it[0] == "value"):
             inner = statement[1]
@@ -223,14 +223,14 @@ class Statements(Expressions):
         return USIZE
 
     def is_let_else_of_match(self, statements):
-        """A `let .. else`, and a match of the end that it names."""
+        """Translates a `let .. else` and a match of the end that it names."""
         if len(statements) != 2 or statements[0][0] != "let" or not statements[0][4] or statements[1][0] != "value":
             return False
         inner, tree = statements[0][1][2][0], statements[1][1]
         return tree[0] == "match" and inner[0] == "tuple" and tree[1] == ("path", inner[1][0][1])
 
     def let_match(self, statement, tree):
-        """These two as one switch, in which what the `else` returns comes last."""
+        """Translates these two as one switch. The result of the `else` comes last."""
         _, pattern, _, of, other = statement
         end, consumed = (it[1] for it in pattern[2][0][1])
         text = self.in_variable(self.value(of))
@@ -239,7 +239,7 @@ class Statements(Expressions):
         self.matched(("match", tree[1], [*tree[2], none]), True, None)
 
     def in_variable(self, value):
-        """How a piece or a frame ended, in a variable."""
+        """Puts the end of a piece or a frame into a variable."""
         if re.fullmatch(r"\w+", value.text):
             return value.text
         name = {PIECE: "piece", END: "end", FRAME: "result"}[value.kind]
@@ -257,7 +257,7 @@ class Statements(Expressions):
         self.env[inner[1]] = Value(text, END)
 
     def condition(self, tree):
-        """The text of a condition; for `if let`, what it names is declared before."""
+        """Returns the text of a condition. The names of an `if let` are declared before it."""
         if tree[0] != "let":
             return self.value(tree).text
         _, pattern, found = tree
@@ -326,7 +326,7 @@ class Statements(Expressions):
         return None
 
     def same_constant(self, value, arms):
-        """A match of an enum that gives each variant's constant of jcobs.h: the value itself."""
+        """Translates a match of an enum whose values are the variants' constants of jcobs.h: it is the value itself."""
         for pattern, body in arms:
             constant = self.value(("path", pattern[1])).text
             if len(body) != 1 or self.value(body[0][1]).text != constant:
@@ -349,7 +349,7 @@ class Statements(Expressions):
         self.env = saved
 
     def either(self, arms, text, returns, keep):
-        """A match of a frame's length or an error, as an if."""
+        """Translates a match of a frame's length or an error to an if."""
         (first, then), (second, other) = arms
         if first[1] != "Ok" or second[1] != "Err":
             raise Unknown(f"{self.name}: match of {text}")

@@ -1,4 +1,4 @@
-"""The statements, patterns and expressions of the part of Rattle that the coder for devices is written in, as tuples."""
+"""Reads the statements, patterns and expressions of the part of Rattle in which the coder for devices is written, as tuples."""
 
 import re
 
@@ -194,7 +194,7 @@ class Syntax(Tokens):
         return self.named(struct)
 
     def named(self, struct):
-        """What begins with a name: a path, a call, or a struct if one may stand there."""
+        """Reads an expression that begins with a name: a path, a call, or a struct if a struct is permitted here."""
         name = self.next()
         if name in ("true", "false"):
             return ("bool", name)

@@ -14,14 +14,14 @@ class Unknown(Exception):
 
 
 class Tokens:
-    """The tokens of a file, each with the comments before it."""
+    """Returns the tokens of a file, each with the comments before it."""
 
     def __init__(self, text, name):
         self.name, self.at, self.tokens, before = name, 0, [], []
         for found in TOKEN.finditer(text):
             kind, word = found.lastgroup, found[0]
             if kind == "comment":
-                # After a token, it says which law is called: C has no laws.
+                # A comment after a token names the law that is called. C has no laws.
                 if not text[text.rfind("\n", 0, found.start()) + 1 : found.start()].strip():
                     before.append(word[2:].strip())
             elif kind == "doc" and word.startswith("//!"):

@@ -1,36 +1,36 @@
 /* jcobs.c: the calls of jcobs.h in one file of C, for any processor and compiler. Written by translate.py: don't edit it.
  *
- * Compile it with your program, by C99 or later or as C++, with jcobs.h beside it or in the include path. It has no
- * variables that stay, only a constant table with the texts of jcobs_strerror. It allocates nothing, and names no function
- * of a C library; a compiler may call memset or memcpy for some of its lines.
+ * Compile this file with your program, as C99 or later or as C++, with jcobs.h in the same folder or in the include path.
+ * The file has no static variables except a constant table of the texts of jcobs_strerror. It allocates no memory, and
+ * calls no function of a C library; a compiler may call memset or memcpy for some of its lines.
  *
- * What is proved: the functions of crates/cobs_small, for lengths of 64 bits, on any contents of the buffers and the
- * states. Each meets its contract, accesses only the buffers that it is given, and returns. The comment above a call says
- * what its contract says, in short, and names the file of crates/cobs_small/src in which it is. The words of the contracts
- * are defined in crates/cobs_abi/specs and crates/cobs/specs.
+ * What is proved: each function of crates/cobs_small meets its contract, accesses only the buffers that are passed to it,
+ * and returns. The proofs are for lengths of 64 bits and for any contents of the buffers and states. The comment above a
+ * call summarizes its contract, and names the file of crates/cobs_small/src that has the contract. The words of the
+ * contracts are defined in crates/cobs_abi/specs and crates/cobs/specs.
  *
- * What is not proved, but tested: that this text does the same. translate.py wrote each function from the one in Rattle,
- * and your compiler compiles it. Lengths have the width of your size_t. bindings/c/tests/translated.py, which shares
- * nothing with translate.py, compares the two texts: conditions, loops, operators, numbers, calls and the use of names.
- * bindings/c/tests/run.sh compares two million calls with those of the proved module itself. This script and
- * tests/device.sh run this file on processors with 16, 32 and 64 bits and both byte orders: the vectors of conformance/
- * (except on the processor with 16 bits), and random calls compared with plain C, with states of random bytes. The calls
- * from jcobs_xor on are written by hand, and tested in the same way.
+ * What is tested, not proved: that this file does what the functions in Rattle do. translate.py translated each function
+ * from Rattle, and your compiler compiles it. Lengths have the width of your size_t. bindings/c/tests/translated.py,
+ * which shares no code with translate.py, compares both texts: conditions, loops, operators, numbers, calls and the use
+ * of names. bindings/c/tests/run.sh compares two million calls of this file with calls of the proved module itself.
+ * run.sh and tests/device.sh run this file on processors of both byte orders, whose size_t has 16, 32 or 64 bits. They run
+ * the cases of conformance/ (except where size_t has 16 bits), and compare random calls, with states of random bytes,
+ * with plain C. The functions from jcobs_xor on are written by hand, and tested in the same way.
  */
 #include "jcobs.h"
 
 #include <limits.h>
 
-/* These don't compile for a processor that this file isn't for: one whose bytes have more than 8 bits, or whose size_t is
- * shorter than unsigned int. */
+/* These two types don't compile if this file doesn't support the processor: if bytes have more than 8 bits, or if size_t
+ * is shorter than unsigned int. */
 typedef char jcobs_bytes_have_8_bits[CHAR_BIT == 8 ? 1 : -1];
 typedef char jcobs_size_t_is_no_shorter_than_int[sizeof(size_t) >= sizeof(unsigned int) ? 1 : -1];
 
-/* Functions that a loop over bytes calls become part of it (JCOBS_INLINE). Some that have such a loop stay functions of
- * their own (JCOBS_APART), so that the loop has all registers of a small processor; x86-64 has more of them, and a call
- * costs as much there as some bytes. What a call for each byte does once in a piece becomes part of that call, except on
- * x86-64 (JCOBS_RARE): gcc would let the other bytes jump to a return that both share, and they would take a fifth more
- * time. */
+/* A function that a loop over bytes calls is inlined into the loop (JCOBS_INLINE). Some functions that contain such a
+ * loop aren't inlined (JCOBS_APART), so that the loop can use all registers of a small processor. On x86-64 they may be
+ * inlined: this processor has more registers, and a call takes as long as some bytes. A function for a byte that comes
+ * once in a piece is inlined into the call that takes each byte, except on x86-64 (JCOBS_RARE): there gcc would give
+ * all bytes one return, to which most would have to jump, and a call would take a fifth more time. */
 #ifdef __GNUC__
 #define JCOBS_INLINE __inline__ __attribute__((always_inline))
 #ifdef __x86_64__
@@ -46,31 +46,32 @@ typedef char jcobs_size_t_is_no_shorter_than_int[sizeof(size_t) >= sizeof(unsign
 #define JCOBS_RARE
 #endif
 
-/* A frame is a sequence of blocks. A block is a code, from 1 to 255, and after it code - 1 bytes, none of which is 0. A block
- * with the code 255 is full. The message is the bytes of the blocks without their codes, and a zero between two blocks if the
- * first one isn't full. The last block is open while more bytes may come.
+/* A frame is a sequence of blocks. A block is a code, from 1 to 255, followed by code - 1 bytes, none of which is 0. A
+ * block with the code 255 is full. The message consists of the bytes of the blocks without their codes, with a zero
+ * between two blocks unless the first of the two is full. The last block is open while more bytes may come.
  *
- * What the members of the states mean, which jcobs.h declares:
+ * jcobs.h declares the states. Their members have these meanings:
  *
- * - of a decoder: written bytes of the open message are in the buffer, and the open block lacks missing bytes. joint is 1
- *   after the code of a block that isn't full: a zero joins the next block to it, if there is one. It is 0 at the start, and
- *   after the code of a full block. too_long is 1 if a byte of the message had no room: the rest of the piece is skipped;
- * - of an encoder: the code of the open block belongs at index, and the taken bytes of that block are in the buffer after
- *   this place. full is 1 if the last byte made a block full: the frame ends with that block, unless another byte comes.
+ * - In a decoder, the first `written` bytes of the buffer are the open message so far, and the open block still needs
+ *   `missing` bytes. joint is 1 after the code of a block that isn't full: if another block follows, the message has a
+ *   zero between the two. joint is 0 at the start, and after the code of a full block. too_long is 1 if there was no room
+ *   for a byte of the message: then the rest of the piece is skipped.
+ * - In an encoder, the code of the open block belongs at `index` of the buffer, and the `taken` bytes of this block
+ *   follow it. full is 1 if the last byte made a block full: the frame ends with this block, unless another byte comes.
  *
- * They may have any other values. Each value but 0 of joint, too_long and full counts as 1. */
+ * A member may also have any other value. In joint, too_long and full each value except 0 has the meaning of 1. */
 
-/* How a piece of a stream ended. A piece is what is between two zeros: a frame, or one that is broken. */
+/* How a piece of a stream ended. A piece is the bytes between two zeros: a frame, or a broken frame. */
 enum jcobs_end_kind {
-    JCOBS_END_MESSAGE,  /* it is the frame of a message with this many bytes */
-    JCOBS_END_BROKEN,   /* it breaks off inside a block, and decodes to this many bytes */
-    JCOBS_END_TOO_LONG, /* it decodes to more bytes than the buffer has room for */
-    JCOBS_END_NONE      /* it hasn't ended, or there is none: the numbers say nothing */
+    JCOBS_END_MESSAGE,  /* the piece is the frame of a message; count is the message's length */
+    JCOBS_END_BROKEN,   /* the piece breaks off inside a block; count is the length of its output */
+    JCOBS_END_TOO_LONG, /* the output of the piece is longer than the buffer */
+    JCOBS_END_NONE      /* the piece hasn't ended, or there is no piece: count has no meaning */
 };
 
 typedef struct jcobs_end {
     enum jcobs_end_kind kind;
-    size_t count; /* how many bytes, of a message or a broken piece */
+    size_t count; /* the length of a message, or of the output of a broken piece */
 } jcobs_end;
 
 static JCOBS_INLINE jcobs_end jcobs_make_end(enum jcobs_end_kind kind, size_t count)
@@ -82,7 +83,7 @@ static JCOBS_INLINE jcobs_end jcobs_make_end(enum jcobs_end_kind kind, size_t co
     return end;
 }
 
-/* The same, and how many bytes were consumed. */
+/* A jcobs_end with the number of bytes that were consumed. */
 typedef struct jcobs_piece {
     enum jcobs_end_kind kind;
     size_t count;
@@ -99,7 +100,7 @@ static JCOBS_INLINE jcobs_piece jcobs_make_piece(enum jcobs_end_kind kind, size_
     return piece;
 }
 
-/* The length of an encoder's frame, if it fits the buffer. */
+/* Whether an encoder's frame fits the buffer, and the frame's length if it fits. */
 typedef struct jcobs_frame {
     int fits;
     size_t length;
@@ -129,7 +130,7 @@ static JCOBS_INLINE size_t jcobs_min(size_t a, size_t b)
     return a < b ? a : b;
 }
 
-/* Returns the sum, or the other number if the sum doesn't fit. */
+/* Returns the sum of a and b, or the number `other` if the sum doesn't fit a size_t. */
 static size_t jcobs_sum_or(size_t a, size_t b, size_t other)
 {
     return b > (size_t)-1 - a ? other : a + b;

@@ -1,12 +1,12 @@
 #!/usr/bin/env python3
 """Writes jcobs.c from the proved functions in Rattle: translate.py [--check] [CRATES]
 
-Each exported function of crates/cobs_small, and each function that it reaches, becomes one of C with the same statements, names and
-comments; names.py says which names and comments are others in C. The exported ones have the names that jcobs.h gives their arguments,
-and say what their contract says. A function that only passes its parameters on isn't written, and one that only converts the result
-of another one gets its statements. kinds.py says what becomes of types. A form that isn't known is an error, with its function. What
-comes before and after the functions is in top.c and rest.c. The file is written here and to ../device/src; with --check both are
-compared and not written.
+Each exported function of crates/cobs_small, and each function that it reaches, is translated to a C function with the same
+statements, names and comments, except for the names and comments that names.py replaces. The arguments of an exported function have
+their names in jcobs.h, and its comment summarizes its contract. A function that only passes its parameters on isn't written. A
+function that only converts the result of another function gets the statements of that function. kinds.py describes how types are
+translated. A form that the script doesn't know is an error, with its function. The text before and after the functions is in top.c and
+rest.c. The script writes jcobs.c here and to ../device/src. With --check it compares both files, and writes neither.
 """
 
 import re
@@ -24,20 +24,20 @@ HERE = Path(__file__).resolve().parent
 
 
 class Output:
-    """The functions in the order that C wants, and the types and constants that they use."""
+    """The functions in the order that C requires, and the types and constants that they use."""
 
     def __init__(self, crates, include):
         self.program, self.calls = Program(crates), header.calls(include)
         self.contracts = header.contracts(sorted((crates / "cobs_small/src").glob("*.rt")))
         self.names, self.texts, self.constants = {}, [], {}
         self.structs, self.starts, self.made, self.unused = {}, {}, set(), set()
-        self.reached, self.merged, self.replaced = set(), set(), set()  # functions, and what was replaced in their comments
+        self.reached, self.merged, self.replaced = set(), set(), set()  # functions, and the texts that were replaced in their comments
         self.enums = header.enums(include)
         # The structs of jcobs.h, by the names of their members.
         self.given = {tuple(name for _, name in it.values()): of for of, it in header.structs(include).items()}
 
     def function(self, found):
-        """The name of a function in C. If it is the first time, the function is written."""
+        """Returns the name of a function in C. At the first call for a function, the function is written."""
         crate, path, item = found
         key = (path, item[1])
         if key not in self.names:
@@ -64,7 +64,7 @@ class Output:
         return self.names[key]
 
     def only_passes_on(self, found):
-        """The function to which this one only passes its parameters on, in their order, and constants; and these arguments."""
+        """Returns the function to which this one only passes its parameters, in their order, and constants; and these arguments."""
         crate, path, item = found
         body = item[4]
         if not isinstance(body, list) or len(body) != 1 or body[0][0] != "value":
@@ -72,7 +72,7 @@ class Output:
         return self.passed_on(body[0][1], item[2], path, crate)
 
     def passed_on(self, tree, params, path, crate):
-        """The function that is called with these parameters, in their order, and constants; and these arguments."""
+        """Returns the function that is called with these parameters, in their order, and constants; and these arguments."""
         if tree[0] not in ("call", "method"):
             return None
         kind, name, *rest = tree
@@ -91,7 +91,7 @@ class Output:
             return None
 
     def converts(self, made):
-        """The function of which this one, after laws, only converts the length or the error; its arguments; and both results."""
+        """Returns the function whose length or error this one only converts, apart from laws; its arguments; and both results."""
         body = made.body if isinstance(made.body, list) else [None]
         of = body[-1][1] if body[-1] and body[-1][0] == "value" else ("none",)
         if of[0] != "match" or not all(it[0] == "do" and it[1][0] == "call" and it[1][1].startswith("law_") for it in body[:-1]):
@@ -106,19 +106,19 @@ class Output:
         return inner[0], inner[1], (ok[2][0][1], length[0][1], other[0][1])
 
     def behind(self, found):
-        """The function itself, or the one to which it only passes its parameters on."""
+        """Returns the function itself, or the function to which it only passes its parameters on."""
         inner = None if any("no_mangle" in it for it in found[2][6]) else self.only_passes_on(found)
         return self.behind(inner[0]) if inner and len(inner[1]) == len(found[2][2]) else found
 
     def is_part(self, item):
-        """Whether a function is called once, and so is written where it is called."""
+        """Returns whether a function is called only once: then its statements replace the call."""
         places = [it for found in self.program.named.values() for it in found if it[2][0] == "fn"]
         calls = [(crate, path, str(it[4]).count(f"('call', '{item[1]}', ")) for crate, path, it in places]
         count = sum(count for crate, path, count in calls if count and self.program.find(item[1], path, crate)[2] is item)
         return count == 1 and item[1] not in names.APART
 
     def constant(self, name, value, docs):
-        """A constant, whose comment is the first sentence of its own up to a comma."""
+        """Returns a constant. Its comment is the first sentence of its comment in Rattle, up to a comma."""
         says = re.match(r"(.*?)(?:,|\.$|$)", " ".join(docs))[1]
         says = says[:1].lower() + says[1:]
         if self.constants.setdefault(name, (value, says))[0] != value or value > 255:
@@ -126,7 +126,7 @@ class Output:
         return f"JCOBS_{name}"
 
     def enum(self, item):
-        """The name of an enum: that of jcobs.h with the same variants."""
+        """Returns the name of the enum of jcobs.h that has the same variants."""
         wanted = [snake(it).upper() for it, _ in item[2]]
         for name, words in self.enums.items():
             if words == wanted:
@@ -138,7 +138,7 @@ class Output:
         return f"JCOBS_{snake(name).upper()}"
 
     def started(self, item, function):
-        """The name of the struct of jcobs.h for which there is a start, with each member 0."""
+        """Returns the name of the struct of jcobs.h for which there is an initial state with each member 0."""
         name = self.struct(item, function)
         if name not in self.given.values():
             return None
@@ -146,23 +146,23 @@ class Output:
         return name
 
     def struct(self, item, function):
-        """The name of a struct: that of jcobs.h with the same members, or a new one."""
+        """Returns the name of a struct: the name in jcobs.h of the struct with the same members, or a new name."""
         name = self.given.get(tuple(field for field, _ in item[2])) or f"jcobs_{snake(item[1]).rsplit('_', 1)[-1]}"
         self.structs.setdefault(name, (item, function))
         return name
 
     def owner(self, item, function):
-        """The word that the name of a method begins with."""
+        """Returns the word with which the name of a method begins."""
         return self.struct(item, function) if item[0] == "struct" else f"jcobs_{snake(item[1])}"
 
     def constructor(self, item, function):
-        """The function that makes a struct of its members."""
+        """Returns the function that makes a struct from its members."""
         name = f"jcobs_make_{self.struct(item, function).rsplit('_', 1)[-1]}"
         self.made.add(name)
         return name
 
     def types(self):
-        """What stands before the functions."""
+        """Yields the text before the functions."""
         lines = [(f"JCOBS_{name} = {value}", says) for name, (value, says) in sorted(self.constants.items())]
         texts = [f"{text}," for text, _ in lines[:-1]] + [text for text, _ in lines[-1:]]
         width = max(map(len, texts), default=0)
@@ -205,7 +205,7 @@ def translated(crates):
 
 
 def want_used(out):
-    """Each name and each comment of names.py is one of these crates."""
+    """Checks that each name and each comment of names.py occurs in these crates."""
     if unused := {(of, old) for of, pairs in names.COMMENTS.items() if of for old, _ in pairs} - out.replaced:
         raise Unknown(f"names.py has comments that no function has: {unused}")
     if unused := {*names.FUNCTIONS, *names.VARIABLES} - {"", *out.reached, "UnbufferedEncoder::reset"}:

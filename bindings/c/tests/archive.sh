@@ -1,10 +1,10 @@
-# What debuggers and linkers find in the built library: run.sh sources this file.
+# Tests the built library with debuggers and linkers. run.sh sources this file.
 #
-# $work, $at, $flags and calls are those of run.sh.
+# run.sh defines $work, $at, $flags and calls.
 # shellcheck shell=sh
 # shellcheck disable=SC2016,SC2086,SC2154
 
-# Calls with a pointer to no memory, each in a function of its own.
+# Makes calls with an invalid pointer, each in a separate function.
 crashing() {
     printf '#include <jcobs.h>\n#include <string.h>\nstatic unsigned char *const nowhere = (unsigned char *)64;\nstatic unsigned char buffer[1000];\n'
     printf 'static jcobs_decoder decoder;\nstatic jcobs_encoder encoder;\nstatic unsigned int sum;\n'
@@ -20,7 +20,7 @@ crashing() {
 
 crashes='encode terminated in_place decode decode_in_place push feed encoder_push encoder_feed kind'
 
-# A crash inside a call: the debugger names the call, and the function that made it.
+# A call crashes: the debugger names the call, and the function that made the call.
 crash_names_caller() {
     crashing >"$work/crash.c" <<'END'
 encode jcobs_encode(nowhere, 900, buffer, 1000).status
@@ -46,14 +46,14 @@ END
     done
 }
 
-# Each call begins with a landing pad, and the object says so.
+# Each call begins with a landing pad, and the object has the note that declares this.
 landing_pads() { # ARCHIVE OBJDUMP PROPERTY PAD
     readelf -n "$1" | grep -q "$3" || { readelf -n "$1"; return 1; }
     "$2" -d --no-show-raw-insn "$1" | awk -v pad="$4" '/^[0-9a-f]+ <jcobs_[a-z_0-9]*>:$/ { name = $2; getline; print name, ($2 == pad ? "yes" : "no"), $0 }' >"$work/pads"
     ! grep -v ' yes ' "$work/pads" && [ "$(wc -l <"$work/pads")" = "$(calls | wc -l)" ]
 }
 
-# A hardened program is linked: the linker names the objects that lack the notes, and this library's isn't one.
+# A hardened program is linked. The linker names each object without the notes, and names none of this library.
 links_hardened() { # COMPILER ARCHIVE FLAG..
     compiler=$1
     archive=$2

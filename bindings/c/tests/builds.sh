@@ -1,10 +1,10 @@
-# Builds over other tools than make, each with a program that runs: run.sh sources this file.
+# Tests the builds by tools other than make, each with a program that runs. run.sh sources this file.
 #
-# $work, $at, $flags, messages, calls and prints are those of run.sh.
+# run.sh defines $work, $at, $flags, messages, calls and prints.
 # shellcheck shell=sh
 # shellcheck disable=SC2016,SC2046,SC2086,SC2154
 
-# The examples by find_package, over a folder that CMAKE_PREFIX_PATH names; version 2 isn't found.
+# Builds the examples with find_package and a folder in CMAKE_PREFIX_PATH. Version 2 isn't found.
 found_by_cmake() { # PREFIX TARGET
     rm -rf "$work/cmake"
     mkdir -p "$work/example" && cp examples/*.c* "$work/example" && sed "s/jcobs::jcobs/$2/" examples/CMakeLists.txt >"$work/example/CMakeLists.txt" &&
@@ -16,7 +16,7 @@ found_by_cmake() { # PREFIX TARGET
 }
 
 
-# This repository as it is fetched, as far as it is built: prints the folder.
+# Copies the files of this repository that a build needs, as if they were fetched, and prints the folder.
 repository() {
     rm -rf "$work/repository" && mkdir -p "$work/repository/bindings" && cp ../../CMakeLists.txt ../../meson.build ../../meson_options.txt \
         ../../VERSION ../../LICENSE-* "$work/repository" && cp -R ../../conformance "$work/repository" || return 1
@@ -24,8 +24,8 @@ repository() {
         echo "$work/repository"
 }
 
-# A project that fetches this repository, over the built library or jcobs.c: a library of its own, installed and exported, and a
-# program that finds that one.
+# Builds a project that fetches this repository, with the built library or jcobs.c. The project installs and exports a library,
+# and a program finds that library.
 fetched() { # OPTION FLAG..: of FetchContent_Declare, and of CMake
     subdir=$1
     shift
@@ -66,7 +66,7 @@ END
 }
 
 
-# A project that has this repository as a folder.
+# Builds a project that has this repository as a folder.
 added() {
     repository=$(repository) || return 1
     rm -rf "$work/adding" && mkdir -p "$work/adding" && cp examples/messages.cpp "$work/adding" || return 1
@@ -78,7 +78,7 @@ added() {
     done
 }
 
-# Installed, with its calls and no other symbols; a program finds it, and runs with it.
+# Checks that the library is installed, with its calls and no other symbols, and that a program finds it and runs.
 shared_by_cmake() {
     repository=$(repository) || return 1
     cmake -S "$repository" -B "$work/by_cmake" -DJCOBS_FROM_SOURCE=ON -DBUILD_SHARED_LIBS=ON -DCMAKE_INSTALL_PREFIX="$work/by_cmake/prefix" &&
@@ -96,7 +96,7 @@ sections_by_cmake() {
     done
 }
 
-# Built, tested and installed by Meson; a program that pkg-config tells of it runs.
+# Builds, tests and installs with Meson, and runs a program that finds the library by pkg-config.
 by_meson() { # LIBRARY FILE FLAG..
     kind=$1
     file=$2
@@ -116,7 +116,7 @@ meson_subproject() {
     PKG_CONFIG_LIBDIR=$work meson setup "$work/over/build" "$work/over" && meson compile -C "$work/over/build" && at=$work/over/build messages
 }
 
-# What uninstall leaves of a prefix is what was there before.
+# Checks that a prefix is as before, after an installation and uninstall.
 uninstalled() (
     mkdir -p "$work/other/lib/pkgconfig" "$work/other/share/doc" && echo >"$work/other/lib/libother.a" || return 1
     make install "PREFIX=$work/other" && test -f "$work/other/lib/libjcobs.a" && make uninstall "PREFIX=$work/other" &&

@@ -1,4 +1,5 @@
-/* What neither the vectors nor the random calls look at: constants, texts, NULL, and loops over whole streams. */
+/* Tests that neither vectors.c nor the random calls of guard.c make: constants, texts, NULL, and loops over whole
+ * streams. */
 #include <jcobs.h>
 
 #include <stdio.h>
@@ -40,7 +41,8 @@ static void test_constants(void)
                ? jcobs_max_length(word) == 0
                : JCOBS_MAX_LENGTH(word) == jcobs_max_length(word) && JCOBS_MAX_LENGTH(4294967295u) == 4311876616ul,
            "JCOBS_MAX_LENGTH of each type");
-    /* 254 for each 255 of the greatest number, which is a multiple of 255: the longest message whose frame has a length. */
+    /* The greatest size_t is a multiple of 255, and 254 of each 255 bytes of a frame are the message's. So this is the
+     * longest message whose frame's length fits a size_t. */
     expect(jcobs_max_length((size_t)-1 / 255 * 254) == (size_t)-1, "the greatest length");
     expect(jcobs_max_length((size_t)-1 / 255 * 254 - 1) == (size_t)-1 - 1, "the greatest length but one");
     expect(jcobs_max_length((size_t)-1 / 255 * 254 + 1) == 0, "the least length that doesn't fit");
@@ -99,7 +101,8 @@ static void test_null(void)
     expect(is_answer(jcobs_encoder_push(&encoder, room, 2, NULL, 0), JCOBS_OK, 0, 1), "encoder, no bytes");
 }
 
-/* A message in its own buffer gives the frame that encoding it to another one gives, and what is behind stays. */
+/* Encoding a message in its own buffer writes the same frame as encoding it to another buffer. The bytes after the
+ * frame stay. */
 static void test_encode_in_place(void)
 {
     static unsigned char message[3 * 254 + 2];
@@ -131,7 +134,8 @@ static void test_encode_in_place(void)
            "no such length");
 }
 
-/* A message in pieces, ended in each of the four ways, is what encoding it at once is; a byte is a push of one. */
+/* A message in pieces, ended by each of the four calls, has the frame of the whole message. Feeding a byte does what a
+ * push of one byte does. */
 static void test_finish(void)
 {
     static const unsigned char sentinels[] = {0, 7, 255};
@@ -179,7 +183,7 @@ static void test_finish(void)
         }
 }
 
-/* A stream by bytes, and one for another sentinel, give what pushes give: each result, state and buffer. */
+/* Feeding a stream byte by byte, or decoding it for another sentinel, has the results, states and buffers of pushes. */
 static void test_streams(void)
 {
     static const unsigned char sentinels[] = {0, 7, 255};
@@ -246,7 +250,7 @@ static void test_in_place(void)
     }
 }
 
-/* The loops that a caller writes end, and meet each frame once. */
+/* The loops that a caller writes end, and find each frame once. */
 static void test_loops(void)
 {
     static const unsigned char recorded[] = {0, 0, 3, 'h', 'i', 0, 5, 1, 0, 4, 'a', 'b', 'c', 0, 0};

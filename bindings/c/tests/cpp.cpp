@@ -1,4 +1,5 @@
-// jcobs.hpp: what views are made of, and messages sent and received. It allocates nothing, and is built without exceptions.
+// Tests jcobs.hpp: the containers that become views, and sending and receiving messages. The test is built without
+// exceptions, and allocates nothing.
 #include <jcobs.hpp>
 
 #include <array>
@@ -35,7 +36,8 @@ static_assert(std::is_nothrow_move_constructible_v<jcobs::receiver> &&
               std::is_nothrow_move_assignable_v<jcobs::receiver>);
 static_assert(std::is_nothrow_move_constructible_v<jcobs::sender> && std::is_nothrow_move_assignable_v<jcobs::sender>);
 
-// Buffers that end with the expression aren't taken; views of buffers that don't are. Such bytes can be read.
+// A buffer that is destroyed at the end of the expression isn't accepted; a view of a buffer that lives longer is
+// accepted. Both can be read.
 static_assert(!is_written<std::vector<unsigned char>> && !is_written<std::array<std::byte, 4>> &&
               !is_written<std::string>);
 static_assert(!is_written<const std::vector<unsigned char>> && !is_written<unsigned char (&&)[4]>);
@@ -124,7 +126,7 @@ static void test_streams()
     expect(lines.feed('\n').status == JCOBS_BROKEN, "byte by byte, for a newline");
 }
 
-// What was open goes on in the one that it is moved to. The other is idle, and has no buffer.
+// An open message continues in the object to which it is moved. The other object is idle, and has no buffer.
 static void test_moves()
 {
     std::array<std::byte, 8> frame{};

@@ -1,9 +1,7 @@
 #!/bin/sh
 # Compiles the examples of the documents, as C99 by cc and as C++17 by c++, with warnings as errors: examples.sh FILE..
 #
-# An example is, in a header, lines of the comment that are indented by four columns; in a README, a block of ```c or ```cpp
-# (this one as C++ alone); in a manual page, the text between .nf and .fi after EXAMPLES. Each is put into a function that has
-# the names which the text uses without saying where they come from.
+# In a header, an example is the lines of a comment that are indented by four columns. In a README it is a block of ```c or ```cpp (```cpp is compiled only as C++). In a manual page it is the text between .nf and .fi after EXAMPLES. Each example is put into a function, together with definitions of the names that the example uses without defining them.
 set -eu
 c=$(cd "$(dirname "$0")/.." && pwd)
 work=$(mktemp -d)
@@ -11,7 +9,7 @@ trap 'rm -rf "$work"' EXIT
 flags='-O2 -Wall -Wextra -Wpedantic -Wconversion -Wshadow -Wno-unused-variable -Werror'
 count=0
 
-cut_out() { # FILE: the blocks, as files in $work
+cut_out() { # FILE: writes the blocks as files in $work
     awk -v to="$work/block" '
         function begin(language) { file = to "." ++n "." language; printf "" >file }
         FILENAME ~ /\.(h|hpp)$/ {

@@ -1,8 +1,8 @@
-/* Random calls between pages that may not be touched: guard [CALLS [SEED]].
+/* Makes random calls with buffers next to pages without access: guard [CALLS [SEED]].
  *
- * Each buffer of a call lies against a page without access, in front of it or behind it, and the bytes on its
- * other side are looked at after the call. The states are random bytes, or what earlier calls left. A byte that
- * a call touches outside its buffers ends the program, and so does an answer that points outside. */
+ * Each buffer of a call begins right after a page without access, or ends right before such a page. The bytes on the
+ * buffer's other side are compared after the call. The states are random bytes, or the states that earlier calls left.
+ * If a call accesses a byte outside its buffers, or if consumed or length is too large, the program ends. */
 #define _DEFAULT_SOURCE
 #include <jcobs.h>
 
@@ -117,7 +117,7 @@ static size_t some_length(void)
     }
 }
 
-/* Decodes by one of the three calls. */
+/* Decodes with one of the three calls. */
 static jcobs_answer decode_some(jcobs_decoder *decoder, placed out, placed in, unsigned char sentinel)
 {
     switch (random_word() % 3) {
@@ -132,7 +132,7 @@ static jcobs_answer decode_some(jcobs_decoder *decoder, placed out, placed in, u
     }
 }
 
-/* Ends a message by one of the four calls. */
+/* Ends a message with one of the four calls. */
 static jcobs_answer finish(jcobs_encoder *encoder, placed out, unsigned char sentinel)
 {
     switch (random_word() % 4) {

@@ -1,11 +1,11 @@
-# What compilers make of jcobs.h, jcobs.hpp and jcobs.c in ways of their own: run.sh sources this file.
+# Compiles jcobs.h, jcobs.hpp and jcobs.c with several compilers, standards and options. run.sh sources this file.
 #
-# $work, $at, $flags and $machine are those of run.sh.
+# run.sh defines $work, $at, $flags and $machine.
 # shellcheck shell=sh
 # shellcheck disable=SC2086,SC2154
 
-# With enums as short as their numbers, a status still has the size of unsigned int: jcobs.c compiles, and a program may
-# use a library that was built with long ones.
+# With short enums a status still has the size of unsigned int: jcobs.c compiles, and a program may use a library that was built
+# with long enums.
 short_enums() {
     printf '#include <jcobs.h>\nchar is_short[sizeof(jcobs_status) == 1 ? 1 : -1];\nchar is_long[sizeof(jcobs_answer) == 3 * sizeof(size_t) ? 1 : -1];\n' \
         >"$work/short.c"
@@ -22,7 +22,7 @@ short_enums() {
     done
 }
 
-# Enums are short by default there, or by the flags of common tools.
+# On these targets enums are short by default, or by the options of common tools.
 short_enums_on_devices() {
     command -v avr-gcc >/dev/null && { avr-gcc -mmcu=atmega328p -std=c99 -Os -fpack-struct -fshort-enums -ffreestanding $flags \
         -Iinclude -c source/jcobs.c -o "$work/short.o" || return 1; }
@@ -31,8 +31,8 @@ short_enums_on_devices() {
     clang --target=hexagon -std=c99 -Os -ffreestanding $flags -Iinclude -I"$work" -c source/jcobs.c -o "$work/short.o"
 }
 
-# jcobs.c in one translation unit with the program, its calls static: none is exported, and the tests pass. One that isn't
-# called is no warning if it is inline.
+# Compiles jcobs.c in one translation unit with the program, with static calls: no call is exported, and the tests pass. If the
+# calls are inline, the compiler doesn't warn of a call that isn't made.
 one_unit() {
     printf '#define JCOBS_API %s\n#include "%s/source/jcobs.c"\n#include "%s/tests/calls.c"\n' "$1" "$PWD" "$PWD" >"$work/unit.c"
     shift
@@ -40,7 +40,7 @@ one_unit() {
     ! nm "$work/unit" | grep ' T jcobs_'
 }
 
-# A program that makes no call: no compiler warns of that.
+# A program that makes no call compiles without warnings.
 no_calls() {
     printf '#define JCOBS_API static inline\n#include "%s/source/jcobs.c"\nint main(void) { return 0; }\n' "$PWD" >"$work/unit.c"
     for compiler in gcc clang; do
@@ -51,7 +51,7 @@ no_calls() {
     done
 }
 
-# In a shared library the calls are exported, or hidden, as JCOBS_API says.
+# In a shared library JCOBS_API decides whether the calls are exported or hidden.
 exported() { # JCOBS_API FLAG..: prints the calls that the library exports
     api=$1
     shift
@@ -66,7 +66,7 @@ exports() {
         prints "$(calls | sort)" cat "$work/exported"
 }
 
-# The test of jcobs.hpp by each compiler and standard that has what it needs.
+# Runs the test of jcobs.hpp with each compiler and standard that supports it.
 cpp_standards() {
     for compiler in g++ clang++; do
         command -v $compiler >/dev/null || continue
@@ -77,7 +77,7 @@ cpp_standards() {
     done
 }
 
-# Receivers that a vector moves, by sanitizers: a buffer that went away would be found.
+# Tests receivers that a vector moves, with sanitizers, which would find an access to a freed buffer.
 moved() {
     "${CXX:-c++}" -std=c++17 -g $flags -fsanitize=address,undefined -fno-sanitize-recover=all -Iinclude tests/moved.cpp \
         "$at/libjcobs.a" -o "$work/moved" && "$work/moved"
@@ -95,7 +95,7 @@ compiles_cpp() { # COMPILER STATEMENTS FLAG..
     $compiler -std=c++17 "$@" -Iinclude -fsyntax-only "$work/statements.cpp" 2>"$work/said.compiler"
 }
 
-# Each wrong use is an error that names the function which is deleted, and the right one beside it is none.
+# Each wrong use is an error that names the deleted function, and the corresponding right use is no error.
 refused() {
     for compiler in g++ clang++; do
         command -v $compiler >/dev/null || continue
@@ -122,13 +122,13 @@ jcobs::receiver r(kept); jcobs::receiver copy(r);
 jcobs::sender s(kept); jcobs::sender copy(s);
 END
     done
-    # Clang warns of a view that outlives a temporary.
+    # Clang warns if a view outlives a temporary object.
     command -v clang++ >/dev/null || return 0
     compiles_cpp clang++ 'jcobs::view v(kept); (void)v; (void)jcobs::frame_kind(text());' -Wall -Wextra -Werror || return 1
     ! compiles_cpp clang++ 'jcobs::view v = text(); (void)v;' -Wall -Wextra -Werror && grep -q 'Wdangling' "$work/said.compiler"
 }
 
-# The proved module, compiled by the toolchain's own clang, and jcobs.c in one program.
+# Compiles the proved module with the toolchain's own clang, and links it with jcobs.c in one program.
 beside_module() {
     kit=$(dirname "$(dirname "$(readlink -f "$(command -v rt)")")")
     sed 's/@jcobs_/@module_jcobs_/g' source/cobs_small.ll >"$work/module.ll"
@@ -137,7 +137,7 @@ beside_module() {
         "${CC:-cc}" -std=c99 -O2 $flags -Iinclude tests/module.c source/jcobs.c "$work/module.o" -o "$work/module" && "$work/module"
 }
 
-# What translate.py makes of a crate with this body of jcobs_max_length: it only says so, and writes nothing.
+# Runs translate.py on a crate with this body of jcobs_max_length. translate.py only reports, and writes no file.
 translated() { # BODY
     mkdir -p "$work/crates/cobs_small/src"
     cat >"$work/crates/cobs_small/src/lib.rt" <<END
@@ -152,7 +152,7 @@ END
     python3 source/translate.py --check "$work/crates" 2>&1
 }
 
-# A form that it doesn't know, or whose meaning could be another in C, is an error.
+# A form that translate.py doesn't know, or that could have another meaning in C, is an error.
 translator_refuses() {
     translated 'message_len / 250' | grep -q "isn't what" || { translated 'message_len / 250'; return 1; }
     while read -r body; do

@@ -1,6 +1,6 @@
-/* jcobs.c beside the proved module that cobs_small.ll is, compiled as it is: the same results, states and buffers, for all short
- * strings of a few bytes with all small rooms, for states of all kinds, and for long random messages. This is for x86-64, where
- * a result comes back by its address. */
+/* Compares jcobs.c with the proved module, which is compiled from cobs_small.ll: results, states and buffers must be
+ * the same for all short strings of a few bytes with all small rooms, for states of all kinds, and for long random
+ * messages. This test is for x86-64, where a result is returned through its address. */
 #include <jcobs.h>
 
 #include <stdio.h>
@@ -28,7 +28,7 @@ void module_jcobs_encoder_feed(jcobs_answer *answer, void *encoder, void *buffer
 void module_jcobs_encoder_finish(jcobs_answer *answer, void *encoder, void *buffer, size_t room);
 void module_jcobs_encoder_finish_terminated(jcobs_answer *answer, void *encoder, void *buffer, size_t room);
 
-/* What a call is given, and what it leaves. */
+/* The arguments of a call, and the memory after the call. */
 struct side {
     union {
         jcobs_decoder decoder;
@@ -47,7 +47,7 @@ static void fail(const char *call)
     exit(1);
 }
 
-/* Both have the same state and the same bytes. */
+/* Checks that both have the same state and the same bytes. */
 static void begin(size_t number, unsigned int a, unsigned int b, unsigned int c)
 {
     memset(&ours, 0x5a, sizeof ours);
@@ -78,7 +78,7 @@ static const size_t numbers[] = {0, 1, 2, 3, 5, (size_t)-1};
 static const unsigned int counts[] = {0, 1, 2, 253, 254, 255};
 static const unsigned int flags[] = {0, 1, 9};
 
-/* The calls over a state, which takes these bytes. */
+/* Makes the calls that take a state and these bytes. */
 static void compare_states(const unsigned char *bytes, size_t len, size_t room)
 {
     size_t i, j, k, l;
@@ -126,7 +126,7 @@ static void compare_states(const unsigned char *bytes, size_t len, size_t room)
     compare("encoder_reset", 2);
 }
 
-/* The calls for whole messages and frames. */
+/* Makes the calls for whole messages and frames. */
 static void compare_whole(const unsigned char *bytes, size_t len, size_t room)
 {
     begin(0, 0, 0, 0);
@@ -159,7 +159,7 @@ static void compare_whole(const unsigned char *bytes, size_t len, size_t room)
                     module_jcobs_max_length((size_t)-1 / 255 * 254 - 3 + len));
 }
 
-/* Each string of up to `most` of these bytes, in buffers with room for 0 to 8. */
+/* Tests each string of up to `most` of these bytes, in buffers with room for 0 to 8 bytes. */
 static void compare_strings(const unsigned char *alphabet, size_t count, size_t most, int with_states)
 {
     unsigned char bytes[8] = {0};
@@ -181,7 +181,7 @@ static void compare_strings(const unsigned char *alphabet, size_t count, size_t 
         }
 }
 
-/* Messages of up to 1,000 bytes, and their frames, damaged or not, in buffers that are nearly too short. */
+/* Tests messages of up to 1,000 bytes, and their frames, damaged or not, in buffers that are nearly too short. */
 static void compare_long(unsigned long count)
 {
     static unsigned char message[ROOM], frame[ROOM];
@@ -209,8 +209,8 @@ static void compare_long(unsigned long count)
     }
 }
 
-/* Messages at the ends of blocks, with no zero, or with one: in each room round the length of the frame. And their frames, also
- * with a code after them. */
+/* Tests messages that end near the end of a block, with no zero or with one zero, in each room near the length of the
+ * frame. Also tests their frames, with and without a code after them. */
 static void compare_ends(void)
 {
     static unsigned char message[ROOM], frame[ROOM];

@@ -1,4 +1,4 @@
-// jcobs.hpp: receivers with their buffers in a vector that grows.
+// Tests jcobs.hpp: receivers, with their buffers, in a vector that grows.
 #include <jcobs.hpp>
 
 #include <cstdio>
@@ -21,7 +21,7 @@ int main()
     std::string received;
     const auto on_message = [&](jcobs::view message) { received.append(message.begin(), message.end()); };
 
-    for (int i = 0; i < 20; i++) { // each has the first half of a frame, and is moved while the frame is open
+    for (int i = 0; i < 20; i++) { // each receiver gets the first half of a frame, and is moved while the frame is open
         links.emplace_back(8);
         links.back().receiver.push(std::string_view("\4he"), on_message);
     }

@@ -1,8 +1,8 @@
 #!/usr/bin/env python3
-"""Builds, installs and uses what the recipes for vcpkg and Conan build: recipes.py
+"""Builds, installs and uses the library by the recipes for vcpkg and Conan: recipes.py
 
-Debian has neither tool. So as much of each as the recipes use is here, over CMake: the steps and their order are those of the
-recipes, and a program is linked with what they have installed. Where a tool is installed, it is run too.
+Debian has neither tool. So this script does the steps of each tool that the recipes use, with CMake: the steps and their order are
+those of the recipes, and a program is linked with the installed files. If a tool is installed, it is run too.
 """
 
 import fnmatch
@@ -25,7 +25,7 @@ int main(void)
     return jcobs_encode_terminated("a", 1, frame, sizeof frame).length != 3 || jcobs_version() != JCOBS_VERSION;
 }
 """
-# What vcpkg defines for a port, for one kind of build. It moves the files of find_package to share/.
+# The definitions of vcpkg for a port, for one kind of build. vcpkg moves the files of find_package to share/.
 VCPKG = """
 cmake_minimum_required(VERSION 3.16)
 function(run)
@@ -128,7 +128,7 @@ def copy(recipe, pattern, source, to):
 
 
 def load_recipe(work, is_shared):
-    """The recipe as a class over what stands for Conan here."""
+    """Returns the recipe as a class over the stand-in for Conan."""
 
     class ConanFile:
         recipe_folder = str(TOP)

@@ -1,10 +1,11 @@
-/* speed.c: the time of each call of jcobs.c, and that of hand.c, C written by hand. speed.py compiles and runs it.
+/* speed.c: measures the time of each call of jcobs.c, and of hand.c, which is C written by hand. speed.py compiles and
+ * runs this program.
  *
  * usage: speed LENGTH ZEROS
  *
- * The messages have LENGTH bytes, of which about ZEROS per cent are zeros. A line for each call: its name, and the nanoseconds
- * per message of jcobs.c and of hand.c, the least of several rounds. The two take turns, so that both run on a processor of the
- * same speed. */
+ * The messages have LENGTH bytes, of which about ZEROS per cent are zeros. The program prints a line for each call: its
+ * name, and the nanoseconds per message of jcobs.c and of hand.c, the least of several rounds. The two take turns, so
+ * that changes of the processor's speed affect both. */
 #define _POSIX_C_SOURCE 199309L
 #include <jcobs.h>
 
@@ -31,7 +32,7 @@ static jcobs_encoder encoder;
 static hand_decoder by_hand;
 static hand_encoder encoder_by_hand;
 
-/* The length of a result that is OK, and -1 of any other. */
+/* Returns the length of a result that is OK, and -1 for any other result. */
 static ptrdiff_t length_of(jcobs_answer answer)
 {
     return answer.status == JCOBS_OK ? (ptrdiff_t)answer.length : -1;
@@ -147,7 +148,7 @@ static double now(void)
     return (double)time.tv_sec * 1e9 + (double)time.tv_nsec;
 }
 
-/* The nanoseconds of one pass over all messages. */
+/* Returns the nanoseconds of one pass over all messages. */
 static double pass(ptrdiff_t (*call)(size_t i))
 {
     ptrdiff_t total = 0;
@@ -165,7 +166,7 @@ static double pass(ptrdiff_t (*call)(size_t i))
     return begun;
 }
 
-/* The least nanoseconds per message. A round has enough passes for about 200,000 bytes. */
+/* Returns the least nanoseconds per message. A round has enough passes for about 200,000 bytes. */
 static double time_of(ptrdiff_t (*call)(size_t i), double least)
 {
     size_t passes = 1 + 200000 / (MESSAGES * (message_len + 8));
@@ -178,7 +179,7 @@ static double time_of(ptrdiff_t (*call)(size_t i), double least)
     return least < sum ? least : sum;
 }
 
-/* Ends the program if a call doesn't make the frame, or the message, of each message. */
+/* Ends the program if a call doesn't return the frame, or the message, for each message. */
 static void want_right(const struct pair *pair, ptrdiff_t (*call)(size_t i))
 {
     size_t i;

@@ -1,11 +1,11 @@
 #!/usr/bin/env python3
-"""Measures jcobs.c, compiled by `cc -O2`, beside C that is written by hand: speed.py [--docs] [--placements NUMBER] [FILE]
+"""Measures jcobs.c, compiled by `cc -O2`, relative to C written by hand: speed.py [--docs] [--placements NUMBER] [FILE]
 
 Prints a table of the speed of jcobs.c, or of FILE, relative to hand.c (bindings/c/device/tests), for messages of each length of
 LENGTHS. Each figure is the geometric mean over the kinds of messages of ZEROS, and over NUMBER placements of both files and of
-speed.c in memory, 16 if none is given: where a loop begins in a line of the cache changes its speed by up to a half, and that of
-the caller counts too. speed.c makes the measurements of one program, and checks each result. With --docs the figures are written
-into the table of docs/DECISIONS.md, which is of x86-64.
+speed.c in memory, 16 if none is given: the place of a loop in a cache line changes its speed by up to a half, and the place of
+the caller's loop matters too. speed.c makes the measurements of one program, and checks each result. With --docs the figures are
+written into the table of docs/DECISIONS.md, which is of x86-64.
 """
 
 import argparse
@@ -22,7 +22,7 @@ C = Path(__file__).resolve().parent.parent
 PAGE = C.parents[1] / "docs/DECISIONS.md"
 LENGTHS = [8, 64, 200, 1500]
 ZEROS = [0, 6, 30]  # per cent
-# The calls that speed.c names, as the table names them.
+# The calls that speed.c names, and their names in the table.
 CALLS = {
     "decode": "`jcobs_decode`",
     "decode_in_place": "`jcobs_decode_in_place`",
@@ -32,12 +32,12 @@ CALLS = {
     "encoder_push": "one `jcobs_encoder_push`, with its finish",
     "encoder_feed": "`jcobs_encoder_feed` for each byte",
 }
-STEP, LINE = 16, 64  # bytes: compilers begin a function at a multiple of the one, and the other is a line of the cache
+STEP, LINE = 16, 64  # bytes: compilers begin a function at a multiple of the first number; the second is the length of a cache line
 
 
 def programs(source, count, work):
-    """Programs with speed.c, jcobs.c and hand.c at other places in a line of the cache, linked of the same objects. Any two of the
-    files have each pair of places once in the 16 programs."""
+    """Links programs from the same objects, with speed.c, jcobs.c and hand.c at other places in a cache line. In the 16
+    programs, any two of the three files have each pair of places once."""
     compiler = os.environ.get("CC", "cc")
     for path in (C / "tests/speed.c", source, C / "device/tests/hand.c"):
         subprocess.run([compiler, "-std=c99", "-O2", f"-I{C}/include", "-c", path, "-o", work / f"{path.stem}.o"], check=True)
@@ -55,7 +55,7 @@ def programs(source, count, work):
 
 
 def measured(source, count):
-    """For each call and length the speed relative to hand.c."""
+    """Returns the speed relative to hand.c for each call and length."""
     ratios = {}
     with tempfile.TemporaryDirectory() as folder:
         for program in programs(source, count, Path(folder)):
@@ -75,7 +75,7 @@ def cells(found, name):
 
 
 def write(found):
-    """Puts the figures into the table, whose last column, the reasons, stays."""
+    """Puts the figures into the table. The last column, which has the reasons, stays."""
     text = PAGE.read_text()
     for name, title in CALLS.items():
         row = re.compile(rf"^(  \| {re.escape(title)} \|)(?: [\d.]+ \|){{{len(LENGTHS)}}}", re.M)

@@ -1,4 +1,4 @@
-// jcobs.hpp: what a receiver has taken if a callback throws.
+// Tests jcobs.hpp: how many bytes a receiver has taken if a callback throws.
 #include <jcobs.hpp>
 
 #include <cstdio>
@@ -6,8 +6,8 @@
 
 using namespace std::string_view_literals;
 
-// Pushes bytes of which the first frame's callback throws, and returns the length of the next message, or 99. The first frame
-// has so many bytes with its zero.
+// Pushes `first`; the callback for its first frame throws. This frame has `taken` bytes with its zero. Then pushes
+// `second`, and returns the length of its message, or 99 if a check fails.
 static std::size_t length_after(std::string_view first, std::size_t taken, std::string_view second)
 {
     unsigned char messages[4];

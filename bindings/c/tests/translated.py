@@ -3,12 +3,13 @@
 
 usage: tests/translated.py [CRATES [FILE]]
 
-Each function of jcobs.c up to those that are written by hand, and the one in Rattle that PAIRS names, become lists of words in one
-form: conditions, loops, returns, operators, numbers, constants, calls with their arguments, members and variables, in their order.
-The lists are compared one by one. Variables may have other names, but each its own in a function. What else may differ is below,
-each with its reason, and nowhere else. Comments, types and casts aren't compared: what a cast changes, the tests have to find.
+Each function of jcobs.c that isn't written by hand, and the function in Rattle that PAIRS names, are turned into lists of words in
+one form: conditions, loops, returns, operators, numbers, constants, calls with their arguments, members and variables, in their
+order. The lists are compared word by word. Variables may have other names, but two variables of a function can't share a name. All
+other differences that are permitted are listed below, each with its reason. Comments, types and casts aren't compared: the tests have
+to find errors in casts.
 
-It prints what differs, and the status is then 1.
+It prints the differences. If there is one, the status is 1.
 """
 import re
 import sys
@@ -18,7 +19,8 @@ C = Path(__file__).resolve().parent.parent
 CRATES = Path(sys.argv[1] if len(sys.argv) > 1 else C / "../../crates").resolve()
 SOURCE = Path(sys.argv[2] if len(sys.argv) > 2 else C / "source/jcobs.c")
 
-# The functions of jcobs.c, by the file in Rattle: the name there, if it is another one than behind jcobs_, and the type of a method.
+# The functions of jcobs.c, by their file in Rattle: the name in Rattle, if it isn't the name after jcobs_, and the type of a
+# method.
 PAIRS = {
     "cobs_small/decode": "decode=jcobs_decode",
     "cobs_small/encode": "max_length=jcobs_max_length encode=jcobs_encode encode_terminated=jcobs_encode_terminated",
@@ -46,8 +48,8 @@ PAIRS = {
         encoder_try_append=push_each""",
     "cobs/enc/unbuffered": "encoder_progress=progress encoder_is_within=is_within encoder_close=finalize",
 }
-# Functions that only pass their parameters on, or write one in another form. In C the function that they call stands in their
-# place. Each is compared with this text, so that a change is seen.
+# Functions that only pass their parameters on, or pass one in another form. In C the function that they call replaces them.
+# Each is compared with this text, so that a change is noticed.
 PASSED_ON = {
     ("cobs_small/decoder", "jcobs_decoder_push"): "decode_each ( decoder , buffer , bytes , 0 )",
     ("cobs_small/decoder", "jcobs_decoder_feed"): "decode_byte ( decoder , buffer , byte )",
@@ -64,15 +66,16 @@ PASSED_ON = {
         { Some ( PieceEnd :: Broken ( decoded_bytes ) ) } Err ( DecodeError :: TargetBufTooSmall ) =>
         Some ( PieceEnd :: TooLong ) , }""",
 }
-# Functions that only convert the result of another one: in C they have its statements, with the converted results.
+# Functions that only convert the result of another function: in C they have the statements of that function, with the converted
+# results.
 MERGED = {"write_frame": ("cobs/enc/each", "try_encode_each"), "encode_byte": ("cobs/enc/step", "feed_len")}
-# Parameters that are a slice of which C passes only the pointer, since the length isn't read.
+# Parameters that are a slice of which C passes only the pointer, because the length isn't read.
 NO_LENGTH = {("append_byte", 1), ("append_one", 1), ("append_each", 1), ("write_each", 1), ("decode_blocks_each", 0)}
 # Parameters that are the same in each call, and constants in C.
 CONSTANTS = {"decode_each": {"sentinel": "0"}}
-# Words that are no names of variables.
+# Words that aren't names of variables.
 KEPT = ("if", "else", "while", "for", "in", "do", "return", "break", "switch", "case")
-# How a piece or a frame ended, by the variants that say it.
+# For each way in which a piece or a frame can end, the variants that stand for it.
 ENDS = {"None": "NONE", "EmptyFrame": "NONE", "Message": "MESSAGE", "Broken": "BROKEN", "InvalidFrame": "BROKEN"}
 ENDS |= {"TooLong": "TOO_LONG", "TargetBufTooSmall": "TOO_LONG", "Some": "MESSAGE", "Ok": "MESSAGE"}
 TOKEN = re.compile(
@@ -86,7 +89,7 @@ def words(text):
 
 
 def past(found, at, pairs=("(", ")", "{", "}", "[", "]")):
-    """The place after the group that begins at `at`."""
+    """Returns the index after the group that begins at `at`."""
     depth = 0
     while True:
         depth += (found[at] in pairs[::2]) - (found[at] in pairs[1::2])
@@ -96,7 +99,7 @@ def past(found, at, pairs=("(", ")", "{", "}", "[", "]")):
 
 
 def again(pattern, new, text):
-    """The text with each match replaced until there is none."""
+    """Returns the text with each match replaced until there is no match."""
     while (made := re.sub(pattern, new, text)) != text:
         text = made
     return text
@@ -106,7 +109,7 @@ GROUP = r"((?:[^(){}\[\]]|\((?:[^()]|\((?:[^()]|\([^()]*\))*\))*\)|\[[^\[\]]*\])
 
 
 class Rattle:
-    """A function of Rattle, in the form that both become."""
+    """Returns a function of Rattle in the form that is compared."""
 
     def __init__(self, name, params, result, body):
         self.name, self.result = name, result
@@ -120,20 +123,20 @@ class Rattle:
             text = re.sub(rf"\b{parameter}\b", value, text)
         text = re.sub(r"\blet (mut )?(\w+) : \w+ =", r"let \2 =", text)
         text = self.ends(self.with_slices(self.small(text)))
-        # The answer for no bytes, as the function that makes it gives it for this end. The two are compared too.
+        # The result for no bytes is the result of the function that makes it for this end. These two results are compared too.
         text = re.sub(r"\bresult_by \( 0 , [\w#]+ , make_end \( NONE , 0 \) \)", "make_answer ( EMPTY , 0 , 0 )", text)
         text = self.block(text.split(), self.result != "")
         return returned_apart(again(r"(?<=[|&=(,<>+-]) \( (\w+(?: \. \w+)?) \)", r" \1", text))
 
     def small(self, text):
-        """What stands for one word or operator of C."""
+        """Returns the words that stand for one word or operator of C."""
         text = re.sub(r"\( ([^()]*) \) as (usize|u8)", r"\1", text)
         text = re.sub(r" as (usize|u8|u32)\b", "", text)
         text = re.sub(r"\bFrameKind :: (\w+)", lambda it: re.sub(r"(?<=[a-zA])(?=[A-Z])", "_", it[1]).upper(), text)
         text = re.sub(r"= \* (self)\b", r"= \1", re.sub(r"\blet mut (\w+) = \1 ;", "", text))
         taken_apart = "let EncoderProgress { index , code , .. } = progress ;"
         text = text.replace(taken_apart, "index = progress . index ; code = progress . code ;")
-        for members in ("written", "missing", "joint", "too_long"), ("index", "taken", "full"):  # a copy of a whole state
+        for members in ("written", "missing", "joint", "too_long"), ("index", "taken", "full"):  # a copy of the whole state
             for other in "here", "encoder":
                 text = text.replace(" ".join(f"self . {it} = {other} . {it} ;" for it in members), f"self = {other} ;")
         text = re.sub(r"\* (\w+) = (START|Unbuffered\w+ :: new \( \)) ;|(\w+) \. reset \( \) ;", lambda it: f"start ( {it[1] or it[3]} ) ;", text)
@@ -191,7 +194,7 @@ class Rattle:
         return " ".join(out)
 
     def ends(self, text):
-        """How a piece or a frame ended."""
+        """Returns the words for the end of a piece or a frame."""
         text = re.sub(r"\bmatch end \{ Some \( end \) => Some \( \( end , (\w+) \) \) , None => None , \}", r"make_piece ( end . kind , end . count , \1 )", text)
         for variant, kind in ("Message", "MESSAGE"), ("Broken", "BROKEN"):
             text = re.sub(rf"Some \( \( PieceEnd :: {variant} \( (\w+) \) , {GROUP}\) \)", rf"make_piece ( {kind} , \1 , \2)", text)
@@ -210,7 +213,7 @@ class Rattle:
         return re.sub(rf"\bOk \( {GROUP}\)(?! =>)", rf"make_{'frame ( 1' if is_frame else 'end ( MESSAGE'} , \1)", text)
 
     def block(self, found, returns):
-        """The statements of a block. Its value is returned, if the function has one and this is its end."""
+        """Returns the statements of a block. The value of the block is returned if the function has a result and ends with this block."""
         out, at = [], 0
         while at < len(found):
             at, made = self.statement(found, at, returns)
@@ -271,7 +274,7 @@ class Rattle:
         return at, before + text
 
     def arms(self, found, at):
-        """The arms of a match, as lists of their patterns' and their value's words."""
+        """Yields the arms of a match, as lists of the words of their patterns and values."""
         begin = found.index("{", at)
         end, at = past(found, begin), begin + 1
         while at < end - 1:
@@ -331,7 +334,7 @@ def renamed(name, new, text):
 
 
 def parted(found):
-    """The parts between the commas of this level."""
+    """Returns the parts between the commas of this level."""
     parts, at, begun = [], 0, 0
     while at < len(found):
         if found[at] == ",":
@@ -343,7 +346,7 @@ def parted(found):
 
 
 def of_rattle(path):
-    """The functions of a file, by their names."""
+    """Returns the functions of a file, by their names."""
     found, functions, at = words(path.read_text()), {}, 0
     while at < len(found):
         if found[at] != "fn":
@@ -370,7 +373,7 @@ TYPES = r"(?:const )?(?:size_t|unsigned char|int|jcobs_(?:decoder|encoder|end|pi
 
 
 def of_c(text):
-    """The functions of jcobs.c up to those that are written by hand: what each does, and its parameters."""
+    """Returns the functions of jcobs.c up to those that are written by hand: the words of each function, and its parameters."""
     text = text[: text.index("/* The calls from here on are written by hand")]
     heads = re.finditer(r"^(?!typedef|enum|#|/| )[\w *]*?\b(jcobs_\w+)\(([^{;]*)\)\n\{\n(.*?)^\}", text, re.S | re.M)
     return {it[1].removeprefix("jcobs_"): in_one_form(" ".join(words(it[3]))) for it in heads}
@@ -388,7 +391,7 @@ def in_one_form(text):
     text = re.sub(r"(\w+(?: \. \w+)?) --", r"\1 -= 1", text)
     text = re.sub(r"\bjcobs_(?:decoder|encoder)_start\b", "start", text)
     found, out, at = text.split(), [], 0
-    while at < len(found):  # conditions without their brackets
+    while at < len(found):  # conditions, without their brackets
         out.append(found[at])
         at += 1
         if out[-1] in ("if", "while", "switch") and found[at] == "(":
@@ -405,7 +408,7 @@ def returned_apart(text):
 
 
 def same(mine, theirs, names):
-    """Where two lists of words differ, if not only in the names of variables."""
+    """Returns the first place at which two lists of words differ, apart from the names of variables."""
     there, back = {}, {}
     for at, (a, b) in enumerate(zip([*mine, "the end"], [*theirs, "the end"])):
         if re.fullmatch(r"[a-z][\w#]*", a) and re.fullmatch(r"[a-z][\w#]*", b) and a not in KEPT and (at == 0 or mine[at - 1] != "."):
@@ -421,7 +424,7 @@ def same(mine, theirs, names):
 
 
 def merged(outer, inner):
-    """The statements of a function, with the results that the other one makes of its length and its error."""
+    """Returns the statements of a function, with the results that the other function makes from its length and its error."""
     args = " , ".join(f"{name} , {name}#len" if name in outer.slices else name for name, _ in outer.params)
     found = re.fullmatch(
         rf"result = {inner.name} \( {args} \) ; if result \. fits {{ return ([^;]*) ; }} return ([^;]*) ;", outer.written()

@@ -1,13 +1,13 @@
-/* Runs the cases of conformance/ that this library has calls for: vectors FILE...
+/* Runs the cases of conformance/ for which this library has calls: vectors FILE...
  *
- * Prints each case that fails, and last how many were run, passed over and failed. conformance/README.md has the
- * format. Where this library answers otherwise than the vectors say:
+ * Prints each case that fails, and at the end how many cases were run, skipped and failed. conformance/README.md has
+ * the format. The results of this library differ from those of the cases in these points:
  *
- * - It counts a terminator that it has taken, in place too, and says with a refusal too how many bytes it took.
- *   The counts that the vectors leave out are tested against a count made here.
- * - JCOBS_EMPTY stands for `empty`, and for `invalid` with 0 where the source of `decode` is zeros alone.
- * - A piece that is too long for the buffer is answered once, at its zero: the answers of `decoder` before that
- *   are passed over. */
+ * - consumed includes the sentinel that ends a frame, also in place, and is set after an error too. The counts that the
+ *   cases don't have are compared with counts made here.
+ * - JCOBS_EMPTY stands for `empty`. If the source of `decode` has only zeros, it stands for `invalid` with 0.
+ * - A piece that is too long for the buffer is reported once, at the zero that ends it. The results of `decoder` before
+ *   that zero are skipped. */
 #include <jcobs.h>
 
 #include <stdio.h>
@@ -16,11 +16,11 @@
 
 #define MOST_WORDS 256
 #define MOST_LINE 8192
-#define MOST_TEXT 800000 /* of a line whose parts are written out */
+#define MOST_TEXT 800000 /* the most bytes of a line whose parts are written out */
 #define MOST_STREAM 200000
 
 static char *words[MOST_WORDS];
-static size_t word_count; /* of the whole line */
+static size_t word_count; /* the number of words of the line */
 static size_t arrow;      /* the index of the word -> */
 static size_t next_answer;
 static int failed; /* whether the case failed */
@@ -51,7 +51,7 @@ static unsigned int digit(char c)
     return (unsigned int)(c <= '9' ? c - '0' : c - 'a' + 10);
 }
 
-/* The bytes of a word, in memory of exactly their length; NULL where there are none. */
+/* Returns the bytes of a word, in memory of exactly their length, or NULL if there are no bytes. */
 static bytes bytes_of(const char *word)
 {
     bytes read = {NULL, 0};
@@ -76,7 +76,7 @@ static size_t argument_count(void)
     return arrow - 3;
 }
 
-/* Compares the next word of the answer, unless it is a question mark. */
+/* Compares the next word of the result, unless it is a question mark. */
 static void expect_word(const char *what, const char *found)
 {
     if (next_answer >= word_count) {
@@ -117,7 +117,7 @@ static void expect(const char *what, int holds)
         fail(what);
 }
 
-/* How many bytes stand up to the first sentinel, with it. */
+/* Returns the number of bytes through the first sentinel. */
 static size_t through(bytes source, size_t from, unsigned char sentinel)
 {
     size_t i;
@@ -137,7 +137,7 @@ static size_t zeros_in_front(bytes source)
     return i;
 }
 
-/* A refusal by this word, or by `refused` where the answer says that. */
+/* Expects an error with this word, or `refused` if the case has that word. */
 static void expect_refusal(const char *word)
 {
     if (next_answer < word_count && strcmp(words[next_answer], "refused") == 0)
@@ -168,7 +168,7 @@ static void expect_status(jcobs_answer answer, size_t source_len)
     expect_refusal(word);
 }
 
-/* The length, which the vectors leave out where the room is too small or there is nothing. */
+/* Expects the length. The cases don't have it if the buffer is too short, or if there is no frame. */
 static void expect_length(jcobs_answer answer)
 {
     if (next_answer < word_count && strcmp(words[next_answer], "-") == 0)
@@ -185,7 +185,7 @@ static void run_max_length(int overhead)
     expect("the macro is the function", JCOBS_MAX_LENGTH(len) == jcobs_max_length(len));
 }
 
-/* The frame alone, in a buffer of exactly its length, and with its terminator. */
+/* Encodes to a buffer that has exactly the length of the frame, or of the frame with its terminator. */
 static void run_encode_vec(int with_sentinel)
 {
     bytes message = argument(with_sentinel ? 1 : 0);
@@ -407,14 +407,14 @@ static void run_in_place(int with_sentinel, int with_consumed)
             expect_word("consumed", "-");
     }
     expect_length(answer);
-    /* The cases change every byte of the buffer by the sentinel, the library none after the frame. */
+    /* In the cases every byte of the buffer is XORed with the sentinel. The library changes no byte after the frame. */
     for (i = consumed - terminator; with_sentinel && i < buffer.len; i++)
         buffer.data[i] ^= sentinel;
     expect_bytes("buffer", buffer.data, buffer.len);
     free(buffer.data);
 }
 
-/* Passes over the answers to a piece that is too long, in front of its zero: those whose byte isn't one. */
+/* Skips the results of a piece that is too long, except the one at the zero that ends the piece. */
 static void pass_over_early(bytes stream)
 {
     while (next_answer + 2 < word_count && strcmp(words[next_answer + 1], "too_small") == 0) {
@@ -425,7 +425,7 @@ static void pass_over_early(bytes stream)
     }
 }
 
-/* How a stream is pushed: its pieces as they are, or each byte by itself, for a sentinel. */
+/* A stream is pushed in its pieces, or byte by byte for a sentinel. */
 enum { IN_PIECES = -1 };
 
 static const int streams[] = {IN_PIECES, 0, 1, 2, 10, 0x80, 0xff};
@@ -556,7 +556,7 @@ static void run_frame_kind(void)
     free(frame.data);
 }
 
-/* Whether the library has this call; if so, the case has been run. */
+/* Runs the case, and returns whether the library has this call. */
 static int run_case(const char *call)
 {
     if (strcmp(call, "max_encoding_overhead") == 0)
@@ -604,7 +604,7 @@ static int run_case(const char *call)
     return 1;
 }
 
-/* Writes the digits of each part as often as its number says. */
+/* Writes the digits of each part as many times as its number says. */
 static void write_out(const char *line, char *text)
 {
     char *part = text;

@@ -1,6 +1,6 @@
-//! Bytes that come by an interrupt. Its handler only keeps them, and the main loop decodes them.
+//! Receives bytes in an interrupt handler. The handler only queues the bytes, and the main loop decodes them.
 //!
-//! Nothing here needs `std` but `main`, which plays the hardware.
+//! Only `main`, which stands in for the hardware, needs `std`.
 
 use std::sync::atomic::{AtomicU8, AtomicUsize, Ordering};
 
@@ -9,14 +9,14 @@ use jcobs::CobsDecoderHeapless;
 /// A queue of bytes, from one interrupt handler to one main loop.
 struct Queue<const N: usize> {
     bytes: [AtomicU8; N],
-    /// How many bytes were put in, and taken out. Both only grow, and wrap round.
+    /// How many bytes were put in, and how many were taken out. Both numbers only grow, and wrap around.
     put: AtomicUsize,
     taken: AtomicUsize,
 }
 
 impl<const N: usize> Queue<N> {
     const fn new() -> Self {
-        // Otherwise the places wouldn't go on in order when the counters wrap round.
+        // Otherwise the next index wouldn't follow the last one when a counter wraps around.
         assert!(N.is_power_of_two());
         Self {
             bytes: [const { AtomicU8::new(0) }; N],
@@ -25,7 +25,7 @@ impl<const N: usize> Queue<N> {
         }
     }
 
-    /// Puts in a byte. If the queue is full, it is dropped: the frame arrives damaged.
+    /// Puts in a byte. If the queue is full, the byte is dropped, and its frame arrives damaged.
     fn put(&self, byte: u8) {
         let put = self.put.load(Ordering::Relaxed);
         if put.wrapping_sub(self.taken.load(Ordering::Acquire)) < N {
@@ -47,15 +47,15 @@ impl<const N: usize> Queue<N> {
 
 static RECEIVED: Queue<64> = Queue::new();
 
-/// The interrupt handler of the receiver, with the byte of its data register.
+/// The interrupt handler of the receiver, given the byte in the receiver's data register.
 fn on_byte(byte: u8) {
     RECEIVED.put(byte);
 }
 
-/// A turn of the main loop: takes the bytes that have come, and hands on each message.
+/// One round of the main loop: takes the bytes that have arrived, and passes each message to a function.
 fn poll<const N: usize>(decoder: &mut CobsDecoderHeapless<N>, mut on_message: impl FnMut(&[u8])) {
     while let Some(byte) = RECEIVED.take() {
-        // An error is a frame that is damaged or too long: it is dropped, and the next one isn't affected.
+        // An error is a frame that is damaged or too long. This frame is dropped, and the next frame isn't affected.
         if let Ok(Some(len)) = decoder.feed(byte) {
             on_message(&decoder.dest()[..len]);
         }

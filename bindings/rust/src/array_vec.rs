@@ -1,4 +1,4 @@
-//! A vector of at most `N` bytes in an array of its own.
+//! A vector of at most `N` bytes, which are in an array inside the vector.
 
 use core::fmt;
 use core::ops::{Deref, DerefMut};
@@ -28,7 +28,7 @@ impl<const N: usize> ArrayVec<N> {
         }
     }
 
-    /// Returns how many more bytes it can take.
+    /// Returns how many more bytes the vector has room for.
     #[inline]
     #[must_use]
     pub const fn remaining_capacity(&self) -> usize {
@@ -39,7 +39,7 @@ impl<const N: usize> ArrayVec<N> {
     ///
     /// # Panics
     ///
-    /// If the vector is full.
+    /// Panics if the vector is full.
     #[inline]
     pub fn push(&mut self, byte: u8) {
         assert!(self.len < N, "ArrayVec::push: the vector isn't full");
@@ -95,7 +95,7 @@ impl<const N: usize> DerefMut for ArrayVec<N> {
     }
 }
 
-/// The array, which is full.
+/// Makes a full vector of the array.
 impl<const N: usize> From<[u8; N]> for ArrayVec<N> {
     fn from(bytes: [u8; N]) -> Self {
         Self { bytes, len: N }

@@ -1,4 +1,4 @@
-//! Messages over tokio: a codec for the streams and sinks of `tokio-util`.
+//! A codec for messages over the streams and sinks of `tokio-util`.
 
 use std::boxed::Box;
 use std::io::{self, ErrorKind};
@@ -8,14 +8,15 @@ use tokio_util::codec::{Decoder, Encoder};
 
 use crate::dec::{DecodeError, UnbufferedDecoder};
 
-/// A codec for [`Framed`](tokio_util::codec::Framed), which makes a stream and a sink of messages of anything that reads and writes
-/// bytes.
+/// A codec for [`Framed`](tokio_util::codec::Framed), which turns anything that reads and writes bytes into a stream
+/// and a sink of messages.
 ///
-/// It decodes the bytes as they come. So it keeps at most `max_len` bytes, however long a frame is.
+/// The codec decodes the bytes as they arrive. So it keeps at most `max_len` bytes, however long a frame is.
 ///
-/// An item of the stream is a message, or the error of a damaged frame, as from [`MessageReader`](crate::MessageReader). A damaged
-/// frame never affects another one. The stream ends at an error of its source, or with [`UnexpectedEof`](ErrorKind::UnexpectedEof)
-/// if the source ends inside a frame. Each message is sent as its frame and a zero. The crate `cobs` doesn't have this type.
+/// An item of the stream is a message, or the error that [`MessageReader`](crate::MessageReader) would return for a
+/// damaged frame. A damaged frame never affects another frame. The stream ends at an error of its source, or with
+/// [`UnexpectedEof`](ErrorKind::UnexpectedEof) if the source ends inside a frame. Each message is sent as its frame and
+/// a zero. The crate `cobs` doesn't have this type.
 ///
 /// ```
 /// use bytes::BytesMut;
@@ -83,7 +84,7 @@ impl<M: AsRef<[u8]>> Encoder<M> for MessageCodec {
         let message = message.as_ref();
         let room = crate::max_encoding_length(message.len()) + 1;
         bytes.reserve(room);
-        // The frame is written into the spare room of `bytes`, which is split off and then joined to it again.
+        // The frame is written into the spare room of `bytes`, which is split off, and then joined to `bytes` again.
         let mut frame = bytes.split_off(bytes.len());
         frame.resize(room, 0);
         let len = crate::encode(message, &mut frame);

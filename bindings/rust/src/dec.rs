@@ -1,4 +1,4 @@
-//! Frames to messages: the calls of the crate `cobs`, over the proved ones.
+//! Decodes frames: the signatures of the crate `cobs`, over the proved functions.
 
 mod decoder;
 
@@ -19,7 +19,7 @@ impl Default for UnbufferedDecoder {
     }
 }
 
-/// Drops the number of bytes that were taken, so that `?` works for a push to each of the decoders:
+/// Keeps the error, and drops the number of bytes that were taken. So `?` works for a push to each of the decoders:
 ///
 /// ```
 /// use jcobs::{DecodeError, UnbufferedDecoder};
@@ -42,7 +42,7 @@ impl From<PushError> for DecodeError {
 }
 
 impl PieceEnd {
-    /// Returns the length of the message, or the error that a decoder returns for such a piece.
+    /// Returns the length of the message, or the error that a decoder returns for this end of a piece.
     ///
     /// ```
     /// use jcobs::{DecodeError, PieceEnd};
@@ -56,7 +56,7 @@ impl PieceEnd {
     /// # Errors
     ///
     /// - [`DecodeError::InvalidFrame`]: the piece breaks off inside a block.
-    /// - [`DecodeError::TargetBufTooSmall`]: it decodes to more bytes than the decoder's buffer holds.
+    /// - [`DecodeError::TargetBufTooSmall`]: the output of the piece is longer than the decoder's buffer.
     #[inline]
     pub const fn into_result(self) -> Result<usize, DecodeError> {
         match self {
@@ -82,13 +82,14 @@ impl core::error::Error for ReadFault {}
 #[deprecated(since = "0.5.0", note = "use DecodeReport instead")]
 pub type DecodingResult = DecodeReport;
 
-/// Decodes the first frame of `source` to the front of `dest`. Leading zeros are skipped, and the frame ends at the next
-/// zero, or with the source. The bytes of `dest` after the message stay as they are.
+/// Decodes the first frame of `source` to the front of `dest`. Leading zeros are skipped, and the frame ends at the
+/// next zero, or with the source. The bytes of `dest` after the message stay as they are.
 ///
-/// The parsed bytes that the report counts are the leading zeros, the frame, and the zero after it if there is one.
+/// The report's [`parsed_size`](DecodeReport::parsed_size) counts the leading zeros, the frame, and the zero after it
+/// if there is one.
 ///
-/// A frame that was cut off between two of its blocks is a frame too. If a zero has to follow the frame, test the last
-/// parsed byte.
+/// A frame that was cut off between two blocks is decoded as a shorter frame. If your protocol ends each frame with a
+/// zero, test whether the last parsed byte is a zero.
 ///
 /// ```
 /// let mut dest = [0; 8];
@@ -101,18 +102,18 @@ pub type DecodingResult = DecodeReport;
 /// # Errors
 ///
 /// - [`DecodeError::EmptyFrame`]: `source` is empty.
-/// - [`DecodeError::InvalidFrame`]: the frame breaks off inside a block, after this many bytes of output, which are at
-///   the front of `dest`; or `source` has only zeros, and then the count is 0.
-/// - [`DecodeError::TargetBufTooSmall`]: the output of the frame, broken or not, is longer than `dest`, which then holds
-///   the first bytes of the output.
+/// - [`DecodeError::InvalidFrame`]: the frame breaks off inside a block, and its output, which has `decoded_bytes`
+///   bytes, is at the front of `dest`; or `source` has only zeros, and `decoded_bytes` is 0.
+/// - [`DecodeError::TargetBufTooSmall`]: the output of the frame, broken or not, is longer than `dest`. Then `dest`
+///   holds the first bytes of the output.
 #[inline]
 pub fn decode(source: &[u8], dest: &mut [u8]) -> Result<DecodeReport, DecodeError> {
     proved::decode(source, dest)
 }
 
-/// Decodes the frame at the front of `buff` in its own place, and returns the message's length in bytes. The frame ends at
-/// the first zero, or with the buffer. No zero is skipped: a leading zero is an empty message. The bytes after the message
-/// stay as they are.
+/// Decodes the frame at the front of `buff` in place, and returns the message's length in bytes. The frame ends at the
+/// first zero, or with the buffer. No zero is skipped: if `buff` begins with a zero, the message is empty. The bytes
+/// after the message stay as they are.
 ///
 /// ```
 /// let mut buff = *b"\x02a\x02b\0";
@@ -123,15 +124,15 @@ pub fn decode(source: &[u8], dest: &mut [u8]) -> Result<DecodeReport, DecodeErro
 /// # Errors
 ///
 /// - [`DecodeError::EmptyFrame`]: `buff` is empty.
-/// - [`DecodeError::InvalidFrame`]: the frame breaks off inside a block. The count is the length of the output of the whole
-///   blocks before it, which is at the front of `buff`.
+/// - [`DecodeError::InvalidFrame`]: the frame breaks off inside a block. Then `decoded_bytes` is the length of the
+///   output of the whole blocks before that block. This output is at the front of `buff`.
 #[inline]
 pub fn decode_in_place(buff: &mut [u8]) -> Result<usize, DecodeError> {
     Ok(decode_in_place_report(buff)?.frame_size())
 }
 
-/// Does what [`decode_in_place`] does, and returns a report that also has the frame's length. The zero after the frame isn't
-/// counted.
+/// Does what [`decode_in_place`] does, and returns a report that also has the frame's length. The zero after the frame
+/// isn't counted.
 ///
 /// ```
 /// let mut buf = *b"\x03hi\0\x02x";
@@ -148,9 +149,9 @@ pub fn decode_in_place_report(buf: &mut [u8]) -> Result<DecodeReport, DecodeErro
     proved::decode_in_place_report(buf)
 }
 
-/// Decodes the frame at the front of `source`, for the given sentinel, to the front of `dest`, and returns the message's
-/// length in bytes. The frame ends at the first sentinel, or with the source. No sentinel is skipped: a leading sentinel is
-/// an empty message. The bytes of `dest` after the message stay as they are.
+/// Decodes the frame at the front of `source`, for the given sentinel, to the front of `dest`, and returns the
+/// message's length in bytes. The frame ends at the first sentinel, or with the source. No sentinel is skipped: if
+/// `source` begins with a sentinel, the message is empty. The bytes of `dest` after the message stay as they are.
 ///
 /// ```
 /// let mut frame = [0; 8];
@@ -163,10 +164,10 @@ pub fn decode_in_place_report(buf: &mut [u8]) -> Result<DecodeReport, DecodeErro
 /// # Errors
 ///
 /// - [`DecodeError::EmptyFrame`]: `source` is empty.
-/// - [`DecodeError::InvalidFrame`]: the frame breaks off inside a block. The count is the length of the output of the whole
-///   blocks before it, which is at the front of `dest`.
-/// - [`DecodeError::TargetBufTooSmall`]: that output, or the message, is longer than `dest`, which then holds its first
-///   bytes.
+/// - [`DecodeError::InvalidFrame`]: the frame breaks off inside a block. Then `decoded_bytes` is the length of the
+///   output of the whole blocks before that block. This output is at the front of `dest`.
+/// - [`DecodeError::TargetBufTooSmall`]: the message, or the output of the whole blocks, is longer than `dest`. Then
+///   `dest` holds the first bytes of the message or output.
 #[inline]
 pub fn decode_with_sentinel(
     source: &[u8],
@@ -176,8 +177,8 @@ pub fn decode_with_sentinel(
     proved::decode_with_sentinel(source, dest, sentinel)
 }
 
-/// Does what [`decode_in_place`] does, for the given sentinel. Each byte of `buff`, even those after the frame, is first
-/// replaced by its XOR with the sentinel, as in the crate `cobs`.
+/// Does what [`decode_in_place`] does, for the given sentinel. First each byte of `buff`, even after the frame, is
+/// XORed with the sentinel, as in the crate `cobs`.
 ///
 /// ```
 /// let mut buff = [0; 3];
@@ -194,7 +195,7 @@ pub fn decode_in_place_with_sentinel(buff: &mut [u8], sentinel: u8) -> Result<us
     proved::decode_in_place_with_sentinel(buff, sentinel)
 }
 
-/// Returns the message of the first frame of `source`, which is found as by [`decode`].
+/// Returns the message of the first frame of `source`, which [`decode`] would write to a buffer.
 ///
 /// ```
 /// assert_eq!(jcobs::decode_vec(b"\x03hi\0"), Ok(b"hi".to_vec()));
@@ -211,7 +212,7 @@ pub fn decode_vec(source: &[u8]) -> Result<alloc::vec::Vec<u8>, DecodeError> {
     Ok(decoded)
 }
 
-/// Returns the message of the frame at the front of `source`, which is found as by [`decode_with_sentinel`].
+/// Returns the message of the frame at the front of `source`, which [`decode_with_sentinel`] would write to a buffer.
 ///
 /// ```
 /// let frame = jcobs::encode_vec_with_sentinel(b"hi", 7);
@@ -232,8 +233,8 @@ pub fn decode_vec_with_sentinel(
     Ok(decoded)
 }
 
-/// Returns whether the bytes are a frame, and whether they are the one that encoders write for its message. The crate `cobs`
-/// doesn't have this call.
+/// Returns whether the bytes are a frame, and whether they are the frame that encoders write for its message. The crate
+/// `cobs` doesn't have this call.
 ///
 /// ```
 /// use jcobs::{FrameKind, frame_kind};

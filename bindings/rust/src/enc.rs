@@ -1,4 +1,4 @@
-//! Messages to frames: the calls of the crate `cobs`, over the proved ones.
+//! Encodes messages: the signatures of the crate `cobs`, over the proved functions.
 
 mod encoder;
 
@@ -16,8 +16,8 @@ impl Default for UnbufferedEncoder {
     }
 }
 
-/// Writes the frame of `source`, without sentinels, to the front of `dest`, and returns the frame's length in bytes. The
-/// bytes after the frame stay as they are.
+/// Writes the frame of `source`, without sentinels, to the front of `dest`, and returns the frame's length in bytes.
+/// The bytes after the frame stay as they are.
 ///
 /// ```
 /// let mut dest = [0xAA; 8];
@@ -27,15 +27,15 @@ impl Default for UnbufferedEncoder {
 ///
 /// # Panics
 ///
-/// If the frame doesn't fit `dest`. [`max_encoding_length`](crate::max_encoding_length) bytes are always enough.
+/// Panics if the frame doesn't fit `dest`. [`max_encoding_length`](crate::max_encoding_length) bytes are always enough.
 #[inline]
 #[track_caller]
 pub fn encode(source: &[u8], dest: &mut [u8]) -> usize {
     try_encode(source, dest).expect("the frame fits `dest`")
 }
 
-/// Writes the frame of `source`, without sentinels, to the front of `dest`, and returns the frame's length in bytes. The
-/// bytes after the frame stay as they are.
+/// Writes the frame of `source`, without sentinels, to the front of `dest`, and returns the frame's length in bytes.
+/// The bytes after the frame stay as they are.
 ///
 /// ```
 /// use jcobs::{try_encode, DestBufTooSmallError};
@@ -48,14 +48,14 @@ pub fn encode(source: &[u8], dest: &mut [u8]) -> usize {
 ///
 /// # Errors
 ///
-/// [`DestBufTooSmallError`] exactly if the frame doesn't fit `dest`, which then stays as it was.
+/// Returns [`DestBufTooSmallError`] exactly if the frame doesn't fit `dest`. Then `dest` stays as it was.
 #[inline]
 pub fn try_encode(source: &[u8], dest: &mut [u8]) -> Result<usize, DestBufTooSmallError> {
     proved::try_encode(source, dest)
 }
 
-/// Writes 0, the frame of `source`, and 0 to the front of `dest`, and returns the length of all three in bytes. The bytes
-/// after them stay as they are.
+/// Writes a zero, the frame of `source`, and another zero to the front of `dest`, and returns their total length in
+/// bytes. The bytes after the second zero stay as they are.
 ///
 /// ```
 /// let mut dest = [0xAA; 6];
@@ -65,15 +65,16 @@ pub fn try_encode(source: &[u8], dest: &mut [u8]) -> Result<usize, DestBufTooSma
 ///
 /// # Panics
 ///
-/// If the three don't fit `dest`. [`max_encoding_length`](crate::max_encoding_length) plus 2 bytes are always enough.
+/// Panics if the frame with its two zeros doesn't fit `dest`. [`max_encoding_length`](crate::max_encoding_length) plus
+/// 2 bytes are always enough.
 #[inline]
 #[track_caller]
 pub fn encode_including_sentinels(source: &[u8], dest: &mut [u8]) -> usize {
     try_encode_including_sentinels(source, dest).expect("the frame and its sentinels fit `dest`")
 }
 
-/// Writes 0, the frame of `source`, and 0 to the front of `dest`, and returns the length of all three in bytes. The bytes
-/// after them stay as they are.
+/// Writes a zero, the frame of `source`, and another zero to the front of `dest`, and returns their total length in
+/// bytes. The bytes after the second zero stay as they are.
 ///
 /// ```
 /// let mut dest = [0xAA; 4];
@@ -85,7 +86,8 @@ pub fn encode_including_sentinels(source: &[u8], dest: &mut [u8]) -> usize {
 ///
 /// # Errors
 ///
-/// [`DestBufTooSmallError`] exactly if the three don't fit `dest`, which then stays as it was.
+/// Returns [`DestBufTooSmallError`] exactly if the frame with its two zeros doesn't fit `dest`. Then `dest` stays as it
+/// was.
 #[inline]
 pub fn try_encode_including_sentinels(
     source: &[u8],
@@ -94,8 +96,9 @@ pub fn try_encode_including_sentinels(
     proved::try_encode_including_sentinels(source, dest)
 }
 
-/// Writes the frame of `source` for the given sentinel to the front of `dest`, and returns the frame's length in bytes. It
-/// is the frame for 0, each byte XOR `sentinel`. The bytes after the frame stay as they are.
+/// Writes the frame of `source` for the given sentinel to the front of `dest`, and returns the frame's length in bytes.
+/// It is the frame for the sentinel 0, with each byte XORed with `sentinel`. The bytes after the frame stay as they
+/// are.
 ///
 /// ```
 /// let mut dest = [0; 4];
@@ -105,16 +108,17 @@ pub fn try_encode_including_sentinels(
 ///
 /// # Panics
 ///
-/// If the frame doesn't fit `dest`. [`max_encoding_length`](crate::max_encoding_length) bytes are always enough.
+/// Panics if the frame doesn't fit `dest`. [`max_encoding_length`](crate::max_encoding_length) bytes are always enough.
 #[inline]
 #[track_caller]
 pub fn encode_with_sentinel(source: &[u8], dest: &mut [u8], sentinel: u8) -> usize {
     try_encode_with_sentinel(source, dest, sentinel).expect("the frame fits `dest`")
 }
 
-/// Encodes a message in its own buffer, and returns the frame's length in bytes. Before the call the message, which has `len`
-/// bytes, begins at index [`max_encoding_overhead(len)`](crate::max_encoding_overhead) of `buffer`. After the call the frame
-/// is at the front of `buffer`, and the bytes after the frame are as they were. The crate `cobs` doesn't have this call.
+/// Encodes a message in its own buffer, and returns the frame's length in bytes. Before the call the message, which has
+/// `len` bytes, begins at index [`max_encoding_overhead(len)`](crate::max_encoding_overhead) of `buffer`. After the
+/// call the frame is at the front of `buffer`, and the bytes after the frame are as they were. The crate `cobs` doesn't
+/// have this call.
 ///
 /// ```
 /// let mut buffer = *b"\0hello..";
@@ -124,7 +128,7 @@ pub fn encode_with_sentinel(source: &[u8], dest: &mut [u8], sentinel: u8) -> usi
 ///
 /// # Panics
 ///
-/// If `buffer` is shorter than [`max_encoding_length(len)`](crate::max_encoding_length).
+/// Panics if `buffer` is shorter than [`max_encoding_length(len)`](crate::max_encoding_length).
 #[track_caller]
 pub fn encode_in_place(buffer: &mut [u8], len: usize) -> usize {
     let room = len.checked_add(crate::max_encoding_overhead(len));
@@ -135,7 +139,8 @@ pub fn encode_in_place(buffer: &mut [u8], len: usize) -> usize {
     proved::encode_in_place(buffer, len)
 }
 
-/// Does what [`encode_with_sentinel`] does, and returns an error instead of a panic. The crate `cobs` doesn't have this call.
+/// Does what [`encode_with_sentinel`] does, but returns an error instead of panicking if the frame doesn't fit. The
+/// crate `cobs` doesn't have this call.
 ///
 /// ```
 /// let mut dest = [0; 2];
@@ -145,7 +150,7 @@ pub fn encode_in_place(buffer: &mut [u8], len: usize) -> usize {
 ///
 /// # Errors
 ///
-/// [`DestBufTooSmallError`] exactly if the frame doesn't fit `dest`, which then stays as it was.
+/// Returns [`DestBufTooSmallError`] exactly if the frame doesn't fit `dest`. Then `dest` stays as it was.
 #[inline]
 pub fn try_encode_with_sentinel(
     source: &[u8],
@@ -155,7 +160,7 @@ pub fn try_encode_with_sentinel(
     proved::try_encode_with_sentinel(source, dest, sentinel)
 }
 
-/// Returns a vector of zeros, as long as the longest frame of the message and `more` bytes.
+/// Returns a vector of zeros with room for the longest frame of a message as long as `source`, and for `more` bytes.
 #[cfg(feature = "alloc")]
 fn room_for(source: &[u8], more: usize) -> alloc::vec::Vec<u8> {
     alloc::vec![0; crate::max_encoding_length(source.len()) + more]
@@ -176,7 +181,7 @@ pub fn encode_vec(source: &[u8]) -> alloc::vec::Vec<u8> {
     encoded
 }
 
-/// Returns 0, the frame of `source`, and 0, and nothing after them.
+/// Returns a zero, the frame of `source`, and another zero. The vector ends after the second zero.
 ///
 /// ```
 /// assert_eq!(jcobs::encode_vec_including_sentinels(b"hi"), b"\0\x03hi\0");

@@ -1,4 +1,4 @@
-//! The frames of a recorded stream, one after another, and the stream of some messages.
+//! Iterates over the frames of a recorded stream, and encodes messages as a stream.
 
 use core::iter::{self, FusedIterator};
 use core::mem;
@@ -14,8 +14,8 @@ use alloc::vec::Vec;
 /// Returns an iterator over the frames of a recorded stream, in order and still encoded: the nonempty pieces that a
 /// zero ends, without that zero.
 ///
-/// A piece may be damaged: [`decode`](crate::decode) returns an error if it isn't a frame. The crate `cobs` doesn't have
-/// this call.
+/// A piece may be damaged: [`decode`](crate::decode) returns an error if it isn't a frame. The crate `cobs` doesn't
+/// have this call.
 ///
 /// ```
 /// use jcobs::frames;
@@ -31,7 +31,7 @@ pub const fn frames(stream: &[u8]) -> Frames<'_> {
     Frames { rest: stream }
 }
 
-/// Returns the index of the first zero.
+/// Returns the index of the first zero, if there is one.
 fn first_zero(bytes: &[u8]) -> Option<usize> {
     if HAS_VECTORS {
         return memchr::memchr(0, bytes);
@@ -48,15 +48,15 @@ pub struct Frames<'a> {
 }
 
 impl<'a> Frames<'a> {
-    /// Returns the bytes after the zero of the last frame that was returned. Once `next` has returned `None`, these are the
-    /// bytes after the last zero of the stream.
+    /// Returns the bytes after the zero of the last frame that was returned. Once `next` has returned `None`, these are
+    /// the bytes after the last zero of the stream.
     #[inline]
     #[must_use]
     pub const fn remainder(&self) -> &'a [u8] {
         self.rest
     }
 
-    /// Returns the bytes before the next zero, perhaps none.
+    /// Returns the bytes before the next zero, which may be none. Returns `None` if there is no zero.
     #[inline]
     fn next_piece(&mut self) -> Option<&'a [u8]> {
         let (piece, from_zero) = self.rest.split_at(first_zero(self.rest)?);
@@ -81,7 +81,7 @@ impl<'a> Iterator for Frames<'a> {
 
 impl FusedIterator for Frames<'_> {}
 
-/// The bounds of the number of frames in a stream: each has a byte at least, and a zero.
+/// Returns the bounds of the number of frames in a stream. A frame has at least one byte, and a zero follows it.
 #[inline]
 const fn most_frames(stream: &[u8]) -> (usize, Option<usize>) {
     (0, Some(stream.len() / 2))
@@ -90,8 +90,8 @@ const fn most_frames(stream: &[u8]) -> (usize, Option<usize>) {
 /// Returns an iterator over the messages of a recorded stream. Each message is decoded in place, over its frame, so no
 /// other memory is used.
 ///
-/// An item is the message of a nonempty piece that a zero ends, or the error for it. A broken piece never affects
-/// another one. The crate `cobs` doesn't have this call.
+/// Each item is the message of a nonempty piece that a zero ends, or the error for this piece. A broken piece never
+/// affects another piece. The crate `cobs` doesn't have this call.
 ///
 /// ```
 /// use jcobs::decode_stream_in_place;
@@ -109,7 +109,7 @@ const fn most_frames(stream: &[u8]) -> (usize, Option<usize>) {
 ///
 /// # Errors
 ///
-/// [`DecodeError::InvalidFrame`] as an item: the piece breaks off inside a block. The count is that of
+/// An item is [`DecodeError::InvalidFrame`] if its piece breaks off inside a block. Its `decoded_bytes` is that of
 /// [`decode_in_place`](crate::decode_in_place).
 #[inline]
 pub const fn decode_stream_in_place(stream: &mut [u8]) -> DecodeStreamInPlace<'_> {
@@ -124,15 +124,15 @@ pub struct DecodeStreamInPlace<'a> {
 }
 
 impl<'a> DecodeStreamInPlace<'a> {
-    /// Returns the bytes after the zero of the last piece that was returned. After the end these are the bytes that no
-    /// zero has ended, as they were.
+    /// Returns the bytes after the zero of the last piece that was returned. Once `next` has returned `None`, these are
+    /// the bytes after the last zero of the stream, unchanged.
     #[inline]
     #[must_use]
     pub fn into_remainder(self) -> &'a mut [u8] {
         self.rest
     }
 
-    /// Returns the bytes before the next zero, perhaps none.
+    /// Returns the bytes before the next zero, which may be none. Returns `None` if there is no zero.
     #[inline]
     fn next_piece(&mut self) -> Option<&'a mut [u8]> {
         let len = first_zero(self.rest)?;
@@ -159,10 +159,11 @@ impl<'a> Iterator for DecodeStreamInPlace<'a> {
 
 impl FusedIterator for DecodeStreamInPlace<'_> {}
 
-/// Encodes messages as a stream: the frame of each one and a zero after it, in order. If there are no messages, the stream is
-/// empty.
+/// Encodes messages as a stream: for each message, in order, its frame and a zero. If there are no messages, the stream
+/// is empty.
 ///
-/// A decoder whose buffer holds each message returns exactly these messages. The crate `cobs` doesn't have this call.
+/// A decoder whose buffer is long enough for each message decodes this stream to exactly these messages. The crate
+/// `cobs` doesn't have this call.
 ///
 /// ```
 /// use jcobs::encode_frames;
@@ -176,14 +177,15 @@ impl FusedIterator for DecodeStreamInPlace<'_> {}
 ///
 /// # Errors
 ///
-/// [`AllocError`]: there is no memory for the stream. It grows with the messages.
+/// [`AllocError`]: there is no memory for the stream, which grows with each message.
 #[cfg(feature = "alloc")]
 pub fn encode_frames<I>(messages: I) -> Result<Vec<u8>, AllocError>
 where
     I: IntoIterator,
     I::Item: AsRef<[u8]>,
 {
-    // The proved function of this name takes a slice of vectors, and there the messages would have to be copied.
+    // The proved function of this name takes a slice of vectors, so each message would have to be copied to a vector
+    // first.
     let mut stream = Vec::new();
     messages
         .into_iter()
@@ -195,12 +197,12 @@ where
 #[cfg(feature = "alloc")]
 pub(crate) fn append_frame(stream: &mut Vec<u8>, message: &[u8]) -> Result<(), AllocError> {
     let room = max_encoding_length(message.len()) + 1;
-    // One of the zeros stays after the frame.
+    // One of the zeros in `zeros` stays after the frame.
     memory::append(stream, room, |zeros| encode(message, zeros) + 1)
 }
 
-/// Returns how many bytes the stream of [`encode_frames`] has at most: the sum of
-/// [`max_encoding_length`] plus 1 over the messages. `None`: that doesn't fit a `usize`.
+/// Returns the greatest length of the stream that [`encode_frames`] makes of these messages: the sum of
+/// [`max_encoding_length`] plus 1 over the messages. Returns `None` if this sum doesn't fit a `usize`.
 ///
 /// ```
 /// assert_eq!(jcobs::encode_frames_room(["hi", ""]), Some(6));

@@ -1,8 +1,10 @@
-//! Consistent Overhead Byte Stuffing (COBS) with the names and signatures of the crate `cobs` 0.5.1, in proved code.
+//! Consistent Overhead Byte Stuffing (COBS), with the names and signatures of the crate `cobs` 0.5.1, in code that is
+//! translated from proved code.
 //!
-//! COBS encodes a message, any bytes, as a frame that never contains one byte value, the sentinel. So the sentinel,
-//! mostly 0, can mark where frames end on a serial line, in a stream or in a file. The frame of a message of
-//! up to 254 bytes is 1 byte longer than the message. Each further 254 bytes, or part of them, add at most 1 byte.
+//! COBS encodes a message, which may be any bytes, as a frame that never contains a certain byte value: the sentinel.
+//! So the sentinel, usually 0, can mark the end of each frame on a serial line or in a file. The frame of a message of
+//! up to 254 bytes is 1 byte longer than the message. Each further 254 bytes of a message, or part of them, add at most
+//! 1 byte to the frame.
 //!
 //! # Switching from `cobs`
 //!
@@ -22,7 +24,7 @@
 //! # Ok::<(), jcobs::DecodeError>(())
 //! ```
 //!
-//! Frames that come from a line are decoded as they come, in pieces of any size:
+//! A streaming decoder decodes the bytes of a serial line as they arrive, in pieces of any size:
 //!
 //! ```
 //! # #[cfg(feature = "alloc")] {
@@ -69,26 +71,28 @@
 //! | a [`Read`](std::io::Read) or [`Write`](std::io::Write) | [`MessageReader`], [`MessageWriter`] |
 //! | a stream or a sink of tokio | `MessageCodec`, with the feature `tokio-util` |
 //! | another source, without `std` | [`FrameReader`] over a [`FrameSource`] |
-//! | a recorded stream | [`frames`], [`decode_stream_in_place`], [`decode_stream`]; [`encode_frames`] makes one |
-//! | a buffer to make | [`max_encoding_length`] |
+//! | a recorded stream | [`frames`], [`decode_stream_in_place`], [`decode_stream`] |
+//! | messages to record as a stream | [`encode_frames`] |
+//! | a message that needs a buffer for its frame | [`max_encoding_length`] |
 //!
-//! The folder `examples` of the repository has a line of tokio, a receiver over embedded-io, and one whose bytes come by an
-//! interrupt.
+//! The folder `examples` of the repository has a program for a serial line with tokio, a receiver over embedded-io, and
+//! a receiver whose bytes arrive in an interrupt handler.
 //!
 //! # What is proved
 //!
-//! The functions of `src/proved/` are those of the Rattle crates `cobs` and `cobs_bytes` without their contracts. There each
-//! one is proved to return the right result, not to panic, and to end, for a `usize` of 64 bits. The other files of `src/` have
-//! the signatures of the crate `cobs`, and choose one of the proved functions for a push of one byte; they are tested. Memory
-//! safety rests on the compiler and on `memchr`: in this crate only `src/simd.rs` has `unsafe` code, and
-//! with the feature `small` no file has.
+//! The functions of `src/proved/` are translated from the crates `cobs` and `cobs_bytes` in Rattle, which is Rust with
+//! contracts. In Rattle each function is proved to return the right result, not to panic, and to end, for a `usize` of
+//! 64 bits. The other files of `src/` are tested, not proved. They have the signatures of the crate `cobs`, choose a
+//! proved function for a push of one byte, and add the types for `std::io` and tokio. Memory safety depends on the
+//! compiler and on `memchr`: in this crate only `src/simd.rs` has `unsafe` code, and with the feature `small` no file
+//! has `unsafe` code.
 //!
 //! # Features
 //!
 //! - `std` (default): `alloc`; [`MessageReader`] and [`MessageWriter`]; [`Recorded`], a [`FrameSource`] over any
-//!   [`std::io::Read`]; and `std` of `memchr`, which then searches with AVX2 if the processor has it.
-//! - `alloc`: the calls that make vectors, and [`CobsDecoderOwned`].
-//! - `small`: on every target a call takes one byte at a time, as below, and the crate has no `unsafe` code.
+//!   [`std::io::Read`]; and the feature `std` of `memchr`, which then searches with AVX2 if the processor has AVX2.
+//! - `alloc`: the calls that return a `Vec`, and [`CobsDecoderOwned`].
+//! - `small`: on every target a call processes one byte at a time (see "Targets"), and the crate has no `unsafe` code.
 //! - `serde`, `defmt`: derives for the errors ([`DecodeError`], [`DestBufTooSmallError`], [`PushError`], [`ReadFault`],
 //!   [`AllocError`]) and for [`DecodeReport`], [`PieceEnd`], [`Next`], [`FrameKind`] and `FrameOutcome`.
 //! - `heapless`: [`CobsDecoderHeapless::new_with_vec`] takes a `heapless::Vec`.
@@ -98,8 +102,9 @@
 //!
 //! # Targets
 //!
-//! If the target has SSE2, NEON or SIMD of WebAssembly, the calls search and copy in vectors and slices. On every other target,
-//! and with the feature `small`, they take one byte at a time, which needs a few hundred bytes of flash for each call.
+//! If the target has SSE2, NEON or WebAssembly's SIMD, the calls search and copy many bytes at once. On every other
+//! target, and with the feature `small`, the calls process one byte at a time; then each call needs a few hundred bytes
+//! of flash.
 #![no_std]
 #![cfg_attr(feature = "small", forbid(unsafe_code))]
 // Pages of docs.rs then say which feature an item needs.
@@ -165,8 +170,8 @@ pub use crate::read::MessageReader;
 #[cfg(feature = "std")]
 pub use crate::write::MessageWriter;
 
-/// Returns the greatest number of bytes by which a frame is longer than its message of `source_len` bytes: 1 for each 254
-/// bytes, rounded up, and 1 for the empty message.
+/// Returns by how many bytes the longest frame of a message of `source_len` bytes is longer than the message. This
+/// number is `source_len / 254`, rounded up, or 1 for the empty message.
 ///
 /// ```
 /// assert_eq!(jcobs::max_encoding_overhead(0), 1);
@@ -179,8 +184,8 @@ pub const fn max_encoding_overhead(source_len: usize) -> usize {
     proved::max_encoding_overhead(source_len)
 }
 
-/// Returns the length of the longest frame of a message of `source_len` bytes, without sentinels. In a buffer of this length
-/// no encoding call fails; each sentinel needs one more byte.
+/// Returns the length of the longest frame of a message of `source_len` bytes, without sentinels. A buffer of this
+/// length is always long enough for the frame. Each sentinel needs one more byte.
 ///
 /// ```
 /// const ROOM: usize = jcobs::max_encoding_length(1000);
@@ -189,7 +194,7 @@ pub const fn max_encoding_overhead(source_len: usize) -> usize {
 ///
 /// # Panics
 ///
-/// If the length doesn't fit a `usize`. No slice is as long.
+/// Panics if the length doesn't fit a `usize`. No slice is long enough for that.
 #[inline]
 #[must_use]
 pub const fn max_encoding_length(source_len: usize) -> usize {

@@ -1,4 +1,4 @@
-//! Memory for the calls that allocate: if there is none, an error and not an abort.
+//! Allocates memory for the calls that return an error, instead of aborting, if there is no memory.
 
 #[cfg(feature = "alloc")]
 use alloc::vec::Vec;

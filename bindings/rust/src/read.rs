@@ -1,14 +1,14 @@
-//! Messages from a port: the frames of any buffered reader.
+//! Reads messages from a port: the frames of any buffered reader.
 
 use std::boxed::Box;
 use std::io::{self, BufRead, ErrorKind};
 
 use crate::dec::{DecodeError, PieceEnd, UnbufferedDecoder};
 
-/// Reads messages from a serial port, a socket, a file: from anything that is [`BufRead`].
+/// Reads messages from a serial port, a socket or a file: from anything that is [`BufRead`].
 ///
-/// A [`BufReader`](std::io::BufReader) makes a `BufRead` of any [`Read`](io::Read), and reads as many bytes at once as
-/// have come. The crate `cobs` doesn't have this type.
+/// A [`BufReader`](std::io::BufReader) makes a `BufRead` of any [`Read`](io::Read), and reads all bytes at once that
+/// have arrived, up to its capacity. The crate `cobs` doesn't have this type.
 ///
 /// ```
 /// use std::io::BufReader;
@@ -27,10 +27,10 @@ use crate::dec::{DecodeError, PieceEnd, UnbufferedDecoder};
 /// # Ok::<(), std::io::Error>(())
 /// ```
 ///
-/// # A port that waits, and one that doesn't
+/// # Ports with a timeout, and ports that don't block
 ///
-/// An error of the port is returned as it is, and nothing is lost by it: the bytes of a frame that has begun are kept,
-/// and the next call continues there. So a port with a timeout, or one that doesn't block, is read in a loop:
+/// An error of the port is returned unchanged, and no byte is lost: the bytes of a frame that has begun are kept, and
+/// the next call continues after them. So a port with a timeout, or a port that doesn't block, can be read in a loop:
 ///
 /// ```
 /// use std::io::{self, BufRead, ErrorKind};
@@ -62,7 +62,7 @@ pub struct MessageReader<R> {
 }
 
 impl<R: BufRead> MessageReader<R> {
-    /// Makes a reader of messages of up to `max_len` bytes. It allocates that many, and never more.
+    /// Makes a reader of messages of up to `max_len` bytes. It allocates `max_len` bytes, and never more.
     ///
     /// ```
     /// let stdin = std::io::stdin().lock();
@@ -77,16 +77,16 @@ impl<R: BufRead> MessageReader<R> {
         }
     }
 
-    /// Reads until a zero ends a frame, and returns its message.
+    /// Reads until a zero ends a frame, and returns the frame's message.
     ///
     /// - `Ok(Some(Ok(message)))`: a message.
     /// - `Ok(Some(Err(error)))`: a frame that is damaged ([`DecodeError::InvalidFrame`], with the number of bytes it
-    ///   decoded to), or whose message is longer than `max_len` ([`DecodeError::TargetBufTooSmall`]). Read on: it never
-    ///   affects another frame.
-    /// - `Ok(None)`: the source has ended, after a zero or before its first byte. If it grows, read on.
+    ///   decoded to), or whose message is longer than `max_len` ([`DecodeError::TargetBufTooSmall`]). Call again: this
+    ///   frame never affects another frame.
+    /// - `Ok(None)`: the source has ended, after a zero or before its first byte. If the source grows, call again.
     ///
-    /// Zeros without a frame between them are skipped. The source is read until a zero comes, however many bytes come before
-    /// it. The bytes of a message that is too long are dropped.
+    /// Zeros without a frame between them are skipped. The call reads the source until a zero ends a frame, however
+    /// many bytes come before the zero. The bytes of a message that is too long are dropped.
     ///
     /// ```
     /// use jcobs::{DecodeError, MessageReader};
@@ -144,14 +144,14 @@ impl<R> MessageReader<R> {
         &self.inner
     }
 
-    /// Returns the source for changes, for example to set its timeout. Bytes that are read from it directly are missing in
-    /// the next message.
+    /// Returns the source for changes, for example to set its timeout. Bytes that you read from it directly are missing
+    /// from the next message.
     pub fn get_mut(&mut self) -> &mut R {
         &mut self.inner
     }
 
-    /// Returns the source. The bytes after the last frame that was read are still in it, except those of a frame that
-    /// has begun.
+    /// Returns the source. The bytes after the last frame that was read are still in the source, except the bytes of a
+    /// frame that has begun.
     pub fn into_inner(self) -> R {
         self.inner
     }

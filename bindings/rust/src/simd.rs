@@ -1,10 +1,11 @@
 //! Vectors of bytes, on stable Rust and for any target. They have the types and methods of `std::simd` that the
 //! proved source uses.
 //!
-//! The crate's only `unsafe` code is here: the calls of SSE2 and NEON. With the feature `small` there is none. The tests compare
-//! every operation with the same operation on single bytes, for each width from 1 to 64.
+//! The crate's only `unsafe` code is in this file: the calls of SSE2 and NEON. With the feature `small` the crate has
+//! no `unsafe` code. The tests compare every operation with the same operation on single bytes, for each width from 1
+//! to 64.
 
-// Loops over indices, of which rustc makes vectors.
+// rustc turns the loops over indices into vector instructions.
 #![allow(clippy::needless_range_loop)]
 
 use core::ops::BitXor;
@@ -37,8 +38,9 @@ use portable as way;
 ))]
 use sse2 as way;
 
-/// Whether the calls use vectors and slices. They do if the target has SSE2, NEON or the SIMD of WebAssembly, and the
-/// feature `small` is off. Otherwise they take one byte at a time. `translate.py` makes this the result of `has_vectors`.
+/// Whether the calls use vectors and slices. The calls do so if the target has SSE2, NEON or WebAssembly's SIMD, and
+/// the feature `small` is off. Otherwise they process one byte at a time. `translate.py` makes this the result of
+/// `has_vectors`.
 pub const HAS_VECTORS: bool = !cfg!(feature = "small")
     && (way::HAS_VECTORS || cfg!(all(target_feature = "simd128", target_family = "wasm")));
 
@@ -51,7 +53,7 @@ pub struct Simd<T, const N: usize>([T; N]);
 #[allow(non_camel_case_types)]
 pub type u8x32 = Simd<u8, 32>;
 
-/// Which of `N` bytes have a property: `0xFF` for those that have it, 0 for the others.
+/// Which of `N` bytes have a property: `0xFF` for each byte that has the property, 0 for each other byte.
 #[derive(Clone, Copy)]
 #[repr(transparent)]
 pub struct Mask<const N: usize>([u8; N]);
@@ -77,7 +79,7 @@ impl<const N: usize> Simd<u8, N> {
             .expect("as many bytes as the vector") = self.0;
     }
 
-    /// Which bytes are equal.
+    /// Returns which bytes are equal.
     #[inline(always)]
     pub fn simd_eq(self, other: Self) -> Mask<N> {
         if 1 < N && N < 16 {
@@ -87,7 +89,7 @@ impl<const N: usize> Simd<u8, N> {
         self.compare(other, |a, b| a == b)
     }
 
-    /// Which bytes are different.
+    /// Returns which bytes are different.
     #[inline(always)]
     pub fn simd_ne(self, other: Self) -> Mask<N> {
         self.compare(other, |a, b| a != b)
@@ -131,7 +133,7 @@ fn widened(bytes: &[u8]) -> [u8; 16] {
     wide
 }
 
-/// Returns one bit for each byte. `sixteen` returns those of 16 bytes.
+/// Returns one bit for each byte. `sixteen` returns the bits of 16 bytes.
 #[inline(always)]
 fn bits_by(mask: &[u8], sixteen: impl Fn(&[u8; 16]) -> u64) -> u64 {
     let (mut bits, mut done) = (0, 0);
@@ -197,8 +199,8 @@ mod sse2 {
 
     pub const HAS_VECTORS: bool = true;
 
-    /// Compares them as one vector, because rustc compares the bytes of an integer one by one: a message of 8 bytes is
-    /// encoded 1.9 times as fast this way.
+    /// Compares the bytes as one vector, because rustc would compare the bytes of an integer one by one. This way a
+    /// message of 8 bytes is encoded 1.9 times as fast.
     #[inline(always)]
     pub fn equal(bytes: [u8; 16], other: [u8; 16]) -> [u8; 16] {
         // SAFETY: the target has SSE2, and each vector has the 16 bytes of an array.
@@ -230,7 +232,7 @@ mod neon {
 
     pub const HAS_VECTORS: bool = true;
 
-    /// Compares them as one vector, as with SSE2.
+    /// Compares the bytes as one vector, as with SSE2.
     #[inline(always)]
     pub fn equal(bytes: [u8; 16], other: [u8; 16]) -> [u8; 16] {
         // SAFETY: the target has NEON, and each vector has the 16 bytes of an array.
@@ -309,7 +311,7 @@ mod tests {
         assert_eq!((vector ^ splat).0, changed);
     }
 
-    /// Each width from 1 to 64.
+    /// Tests each width from 1 to 64.
     macro_rules! widths {
         ($($tens:literal: $($n:literal)*;)*) => { $($(width::<{ $tens * 8 + $n }>();)*)* };
     }
@@ -322,7 +324,7 @@ mod tests {
         }
     }
 
-    /// All 65,536 masks of 16 bytes, by each way that this target has.
+    /// Tests all 65,536 masks of 16 bytes, with each implementation that this target has.
     #[test]
     fn every_mask_of_sixteen() {
         for expected in 0..=0xFFFF_u64 {

@@ -1,15 +1,16 @@
-//! Messages to a port: each one as a frame and a zero.
+//! Writes messages to a port, each message as a frame and a zero.
 
 use std::io::{self, ErrorKind, Write};
 use std::vec::Vec;
 
 use crate::frames::append_frame;
 
-/// Ends a frame that was cut, so that no decoder takes it for a message.
+/// These bytes end a frame that was cut off, so that no decoder takes this frame for a message.
 ///
-/// A single zero isn't enough: a frame that was cut between two blocks would be read as a shorter message. If k bytes of a
-/// block are missing (at most 254), the first k of these bytes complete it. The next byte is a code of 255 with fewer than 254
-/// bytes after it, so the frame is broken. The 1 is there for k = 0: it is an empty block.
+/// A single zero isn't enough: a frame that was cut off between two blocks would be decoded as a shorter message. If k
+/// bytes of a block are missing (at most 254), the first k of these bytes complete it. The next byte is a code of 255
+/// with fewer than 254 bytes after it, so the frame is broken. If k is 0, the first byte, 1, is a block without bytes:
+/// so fewer than 254 bytes follow the code 255 in this case too.
 const CLOSING: [u8; 256] = {
     let mut bytes = [255; 256];
     bytes[0] = 1;
@@ -17,8 +18,8 @@ const CLOSING: [u8; 256] = {
     bytes
 };
 
-/// Writes messages to a serial port, a socket, a file: to anything that is [`Write`]. Each is one frame, the zero that
-/// ends it, and one [`write_all`](Write::write_all).
+/// Writes messages to a serial port, a socket or a file: to anything that is [`Write`]. Each message is written as one
+/// frame and the zero that ends it, in one [`write_all`](Write::write_all).
 ///
 /// The crate `cobs` doesn't have this type.
 ///
@@ -36,12 +37,12 @@ pub struct MessageWriter<W> {
     inner: W,
     /// Memory for the bytes of a write.
     written: Vec<u8>,
-    /// Whether the last write failed, so that a part of its frame may be written.
+    /// Whether the last write failed, so that a part of its frame may have been written.
     failed: bool,
 }
 
 impl<W: Write> MessageWriter<W> {
-    /// Makes a writer. It allocates as the messages need it, and keeps that memory for the next one.
+    /// Makes a writer. It allocates memory as the messages need it, and keeps this memory for the next messages.
     #[must_use]
     pub const fn new(inner: W) -> Self {
         Self {
@@ -51,14 +52,15 @@ impl<W: Write> MessageWriter<W> {
         }
     }
 
-    /// Writes the frame of `message` and a zero. It doesn't flush.
+    /// Writes the frame of `message` and a zero. The call doesn't flush.
     ///
-    /// After a write that failed it first writes 256 bytes. They end the part of that frame that may have been
-    /// written, so that no decoder takes it for a message: the receiver gets one frame that is broken or too long for it.
+    /// If the last write failed, this call first writes 256 bytes. They end the part of the last frame that may have
+    /// been written, so that no decoder takes this part for a message: the receiver gets one frame that is broken, or
+    /// too long for its buffer.
     ///
     /// # Errors
     ///
-    /// - Each error of [`Write::write_all`]. How much was written isn't known then: write the message again.
+    /// - Each error of [`Write::write_all`]. Then it isn't known how much was written: write the message again.
     /// - [`OutOfMemory`](io::ErrorKind::OutOfMemory): nothing was written.
     pub fn write_message(&mut self, message: &[u8]) -> io::Result<()> {
         self.written.clear();
@@ -73,7 +75,7 @@ impl<W: Write> MessageWriter<W> {
         Ok(())
     }
 
-    /// Flushes the writer.
+    /// Flushes the inner writer.
     ///
     /// # Errors
     ///
@@ -84,18 +86,18 @@ impl<W: Write> MessageWriter<W> {
 }
 
 impl<W> MessageWriter<W> {
-    /// Returns the writer.
+    /// Returns the inner writer.
     #[must_use]
     pub const fn get_ref(&self) -> &W {
         &self.inner
     }
 
-    /// Returns the writer, for changes. Bytes that are written to it directly come between two frames.
+    /// Returns the inner writer, for changes. Bytes that you write to it directly come between two frames.
     pub fn get_mut(&mut self) -> &mut W {
         &mut self.inner
     }
 
-    /// Returns the writer.
+    /// Returns the inner writer.
     pub fn into_inner(self) -> W {
         self.inner
     }

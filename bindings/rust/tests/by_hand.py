@@ -1,12 +1,11 @@
 #!/usr/bin/env python3
-"""Checks that the crate codes nothing by hand: what its calls return is the result of proved functions.
+"""Checks that no call of the crate encodes or decodes by hand: the results are those of proved functions.
 
-In each file of src/ outside of proved/ no loop may stand, and no arithmetic: positions and lengths come from proved functions,
+The files of src/ outside of proved/ must not contain loops or arithmetic: positions and lengths come from proved functions,
 `memchr`, iterators and methods of slices. PERMITTED names each exception and its reason. An exception that no line needs is an
-error too. The vectors of src/simd.rs aren't looked at: the proved functions use them, and its tests compare them with single
-bytes.
+error too. src/simd.rs isn't checked: the proved functions use its vectors, and its tests compare the vectors with single bytes.
 
-It prints the lines that aren't permitted, and the status is then 1.
+It prints the lines that aren't permitted. If there is such a line, the status is 1.
 """
 
 import re
@@ -17,7 +16,7 @@ SRC = Path(__file__).resolve().parent.parent / "src"
 LOOP = re.compile(r"\b(for\s+[^<>]+\s+in|while|loop)\b")
 # rustfmt writes a space on each side of an operator with two operands.
 ARITHMETIC = re.compile(r"(?<=[\w)\]}?]) ([-+*/%]|<<|>>)=? |\.(checked|wrapping|overflowing|saturating|unchecked|carrying)_\w+\(|\.pow\(|\.\.=")
-# A place of a file, some words of the line, and the reason.
+# A file, some words of the line, and the reason.
 PERMITTED = {
     ("read.rs", "loop {"): "reads until a proved function says that a frame has ended: a port has any number of reads",
     ("lib.rs", "source_len.checked_add"): "the precondition of the proved function",
@@ -35,7 +34,7 @@ PERMITTED = {
 
 
 def code_of(text):
-    """The lines of a file without comments, strings and tests."""
+    """Yields the lines of a file without comments, strings and tests."""
     for number, line in enumerate(text.split("#[cfg(test)]")[0].splitlines(), 1):
         line = re.sub(r'b?"(\\.|[^"\\])*"|b?\'(\\.|[^\'\\])\'', '""', line.strip())
         yield number, line.split("//")[0].rstrip()

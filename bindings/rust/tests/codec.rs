@@ -1,4 +1,4 @@
-//! The codec for tokio: every cut of a stream, its end, and what is sent.
+//! Tests the codec for tokio: every cut of a stream, the end of a stream, and the bytes that are sent.
 #![cfg(feature = "tokio-util")]
 
 use std::io::ErrorKind;
@@ -7,7 +7,8 @@ use bytes::{Bytes, BytesMut};
 use jcobs::{DecodeError, MessageCodec};
 use tokio_util::codec::{Decoder, Encoder};
 
-/// Three messages, one of them empty, between a frame that breaks off and one that is too long for 5 bytes.
+/// Three messages, one of them empty. Between them are a frame that breaks off, and a frame whose message is longer
+/// than 5 bytes.
 const STREAM: &[u8] = b"\0\x03hi\0\x05cut\0\x01\0\0\x07longer\0\x02a\x02b\0";
 
 fn of_stream() -> Vec<Result<Bytes, DecodeError>> {

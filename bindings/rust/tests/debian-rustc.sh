@@ -10,7 +10,7 @@ mkdir -p "$1/lists/partial" "$1/archives/partial"
 folder=$(cd "$1" && pwd)
 key=/usr/share/keyrings/debian-archive-keyring.gpg
 echo "deb [signed-by=$key] http://deb.debian.org/debian bookworm main" >"$folder/sources.list"
-# As if no package were installed: another version of rustc may be.
+# apt ignores the installed packages, because another version of rustc may be installed.
 : >"$folder/status"
 
 get() {

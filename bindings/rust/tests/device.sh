@@ -1,9 +1,10 @@
 #!/bin/sh
 # Builds the crate for targets without an operating system, runs it on a Cortex-M4 in QEMU, and measures its flash.
 #
-# rustup's compiler comes with no library for these targets, so Debian's compiler builds `core` from Debian's source of it
-# (rustc-web and rust-web-src; RUST_SRC names the folder `library` elsewhere). On the Cortex-M4 run the cases of
-# tests/device.sh, in C, over the crate as `jcobs.h` (device/exports.rs). The tables of README are those of speeds.py.
+# rustup's compiler has no library for these targets, so Debian's compiler builds `core` from Debian's source (packages
+# rustc-web and rust-web-src; RUST_SRC names another folder `library`). The Cortex-M4 runs the C tests of tests/device.sh of the
+# repository, over the crate, which exports the calls of `jcobs.h` (device/exports.rs). speeds.py measures the tables of the
+# README.
 #
 # Prints a line for each part; the last line counts them.
 #
@@ -32,12 +33,12 @@ crate() { # TARGET NAME SOURCE FLAG..: a library for this target
         -C "opt-level=$level" -C embed-bitcode=yes --cap-lints allow --out-dir "$work/$target" "$@" "$source"
 }
 
-# `core`, and an empty library for the compiler's own calls, which newlib and libgcc have.
+# Builds `core`, and an empty library for the functions that the compiler calls, because newlib and libgcc have them.
 core() { # TARGET
     mkdir -p "$work/$1" "$work/sysroot/lib/rustlib/$1/lib"
     printf '#![no_std]\n#![feature(compiler_builtins, staged_api)]\n#![compiler_builtins]\n#![unstable(feature = "x", issue = "none")]\n' \
         >"$work/builtins.rs"
-    # Only one is run, and measured.
+    # Only one target is run and measured.
     level=0
     [ "$1" != thumbv7em-none-eabi ] || level=s
     RUSTC_BOOTSTRAP=1 crate "$1" core "$library/core/src/lib.rs" --edition 2024 -Z force-unstable-if-unmarked &&
@@ -53,7 +54,7 @@ builds() { # TARGET
         crate "$1" jcobs "$rust/src/lib.rs" --edition 2021 --extern "memchr=$work/$1/libmemchr.rlib"
 }
 
-# The cases whose calls jcobs.h for devices has, as tests/device.sh chooses them.
+# Selects the cases whose calls the archives for devices have, as tests/device.sh does.
 awk '$3 ~ /^(encode_vec|encode|try_encode|encoder|encode_frames|decode_vec|decode|decode_in_place|decode_in_place_report|frame_kind|decoder|decode_stream|max_encoding_length|max_encoding_overhead)$/' \
     "$root"/conformance/*.txt >"$work/cases"
 c=$root/bindings/c
@@ -85,7 +86,7 @@ cases() {
     grep -q "^$(wc -l <"$work/cases") cases run, 0 of .*, 0 failed" "$work/ran"
 }
 
-# What a call adds to the flash of a program for the Cortex-M4.
+# Measures how many bytes of flash a call adds to a program for the Cortex-M4.
 size() { # CALL: the bytes of code and data of the program that makes it
     "$compiler" --sysroot "$work/sysroot" --target thumbv7em-none-eabi --edition 2021 --crate-type staticlib --crate-name sizes \
         -C panic=abort -C opt-level=s -C lto=fat -C codegen-units=1 -C target-cpu=cortex-m4 --cfg "call=\"$1\"" --cap-lints allow \
@@ -102,7 +103,7 @@ sizes() {
     for call in feed push encoder decode sentinel 'in place' encode; do
         bytes=$(size "$call") || { cat "$work/linked"; return 1; }
         found="$found, $call $((bytes - none))"
-        # A call handles single bytes, and may need one function of the C library.
+        # A call handles single bytes, and may call one function of the C library.
         [ $((bytes - none)) -le 600 ] || { echo "$call takes $((bytes - none)) bytes"; return 1; }
     done
     echo "= $found"

@@ -1,5 +1,5 @@
-//! Where the results are those of this library, and not those of `cobs` 0.5.1: a test for each row of the repository's
-//! `docs/DIFFERENCES.md` that a caller of this crate can meet.
+//! Tests the results that differ from those of `cobs` 0.5.1: a test for each row of the repository's
+//! `docs/DIFFERENCES.md` that a caller of this crate can observe.
 #![cfg(feature = "alloc")]
 
 use std::error::Error;
@@ -13,7 +13,7 @@ use jcobs::{
     max_encoding_overhead, try_encode, try_encode_including_sentinels,
 };
 
-/// A message that is one full block.
+/// A message whose frame is one full block.
 const FULL: [u8; 254] = [7; 254];
 
 #[test]
@@ -206,7 +206,7 @@ fn overflow_is_reported_through_the_zero_and_affects_no_other_frame() {
     }
     assert_eq!(decoder.push(b"\x02z\0").unwrap().unwrap().frame_size(), 1);
 
-    // By pushes: all of a piece that lies within the frame, and then through its zero.
+    // A push takes all its bytes if they are within the frame, and otherwise the bytes through the zero that ends it.
     for piece in [&b"\x09abc"[..], b"def"] {
         assert_eq!(decoder.push(piece), Err(DecodeError::TargetBufTooSmall));
         assert_eq!(decoder.parsed_size(), piece.len());

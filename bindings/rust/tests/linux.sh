@@ -1,4 +1,4 @@
-# The targets that run here by qemu-user: targets.sh sources this file, after count.sh.
+# Finds the targets that this machine can run with qemu-user. targets.sh sources this file, after count.sh.
 # shellcheck shell=sh
 
 compiler_for() { # TARGET: a compiler that has its library
@@ -22,7 +22,7 @@ on_linux() { # NAME TARGET LINKER RUNNER PACKAGES DEBIAN-ARCHITECTURE FUNCTION
     fi
 }
 
-# Calls a function for each of these targets that this machine has, with its name, its triple, a linker and a runner.
+# Calls FUNCTION for each of these targets that this machine can run, with the target's name and triple, a linker and a runner.
 each_linux() { # FUNCTION [NAME..]
     function=$1
     shift
@@ -38,7 +38,7 @@ each_linux() { # FUNCTION [NAME..]
                 'gcc-arm-linux-gnueabihf, libc6-dev-armhf-cross and qemu-user' armhf "$function"
             ;;
         i686)
-            # Without an emulator on x86-64: qemu-i386 7.2 doesn't come to the end of the first tests.
+            # On x86-64 no emulator is used: qemu-i386 7.2 doesn't reach the end of the first tests.
             runner='qemu-i386 -L /usr/i686-linux-gnu'
             loader=/usr/i686-linux-gnu/lib/ld-linux.so.2
             [ "$(uname -m)" != x86_64 ] || runner="$loader --library-path ${loader%/*}"

@@ -1,8 +1,9 @@
 #!/bin/sh
 # Writes FOLDER/.cargo/config.toml: offline.sh FOLDER
 #
-# Below that folder cargo then needs no network: dependencies are Debian's packages, and stand-ins for the optional ones
-# that Debian doesn't have, or that aren't installed. Where a package is missing it says so, and the status is 1.
+# In that folder cargo then needs no network. Debian's packages are the dependencies; stand-ins replace the optional
+# dependencies that Debian doesn't have, or that aren't installed. If a required package is missing, the script prints its name,
+# and the status is 1.
 set -eu
 here=$(cd "$(dirname "$0")" && pwd)
 registry=/usr/share/cargo/registry
@@ -12,7 +13,7 @@ for package in memchr serde serde_derive serde_json; do
         exit 1
     fi
 done
-# Those of the feature `tokio-util`; nothing else needs them.
+# Only the feature `tokio-util` needs these packages.
 tokio=
 if ! ls -d "$registry"/tokio-util-0.7* >/dev/null 2>&1; then
     tokio="tokio-util = { path = \"$here/stand_in/tokio-util\" }

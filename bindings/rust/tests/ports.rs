@@ -1,4 +1,5 @@
-//! Ports: every way in which a source may give a stream, with each error between its bytes, and what a sink may do.
+//! Tests ports: every way in which a source may return the bytes of a stream, with each error between the bytes, and
+//! every way in which a sink may fail.
 #![cfg(feature = "std")]
 
 use std::collections::VecDeque;
@@ -9,7 +10,7 @@ use jcobs::{
     ReadFault, Recorded, decode_stream_in_place, encode_frames, encode_frames_room, frames,
 };
 
-/// What a port does at one read.
+/// The result of one read of a port.
 #[derive(Clone)]
 enum Step {
     Bytes(Vec<u8>),
@@ -17,7 +18,7 @@ enum Step {
     Ends,
 }
 
-/// A port that does these steps, and ends after them.
+/// A port whose reads have these results, and which ends after them.
 struct Port(VecDeque<Step>);
 
 impl Read for Port {
@@ -37,7 +38,7 @@ impl Read for Port {
     }
 }
 
-/// What a call returned.
+/// The result of a call.
 #[derive(Debug, PartialEq)]
 enum Seen {
     Message(Vec<u8>),
@@ -74,7 +75,8 @@ fn read(steps: &[Step], room: usize, buffer: usize) -> Vec<Seen> {
     }
 }
 
-/// Three messages, one of them empty, between a frame that breaks off and one that is too long for 5 bytes.
+/// Three messages, one of them empty. Between them are a frame that breaks off, and a frame whose message is longer
+/// than 5 bytes.
 const STREAM: &[u8] = b"\0\x03hi\0\x05cut\0\x01\0\0\x07longer\0\x02a\x02b\0";
 
 fn of_stream() -> Vec<Seen> {
@@ -160,11 +162,11 @@ fn a_cut_frame_is_not_the_end() {
             Seen::End
         };
         let seen = read(&[Step::Bytes(STREAM[..cut].to_vec())], 5, 64);
-        // A source of no bytes ends at once.
+        // A source without bytes ends at once.
         if cut > 0 {
             assert_eq!(seen.last(), Some(&expected_end), "{cut}");
         }
-        // What has ended may grow.
+        // A source that has ended may grow.
         let steps = [
             Step::Bytes(STREAM[..cut].to_vec()),
             Step::Ends,
@@ -277,7 +279,8 @@ fn each_message_is_one_write() {
     assert_eq!(sink.taken, expected);
 }
 
-/// Wherever a write fails, also the one after it, the receiver gets one broken frame at most, and then the next message.
+/// Wherever a write fails, and also if the next write fails, the receiver gets at most one broken frame, and then the
+/// next message.
 #[test]
 fn no_message_comes_of_a_write_that_failed() {
     for message in MESSAGES {
@@ -400,7 +403,7 @@ fn streams_of_any_messages() {
         let found = decode_stream_in_place(&mut stream);
         assert!(found.map(Result::unwrap).eq(messages));
     }
-    // Vectors, texts, and an iterator whose length isn't known.
+    // The messages are vectors, texts, and the items of an iterator whose length isn't known.
     let stream = b"\x03hi\0\x01\0";
     assert_eq!(encode_frames(&[b"hi".to_vec(), vec![]]).unwrap(), stream);
     assert_eq!(
@@ -412,7 +415,7 @@ fn streams_of_any_messages() {
     assert_eq!(encode_frames_room("hi,".split(',')), Some(6));
 }
 
-/// A source that gives a byte each read, of which this one is a zero. It counts the reads.
+/// A source that returns one byte for each read. The read with this number returns a zero. The source counts the reads.
 struct ByBytes {
     reads: usize,
     zero: usize,
@@ -463,7 +466,7 @@ fn each_cut_of_a_stream_by_next_frame() {
         for second in first..=STREAM.len() {
             let mut reader = FrameReader::new(CobsDecoderHeapless::new());
             let mut seen = Vec::new();
-            // Another source for each part, and in the second one a read that fails.
+            // Each part comes from another source, and in the second source a read fails.
             for (from, to) in [(0, first), (first, second), (second, STREAM.len())] {
                 let is_within = to > 0 && STREAM[to - 1] != 0;
                 let mut steps = vec![Step::Bytes(STREAM[from..to].to_vec())];
@@ -486,7 +489,7 @@ fn a_call_reads_65536_times() {
     for zero in [65_535, 65_536, 65_537] {
         let mut reader = FrameReader::new(CobsDecoderHeapless::<65_536>::new());
         let mut source = ByBytes { reads: 0, zero };
-        // Every block has a code alone: a byte less than there are codes.
+        // Every block is a code without bytes: the message has one byte fewer than there are codes.
         let message = Ok(Next::Message(zero - 2));
         if zero > 65_536 {
             let fault = reader.next_frame(&mut source);

@@ -4,10 +4,10 @@
 usage: tests/proved.py [CRATES [PROVED]]
 
 1. translate.py writes the folder again, and the bytes are compared (skipped without rustfmt).
-2. By code that shares nothing with it: each source without its contracts and each file of src/proved/ are cut into tokens,
-   and compared one by one. What may differ is in PERMITTED, ATTRIBUTES, CONST and PATHS, and nowhere else.
+2. Code that shares nothing with translate.py cuts each source without its contracts, and each file of src/proved/, into tokens,
+   and compares the tokens one by one. PERMITTED, ATTRIBUTES, CONST and PATHS contain all differences that are permitted.
 
-It prints what differs, and the status is then 1.
+It prints the differences. If there is one, the status is 1.
 """
 import filecmp
 import re
@@ -22,15 +22,16 @@ CRATES = Path(sys.argv[1] if len(sys.argv) > 1 else RUST / "../../crates").resol
 PROVED = Path(sys.argv[2] if len(sys.argv) > 2 else RUST / "src/proved").resolve()
 
 TOKEN = re.compile(r"""//[^\n]*|/\*.*?\*/|(b?"(?:\\.|[^"\\])*"|b?'(?:\\.|[^'\\])'|'\w+|\w+|::|=>|->|[^\s])""", re.S)
-# Files that aren't here: the laws, which a proof cites, and what the other files of src/ have in their place.
+# Files that src/proved/ doesn't have: the laws, which only proofs cite, and the items that the other files of src/ define
+# instead.
 LEFT_OUT = re.compile(r"cobs/src/(laws|dec/(buffered|heapless)|enc/(encoder|vector))\b")
-# The items of other files that aren't here, and whether each was found.
+# The items of other files that src/proved/ doesn't have, and whether each was found.
 ITEMS_LEFT_OUT = dict.fromkeys(
     "encode_with_sentinel encode_including_sentinels decode_vec decode_vec_with_sentinel DecodeVecError DecodingResult"
     " WriteBuffer encode_frames encode_frames_room write_frames".split()
 )
-# What a source has, in tokens, and what is here instead: no allocator is passed, and the target decides whether vectors are
-# used. Where they aren't, the other branch does the same.
+# Tokens of a source, and the tokens that replace them here: no allocator is passed, and the target decides whether vectors are
+# used. Without vectors, the other branch of the code has the same result.
 PERMITTED = [
     (r" law_\d+ \( \) ;", ""),
     (r" alloc : Global ,?", ""),
@@ -38,20 +39,20 @@ PERMITTED = [
     (r" fn has_vectors \( \) -> bool { true }", " fn has_vectors ( ) -> bool { crate :: simd :: HAS_VECTORS }"),
     (r" \( alloc ([,)])", lambda found: " ( )" if found[1] == ")" else " ("),
 ]
-# Loops here have a label only if their body names it; in a source they have one for the proofs.
-# A vector of the function's own, and items that are added to it.
+# A loop here has a label only if its body names it. In a source every loop may have a label for the proofs.
+# A vector that a function makes, to which it adds items.
 VECTOR = r" let mut (\w+) = Vec :: new \( \) ;"
 # Functions that are `const` here.
 CONST = (
     "decoder frame_size from_phase from_progress is_idle max_encoding_length max_encoding_overhead new new new new parsed_size"
     " phase progress"
 ).split()
-# The attributes that this folder has; those of the sources are about proofs, derives and texts of errors.
+# The attributes that src/proved/ may have. Those of the sources are about proofs, derives and texts of errors.
 ATTRIBUTES = re.compile(
     r'# \[ (cold|inline( \( (always|never) \))?|must_use|repr \( C \)|derive \( [\w ,]+ \)|cfg \( feature = "(alloc|std)" \)'
     r'|cfg_attr \( feature = "(serde|defmt)" , derive \( [\w :,]+ \) \)) \]'
 )
-# Paths of the sources, and the same ones here.
+# Paths of the sources, and the paths that replace them here.
 PATHS = [
     ("std::simd::prelude", "crate::simd"),
     ("std::alloc::AllocError", "crate::memory::AllocError"),
@@ -59,7 +60,7 @@ PATHS = [
     ("cobs_bytes", "crate::proved::cobs_bytes"),
     ("cobs", "crate::proved"),
 ]
-# Names that only proofs and derives have use for; of others, those that the file doesn't use.
+# Imports that only proofs and derives use. Other imports are dropped if the file doesn't use them.
 NOT_IMPORTED = re.compile(r"std::alloc::Global|std::marker::Model|serde::|thiserror::|cobs::laws::|(text|source)::")
 
 
@@ -68,7 +69,7 @@ def tokens(path):
 
 
 def past(words, at, opened="{", closed="}"):
-    """The place after the first group from `at` on."""
+    """Returns the index after the first group at or after `at`."""
     depth = 0
     while True:
         depth += (words[at] == opened) - (words[at] == closed)
@@ -78,14 +79,14 @@ def past(words, at, opened="{", closed="}"):
 
 
 def leaves(words, front=""):
-    """The paths of a `use`."""
+    """Returns the paths of a `use`."""
     text = "".join(word + " " if word == "as" else word for word in words)
     group = re.match(r"(.*?)\{(.*)\}$", text)
     return [front + group[1] + name for name in group[2].split(",") if name] if group else [text]
 
 
 def cut(path, is_source):
-    """A file's tokens without contracts, attributes and imports; its imports; its modules; its attributes."""
+    """Returns a file's tokens without contracts, attributes and imports; its imports; its modules; and its attributes."""
     words, kept, imports, modules, attributes, at = tokens(path), [], [], [], [], 0
     while at < len(words):
         word = words[at]
@@ -118,7 +119,7 @@ def cut(path, is_source):
 
 
 def here_only(kept):
-    """The tokens of a source without the items that are left out."""
+    """Returns the tokens of a source without the items that are left out."""
     out, begun, depth = [], 0, 0
     for at, word in enumerate(kept):
         depth += (word in "{([") - (word in "})]")
@@ -137,7 +138,7 @@ TEXTS = r"impl core :: (fmt :: Display|error :: Error) for "
 
 
 def canonical(kept, is_source):
-    """Tokens in one form: what is permitted is done, and no comma is before a closing bracket."""
+    """Returns the tokens in one form: the permitted replacements are made, and commas before closing brackets are dropped."""
     text = f" {' '.join(kept)} "
     if is_source:
         for pattern, instead in PERMITTED:
@@ -150,7 +151,7 @@ def canonical(kept, is_source):
 
 
 def without_labels(words):
-    """The tokens without the labels of loops that no `break` or `continue` names."""
+    """Returns the tokens without the labels of loops that no `break` or `continue` names."""
     out, at = [], 0
     while at < len(words):
         word = words[at]
@@ -165,7 +166,7 @@ def without_labels(words):
 
 
 def unwrapped(words):
-    """The tokens without the braces round an arm that is one expression, which rustfmt drops."""
+    """Returns the tokens without the braces around an arm that is one expression, because rustfmt drops them."""
     out, at = [], 0
     while at < len(words):
         out.append(words[at])
@@ -178,7 +179,7 @@ def unwrapped(words):
 
 
 def here(path, crate):
-    """The path here that a source's path becomes."""
+    """Returns the path here for a path of a source."""
     own = "crate::proved" + ("" if crate == "cobs" else f"::{crate}")
     if path.startswith("crate::"):
         return own + path.removeprefix("crate")
@@ -214,7 +215,7 @@ def differences(source, crate, made):
 
 
 def compared():
-    """What differs between the sources and the folder, by tokens."""
+    """Yields the differences between the tokens of the sources and of the folder."""
     made, const = set(), []
     for crate in ("cobs", "cobs_bytes"):
         for source in sorted((CRATES / crate / "src").rglob("*.rt")):
@@ -233,7 +234,7 @@ def compared():
 
 
 def again():
-    """What differs from a new translation."""
+    """Yields the differences from a new translation."""
     with tempfile.TemporaryDirectory() as folder:
         run = subprocess.run([sys.executable, RUST / "translate.py", folder, CRATES], capture_output=True, text=True)
         if run.returncode:

@@ -1,15 +1,15 @@
-//! Whether a push does what its bytes do, fed one by one, and `decode_with_sentinel` what the proved call does: short data
-//! have paths of their own.
+//! Tests that a push has the result of its bytes fed one by one, and that `decode_with_sentinel` has the result of the
+//! proved call. Short data has separate code.
 
 use jcobs::{CobsDecoder, DecodeError};
 
-/// Takes the bytes one by one, as far as a push of them goes. Returns how many that is, and the last result.
+/// Feeds the bytes one by one, as many as a push of them would take. Returns their number, and the last result.
 fn fed(decoder: &mut CobsDecoder<'_>, data: &[u8]) -> (usize, Result<Option<usize>, DecodeError>) {
     let mut result = Ok(None);
     for (before, &byte) in data.iter().enumerate() {
         let next = decoder.feed(byte);
         match next {
-            // All of a frame that is too long is taken, through its zero.
+            // All bytes of a frame that is too long are taken, through the zero that ends it.
             Err(DecodeError::TargetBufTooSmall) if byte != 0 => result = next,
             Ok(None) => {}
             _ => return (before + 1, next),
@@ -18,7 +18,7 @@ fn fed(decoder: &mut CobsDecoder<'_>, data: &[u8]) -> (usize, Result<Option<usiz
     (data.len(), result)
 }
 
-/// Pushes the bytes, and takes what is left after each result, until none is left.
+/// Pushes the bytes, and after each result the bytes that are left, until none is left.
 fn compare(room: usize, pieces: [&[u8]; 3]) {
     let (mut dest, mut dest_of_fed) = ([0xAA; 24], [0xAA; 24]);
     let mut pushed = CobsDecoder::new(&mut dest[..room]);
@@ -74,7 +74,7 @@ fn short_pushes_are_feeds() {
 
 #[test]
 fn short_frames_are_feeds() {
-    // A block, or its first bytes, with a zero at each place or none, and more behind it.
+    // A block, or its first bytes, with a zero at one place or none, and with bytes after it.
     for code in 1..=20 {
         for zero in 0..=24 {
             let mut data = [7; 24];

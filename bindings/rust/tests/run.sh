@@ -1,9 +1,9 @@
 #!/bin/sh
 # Builds the Rust crate and runs its tests.
 #
-# Prints a line for each part: 'ok', 'FAILED' with what it said, or 'skipped' with what it needs. The last line counts
-# them; the status is 0 only if nothing failed. No network is used: offline.sh says what stands for crates.io. COBS_TESTS
-# names a folder with the sources of the crate `cobs`, if they are at hand.
+# Prints a line for each part: 'ok', 'FAILED' with the output, or 'skipped' with the missing tools. The last line counts the
+# parts; the status is 0 only if no part failed. No network is used: offline.sh replaces crates.io. COBS_TESTS may name a folder
+# with the sources of the crate `cobs`.
 #
 # The functions are called by 'part'.
 # shellcheck disable=SC2317
@@ -30,7 +30,7 @@ if ! lacking=$("$rust/tests/offline.sh" "$work"); then
     finish
 fi
 
-# A copy, as cargo writes beside what it builds.
+# The tests run in a copy, because cargo writes to the folder of the package.
 mkdir -p "$work/tree/bindings" && cp -R "$rust" "$work/tree/bindings/rust" && rm -rf "$work/tree/bindings/rust/target" &&
     ln -s "$root/conformance" "$root/bench" "$work/tree" || exit
 cd "$work/tree/bindings/rust" || exit
@@ -45,7 +45,7 @@ documentation() {
     RUSTDOCFLAGS='-D warnings' cargo doc --no-deps --features "$1"
 }
 
-# With the features of the compiler that docs.rs turns on.
+# Builds the documentation with the compiler's features that docs.rs enables.
 as_docs_rs() {
     RUSTC_BOOTSTRAP=1 RUSTDOCFLAGS='-D warnings --cfg docsrs' CARGO_TARGET_DIR=$work/docs_rs cargo doc --no-deps --all-features &&
         grep -q 'crate feature <code>std</code>' "$work/docs_rs/doc/jcobs/struct.MessageReader.html"
@@ -88,14 +88,14 @@ END2
 [0, 0, 0, 0]' cargo run -q
 )
 
-# An example that is a package of its own, as it needs other crates.
+# Runs an example that is a separate package, because it needs other crates.
 example() { # FOLDER PRINTED FLAG..
     folder=$1 printed=$2
     shift 2
     prints "$printed" cargo run -q "$@" --manifest-path "examples/$folder/Cargo.toml"
 }
 
-# A crate that depends on `cobs`, below a program that puts this one in its place.
+# A program replaces `cobs` by this crate, and depends on a crate that depends on `cobs`.
 dependents() (
     mkdir -p "$work/dependent/src" "$work/patched/src" && cd "$work/patched" &&
         printf '[package]\nname = "dependent"\nedition = "2021"\n[dependencies]\ncobs = { version = "0.5", default-features = false }\n' \
@@ -107,7 +107,7 @@ dependents() (
         prints '[3, 104, 105, 0]' cargo run -q && cargo tree | grep -q 'jcobs v'
 )
 
-# The README's declarations for the library for C, in a program that is linked with it.
+# Compiles the README's declarations of the library for C in a program, and links the program with the library.
 by_extern() {
     sed -n '/^```rust,no_run$/,/^```$/p' README.md | sed -n '/^#\[repr(C)\]$/,/^```$/p' | sed '/^```$/d' >"$work/extern.rs" &&
         grep -q 'jcobs_encode' "$work/extern.rs" &&
@@ -115,20 +115,20 @@ by_extern() {
         prints '[3, 104, 105]' "$work/extern"
 }
 
-# Every call of the library for C beside that of this crate.
+# Compares every call of the library for C with the call of this crate.
 beside_c() {
     RUSTFLAGS="-L native=$root/bindings/c/prebuilt/$(uname -m)-linux" CARGO_TARGET_DIR=$work/beside_c \
         cargo run -q --release --manifest-path tests/beside_c/Cargo.toml >"$work/compared" && sed 's/^/= /' "$work/compared"
 }
 
-# The package that cargo makes has all that it needs: its tests run where nothing else of the repository is.
+# The package that cargo makes is complete: its tests run in a folder without the rest of the repository.
 packaged() (
     cargo package --no-verify --allow-dirty --target-dir "$work/package" && mkdir "$work/alone" &&
         tar -xzf "$work"/package/package/jcobs-*.crate -C "$work/alone" --strip-components 1 && cd "$work/alone" &&
         [ -f LICENSE-MIT ] && [ -f LICENSE-APACHE ] && [ -f CHANGELOG.md ] && cargo test --lib --tests
 )
 
-# The lint is left out of src/proved with all others, unless it is forced, and then it can only warn.
+# src/proved allows this lint with all others. If the lint is forced, it can only warn.
 oldest() {
     touch src/lib.rs && cargo clippy --features serde -- --force-warn clippy::incompatible_msrv 2>"$work/lint" &&
         ! grep -A 4 'current MSRV' "$work/lint"
@@ -138,7 +138,7 @@ part 'units, signatures, differences and cases' units
 part 'every step, and every string of six tokens' cargo test --release --test steps
 part 'every run, room and cut' cargo test --release --test model
 part 'without a feature' units --no-default-features
-# What a target without vectors gets, such as a Cortex-M4.
+# Tests the code for a target without vectors, such as a Cortex-M4.
 part 'byte by byte' units --features small
 part 'byte by byte, without an allocator' units --no-default-features --features small
 part 'byte by byte, every step, run, room and cut' cargo test --release --test steps --test model --features small

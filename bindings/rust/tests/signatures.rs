@@ -1,4 +1,4 @@
-//! That each name of `cobs` 0.5.1 is here with its signature: this file compiles.
+//! Tests that this crate has each name of `cobs` 0.5.1 with its signature: otherwise this file wouldn't compile.
 #![cfg(feature = "alloc")]
 #![allow(deprecated, clippy::type_complexity)]
 
@@ -59,7 +59,7 @@ fn encoders() {
     let _: fn(EncoderState) -> (usize, u8) = EncoderState::finalize;
 }
 
-/// The methods of a decoder's type.
+/// Checks the methods of a decoder's type.
 macro_rules! decoder {
     ($decoder:ty) => {
         let _: fn(&mut $decoder, u8) -> Fed = <$decoder>::feed;
@@ -85,7 +85,7 @@ fn decoders() {
         [DecodeReport::parsed_size, DecodeReport::frame_size];
 }
 
-/// Calls that make a coder or copy plain values serve in constants and statics.
+/// Calls that make a coder or copy plain values can be used in constants and statics.
 #[cfg(feature = "std")]
 #[test]
 fn constants() {

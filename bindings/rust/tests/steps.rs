@@ -1,31 +1,34 @@
-//! Every step of the streaming coders, and every string of a few tokens by every call, compared with the format.
+//! Compares every step of the streaming coders, and every call for all strings of a few tokens, with the format.
 //!
-//! What is compared with is `read`: it reads bytes as blocks, without a machine. A frame that an encoder writes is right
-//! if it has no zero, reads as the message, and doesn't end in the block 1 after a full one; a message has only one such
-//! frame. The test `check/steps.c` of the repository does the same for the library for C.
+//! The results are compared with those of `read`, which reads bytes as blocks, without a state machine. A frame that an
+//! encoder writes is right if it has no zero, reads as the message, and doesn't end in the block 1 after a full block;
+//! a message has only one frame with these properties. The test `check/steps.c` of the repository does the same for the
+//! library for C.
 
 use jcobs::{CobsDecoder, CobsEncoder, DecodeError, DestBufTooSmallError, FrameKind};
 
 /// The bytes of a buffer before a call; no string has this byte.
 const FILL: u8 = 0xEE;
-/// Tokens in a string. Without optimization more of them take too long.
+/// The number of tokens in a string. Without optimization more tokens would take too long.
 const DEPTH: u32 = if cfg!(debug_assertions) { 3 } else { 6 };
 const SENTINELS: [u8; 4] = [1, 2, 0x5A, 255];
 
-/// How bytes without a zero read.
+/// The message that bytes without a zero read as.
 struct Reading {
-    /// What they decode to.
+    /// The output of the bytes.
     output: Vec<u8>,
-    /// How many bytes of it the whole blocks give, with the zero after them if they aren't full.
+    /// The number of bytes of the output of the whole blocks, including the zero after the last whole block, unless it
+    /// is full.
     kept: usize,
-    /// Whether there are none, or bytes of the last block are missing.
+    /// Whether there are no bytes, or bytes of the last block are missing.
     broken: bool,
-    /// Whether the last block is 1, after a full one.
+    /// Whether the last block is 1, after a full block.
     longer: bool,
 }
 
-/// Reads bytes as blocks, end to end. A block is a code, and bytes after it; the code counts them and itself. They stand
-/// for these bytes, and a zero between two blocks unless the first is full, that is has the code 255.
+/// Reads bytes as blocks, end to end. A block is a code and the bytes after it; the code counts these bytes and itself.
+/// The output is the bytes of the blocks without their codes, with a zero between two blocks unless the first has the
+/// code 255, and so is full.
 fn read(mut bytes: &[u8]) -> Reading {
     let mut reading = Reading {
         output: Vec::new(),
@@ -56,12 +59,12 @@ fn xored(bytes: &[u8], sentinel: u8) -> Vec<u8> {
     bytes.iter().map(|byte| byte ^ sentinel).collect()
 }
 
-/// The bytes up to the first zero, or all.
+/// Returns the bytes before the first zero, or all bytes.
 fn head(bytes: &[u8]) -> &[u8] {
     bytes.split(|&byte| byte == 0).next().unwrap_or_default()
 }
 
-/// A buffer that begins with as much of these bytes as fits, and is otherwise as before the call.
+/// Returns a buffer that begins with as many of these bytes as fit, and is otherwise as before the call.
 fn filled_but(front: &[u8], room: usize) -> Vec<u8> {
     let mut buffer = vec![FILL; room];
     let fits = front.len().min(room);
@@ -69,7 +72,7 @@ fn filled_but(front: &[u8], room: usize) -> Vec<u8> {
     buffer
 }
 
-/// The encoded frame of a message, by `try_encode`, and that it is the encoded frame.
+/// Returns the frame that `try_encode` writes for a message, and checks that it is the encoded frame.
 fn frame_of(message: &[u8]) -> Vec<u8> {
     let len = message.len();
     let longest = if len == 0 { 1 } else { len + len.div_ceil(254) };
@@ -84,7 +87,7 @@ fn frame_of(message: &[u8]) -> Vec<u8> {
     frame
 }
 
-/// Pushes a stream in two pieces, and what is left after each frame again.
+/// Pushes a stream in two pieces. After each frame the bytes that are left are pushed again.
 fn check_stream(stream: &[u8], room: usize, cut: usize) {
     let mut dest = vec![FILL; room];
     let mut decoder = CobsDecoder::new(&mut dest);
@@ -192,7 +195,7 @@ fn check_source(source: &[u8], room: usize, sentinel: u8) {
     }
     assert_eq!(dest, filled_but(kept, room), "{}", place());
 
-    // In place the buffer always suffices.
+    // In place the buffer is always long enough.
     let after = [kept, &source[kept.len()..]].concat();
     let mut buffer = source.to_vec();
     assert_eq!(jcobs::decode_in_place(&mut buffer), expected, "{}", place());
@@ -221,7 +224,7 @@ fn check_source(source: &[u8], room: usize, sentinel: u8) {
     assert_eq!(jcobs::frame_kind(source), kind, "{}", place());
 }
 
-/// What a call makes of a buffer: its result, and the buffer.
+/// The result of a call, and the buffer after it.
 type Written = (Result<usize, DestBufTooSmallError>, Vec<u8>);
 
 fn written(
@@ -272,7 +275,7 @@ fn check_message(message: &[u8], sentinel: u8) {
     assert_eq!(buffer, [frame, rest].concat(), "{message:?} in place");
 }
 
-/// Encodes a message in two pushes: with the room that it needs, with some more, and with less.
+/// Encodes a message in two pushes, to a buffer that is as long as needed, longer, or shorter.
 fn check_pushes(message: &[u8], cut: usize) {
     let (first, second) = message.split_at(cut);
     let (first_frame, frame) = (frame_of(first), frame_of(message));
@@ -306,24 +309,26 @@ fn check_pushes(message: &[u8], cut: usize) {
     }
 }
 
-/// Bytes for a block: none is zero or `FILL`.
+/// Returns bytes for a block; no byte is zero or `FILL`.
 fn run(length: usize) -> Vec<u8> {
     (0..length).map(|i| (i % 200 + 1) as u8).collect()
 }
 
-/// A block with these bytes.
+/// Returns a block with these bytes.
 fn block(bytes: &[u8]) -> Vec<u8> {
     let mut block = vec![(bytes.len() + 1) as u8];
     block.extend(bytes);
     block
 }
 
-/// Each state that a piece can leave, as far as the next byte's result depends on it, and each byte after it.
+/// Tests each state in which a piece can leave a decoder, as far as the next byte's result depends on the state, with
+/// each next byte.
 #[test]
 fn decoder_steps() {
     let mut fronts = vec![Vec::new()];
     for missing in 0..=253 {
-        // The last block isn't full, has so many bytes missing, and some or none in the buffer.
+        // The last block isn't full, this number of its bytes is missing, and some or none of its bytes are in the
+        // buffer.
         for bytes in 0..=(253 - missing).min(2) {
             let code = (missing + bytes + 1) as u8;
             let begun = [&[code], &run(bytes)[..]].concat();
@@ -348,7 +353,8 @@ fn decoder_steps() {
     }
 }
 
-/// Each length of the open block, after blocks of several kinds, and a byte after it; each byte where the step differs.
+/// Tests each length of the open block, after blocks of several kinds, with a next byte. At the lengths at which the
+/// step differs, each next byte is tested.
 #[test]
 fn encoder_steps() {
     let full = run(254);
@@ -380,8 +386,8 @@ fn put_token(string: &mut Vec<u8>, token: u32, of_frame: bool) {
     }
 }
 
-/// The string of this number, whose digits are the tokens, and where to cut it: everywhere if it is short, otherwise beside
-/// the ends of the tokens.
+/// Returns the string of this number, whose digits are the tokens, and the places to cut it: everywhere if the string
+/// is short, otherwise near the ends of the tokens.
 fn string(number: u32, depth: u32, of_frame: bool) -> (Vec<u8>, Vec<usize>) {
     let (mut string, mut cuts) = (Vec::new(), vec![0]);
     for place in 0..depth {
@@ -397,7 +403,7 @@ fn string(number: u32, depth: u32, of_frame: bool) -> (Vec<u8>, Vec<usize>) {
     (string, cuts)
 }
 
-/// Every call with this source or stream, with several lengths of the buffer.
+/// Tests every call with this source or stream, with several lengths of the buffer.
 fn check_frames(source: &[u8], cuts: &[usize], sentinel: u8) {
     let lengths = source
         .split(|&byte| byte == 0)
@@ -419,7 +425,7 @@ fn check_frames(source: &[u8], cuts: &[usize], sentinel: u8) {
     }
 }
 
-/// Every call with this message.
+/// Tests every call with this message.
 fn check_messages(message: &[u8], cuts: &[usize], sentinel: u8) {
     check_message(message, sentinel);
     for &cut in cuts {
@@ -440,8 +446,8 @@ fn strings() {
     }
 }
 
-/// Two blocks of each pair of lengths: whole, without the last byte, and with a zero after them; and their message. The
-/// crate has ways of its own for some lengths.
+/// Tests two blocks of each pair of lengths (whole, without the last byte, and with a zero after them) and their
+/// message. The crate has separate code for some lengths.
 #[test]
 fn pairs_of_blocks() {
     let step = if cfg!(debug_assertions) { 23 } else { 1 };

@@ -1,14 +1,15 @@
 #!/bin/sh
 # Runs the crate's tests as programs for other targets: targets.sh [TARGET..] [-- FLAG..]
 #
-# aarch64 (NEON), armv7 and s390x (big-endian) by qemu-user, and i686, with the tests that come with the package and the cases
-# of conformance/; wasm32 in Node, with SIMD and without, on random messages and streams (wasm/). Each needs a compiler that has
-# the target's library: rustup's, Debian's /usr/bin/rustc, or the one that RUSTC names. debian-rustc.sh unpacks one for the
-# first four; for wasm32 Debian's lld and the `core` that speeds.py has built for it are enough. A target that lacks something
-# is skipped by name. With SIMD the feature `small` is tested too; on the others it changes nothing. FLAG.. choose tests, as those of
-# cargo test: targets.sh s390x -- --test model
+# The script runs the package's tests and the cases of conformance/ for i686, and with qemu-user for aarch64 (NEON), armv7 and
+# s390x (big-endian). It runs random messages and streams for wasm32 in Node, with SIMD and without (wasm/). Each target needs a
+# compiler that has the target's library: rustup's, Debian's /usr/bin/rustc, or the compiler that RUSTC names. debian-rustc.sh
+# unpacks a compiler for the first four targets. For wasm32, Debian's lld and the `core` that speeds.py has built are enough. If
+# a tool for a target is missing, the script prints the target's name and skips it. On targets with SIMD the feature `small` is
+# tested too; on the other targets it changes nothing. FLAG.. choose tests, as for cargo test: targets.sh s390x -- --test model
 #
-# Prints a line for each part; the last line counts them. Not a part of run.sh: it takes about ten minutes a target.
+# Prints a line for each part; the last line counts them. run.sh doesn't run this script, which takes about ten minutes for each
+# target.
 #
 # The functions are called by 'part'. Lists of flags are meant to be split.
 # shellcheck disable=SC2086,SC2317
@@ -36,11 +37,12 @@ if ! missing=$("$rust/tests/offline.sh" "$work"); then
     skip 'other targets' "$missing"
     finish
 fi
-# A copy, as cargo writes beside what it builds.
+# The tests run in a copy, because cargo writes to the folder of the package.
 mkdir -p "$work/tree/bindings" && cp -R "$rust" "$work/tree/bindings/rust" && rm -rf "$work/tree/bindings/rust/target" &&
     ln -s "$root/conformance" "$root/bench" "$work/tree" && cd "$work/tree/bindings/rust" || exit
 
-# Optimized a little: qemu takes ten times as long. The checks of a debug build stay, and so do the tests' smaller numbers.
+# The tests are optimized a little, because qemu is ten times slower. They keep the checks of a debug build, and its smaller
+# numbers of cases.
 tests() { # NAME TARGET LINKER RUNNER
     in_cargo=$(echo "$2" | tr 'a-z-' 'A-Z_')
     export "CARGO_TARGET_${in_cargo}_LINKER=$3" "CARGO_TARGET_${in_cargo}_RUNNER=$4" "RUSTC=$compiler"
@@ -49,7 +51,7 @@ tests() { # NAME TARGET LINKER RUNNER
     case $1 in aarch64 | i686) cargo test --target "$2" $flags --features small ;; esac
 }
 
-# A compiler with the `core` that speeds.py has built with it.
+# A compiler for which speeds.py has built `core`.
 with_built_core() {
     command -v wasm-ld >/dev/null || return 1
     for maker in "$given" /usr/bin/rustc; do
@@ -65,7 +67,7 @@ with_built_core() {
     return 1
 }
 
-# Built for WebAssembly, and run in Node beside a loop over single bytes in JavaScript.
+# Builds for WebAssembly, and compares the calls in Node with a loop over single bytes in JavaScript.
 in_node() { # NAME FLAG..
     called=$1
     shift

@@ -1,5 +1,5 @@
-//! The cases of the repository's `conformance/`, by the calls of this crate, all of them with the feature `std`.
-//! `conformance/README.md` has the format.
+//! Runs the cases of the repository's `conformance/` with the calls of this crate. All calls need the feature `std`.
+//! `conformance/README.md` has the format of the cases.
 
 use std::fmt::Write as _;
 use std::fs;
@@ -13,7 +13,7 @@ use jcobs::{
 #[cfg(feature = "alloc")]
 use jcobs::{CobsDecoderOwned, FrameOutcome};
 
-/// The words of a result, as the files have them.
+/// The words of a result, as the files write them.
 type Words = Vec<String>;
 
 #[test]
@@ -73,7 +73,8 @@ fn vectors() {
     );
 }
 
-/// A word without its parts: the digits of each as often as the number after the star says.
+/// Returns a word with its parts written out: the digits of each part, repeated as often as the number after the star
+/// says.
 fn written_out(word: &str) -> String {
     word.split('+')
         .map(|part| match part.split_once('*') {
@@ -83,10 +84,10 @@ fn written_out(word: &str) -> String {
         .collect()
 }
 
-/// What a call returned, by one of the ways to make it.
+/// The result of a call, made in one of several ways.
 struct CallResult {
     words: Words,
-    /// Whether a streaming decoder was given pieces, and not bytes.
+    /// Whether a streaming decoder got pieces, not single bytes.
     by_pushes: bool,
 }
 
@@ -100,8 +101,8 @@ fn agrees(found: &[String], expected: &[&str], owed: bool) -> bool {
         })
 }
 
-/// What pushes return, by what bytes one by one do: an overflow is reported once for each push, so only at the zero that
-/// ends the frame, and where a piece ends.
+/// Turns the results of single bytes into the results of pushes. An overflow is reported once for each push: at the
+/// zero that ends the frame, and at the end of each push.
 fn expected_of_pushes<'a>(expected: &[&'a str], arguments: &[&str]) -> Vec<&'a str> {
     let mut stream = Vec::new();
     let mut ends = Vec::new();
@@ -148,7 +149,7 @@ fn hex(bytes: &[u8]) -> String {
     })
 }
 
-/// What each way to make the call returns, or `None` if this crate hasn't the call.
+/// Returns the result of each way to make the call, or `None` if this crate doesn't have the call.
 fn results(call: &str, arguments: &[&str]) -> Option<Vec<CallResult>> {
     let all_bytes = |ways: Vec<Words>| {
         ways.into_iter()
@@ -345,7 +346,7 @@ fn message(decoded: Result<Vec<u8>, DecodeError>) -> Words {
     words
 }
 
-/// The three decoders, as the cases use them.
+/// The calls of the three decoders that the cases use.
 trait Streaming {
     fn push(&mut self, data: &[u8]) -> Result<Option<DecodeReport>, DecodeError>;
     fn feed(&mut self, data: u8) -> Result<Option<usize>, DecodeError>;
@@ -377,7 +378,7 @@ macro_rules! streaming {
     };
 }
 
-// This one has no `reset`. A zero leaves it idle too, and changes no byte.
+// This decoder has no `reset`. A zero makes it idle too, and changes no byte.
 streaming!(CobsDecoder<'_>, [], |decoder| {
     let _ = decoder.feed(0);
 });
@@ -413,7 +414,7 @@ fn decoder(buffer: &[u8], pieces: &[&str]) -> Vec<CallResult> {
     results
 }
 
-/// The buffer at the end, then three words for each result but "nothing yet".
+/// Returns the buffer at the end, and then three words for each result except "nothing yet".
 fn events(decoder: &mut dyn Streaming, pieces: &[&str], by_pushes: bool) -> Words {
     let mut words = Vec::new();
     let mut taken = 0;
@@ -454,7 +455,7 @@ fn events(decoder: &mut dyn Streaming, pieces: &[&str], by_pushes: bool) -> Word
     words
 }
 
-/// Two words for each piece of the stream, by one call for each part of it.
+/// Returns two words for each piece of the stream. Each part of the stream is passed in one call.
 #[cfg(feature = "alloc")]
 fn decode_stream(room: usize, pieces: &[&str]) -> Words {
     let mut decoder = CobsDecoderOwned::new(room);
@@ -472,7 +473,8 @@ fn decode_stream(room: usize, pieces: &[&str]) -> Words {
     words
 }
 
-/// The same by pushes. A piece that is too long is reported at its zero, where the bytes that were taken end with it.
+/// Returns the same words, by pushes. A piece that is too long is reported at the zero that ends it: there the bytes
+/// that the push took end with a zero.
 fn by_pushes(room: usize, pieces: &[&str]) -> Words {
     let mut dest = vec![0; room];
     let mut decoder = CobsDecoder::new(&mut dest);
@@ -502,7 +504,7 @@ fn by_pushes(room: usize, pieces: &[&str]) -> Words {
     words
 }
 
-/// A source that gives these reads, and counts those that are made.
+/// A source that returns these reads, and counts the reads.
 struct Reads<'a> {
     left: &'a [&'a str],
     rest: Vec<u8>,
@@ -519,7 +521,7 @@ impl FrameSource for Reads<'_> {
             }
             self.rest = bytes(read);
         }
-        // A read of more bytes than a chunk has isn't in the cases.
+        // No case has a read of more bytes than a chunk.
         let length = self.rest.len();
         chunk[..length].copy_from_slice(&self.rest);
         self.rest.clear();
@@ -527,7 +529,7 @@ impl FrameSource for Reads<'_> {
     }
 }
 
-/// Three words for each call: how many reads it made, and what it returned.
+/// Returns three words for each call: how many reads it made, and its result.
 fn next_frame(room: usize, reads: &[&str]) -> Words {
     let mut dest = vec![0; room];
     let mut reader = FrameReader::new(CobsDecoder::new(&mut dest));

@@ -2,7 +2,8 @@
 
 wide proved_jcobs_max_length(wide message_len);
 
-/* The proved one returns 0 if the number has more than 64 bits; where it has more than 32, this returns 0. */
+/* The proved function returns 0 if the length doesn't fit 64 bits. This call also returns 0 if the length doesn't fit
+ * 32 bits. */
 size_t jcobs_max_length(size_t message_len)
 {
     wide longest = proved_jcobs_max_length(message_len);

@@ -1,10 +1,11 @@
-/* wide.h: between the calls of jcobs.h where size_t has 32 bits and the proved functions, whose lengths have 64.
+/* wide.h: connects the calls of jcobs.h, whose size_t has 32 bits, with the proved functions, whose lengths have 64
+ * bits.
  *
- * Each call in the files beside this one widens its lengths and its state, calls the proved function of that name, and
- * narrows what that returns. This loses nothing: each number that comes back is a length within a buffer, or a
- * place in one. No proof covers these files; tests/device.sh runs them on each target.
+ * Each call in this folder widens its lengths and its state, calls the proved function of the same name, and narrows
+ * the results. No number is too large for 32 bits: each result is a length within a buffer, or an index in a buffer. No
+ * proof covers these files; tests/device.sh runs them on each target.
  *
- * The build compiles each file and the proved module into one object, so that the widening costs next to nothing.
+ * The build compiles each file and the proved module into one object, so that the conversion costs almost nothing.
  */
 #ifndef JCOBS_WIDE_H
 #define JCOBS_WIDE_H
@@ -12,7 +13,7 @@
 #include <jcobs.h>
 
 #ifdef __arm__
-/* No call takes or returns a float: so the objects can be linked whichever registers the program passes floats in. */
+/* No call takes or returns a float, so the objects can be linked with programs that pass floats in any registers. */
 __asm__(".eabi_attribute 28, 3");
 #endif
 

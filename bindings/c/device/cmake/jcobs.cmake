@@ -1,7 +1,8 @@
-# The library as a target: include(.../bindings/c/device/cmake/jcobs.cmake), then target_link_libraries(program jcobs::jcobs).
+# Defines the library as a target: include(.../bindings/c/device/cmake/jcobs.cmake), then target_link_libraries(program jcobs::jcobs).
 #
-# JCOBS_CORE names a folder of src/, whose archive is taken; a toolchain file can set it. Without it jcobs.c is compiled, each call
-# to a section of its own, so that -Wl,--gc-sections leaves out those that the program doesn't make.
+# If JCOBS_CORE names a folder of src/, the target is the archive in that folder; a toolchain file can set JCOBS_CORE. Otherwise
+# jcobs.c is compiled, with each call in a separate section, so that -Wl,--gc-sections leaves out the calls that the program
+# doesn't make.
 if(NOT TARGET jcobs::jcobs)
     get_filename_component(_jcobs_src "${CMAKE_CURRENT_LIST_DIR}/../src" ABSOLUTE)
     if(NOT JCOBS_CORE)

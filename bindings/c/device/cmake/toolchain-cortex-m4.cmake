@@ -1,4 +1,4 @@
-# A CMake toolchain file for a Cortex-M4: cmake -DCMAKE_TOOLCHAIN_FILE=.. Another core has other flags and another folder.
+# A CMake toolchain file for a Cortex-M4: cmake -DCMAKE_TOOLCHAIN_FILE=.. For another core, change the flags and the folder.
 set(CMAKE_SYSTEM_NAME Generic)
 set(CMAKE_SYSTEM_PROCESSOR arm)
 set(CMAKE_C_COMPILER arm-none-eabi-gcc)

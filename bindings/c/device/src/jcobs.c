@@ -1,36 +1,36 @@
 /* jcobs.c: the calls of jcobs.h in one file of C, for any processor and compiler. Written by translate.py: don't edit it.
  *
- * Compile it with your program, by C99 or later or as C++, with jcobs.h beside it or in the include path. It has no
- * variables that stay, only a constant table with the texts of jcobs_strerror. It allocates nothing, and names no function
- * of a C library; a compiler may call memset or memcpy for some of its lines.
+ * Compile this file with your program, as C99 or later or as C++, with jcobs.h in the same folder or in the include path.
+ * The file has no static variables except a constant table of the texts of jcobs_strerror. It allocates no memory, and
+ * calls no function of a C library; a compiler may call memset or memcpy for some of its lines.
  *
- * What is proved: the functions of crates/cobs_small, for lengths of 64 bits, on any contents of the buffers and the
- * states. Each meets its contract, accesses only the buffers that it is given, and returns. The comment above a call says
- * what its contract says, in short, and names the file of crates/cobs_small/src in which it is. The words of the contracts
- * are defined in crates/cobs_abi/specs and crates/cobs/specs.
+ * What is proved: each function of crates/cobs_small meets its contract, accesses only the buffers that are passed to it,
+ * and returns. The proofs are for lengths of 64 bits and for any contents of the buffers and states. The comment above a
+ * call summarizes its contract, and names the file of crates/cobs_small/src that has the contract. The words of the
+ * contracts are defined in crates/cobs_abi/specs and crates/cobs/specs.
  *
- * What is not proved, but tested: that this text does the same. translate.py wrote each function from the one in Rattle,
- * and your compiler compiles it. Lengths have the width of your size_t. bindings/c/tests/translated.py, which shares
- * nothing with translate.py, compares the two texts: conditions, loops, operators, numbers, calls and the use of names.
- * bindings/c/tests/run.sh compares two million calls with those of the proved module itself. This script and
- * tests/device.sh run this file on processors with 16, 32 and 64 bits and both byte orders: the vectors of conformance/
- * (except on the processor with 16 bits), and random calls compared with plain C, with states of random bytes. The calls
- * from jcobs_xor on are written by hand, and tested in the same way.
+ * What is tested, not proved: that this file does what the functions in Rattle do. translate.py translated each function
+ * from Rattle, and your compiler compiles it. Lengths have the width of your size_t. bindings/c/tests/translated.py,
+ * which shares no code with translate.py, compares both texts: conditions, loops, operators, numbers, calls and the use
+ * of names. bindings/c/tests/run.sh compares two million calls of this file with calls of the proved module itself.
+ * run.sh and tests/device.sh run this file on processors of both byte orders, whose size_t has 16, 32 or 64 bits. They run
+ * the cases of conformance/ (except where size_t has 16 bits), and compare random calls, with states of random bytes,
+ * with plain C. The functions from jcobs_xor on are written by hand, and tested in the same way.
  */
 #include "jcobs.h"
 
 #include <limits.h>
 
-/* These don't compile for a processor that this file isn't for: one whose bytes have more than 8 bits, or whose size_t is
- * shorter than unsigned int. */
+/* These two types don't compile if this file doesn't support the processor: if bytes have more than 8 bits, or if size_t
+ * is shorter than unsigned int. */
 typedef char jcobs_bytes_have_8_bits[CHAR_BIT == 8 ? 1 : -1];
 typedef char jcobs_size_t_is_no_shorter_than_int[sizeof(size_t) >= sizeof(unsigned int) ? 1 : -1];
 
-/* Functions that a loop over bytes calls become part of it (JCOBS_INLINE). Some that have such a loop stay functions of
- * their own (JCOBS_APART), so that the loop has all registers of a small processor; x86-64 has more of them, and a call
- * costs as much there as some bytes. What a call for each byte does once in a piece becomes part of that call, except on
- * x86-64 (JCOBS_RARE): gcc would let the other bytes jump to a return that both share, and they would take a fifth more
- * time. */
+/* A function that a loop over bytes calls is inlined into the loop (JCOBS_INLINE). Some functions that contain such a
+ * loop aren't inlined (JCOBS_APART), so that the loop can use all registers of a small processor. On x86-64 they may be
+ * inlined: this processor has more registers, and a call takes as long as some bytes. A function for a byte that comes
+ * once in a piece is inlined into the call that takes each byte, except on x86-64 (JCOBS_RARE): there gcc would give
+ * all bytes one return, to which most would have to jump, and a call would take a fifth more time. */
 #ifdef __GNUC__
 #define JCOBS_INLINE __inline__ __attribute__((always_inline))
 #ifdef __x86_64__
@@ -46,31 +46,32 @@ typedef char jcobs_size_t_is_no_shorter_than_int[sizeof(size_t) >= sizeof(unsign
 #define JCOBS_RARE
 #endif
 
-/* A frame is a sequence of blocks. A block is a code, from 1 to 255, and after it code - 1 bytes, none of which is 0. A block
- * with the code 255 is full. The message is the bytes of the blocks without their codes, and a zero between two blocks if the
- * first one isn't full. The last block is open while more bytes may come.
+/* A frame is a sequence of blocks. A block is a code, from 1 to 255, followed by code - 1 bytes, none of which is 0. A
+ * block with the code 255 is full. The message consists of the bytes of the blocks without their codes, with a zero
+ * between two blocks unless the first of the two is full. The last block is open while more bytes may come.
  *
- * What the members of the states mean, which jcobs.h declares:
+ * jcobs.h declares the states. Their members have these meanings:
  *
- * - of a decoder: written bytes of the open message are in the buffer, and the open block lacks missing bytes. joint is 1
- *   after the code of a block that isn't full: a zero joins the next block to it, if there is one. It is 0 at the start, and
- *   after the code of a full block. too_long is 1 if a byte of the message had no room: the rest of the piece is skipped;
- * - of an encoder: the code of the open block belongs at index, and the taken bytes of that block are in the buffer after
- *   this place. full is 1 if the last byte made a block full: the frame ends with that block, unless another byte comes.
+ * - In a decoder, the first `written` bytes of the buffer are the open message so far, and the open block still needs
+ *   `missing` bytes. joint is 1 after the code of a block that isn't full: if another block follows, the message has a
+ *   zero between the two. joint is 0 at the start, and after the code of a full block. too_long is 1 if there was no room
+ *   for a byte of the message: then the rest of the piece is skipped.
+ * - In an encoder, the code of the open block belongs at `index` of the buffer, and the `taken` bytes of this block
+ *   follow it. full is 1 if the last byte made a block full: the frame ends with this block, unless another byte comes.
  *
- * They may have any other values. Each value but 0 of joint, too_long and full counts as 1. */
+ * A member may also have any other value. In joint, too_long and full each value except 0 has the meaning of 1. */
 
-/* How a piece of a stream ended. A piece is what is between two zeros: a frame, or one that is broken. */
+/* How a piece of a stream ended. A piece is the bytes between two zeros: a frame, or a broken frame. */
 enum jcobs_end_kind {
-    JCOBS_END_MESSAGE,  /* it is the frame of a message with this many bytes */
-    JCOBS_END_BROKEN,   /* it breaks off inside a block, and decodes to this many bytes */
-    JCOBS_END_TOO_LONG, /* it decodes to more bytes than the buffer has room for */
-    JCOBS_END_NONE      /* it hasn't ended, or there is none: the numbers say nothing */
+    JCOBS_END_MESSAGE,  /* the piece is the frame of a message; count is the message's length */
+    JCOBS_END_BROKEN,   /* the piece breaks off inside a block; count is the length of its output */
+    JCOBS_END_TOO_LONG, /* the output of the piece is longer than the buffer */
+    JCOBS_END_NONE      /* the piece hasn't ended, or there is no piece: count has no meaning */
 };
 
 typedef struct jcobs_end {
     enum jcobs_end_kind kind;
-    size_t count; /* how many bytes, of a message or a broken piece */
+    size_t count; /* the length of a message, or of the output of a broken piece */
 } jcobs_end;
 
 static JCOBS_INLINE jcobs_end jcobs_make_end(enum jcobs_end_kind kind, size_t count)
@@ -82,7 +83,7 @@ static JCOBS_INLINE jcobs_end jcobs_make_end(enum jcobs_end_kind kind, size_t co
     return end;
 }
 
-/* The same, and how many bytes were consumed. */
+/* A jcobs_end with the number of bytes that were consumed. */
 typedef struct jcobs_piece {
     enum jcobs_end_kind kind;
     size_t count;
@@ -99,7 +100,7 @@ static JCOBS_INLINE jcobs_piece jcobs_make_piece(enum jcobs_end_kind kind, size_
     return piece;
 }
 
-/* The length of an encoder's frame, if it fits the buffer. */
+/* Whether an encoder's frame fits the buffer, and the frame's length if it fits. */
 typedef struct jcobs_frame {
     int fits;
     size_t length;
@@ -129,7 +130,7 @@ static JCOBS_INLINE size_t jcobs_min(size_t a, size_t b)
     return a < b ? a : b;
 }
 
-/* Returns the sum, or the other number if the sum doesn't fit. */
+/* Returns the sum of a and b, or the number `other` if the sum doesn't fit a size_t. */
 static size_t jcobs_sum_or(size_t a, size_t b, size_t other)
 {
     return b > (size_t)-1 - a ? other : a + b;
@@ -142,8 +143,8 @@ enum {
 
 /* How much of a frame is in the buffer. */
 typedef struct jcobs_progress {
-    size_t index;       /* where the code of the open block belongs */
-    unsigned char code; /* the code that the open block has so far: one more than the number of its bytes */
+    size_t index;       /* the index at which the code of the open block belongs */
+    unsigned char code; /* the code of the open block so far: one more than the number of its bytes */
     int is_full;        /* whether the last block is full: then no block is open, and the frame ends at index */
 } jcobs_progress;
 
@@ -200,8 +201,8 @@ static JCOBS_APART size_t jcobs_find_end(const unsigned char *source, size_t sou
     return end;
 }
 
-/* Returns the piece that ended, with this many bytes of output, with this many bytes of its last block missing,
- * and with this many bytes consumed. */
+/* Returns how a piece ended that has this many bytes of output, and of whose last block this many bytes are
+ * missing, and how many bytes were consumed. */
 static JCOBS_INLINE jcobs_piece jcobs_ended_piece(size_t written, size_t missing, size_t consumed)
 {
     if (missing == 0) {
@@ -261,8 +262,9 @@ static jcobs_answer jcobs_ok_answer(size_t consumed, size_t length)
 }
 
 /* Decodes the first frame of the source to the front of message.
- * Proved, by the contract in decode.rt: the result and every byte of the buffer depend only on the source and
- * message_size, as COBS is defined; a buffer as long as the source is never too small. */
+ * Proved, by the contract in decode.rt: the result and the written bytes are those that the definition of COBS
+ * gives for the source and message_size, and all other bytes of the buffer are as they were. A buffer as long as
+ * the source is never too small. */
 jcobs_answer jcobs_decode(const void *source, size_t source_len, void *message, size_t message_size)
 {
     jcobs_piece piece = jcobs_decode_piece((const unsigned char *)source, source_len, (unsigned char *)message,
@@ -282,7 +284,7 @@ jcobs_answer jcobs_decode(const void *source, size_t source_len, void *message, 
 }
 
 /* Makes the decoder idle, even if its state is corrupt.
- * Proved, by the contract in decoder.rt: then the decoder has taken nothing, whatever its state was. */
+ * Proved, by the contract in decoder.rt: after the call the decoder has taken no byte, whatever its state was. */
 void jcobs_decoder_reset(jcobs_decoder *decoder)
 {
     jcobs_decoder_start(decoder);
@@ -406,8 +408,8 @@ static JCOBS_INLINE size_t jcobs_decoder_length(const jcobs_decoder *decoder, si
     return jcobs_min(decoder->written, buffer_size);
 }
 
-/* Returns the result of a call that took len bytes or, if a piece has ended in them, those through its end. The
- * buffer has buffer_size bytes. piece says whether and how the piece has ended. */
+/* Returns the result of a call that took the bytes through the end of this piece, if it has ended, or otherwise
+ * all len bytes. The buffer has buffer_size bytes. */
 static JCOBS_INLINE jcobs_answer jcobs_decoder_answer(const jcobs_decoder *decoder, jcobs_piece piece, size_t len,
                                                       size_t buffer_size)
 {
@@ -428,8 +430,8 @@ static JCOBS_INLINE jcobs_answer jcobs_decoder_answer(const jcobs_decoder *decod
 /* Takes bytes of the stream, through the zero that ends the first piece, or all of them if no piece ends. Even if
  * the state is corrupt, nothing outside the buffers is accessed.
  * Proved, by the contract in decoder.rt: the result, the state and the buffer are those that the definition of the
- * stream has after these bytes, however it is cut into calls. In every state consumed and length are within bytes
- * and buffer. */
+ * stream gives after these bytes, however the stream is cut into calls. In every state consumed is at most the
+ * number of bytes passed, and length is at most buffer_size. */
 jcobs_answer jcobs_decoder_push(jcobs_decoder *decoder, void *buffer, size_t buffer_size, const void *bytes, size_t len)
 {
     jcobs_piece piece = jcobs_decoder_take(decoder, (unsigned char *)buffer, buffer_size, (const unsigned char *)bytes,
@@ -498,8 +500,8 @@ static JCOBS_INLINE size_t jcobs_decoder_take_and_measure(jcobs_decoder *decoder
 
 /* Takes one byte of the stream, as a push of that byte does.
  * Proved, by the contract in decoder.rt: the result, the state and the buffer are those that the definition of the
- * stream has after these bytes, however it is cut into calls. In every state consumed and length are within bytes
- * and buffer. */
+ * stream gives after these bytes, however the stream is cut into calls. In every state consumed is at most the
+ * number of bytes passed, and length is at most buffer_size. */
 jcobs_answer jcobs_decoder_feed(jcobs_decoder *decoder, void *buffer, size_t buffer_size, unsigned char byte)
 {
     unsigned char *const buffer_bytes = (unsigned char *)buffer;
@@ -522,7 +524,7 @@ static size_t jcobs_max_overhead(size_t message_len)
 
 /* Returns the length of the longest frame of a message of message_len bytes, or 0 if that length doesn't fit the
  * type of the result.
- * Proved, by the contract in encode.rt: the result is that number if it is below 2 to the 64th, and 0 if not. */
+ * Proved, by the contract in encode.rt: the result is this length if it is below 2 to the 64th, and 0 otherwise. */
 size_t jcobs_max_length(size_t message_len)
 {
     return jcobs_sum_or(message_len, jcobs_max_overhead(message_len), 0);
@@ -559,8 +561,8 @@ static int jcobs_extra_codes_fit(unsigned char code, const unsigned char *bytes,
 }
 
 /* Returns whether room bytes, counted from the code of an open block, are enough for the frame if the block takes
- * these bytes. The bytes are read only if their number doesn't decide whether the frame fits. data_len is how many
- * bytes of the message the open block and those after it then have. */
+ * these bytes. The bytes are read only if their number doesn't decide whether the frame fits. data_len is the
+ * number of bytes of the message in the open block and the blocks after it, with these bytes. */
 static JCOBS_INLINE int jcobs_has_room(unsigned char code, const unsigned char *bytes, size_t len, size_t room)
 {
     size_t taken = (size_t)code - 1;
@@ -573,9 +575,9 @@ static JCOBS_INLINE int jcobs_has_room(unsigned char code, const unsigned char *
     return jcobs_covers_overhead(data_len, spare) || jcobs_extra_codes_fit(code, bytes, len, spare);
 }
 
-/* Writes the frame of the message, and returns its length. index is where the code of the open block belongs, and
- * next where the next byte does. No part has more bytes than the open block has room for, so no byte needs a test
- * whether the block is full. */
+/* Writes the frame of the message, and returns its length. The code of the open block belongs at index, and the
+ * next byte at next. No part has more bytes than the open block has room for, so no byte needs a test whether the
+ * block is full. */
 static size_t jcobs_write_blocks(const unsigned char *message, size_t message_len, unsigned char *frame)
 {
     size_t index = 0;
@@ -625,8 +627,8 @@ static jcobs_answer jcobs_too_small_answer(void)
 }
 
 /* Writes the frame of the message to the front of the buffer frame, if it fits. Otherwise nothing is written.
- * Proved, by the contract in encode.rt: if the frame fits, it is the message's, and bytes after it are as they
- * were; if it doesn't, the status is TOO_SMALL, and the buffer is as it was. */
+ * Proved, by the contract in encode.rt: if the frame of the message fits, the buffer begins with it, and the bytes
+ * after it are as they were. Otherwise the status is TOO_SMALL, and the buffer is as it was. */
 jcobs_answer jcobs_encode(const void *message, size_t message_len, void *frame, size_t frame_size)
 {
     size_t length = jcobs_write_frame((const unsigned char *)message, message_len, (unsigned char *)frame, frame_size);
@@ -639,8 +641,8 @@ jcobs_answer jcobs_encode(const void *message, size_t message_len, void *frame, 
 
 /* Writes the frame of the message, followed by a zero, to the front of the buffer frame, if the frame and the zero
  * fit. Otherwise nothing is written.
- * Proved, by the contract in encode.rt: if the frame and the zero fit, they are the message's, and bytes after
- * them are as they were; if they don't, the status is TOO_SMALL, and the buffer is as it was. */
+ * Proved, by the contract in encode.rt: if the frame of the message and the zero fit, the buffer begins with them,
+ * and the bytes after them are as they were. Otherwise the status is TOO_SMALL, and the buffer is as it was. */
 jcobs_answer jcobs_encode_terminated(const void *message, size_t message_len, void *frame, size_t frame_size)
 {
     unsigned char *const frame_bytes = (unsigned char *)frame;
@@ -703,7 +705,7 @@ static jcobs_progress jcobs_encoder_progress(const jcobs_encoder *encoder)
     return jcobs_make_progress(encoder->index, (unsigned char)(encoder->taken + 1), encoder->full != 0);
 }
 
-/* Encodes a message in its own buffer, in which it lies after the room for the other bytes of the longest frame.
+/* Encodes a message in its own buffer, in which the message begins at index JCOBS_MAX_OVERHEAD(message_len).
  * Returns the length of the frame in bytes. */
 static size_t jcobs_write_in_place(unsigned char *buffer, size_t buffer_size, size_t message_len)
 {
@@ -720,8 +722,9 @@ static size_t jcobs_write_in_place(unsigned char *buffer, size_t buffer_size, si
 /* Encodes a message of message_len bytes in its own buffer, if the longest frame of such a message fits. Otherwise
  * nothing is written. The message begins in the buffer at the index JCOBS_MAX_OVERHEAD(message_len), and its frame
  * is written to the front of the buffer.
- * Proved, by the contract in encode.rt: if the longest frame fits, the buffer begins with the message's, and bytes
- * after that are as they were; if it doesn't, the status is TOO_SMALL, and the buffer is as it was. */
+ * Proved, by the contract in encode.rt: if the longest frame fits, the buffer begins with the frame of the
+ * message, and the bytes after this frame are as they were. Otherwise the status is TOO_SMALL, and the buffer is
+ * as it was. */
 jcobs_answer jcobs_encode_in_place(void *buffer, size_t buffer_size, size_t message_len)
 {
     if (buffer_size < message_len || buffer_size - message_len < jcobs_max_overhead(message_len)) {
@@ -732,7 +735,7 @@ jcobs_answer jcobs_encode_in_place(void *buffer, size_t buffer_size, size_t mess
 }
 
 /* Puts the encoder back to the start, even if its state is corrupt. The encoder has then taken no byte.
- * Proved, by the contract in encoder.rt: then the encoder has taken nothing, whatever its state was. */
+ * Proved, by the contract in encoder.rt: after the call the encoder has taken no byte, whatever its state was. */
 void jcobs_encoder_reset(jcobs_encoder *encoder)
 {
     jcobs_encoder_start(encoder);
@@ -802,9 +805,9 @@ static JCOBS_INLINE size_t jcobs_encoder_length(const jcobs_encoder *encoder)
 
 /* Takes the next bytes of a message, if the frame of all bytes so far fits the buffer. Even if the state is
  * corrupt, nothing outside the buffers is accessed.
- * Proved, by the contract in encoder.rt: the status is OK exactly if the frame of all that was taken and these
- * bytes fits. If it isn't OK, the state and the buffer are as they were. In every state consumed and length are
- * within bytes and buffer. */
+ * Proved, by the contract in encoder.rt: the status is OK exactly if the frame of the message so far, with these
+ * bytes, fits. If it isn't OK, the state and the buffer are as they were. In every state consumed is at most the
+ * number of bytes passed, and length is at most buffer_size. */
 jcobs_answer jcobs_encoder_push(jcobs_encoder *encoder, void *buffer, size_t buffer_size, const void *bytes, size_t len)
 {
     if (!jcobs_encoder_try_append(encoder, (unsigned char *)buffer, buffer_size, (const unsigned char *)bytes, len)) {
@@ -813,8 +816,9 @@ jcobs_answer jcobs_encoder_push(jcobs_encoder *encoder, void *buffer, size_t buf
     return jcobs_ok_answer(len, jcobs_encoder_length(encoder));
 }
 
-/* Does what jcobs_encoder_append_byte does, and returns the length of the frame so far: in each case it ends after
- * the byte at next. Compilers make fewer instructions of this form for one byte, and more for a loop. */
+/* Does what jcobs_encoder_append_byte does, and returns the length of the frame so far. In each case the frame
+ * ends after the byte at index next. For a single byte compilers make fewer instructions of this form than of
+ * jcobs_encoder_append_byte; for a loop they make more. */
 static JCOBS_INLINE size_t jcobs_encoder_append_and_measure(jcobs_encoder *encoder, unsigned char *buffer,
                                                             unsigned char byte)
 {
@@ -840,8 +844,8 @@ static JCOBS_INLINE size_t jcobs_encoder_append_and_measure(jcobs_encoder *encod
     return next + 1;
 }
 
-/* Takes the next byte of a message, if the frame of all bytes so far fits the buffer. It isn't written in
- * jcobs_encoder_feed, because avr-gcc's code would then take a tenth more time. */
+/* Takes the next byte of a message, if the frame of all bytes so far fits the buffer. It is a separate function:
+ * as a part of jcobs_encoder_feed it would take a tenth more time in avr-gcc's code. */
 static jcobs_answer jcobs_encoder_feed_byte(jcobs_encoder *encoder, unsigned char *buffer, size_t buffer_size,
                                             unsigned char byte)
 {
@@ -854,9 +858,9 @@ static jcobs_answer jcobs_encoder_feed_byte(jcobs_encoder *encoder, unsigned cha
 }
 
 /* Takes the next byte of a message, as a push of that byte does.
- * Proved, by the contract in encoder.rt: the status is OK exactly if the frame of all that was taken and these
- * bytes fits. If it isn't OK, the state and the buffer are as they were. In every state consumed and length are
- * within bytes and buffer. */
+ * Proved, by the contract in encoder.rt: the status is OK exactly if the frame of the message so far, with these
+ * bytes, fits. If it isn't OK, the state and the buffer are as they were. In every state consumed is at most the
+ * number of bytes passed, and length is at most buffer_size. */
 jcobs_answer jcobs_encoder_feed(jcobs_encoder *encoder, void *buffer, size_t buffer_size, unsigned char byte)
 {
     return jcobs_encoder_feed_byte(encoder, (unsigned char *)buffer, buffer_size, byte);
@@ -877,9 +881,9 @@ static jcobs_frame jcobs_encoder_close(jcobs_encoder *encoder, unsigned char *bu
 
 /* Ends the message, if its frame fits the buffer. Even if the state is corrupt, nothing outside the buffers is
  * accessed, and the returned length is at most the buffer's.
- * Proved, by the contract in encoder.rt: if the frame of all that was taken fits, the buffer begins with it, and
- * the encoder has taken nothing; if it doesn't, the status is TOO_SMALL, and the state and the buffer are as they
- * were. */
+ * Proved, by the contract in encoder.rt: if the frame of all bytes that were taken fits, the buffer begins with
+ * it, and the encoder is in its initial state. Otherwise the status is TOO_SMALL, and the state and the buffer are
+ * as they were. */
 jcobs_answer jcobs_encoder_finish(jcobs_encoder *encoder, void *buffer, size_t buffer_size)
 {
     if (buffer_size == 0) {
@@ -894,9 +898,9 @@ jcobs_answer jcobs_encoder_finish(jcobs_encoder *encoder, void *buffer, size_t b
 
 /* Ends the message, as jcobs_encoder_finish does, and writes a zero after its frame, if the frame and the zero
  * fit.
- * Proved, by the contract in encoder.rt: if the frame of all that was taken and the zero fit, the buffer begins
- * with them, and the encoder has taken nothing; if they don't, the status is TOO_SMALL, and the state and the
- * buffer are as they were. */
+ * Proved, by the contract in encoder.rt: if the frame of all bytes that were taken and the zero fit, the buffer
+ * begins with them, and the encoder is in its initial state. Otherwise the status is TOO_SMALL, and the state and
+ * the buffer are as they were. */
 jcobs_answer jcobs_encoder_finish_terminated(jcobs_encoder *encoder, void *buffer, size_t buffer_size)
 {
     unsigned char *const buffer_bytes = (unsigned char *)buffer;
@@ -914,8 +918,8 @@ jcobs_answer jcobs_encoder_finish_terminated(jcobs_encoder *encoder, void *buffe
     return jcobs_too_small_answer();
 }
 
-/* Returns how many bytes come before the first zero, or the number of all bytes if there is no zero. With four
- * bytes in a round it needs half the instructions. */
+/* Returns how many bytes come before the first zero, or the number of all bytes if there is no zero. The loop
+ * tests four bytes in each round, and so needs half the instructions. */
 static JCOBS_APART size_t jcobs_length_to_zero(const unsigned char *bytes, size_t len)
 {
     const unsigned char *rest = bytes;
@@ -937,7 +941,7 @@ static JCOBS_APART size_t jcobs_length_to_zero(const unsigned char *bytes, size_
 
 /* Decodes the frame in the first frame_len bytes of the buffer, in place and one byte after another, and returns
  * the message's length. Every byte after the message is as it was. No byte of the frame is a zero. If the last
- * block is cut off, it returns JCOBS_END_BROKEN, with the length of the message of the blocks before. */
+ * block is cut off, it returns JCOBS_END_BROKEN, with the length of the output of the blocks before it. */
 static JCOBS_APART jcobs_end jcobs_decode_blocks(unsigned char *buffer, size_t frame_len)
 {
     size_t read = 0;
@@ -987,8 +991,8 @@ static jcobs_answer jcobs_in_place_answer(size_t consumed, size_t buffer_len, jc
 }
 
 /* Decodes the frame at the front of the buffer in place.
- * Proved, by the contract in in_place.rt: the result and every byte of the buffer depend only on the buffer, as
- * COBS is defined. */
+ * Proved, by the contract in in_place.rt: the result and every byte of the buffer are those that the definition of
+ * COBS gives for the bytes that the buffer had. */
 jcobs_answer jcobs_decode_in_place(void *buffer, size_t buffer_len)
 {
     unsigned char *const buffer_bytes = (unsigned char *)buffer;
@@ -1024,7 +1028,7 @@ static enum jcobs_kind jcobs_kind_by_blocks(const unsigned char *bytes, size_t l
 
 /* Returns whether the bytes are a frame, and whether that frame is the one that encoders write for its message.
  * Proved, by the contract in kind.rt: the result is NOT_A_FRAME exactly if the bytes are no frame, and CANONICAL
- * exactly if they are the one that encoders write. */
+ * exactly if they are the frame that encoders write. */
 unsigned int jcobs_frame_kind(const void *bytes, size_t len)
 {
     const unsigned char *const data = (const unsigned char *)bytes;
@@ -1035,9 +1039,9 @@ unsigned int jcobs_frame_kind(const void *bytes, size_t len)
     return jcobs_kind_by_blocks(data, len);
 }
 
-/* The calls from here on are written by hand, around those above. */
+/* The calls from here on are written by hand. They call the functions above. */
 
-/* XORs each byte with the sentinel: that makes a frame for the sentinel 0 one for this sentinel, and the reverse. */
+/* XORs each byte with the sentinel. This turns a frame for the sentinel 0 into a frame for this sentinel, or back. */
 static void jcobs_xor(void *bytes, size_t len, unsigned char sentinel)
 {
     unsigned char *const data = (unsigned char *)bytes;
@@ -1065,9 +1069,10 @@ jcobs_answer jcobs_encode_terminated_with_sentinel(const void *message, size_t m
     return answer;
 }
 
-/* Decodes the whole blocks of the frame that ends at the first sentinel, by the steps of a decoder. If they are followed
- * by a block that is cut short, the decoder takes a 1 for it, the code of a block without bytes: so it writes the zero
- * between the whole blocks and that one, and nothing of that one. */
+/* Decodes the whole blocks of the frame that ends at the first sentinel, with the steps of a streaming decoder. If a
+ * block that is cut short follows the whole blocks, the decoder is fed a 1 in place of this block. A 1 is the code of a
+ * block without bytes, so the decoder writes the zero between the whole blocks and the cut block, and no byte of the cut
+ * block. */
 jcobs_answer jcobs_decode_with_sentinel(const void *source, size_t source_len, void *message, size_t message_size,
                                         unsigned char sentinel)
 {
@@ -1076,7 +1081,7 @@ jcobs_answer jcobs_decode_with_sentinel(const void *source, size_t source_len, v
     jcobs_decoder decoder = JCOBS_DECODER_INIT;
     jcobs_answer answer = {JCOBS_EMPTY, 0, 0};
     size_t frame_len = 0;
-    size_t whole_len = 0; /* of the whole blocks */
+    size_t whole_len = 0; /* the length of the whole blocks */
 
     if (source_len == 0) {
         return answer;
@@ -1094,7 +1099,7 @@ jcobs_answer jcobs_decode_with_sentinel(const void *source, size_t source_len, v
         jcobs_decoder_take_byte(&decoder, message_bytes, message_size, 1);
     }
     answer = jcobs_decoder_feed(&decoder, message, message_size, 0);
-    if (answer.status == JCOBS_MORE) { /* the frame has no bytes, as an empty message */
+    if (answer.status == JCOBS_MORE) { /* the frame has no bytes: it is an empty message */
         answer.status = JCOBS_OK;
     }
     if (answer.status == JCOBS_OK && whole_len < frame_len) {
@@ -1104,7 +1109,7 @@ jcobs_answer jcobs_decode_with_sentinel(const void *source, size_t source_len, v
     return answer;
 }
 
-/* XORs the frame, and decodes it as one for the sentinel 0. */
+/* XORs the frame with the sentinel, and decodes it as a frame for the sentinel 0. */
 jcobs_answer jcobs_decode_in_place_with_sentinel(void *buffer, size_t buffer_len, unsigned char sentinel)
 {
     const unsigned char *const buffer_bytes = (const unsigned char *)buffer;
@@ -1114,7 +1119,7 @@ jcobs_answer jcobs_decode_in_place_with_sentinel(void *buffer, size_t buffer_len
     while (frame_len < buffer_len && buffer_bytes[frame_len] != sentinel) {
         frame_len++;
     }
-    if (frame_len == 0 && buffer_len > 0) { /* the frame has no bytes, as an empty message */
+    if (frame_len == 0 && buffer_len > 0) { /* the frame has no bytes: it is an empty message */
         return answer;
     }
     jcobs_xor(buffer, frame_len, sentinel);
@@ -1152,7 +1157,8 @@ jcobs_answer jcobs_encoder_finish_terminated_with_sentinel(jcobs_encoder *encode
 
 size_t jcobs_strerror(unsigned int status, char *text, size_t text_size)
 {
-    /* By the status; the last one is for other numbers. The array has room for the longest, and needs no pointers. */
+    /* The descriptions in the order of the statuses; the last description is for other numbers. Each row has room for the
+     * longest description, so no pointers are needed. */
     static const char descriptions[][sizeof "the frame breaks off inside a block"] = {
         "done",
         "more bytes are needed",

@@ -1,9 +1,9 @@
 /* jcobs.h: Consistent Overhead Byte Stuffing (COBS).
  *
- * COBS encodes a message, any bytes, as a frame that never contains one byte value, the sentinel. So the sentinel can
- * mark where frames end on a serial line, in a stream or in a file. The sentinel is 0, or the one that is passed to a
- * call. The frame of a message of up to 254 bytes is 1 byte longer than the message. A longer message costs at most 1
- * more byte for each further 254 bytes, or part of 254.
+ * COBS encodes a message, which may be any bytes, as a frame that never contains a certain byte value: the sentinel. So
+ * the sentinel can mark the end of each frame on a serial line or in a file. The sentinel is 0, except in the calls
+ * that have a parameter `sentinel`. The frame of a message of up to 254 bytes is 1 byte longer than the message. Each
+ * further 254 bytes of a message, or part of them, add at most 1 byte to the frame.
  *
  * To receive, in reads of any size:
  *
@@ -60,45 +60,51 @@
  *
  * Preconditions
  *
- * Each pointer to bytes comes with a number of them: a name in _len or len counts the bytes that are there, and one in
- * _size the bytes for which a buffer has room. The pointer must be valid for reads of that many bytes, and for writes
- * unless it is const. If the number is 0, the pointer isn't used and may be NULL. It is at most PTRDIFF_MAX. The buffers
- * of a call must not overlap each other or the state: to work in place, use jcobs_encode_in_place and
- * jcobs_decode_in_place.
+ * Each pointer to bytes comes with a number of bytes. A parameter named len or .._len is the number of bytes that are
+ * there. A parameter named .._size is the number of bytes for which a buffer has room. The pointer must be valid for
+ * reads of that many bytes, and unless it points to const, also for writes. If the number is 0, the pointer isn't used
+ * and may be NULL. The number must be at most PTRDIFF_MAX. The buffers of a call must not overlap each other or the
+ * state. To encode or decode within one buffer, use jcobs_encode_in_place or jcobs_decode_in_place.
  *
- * A pointer to a state must be valid. The state's contents may be anything: even if they are corrupt, no call
- * accesses memory outside the buffers, each call returns, and consumed and length are within the buffers.
+ * A pointer to a state must be valid. The state may have any contents. Even if the state is corrupt, the call returns
+ * and accesses no memory outside its buffers; consumed is at most the number of bytes passed, and length is at most the
+ * buffer's length.
  *
  * While a call runs, nothing else may change its buffers or its state: no other thread or process, no interrupt or
- * signal handler, no DMA transfer. The library may read a byte twice, and if the byte has changed in between, the call
- * may access memory outside the buffers or never return. Pass bytes whose transfer has finished, or a copy of them.
+ * signal handler, no DMA transfer. A call may read a byte twice. If the byte changes between the two reads, the call
+ * may access memory outside its buffers or never return. Pass only bytes whose transfer has finished, or a copy of the
+ * bytes.
  *
- * No function allocates, locks, or keeps a pointer or anything else from one call to the next: a call depends only on
- * its arguments. So calls on different buffers and states may run at the same time, in signal handlers too.
+ * No function allocates memory, locks, or keeps a pointer or anything else from one call to the next: a call depends
+ * only on its arguments. So calls on different buffers and states may run at the same time, also in signal handlers.
  *
  * Results
  *
- * Below each prototype is what it returns, for each status that it can have:
+ * The comment below a prototype lists each status that the call can return, with the values of consumed and length:
  *
- * - consumed is how many bytes were taken of the message, the source or the bytes pushed;
- * - length is how many bytes at the front of the buffer belong to the result. Bytes after these are as they were before
- *   the call, or for a streaming call as they were before the frame or message began. The only exception is
+ * - consumed is the number of bytes that the call has taken from the message, the source or the pushed bytes;
+ * - length is the number of bytes at the front of the buffer that belong to the result. The bytes after them are as
+ *   they were before the call. After a call of a streaming coder, they are as they were before the frame or the message
+ *   began; but if an encoder returns TOO_SMALL, the whole buffer is as it was before the call. The only exception is
  *   jcobs_decode_in_place_with_sentinel.
  *
- * In a broken frame the whole blocks are those in front of the block that is cut off. Their output includes the
- * zero after the last of them, unless that one is full: for 02 41 05 42 it is 41 00.
+ * A frame is a sequence of blocks. A block is a code, from 1 to 255, followed by code - 1 nonzero bytes. A block with
+ * the code 255 is full. A broken frame ends inside its last block; the blocks before that block are whole. The output
+ * of the whole blocks includes the zero after the last whole block, unless that block is full. For example, the output
+ * of the whole blocks of 02 41 05 42 is 41 00.
  *
- * In the source of decode, decode_with_sentinel and decode_in_place no sentinel has to follow the frame: without one
- * the frame ends with the source, and consumed is the source's length. A frame that was cut off between two of its
- * blocks is a frame too, with status OK. If your protocol ends each frame with a sentinel, test whether
- * source[consumed - 1] is one. In place too: no call changes the sentinel or the bytes after it. The streaming decoder
- * reports a frame only at its sentinel. COBS has no checksum: damage that turns a frame into another one isn't
- * noticed.
+ * For jcobs_decode, jcobs_decode_in_place and their forms with a sentinel, no sentinel has to follow the frame. Without
+ * a sentinel the frame ends with the source, and consumed is the source's length. So a frame that was cut off between
+ * two blocks is decoded as a shorter frame, with status OK. If your protocol ends each frame with a sentinel, test
+ * whether source[consumed - 1] is the sentinel. The test works also after a call in place, because no call changes the
+ * sentinel or the bytes after it. The streaming decoder reports a frame only when its sentinel has arrived. COBS has no
+ * checksum: damage that turns a frame into another frame isn't noticed.
  *
- * The built library, libjcobs.a, needs x86-64-v2 on x86-64 (SSE4.2 and POPCNT: Intel since 2009, AMD since 2011), and
- * ARMv8-A on aarch64. It has call frame information for debuggers, but no unwind tables, and no call throws or unwinds.
- * Its calls begin with landing pads, so that a program which is hardened by IBT, SHSTK or BTI stays so. It calls only
- * memcpy and memmove. None of this is about jcobs.c, which your compiler builds.
+ * The built library, libjcobs.a, needs x86-64-v2 on x86-64 (SSE4.2 and POPCNT: Intel processors since 2009, AMD
+ * processors since 2011), and ARMv8-A on aarch64. The library has call frame information for debuggers, but no unwind
+ * tables, and no call throws or unwinds. Each call begins with a landing pad, so a program that is hardened by IBT,
+ * SHSTK or BTI stays hardened. The library calls only memcpy and memmove. This paragraph doesn't apply to jcobs.c,
+ * which your compiler builds.
  */
 #ifndef JCOBS_H
 #define JCOBS_H
@@ -115,17 +121,17 @@ extern "C" {
 #define JCOBS_VERSION_PATCH 0
 #define JCOBS_VERSION (JCOBS_VERSION_MAJOR * 10000u + JCOBS_VERSION_MINOR * 100u + JCOBS_VERSION_PATCH)
 
-/* Comes before each prototype. To compile jcobs.c in one translation unit with the code that calls it, define it as
- * static, and include jcobs.c. Define it as static inline if the compiler warns of calls that the code doesn't make
- * (-Wunused-function). In a library, define it as what exports a function or hides it, such as
- * __attribute__((visibility("hidden"))). */
+/* JCOBS_API comes before each prototype. To compile jcobs.c in one translation unit with the code that calls it, define
+ * JCOBS_API as static, and include jcobs.c. If the compiler then warns of calls that the code doesn't make
+ * (-Wunused-function), define JCOBS_API as static inline. In a library, define JCOBS_API as the attribute that exports
+ * or hides a function, such as __attribute__((visibility("hidden"))). */
 #ifndef JCOBS_API
 #define JCOBS_API
 #endif
 
-/* The type of a status in jcobs_answer has the size of unsigned int in every language, on every target and with
- * -fshort-enums. If jcobs_status has that size with this compiler, the type is jcobs_status, and -Wswitch checks a
- * switch over it. */
+/* JCOBS_STATUS is the type of the member status of jcobs_answer. This type has the size of unsigned int in every
+ * language, on every target and with -fshort-enums. The type is the enum jcobs_status if the header can make sure that
+ * the enum has this size; then -Wswitch checks a switch over the status. Otherwise the type is unsigned int. */
 #if (defined(__cplusplus) && __cplusplus >= 201103L) || (defined(__STDC_VERSION__) && __STDC_VERSION__ >= 202311L)
 #define JCOBS_ENUM(name) enum name : unsigned int
 #define JCOBS_STATUS jcobs_status
@@ -150,45 +156,47 @@ typedef JCOBS_ENUM(jcobs_status){
 typedef struct jcobs_answer {
     JCOBS_STATUS status; /* how the call ended: a jcobs_status */
     size_t consumed;     /* how many bytes were taken */
-    size_t length;       /* how many bytes at the front of the buffer belong to it */
+    size_t length;       /* how many bytes at the front of the buffer belong to the result */
 } jcobs_answer;
 
-/* Whether bytes, without a sentinel around them, are a frame, and whether they are the one that encoders write. */
+/* The results of jcobs_frame_kind. They say whether bytes, without sentinels around them, are a frame, and whether they
+ * are the frame that encoders write. */
 enum jcobs_kind {
-    JCOBS_NOT_A_FRAME = 0, /* there are none, one is 0, or they break off inside a block */
+    JCOBS_NOT_A_FRAME = 0, /* there are no bytes, a byte is 0, or the bytes break off inside a block */
     JCOBS_CANONICAL = 1,   /* the frame that encoders write for its message */
-    JCOBS_LONGER = 2       /* that frame with a 1 after it, which decodes to the same message */
+    JCOBS_LONGER = 2       /* the frame that encoders write, and a 1 after it: it decodes to the same message */
 };
 
-/* The state of a streaming decoder. The members are for the library only. */
+/* The state of a streaming decoder. Only the library uses the members. */
 typedef struct jcobs_decoder {
-    size_t written;         /* bytes of the open message in the buffer */
-    unsigned char missing;  /* bytes missing in the open block */
-    unsigned char joint;    /* whether a zero will join the next block, if one comes, to the open one */
+    size_t written;         /* how many bytes of the open message are in the buffer */
+    unsigned char missing;  /* how many bytes of the open block are missing */
+    unsigned char joint;    /* whether the message has a zero after the open block, if another block follows */
     unsigned char too_long; /* whether the open message was too long for the buffer */
 } jcobs_decoder;
 
-/* The start, when no frame has begun: all zeros, as jcobs_decoder_reset makes it. */
+/* The initial state, in which no frame has begun. All members are 0, as after jcobs_decoder_reset. */
 /* clang-format off */
 #define JCOBS_DECODER_INIT {0, 0, 0, 0}
 /* clang-format on */
 
-/* The state of a streaming encoder. The members are for the library only. */
+/* The state of a streaming encoder. Only the library uses the members. */
 typedef struct jcobs_encoder {
-    size_t index;        /* where the code of the open block belongs */
-    unsigned char taken; /* bytes that the open block has */
-    unsigned char full;  /* whether the last byte made a block full, after which no block is open yet */
+    size_t index;        /* the index in the buffer at which the code of the open block belongs */
+    unsigned char taken; /* how many bytes the open block has so far, without its code */
+    unsigned char full;  /* whether the last byte made a block full; then no block is open until the next byte */
 } jcobs_encoder;
 
-/* The start, when nothing was taken: all zeros, as jcobs_encoder_reset makes it. */
+/* The initial state, in which the encoder has taken no byte. All members are 0, as after jcobs_encoder_reset. */
 /* clang-format off */
 #define JCOBS_ENCODER_INIT {0, 0, 0}
 /* clang-format on */
 
-/* GCC and Clang check that the result of a call is used and that its state isn't NULL. GCC also checks that the
- * pointers have room for the lengths. The numbers are those of a pointer and of its length among the arguments. The
- * calls that finish a message are marked as calls that write the buffer, though they also read the pushed bytes:
- * otherwise GCC would warn if nothing was pushed, because nothing has written the buffer then. */
+/* With these attributes GCC and Clang check that the result of a call is used, and that a pointer to a state isn't
+ * NULL. GCC also checks that the memory at a pointer is as long as the length that is passed with the pointer. The
+ * parameters `pointer` and `length` of the macros are positions in the list of arguments. The calls that finish a
+ * message are marked as calls that only write to the buffer, though they also read the pushed bytes from it. Otherwise
+ * GCC would warn if nothing was pushed, because then nothing has been written to the buffer. */
 #ifdef __GNUC__
 #define JCOBS_CHECKED __attribute__((warn_unused_result))
 #define JCOBS_STATE __attribute__((nonnull(1)))
@@ -206,32 +214,36 @@ typedef struct jcobs_encoder {
 #define JCOBS_CHANGES(pointer, length)
 #endif
 
-/* Returns the length of the longest frame of a message of this length, without a terminator: the message's length and
- * one byte for each 254 bytes or part of them, or 1 for the empty message.
+/* Returns the length of the longest frame of a message of message_len bytes, without a sentinel. This length is
+ * message_len plus 1 for each 254 bytes, or part of 254 bytes, of the message. For the empty message the length is 1.
  *
- * The macro has the same value, as a constant expression, so an array can have this length. If the value doesn't fit a
- * size_t, the macro wraps round, and the function returns 0. The macro's type is size_t if the argument's type is
- * unsigned and not wider. It evaluates its argument more than once, and can't be used in #if. */
+ * The macro has the same value. If its argument is constant, the macro is a constant expression, so an array can have
+ * this length. If the value doesn't fit a size_t, the macro wraps around, and the function returns 0. The macro's type
+ * is size_t if the argument's type is unsigned and not wider than size_t. The macro evaluates its argument more than
+ * once, and can't be used in #if. */
 #define JCOBS_MAX_LENGTH(message_len)                                                                                  \
     (sizeof(char) * (message_len) + sizeof(char) * (message_len) / 254 +                                               \
      (sizeof(char) * (message_len) % 254 != 0 || (message_len) == 0 ? 1 : 0))
 JCOBS_API size_t jcobs_max_length(size_t message_len) JCOBS_CHECKED;
-/* returns: that length, or 0 if it doesn't fit a size_t */
+/* returns: this length, or 0 if it doesn't fit a size_t */
 
-/* Writes the frame of the message to the front of `frame`. Room for jcobs_max_length(message_len) bytes always
- * suffices. */
+/* Writes the frame of the message, without a sentinel, to the front of the buffer `frame`. A buffer of
+ * jcobs_max_length(message_len) bytes is always long enough. */
 JCOBS_API jcobs_answer jcobs_encode(const void *message, size_t message_len, void *frame, size_t frame_size)
     JCOBS_READS(1, 2) JCOBS_WRITES(3, 4) JCOBS_CHECKED;
 /* returns: status OK, consumed message_len, length of the frame
  *          status TOO_SMALL, consumed 0, length 0, exactly if the frame doesn't fit: the buffer is as it was */
 
-/* Does the same, with a zero after the frame, which needs one byte more. */
+/* Writes the frame of the message, and a zero after the frame, to the front of the buffer `frame`. A buffer of
+ * jcobs_max_length(message_len) + 1 bytes is always long enough. */
 JCOBS_API jcobs_answer jcobs_encode_terminated(const void *message, size_t message_len, void *frame, size_t frame_size)
     JCOBS_READS(1, 2) JCOBS_WRITES(3, 4) JCOBS_CHECKED;
 /* returns: status OK, consumed message_len, length of the frame and its zero
- *          status TOO_SMALL, consumed 0, length 0, exactly if both don't fit: the buffer is as it was */
+ *          status TOO_SMALL, consumed 0, length 0, exactly if the frame with its zero doesn't fit: the buffer is as it
+ *              was */
 
-/* Do the same for another sentinel: each byte of the frame is XORed with it. The terminator is the sentinel. */
+/* Do what jcobs_encode and jcobs_encode_terminated do, for another sentinel. Each byte of the frame is XORed with the
+ * sentinel, and the byte after the frame is the sentinel. */
 JCOBS_API jcobs_answer jcobs_encode_with_sentinel(const void *message, size_t message_len, void *frame,
                                                   size_t frame_size, unsigned char sentinel) JCOBS_READS(1, 2)
     JCOBS_WRITES(3, 4) JCOBS_CHECKED;
@@ -241,123 +253,133 @@ JCOBS_API jcobs_answer jcobs_encode_terminated_with_sentinel(const void *message
     JCOBS_READS(1, 2) JCOBS_WRITES(3, 4) JCOBS_CHECKED;
 /* returns: as jcobs_encode_terminated */
 
-/* Encodes a message in its own buffer, so that no second buffer is needed. The message, which has message_len bytes, begins
- * at index JCOBS_MAX_OVERHEAD(message_len) of the buffer; the bytes before it don't matter. Afterwards the buffer begins
- * with the frame that jcobs_encode writes. */
+/* Encodes a message in its own buffer. Before the call the message, which has message_len bytes, begins at index
+ * JCOBS_MAX_OVERHEAD(message_len) of the buffer; the bytes before this index have no effect. After the call the buffer
+ * begins with the frame that jcobs_encode would write. */
 #define JCOBS_MAX_OVERHEAD(message_len) (JCOBS_MAX_LENGTH(message_len) - sizeof(char) * (message_len))
 JCOBS_API jcobs_answer jcobs_encode_in_place(void *buffer, size_t buffer_size, size_t message_len)
     JCOBS_CHANGES(1, 2) JCOBS_CHECKED;
 /* returns: status OK, consumed message_len, length of the frame
  *          status TOO_SMALL, consumed 0, length 0, exactly if the buffer is shorter than jcobs_max_length(message_len):
- *              it is as it was */
+ *              the buffer is as it was */
 
-/* Decodes the first frame of the source to the front of `message`. Leading zeros are skipped, and the frame ends at the
- * next zero or with the source. A buffer as long as the source always suffices. */
+/* Decodes the first frame of the source to the front of the buffer `message`. Leading zeros are skipped, and the frame
+ * ends at the next zero or with the source. A buffer as long as the source is always long enough. */
 JCOBS_API jcobs_answer jcobs_decode(const void *source, size_t source_len, void *message, size_t message_size)
     JCOBS_READS(1, 2) JCOBS_WRITES(3, 4) JCOBS_CHECKED;
-/* returns: status OK, consumed zeros in front, the frame and the zero after it, length of the message
- *          status BROKEN, consumed the same, length of all its output, with the block that is cut off
- *          status TOO_SMALL, consumed the same, length message_size: the buffer has the output's first bytes
- *          status EMPTY, consumed source_len, length 0: there are no bytes, or only zeros */
+/* returns: status OK, consumed the leading zeros, the frame and the zero after it, length of the message
+ *          status BROKEN, consumed as for OK, length of the frame's output, including the block that is cut off
+ *          status TOO_SMALL, consumed as for OK, length message_size: the output is longer, and the buffer has its
+ *              first bytes
+ *          status EMPTY, consumed source_len, length 0: the source has no bytes, or only zeros */
 
-/* Decodes the frame at the front of the source, for this sentinel, to the front of `message`. The frame ends at the
- * first sentinel or with the source. No sentinel is skipped: one in front is an empty message. So for the sentinel 0
- * its results aren't always those of jcobs_decode, which skips zeros, and counts the block that is cut off. */
+/* Decodes the frame at the front of the source, for this sentinel, to the front of the buffer `message`. The frame ends
+ * at the first sentinel or with the source. No sentinel is skipped: if the source begins with a sentinel, the message
+ * is empty. So the results for the sentinel 0 may differ from those of jcobs_decode, which skips leading zeros, and
+ * whose output of a broken frame includes the block that is cut off. */
 JCOBS_API jcobs_answer jcobs_decode_with_sentinel(const void *source, size_t source_len, void *message,
                                                   size_t message_size, unsigned char sentinel) JCOBS_READS(1, 2)
     JCOBS_WRITES(3, 4) JCOBS_CHECKED;
 /* returns: status OK, consumed the frame and the sentinel after it, length of the message
- *          status BROKEN, consumed the same, length of the output of the whole blocks
- *          status TOO_SMALL, consumed the same, length message_size: the buffer has that output's first bytes
- *          status EMPTY, consumed 0, length 0: there are no bytes */
+ *          status BROKEN, consumed as for OK, length of the output of the whole blocks
+ *          status TOO_SMALL, consumed as for OK, length message_size: the message, or the output of the whole blocks,
+ *              is longer, and the buffer has its first bytes
+ *          status EMPTY, consumed 0, length 0: the source has no bytes */
 
-/* Decodes the frame at the front of the buffer in place. It ends at the first zero or with the buffer. No zero is
- * skipped: one in front is an empty message. There is always room. */
+/* Decodes the frame at the front of the buffer in place. The frame ends at the first zero or with the buffer. No zero
+ * is skipped: if the buffer begins with a zero, the message is empty. There is always room, because no message is
+ * longer than its frame. */
 JCOBS_API jcobs_answer jcobs_decode_in_place(void *buffer, size_t buffer_len) JCOBS_CHANGES(1, 2) JCOBS_CHECKED;
 /* returns: status OK, consumed the frame and the zero after it, length of the message
- *          status BROKEN, consumed the same, length of the output of the whole blocks
- *          status EMPTY, consumed 0, length 0: there are no bytes */
+ *          status BROKEN, consumed as for OK, length of the output of the whole blocks
+ *          status EMPTY, consumed 0, length 0: the buffer has no bytes */
 
-/* Does the same for this sentinel. In the rest of the frame after the message, each byte is XORed with the sentinel;
- * the sentinel and what follows it aren't changed, so that the next frame begins at buffer + consumed. */
+/* Does what jcobs_decode_in_place does, for this sentinel. The bytes of the buffer from the message's end to the
+ * frame's end are XORed with the sentinel. The sentinel and the bytes after it aren't changed, so the next frame begins
+ * at buffer + consumed. */
 JCOBS_API jcobs_answer jcobs_decode_in_place_with_sentinel(void *buffer, size_t buffer_len, unsigned char sentinel)
     JCOBS_CHANGES(1, 2) JCOBS_CHECKED;
 /* returns: as jcobs_decode_in_place, with the sentinel instead of the zero */
 
-/* Returns whether the bytes are a frame for the sentinel 0, and whether they are the one that encoders write. */
+/* Returns whether the bytes are a frame for the sentinel 0, and whether they are the frame that encoders write. */
 JCOBS_API unsigned int jcobs_frame_kind(const void *bytes, size_t len) JCOBS_READS(1, 2) JCOBS_CHECKED;
 /* returns: one of enum jcobs_kind */
 
-/* Resets the decoder to the start, whatever the state was. */
+/* Resets the decoder to the initial state, from any state. */
 JCOBS_API void jcobs_decoder_reset(jcobs_decoder *decoder) JCOBS_STATE;
 
-/* Takes bytes of a stream of frames, each followed by a zero, through the zero that ends the first one. The message
- * is then at the front of the buffer until the next call; bytes after that zero have no effect: push them next. Every
- * frame is reported once, at its zero. Zeros between frames are skipped. A broken or oversized frame never affects
- * the next.
+/* Takes bytes of a stream in which a zero ends each frame. The call takes the bytes through the zero that ends the
+ * first frame, or all bytes if no frame ends. The message of a frame that has ended is at the front of the buffer until
+ * the next call. The bytes after the zero that ends the frame have no effect: push them in the next call. Every frame
+ * is reported once, at the zero that ends it. Zeros between frames are skipped. A broken or oversized frame never
+ * affects the next frame.
  *
- * While a frame is open, pass the same buffer with the same size, as the last call left it. Otherwise the status
- * of that frame and the contents of the buffer are unspecified. */
+ * While a frame is open, pass the same buffer with the same size, and don't change its contents between two calls.
+ * Otherwise the status of that frame and the contents of the buffer are unspecified. */
 JCOBS_API jcobs_answer jcobs_decoder_push(jcobs_decoder *decoder, void *buffer, size_t buffer_size, const void *bytes,
                                           size_t len) JCOBS_STATE JCOBS_WRITES(2, 3) JCOBS_READS(4, 5) JCOBS_CHECKED;
-/* returns: status OK, consumed through the zero that ends a frame, length of the message
- *          status BROKEN, consumed the same, length of all its output, with the block that is cut off
- *          status TOO_SMALL, consumed the same, length buffer_size: the output is longer, and its first bytes are there
- *          status MORE, consumed len, length of what the buffer has of an unfinished message */
+/* returns: status OK, consumed the bytes through the zero that ends the frame, length of the message
+ *          status BROKEN, consumed as for OK, length of the frame's output, including the block that is cut off
+ *          status TOO_SMALL, consumed as for OK, length buffer_size: the output is longer, and the buffer has its first
+ *              bytes
+ *          status MORE, consumed len, length of the part of an unfinished message that is in the buffer */
 
-/* Takes one byte, as jcobs_decoder_push of that byte does, and faster. */
+/* Does what jcobs_decoder_push does with one byte, and is faster. */
 JCOBS_API jcobs_answer jcobs_decoder_feed(jcobs_decoder *decoder, void *buffer, size_t buffer_size,
                                           unsigned char byte) JCOBS_STATE JCOBS_WRITES(2, 3) JCOBS_CHECKED;
 /* returns: as jcobs_decoder_push; consumed is 1 */
 
-/* Takes bytes of a stream in which this sentinel ends each frame, as jcobs_decoder_push does for 0. It works byte by
- * byte, so it is slower. */
+/* Does what jcobs_decoder_push does, for a stream in which this sentinel ends each frame. In the built library this
+ * call is slower than jcobs_decoder_push, because it decodes byte by byte. */
 JCOBS_API jcobs_answer jcobs_decoder_push_with_sentinel(jcobs_decoder *decoder, void *buffer, size_t buffer_size,
                                                         const void *bytes, size_t len,
                                                         unsigned char sentinel) JCOBS_STATE JCOBS_WRITES(2, 3)
     JCOBS_READS(4, 5) JCOBS_CHECKED;
 /* returns: as jcobs_decoder_push, with the sentinel instead of the zero */
 
-/* Returns whether no frame is open, that is, whether every pushed byte belongs to a frame that has been reported. At
- * the end of a stream, 0 says that the last frame has no sentinel. */
+/* Returns whether no frame is open. A frame is open from its first byte until the sentinel that ends it. At the end of
+ * a stream, the result 0 means that the sentinel of the last frame is missing. */
 JCOBS_API unsigned int jcobs_decoder_is_idle(const jcobs_decoder *decoder) JCOBS_STATE JCOBS_CHECKED;
-/* returns: 1 if no frame is open, and 0 if one has begun */
+/* returns: 1 if no frame is open, and 0 if a frame is open */
 
-/* Resets the encoder to the start, whatever the state was. */
+/* Resets the encoder to the initial state, from any state. */
 JCOBS_API void jcobs_encoder_reset(jcobs_encoder *encoder) JCOBS_STATE;
 
-/* Takes the next bytes of a message, whose frame is made in the buffer. If they don't fit, push fewer bytes, finish the
- * shorter message, or give it up by jcobs_encoder_reset.
+/* Takes the next bytes of a message, and encodes them to the buffer. If they don't fit, you can push fewer bytes,
+ * finish the message without them, or drop the message with jcobs_encoder_reset.
  *
- * From the first push to the finish, pass the same buffer with the same size, as the last call left it.
- * Otherwise the contents of the buffer are unspecified. */
+ * From the first push to the finish of a message, pass the same buffer with the same size, and don't change its
+ * contents between two calls. Otherwise the contents of the buffer are unspecified. */
 JCOBS_API jcobs_answer jcobs_encoder_push(jcobs_encoder *encoder, void *buffer, size_t buffer_size, const void *bytes,
                                           size_t len) JCOBS_STATE JCOBS_WRITES(2, 3) JCOBS_READS(4, 5) JCOBS_CHECKED;
-/* returns: status OK, consumed len, length of the frame so far. The buffer holds that frame only after finish, which
- *              writes the code of the open block
- *          status TOO_SMALL, consumed 0, length 0, exactly if the frame of all that was taken and these bytes doesn't
- *              fit: the state and the buffer are as they were */
+/* returns: status OK, consumed len, length of the frame so far. The buffer has this frame only after the call that
+ *              finishes the message, because that call writes the code of the open block
+ *          status TOO_SMALL, consumed 0, length 0, exactly if the frame of the message, with these bytes, doesn't fit:
+ *              the state and the buffer are as they were */
 
-/* Takes one byte, as jcobs_encoder_push of that byte does, and faster. */
+/* Does what jcobs_encoder_push does with one byte, and is faster. */
 JCOBS_API jcobs_answer jcobs_encoder_feed(jcobs_encoder *encoder, void *buffer, size_t buffer_size,
                                           unsigned char byte) JCOBS_STATE JCOBS_WRITES(2, 3) JCOBS_CHECKED;
 /* returns: as jcobs_encoder_push; consumed is 1 or 0 */
 
-/* Ends the message: the buffer then begins with its frame, the one that jcobs_encode writes, and the encoder is at
- * the start. */
+/* Ends the message. The buffer then begins with the frame that jcobs_encode would write for the message, and the
+ * encoder is in the initial state. */
 JCOBS_API jcobs_answer jcobs_encoder_finish(jcobs_encoder *encoder, void *buffer, size_t buffer_size) JCOBS_STATE
     JCOBS_WRITES(2, 3) JCOBS_CHECKED;
 /* returns: status OK, consumed 0, length of the frame
- *          status TOO_SMALL, consumed 0, length 0, only if the buffer is empty, or isn't the one that was pushed to:
- *              the state and the buffer are as they were */
+ *          status TOO_SMALL, consumed 0, length 0, only if the buffer is empty, or isn't the buffer of the pushes: the
+ *              state and the buffer are as they were */
 
-/* Does the same, with a zero after the frame, which needs one byte more. */
+/* Does what jcobs_encoder_finish does, and writes a zero after the frame. The zero needs one byte more. */
 JCOBS_API jcobs_answer jcobs_encoder_finish_terminated(jcobs_encoder *encoder, void *buffer,
                                                        size_t buffer_size) JCOBS_STATE JCOBS_WRITES(2, 3) JCOBS_CHECKED;
 /* returns: status OK, consumed 0, length of the frame and its zero
- *          status TOO_SMALL, consumed 0, length 0, if both don't fit: the state and the buffer are as they were */
+ *          status TOO_SMALL, consumed 0, length 0, if the frame with its zero doesn't fit: the state and the buffer are
+ *              as they were */
 
-/* Do the same for another sentinel: each byte of the frame is XORed with it. Push the bytes as for the sentinel 0. */
+/* Do what jcobs_encoder_finish and jcobs_encoder_finish_terminated do, for another sentinel. Each byte of the frame is
+ * XORed with the sentinel, and the byte after the frame is the sentinel. Push the bytes of the message as for the
+ * sentinel 0. */
 JCOBS_API jcobs_answer jcobs_encoder_finish_with_sentinel(jcobs_encoder *encoder, void *buffer, size_t buffer_size,
                                                           unsigned char sentinel) JCOBS_STATE
     JCOBS_WRITES(2, 3) JCOBS_CHECKED;
@@ -368,14 +390,14 @@ JCOBS_API jcobs_answer jcobs_encoder_finish_terminated_with_sentinel(jcobs_encod
     JCOBS_WRITES(2, 3) JCOBS_CHECKED;
 /* returns: as jcobs_encoder_finish_terminated */
 
-/* Writes a short English description of a status to `text`, with a '\0' after it. A text that doesn't fit is cut;
- * JCOBS_TEXT_LENGTH bytes are always enough. If text_size is 0, nothing is written. A number that is no status is
- * "unknown status". */
+/* Writes a short English description of a status to `text`, with a '\0' after it. A description that doesn't fit is cut
+ * off; JCOBS_TEXT_LENGTH bytes are always enough. If text_size is 0, nothing is written. For a number that isn't a
+ * status, the description is "unknown status". */
 #define JCOBS_TEXT_LENGTH 48
 JCOBS_API size_t jcobs_strerror(unsigned int status, char *text, size_t text_size) JCOBS_WRITES(2, 3);
-/* returns: the length of the whole description */
+/* returns: the length of the whole description, without the '\0' */
 
-/* Returns the version of the library, as JCOBS_VERSION. */
+/* Returns the version of the library, as a number like JCOBS_VERSION. */
 JCOBS_API unsigned int jcobs_version(void);
 
 /* Returns 1. A library of another major version has no function of this name, so a program that calls this function

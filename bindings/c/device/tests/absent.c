@@ -1,5 +1,5 @@
-/* The calls that vectors.c names and the library for devices doesn't have. It is given no case of theirs, so that none
- * is made: each ends the program. */
+/* Defines the calls that vectors.c names and that the archives don't have. vectors.c gets no case that makes them; each
+ * of these functions ends the program. */
 #include <stdlib.h>
 
 #define ABSENT(call)                                                                                                   \

@@ -1,6 +1,6 @@
-/* hand.c: COBS as one writes it by hand for firmware, to compare speed and size with: one function a task, one pass, room checked
- * before each byte that is written. It does less than jcobs.c: a message that doesn't fit is written as far as there is
- * room, a state is trusted to be right, and a result is one number. Frames end with a zero. */
+/* hand.c: COBS as firmware developers write it by hand, for comparing speed and size: one function per task, one pass,
+ * and a test for room before each byte that is written. It does less than jcobs.c: if a message doesn't fit, as many
+ * bytes are written as there is room for; the state is trusted; and a result is one number. Frames end with a zero. */
 #include "hand.h"
 
 void hand_decoder_init(hand_decoder *decoder, void *buffer, size_t room)
@@ -185,7 +185,7 @@ int hand_encoder_feed(hand_encoder *encoder, unsigned char byte)
     return 1;
 }
 
-/* The code of a block is counted, which costs less than the distance of two pointers. */
+/* The code of a block is counted, which is faster than computing the distance of two pointers. */
 int hand_encoder_push(hand_encoder *encoder, const void *bytes, size_t len)
 {
     const unsigned char *from = bytes;

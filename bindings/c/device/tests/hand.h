@@ -1,4 +1,5 @@
-/* hand.h: COBS as firmware has it that is written by hand. A state holds its buffer, and a result is a length or one of these. */
+/* hand.h: COBS as firmware developers write it by hand. A state contains the pointer to its buffer. A result is a
+ * length or one of these numbers. */
 #ifndef HAND_H
 #define HAND_H
 
@@ -10,16 +11,16 @@ typedef struct hand_decoder {
     unsigned char *buffer;
     size_t room;
     size_t length;
-    unsigned char code;     /* of the open block; no zero comes after one of 255, which is the start */
-    unsigned char left;     /* bytes that the open block still has */
+    unsigned char code;     /* the open block's code; 255 at the start, because no zero follows such a block */
+    unsigned char left;     /* how many bytes of the open block are still to come */
     unsigned char too_long; /* whether a byte had no room */
 } hand_decoder;
 
 typedef struct hand_encoder {
     unsigned char *buffer;
     size_t room;
-    size_t code;   /* where the code of the open block belongs */
-    size_t length; /* of the frame so far */
+    size_t code;   /* the index at which the code of the open block belongs */
+    size_t length; /* the length of the frame so far */
 } hand_encoder;
 
 void hand_decoder_init(hand_decoder *decoder, void *buffer, size_t room);

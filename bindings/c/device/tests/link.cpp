@@ -1,4 +1,5 @@
-// A message in pieces by jcobs.hpp, sent and received for two sentinels, over an archive that has no call for sentinels.
+// Tests jcobs.hpp with an archive, which has no calls for other sentinels: sends and receives a message in pieces, for
+// two sentinels.
 #include <jcobs.hpp>
 
 #include <cstdio>

@@ -1,5 +1,5 @@
-/* How many instructions a byte each call takes in QEMU, beside plain.c, and a call for each byte; on an AVR in simavr, how many
- * cycles. */
+/* Measures how many instructions per byte each call of the library and of plain.c needs in QEMU, also with one call for
+ * each byte; for an AVR, how many cycles in simavr. */
 #include "plain.h"
 #include "ticks.h"
 

@@ -1,8 +1,9 @@
 #!/usr/bin/env python3
-"""Checks what package managers read of the folder, and builds what they would: packages.py
+"""Checks the files of this folder that package managers read, and makes the same builds: packages.py
 
-PlatformIO and Arduino take the archive for the processors that have one, and compile src/jcobs.c for all others. ESP-IDF and
-Zephyr compile it. None of these tools is run: the scripts and the CMake file are, with as much of each tool as they use.
+PlatformIO and Arduino link the archive for each processor that has one, and compile src/jcobs.c for all others. ESP-IDF and
+Zephyr compile src/jcobs.c. None of these tools is run. Their scripts and the CMake file are run, with stand-ins for the parts of
+each tool that they use.
 """
 
 import json
@@ -14,7 +15,7 @@ import tempfile
 
 HERE = pathlib.Path(__file__).resolve().parent.parent
 NEEDED = "name version author maintainer sentence paragraph category architectures includes precompiled ldflags".split()
-# What ESP-IDF and Zephyr define for a CMake file of a component or a module.
+# The definitions of ESP-IDF and Zephyr for the CMake file of a component or a module.
 ESP_IDF = """function(idf_component_register)
     cmake_parse_arguments(it "" "" "SRCS;INCLUDE_DIRS" ${ARGN})
     add_library(component STATIC ${it_SRCS})
@@ -36,7 +37,7 @@ set(CONFIG_JCOBS y)
 
 
 class Environment:
-    """As much of SCons's environment as the script of library.json uses."""
+    """The part of SCons's environment that the script of library.json uses."""
 
     def __init__(self, processor):
         self.processor = processor
@@ -52,7 +53,7 @@ class Environment:
 
 
 class Folder:
-    """The script's folder, as SCons gives it."""
+    """The script's folder, as SCons returns it."""
 
     abspath = str(HERE)
 
@@ -61,7 +62,7 @@ class Folder:
 
 
 def run_script(path, processor):
-    """Runs the script for a board with this processor, and returns what it adds, and the processors that it knows."""
+    """Runs the script for a board with this processor. Returns the settings that it adds, and the processors that it knows."""
     env = Environment(processor)
     names = {"Import": lambda name: None, "env": env, "Dir": lambda name: Folder()}
     exec(compile(path.read_text(), str(path), "exec"), names)
@@ -69,7 +70,7 @@ def run_script(path, processor):
 
 
 def check_library(folder):
-    """The library.json of a folder: that of this one, or that of the repository, for those who name its address."""
+    """Checks the library.json of a folder: of this folder, or of the repository, for projects that name the repository's address."""
     library = json.loads((folder / "library.json").read_text())
     build = library.pop("build")
     assert (folder / build.get("srcDir", "src")).resolve() == HERE / "src"
@@ -79,7 +80,7 @@ def check_library(folder):
 
 
 def check_manifests():
-    """library.json and library.properties, and the archive or the source for each processor."""
+    """Checks library.json and library.properties, and the archive or the source for each processor."""
     library = check_library(HERE)
     assert check_library(HERE.parents[2]) == library
     lines = (HERE / "library.properties").read_text().splitlines()
@@ -104,7 +105,7 @@ def check_manifests():
 
 
 def built_by_cmake(words):
-    """A program over the folder's CMakeLists.txt, with these words for the tool."""
+    """Builds a program with the folder's CMakeLists.txt and these definitions of the tool."""
     with tempfile.TemporaryDirectory() as work:
         project = f"cmake_minimum_required(VERSION 3.16)\nproject(program C)\n{words}add_subdirectory({HERE} jcobs)\n"
         project += "add_executable(program main.c)\ntarget_link_libraries(program component)\n"

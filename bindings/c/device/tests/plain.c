@@ -1,6 +1,6 @@
-/* plain.c: COBS as one writes it in C, to compare sizes and instructions with. It has the checks of the proved calls:
- * no byte outside the buffers, whatever the state; a frame that doesn't fit, or is broken, is reported once; and the
- * encoder writes nothing unless all fits. */
+/* plain.c: COBS in plain C, for comparing sizes and instructions. It makes the checks of the proved calls: no byte
+ * outside the buffers is accessed, in any state; a frame that doesn't fit or is broken is reported once; and an encoder
+ * writes nothing unless the whole frame fits. */
 #include "plain.h"
 
 jcobs_answer plain_decoder_push(jcobs_decoder *decoder, void *buffer, size_t buffer_size, const void *bytes, size_t len)
@@ -52,7 +52,7 @@ jcobs_answer plain_decoder_push(jcobs_decoder *decoder, void *buffer, size_t buf
     return answer;
 }
 
-/* The length of the frame from its open block on, once the block has taken these bytes. */
+/* Returns the length of the frame from its open block on, after the block has taken these bytes. */
 static size_t open_length(size_t code, const unsigned char *bytes, size_t len)
 {
     size_t total = 0;
@@ -185,7 +185,7 @@ static size_t length_to_zero(const unsigned char *bytes, size_t len)
     return i;
 }
 
-/* A broken block stays where it is. */
+/* A broken block isn't moved. */
 jcobs_answer plain_decode_in_place(void *buffer, size_t buffer_len)
 {
     unsigned char *at = buffer;

@@ -1,4 +1,5 @@
-/* A byte pushed for a sentinel, which vectors.c does and the library for devices has no call for: one XORed with it. */
+/* Defines the push for a sentinel, which vectors.c makes and the archives don't have: the byte is XORed with the
+ * sentinel. */
 #include <jcobs.h>
 
 #include <stdlib.h>

@@ -1,9 +1,9 @@
-/* Random calls of the library on a device, each compared with the same call of plain.c: random CALLS
+/* Makes random calls of the library on a device, and compares each with the same call of plain.c: random CALLS
  *
- * With WITH_SENTINELS also the calls for other sentinels, which the archives don't have.
+ * If WITH_SENTINELS is defined, the calls for other sentinels, which the archives don't have, are made too.
  *
- * The buffers have bytes around them that no call may change. Half of the states are those that calls before made, with
- * the buffer as it was; the others are random bytes. */
+ * Around the buffers are bytes that no call may change. Half of the states are left by earlier calls, with the buffer
+ * as it was; the others are random bytes. */
 #include "plain.h"
 
 #include <stdio.h>
@@ -93,7 +93,8 @@ static int encodes_whole(size_t room, size_t len)
     return memcmp(mine, theirs, sizeof mine) == 0;
 }
 
-/* A message in its own buffer: the frame of plain C at the front, and behind it what was there. */
+/* Encodes a message in its own buffer: the frame of plain C must be at the front, and the bytes after it must be
+ * unchanged. */
 static int encodes_in_place(size_t room, size_t len)
 {
     static unsigned char frame[ROOM + ROOM / 254 + 2];
@@ -112,7 +113,7 @@ static int encodes_in_place(size_t room, size_t len)
     return same(answer, plain);
 }
 
-/* A frame that the library has written is canonical, and any bytes are what plain C says. */
+/* A frame that the library has written must be canonical. For any bytes the result must be that of plain C. */
 static int is_canonical(size_t len)
 {
     static unsigned char frame[ROOM + ROOM / 254 + 1];
@@ -192,7 +193,7 @@ static int decodes_for(jcobs_decoder *decoder, size_t room, size_t len, unsigned
            decoder->written == other.written && decoder->missing == other.missing;
 }
 
-/* In place or not, by what plain C makes of the same bytes for 0 in place. */
+/* Compares the calls for a sentinel, in place or not, with plain C in place for the same bytes and the sentinel 0. */
 static int decodes_whole_for(size_t room, size_t len, unsigned char sentinel, int in_place)
 {
     static unsigned char decoded[ROOM + 1];

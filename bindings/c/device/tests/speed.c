@@ -1,5 +1,5 @@
-/* speed.c: how many instructions a byte each call takes beside hand.c, in hundredths; on an AVR how many cycles. A line for each
- * call and kind of message: the call, the kind, jcobs, hand.c. */
+/* speed.c: measures the instructions per byte of each call and of hand.c, in hundredths; on an AVR the cycles. Prints a
+ * line for each call and kind of message: the call, the kind, the figure of jcobs, the figure of hand.c. */
 #include <jcobs.h>
 
 #include "hand.h"
@@ -23,7 +23,7 @@ static jcobs_encoder encoder;
 static hand_decoder by_hand;
 static hand_encoder encoder_by_hand;
 
-/* The length of a result that is OK, and -1 of any other. */
+/* Returns the length of a result that is OK, and -1 for any other result. */
 static ptrdiff_t length_of(jcobs_answer answer)
 {
     return answer.status == JCOBS_OK ? (ptrdiff_t)answer.length : -1;
@@ -112,7 +112,7 @@ static void encoder_feed_hand(void)
     length = hand_encoder_finish(&encoder_by_hand);
 }
 
-/* Measures one of the two, and checks that it returns the wanted length, and leaves these bytes where it writes. */
+/* Measures one of the two calls. Checks that it returns the expected length and writes the expected bytes. */
 static unsigned long measure(void (*call)(void), unsigned char *to, const unsigned char *wanted, size_t wanted_len)
 {
     unsigned long count;

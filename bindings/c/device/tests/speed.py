@@ -1,10 +1,10 @@
 #!/usr/bin/env python3
-"""Measures jcobs.c and the archives beside C that is written by hand (hand.c), in emulators: speed.py [--write]
+"""Measures jcobs.c, the archives and C written by hand (hand.c) in emulators: speed.py [--write]
 
-Prints a line for each target and call: the instructions (on an AVR the cycles) a byte of jcobs.c or the archive and of hand.c, for a
-message with a zero in three bytes, and for one without; then the bytes of flash of both, if a program makes only this call. The
-status is 1 if a ratio is above its limit, or a result differs. A tool that isn't there is skipped by name. With --write the table
-of ../README.md is written, if none was.
+Prints a line for each target and call: the instructions per byte (on an AVR the cycles per byte) of jcobs.c or the archive, and of
+hand.c, for a message in which one byte in three is zero, and for a message without zeros; then the bytes of flash of both, if a
+program makes only this call. The status is 1 if a ratio is above its limit, or if a result differs. If a tool is missing, its target
+is skipped, and the tool's name is printed. With --write the table of ../README.md is written, unless a target was skipped.
 """
 
 import re
@@ -24,14 +24,14 @@ RISCV = """riscv64-unknown-elf-gcc --specs=picolibc.specs -march=rv32imac -mabi=
     -Wl,--defsym=__ram_size=0x800000"""
 ON_RISCV = """qemu-system-riscv32 -M virt -bios none -icount shift=0 -nographic -monitor none -serial null
     -semihosting-config enable=on,target=native,arg=x"""
-# The compiler, what a program starts with, what runs it, Debian's packages, and the archive of src/.
+# The compiler and its options, the start code, the command that runs a program, and the archive of src/.
 TARGETS = {
     "Cortex-M4": (f"{ARM} -mcpu=cortex-m4 -T {TESTS}/mps2.ld", "start_arm.c", f"{ON_ARM} -M mps2-an386 -kernel", "cortex-m4"),
     "Cortex-M0+": (f"{ARM} -mcpu=cortex-m0plus -T {TESTS}/mps2.ld", "start_arm.c", f"{ON_ARM} -M mps2-an385 -kernel", "cortex-m0plus"),
     "RV32IMAC": (RISCV, None, f"{ON_RISCV} -kernel", "riscv32imac"),
     "ATmega1284P": ("avr-gcc -mmcu=atmega1284p -std=gnu99 -DLONG=500 -Dmain=program", "start_avr.c", "simavr -m atmega1284p -f 20000000", None),
 }  # fmt: skip
-# What a program calls for each column: of jcobs.h, and of hand.h.
+# The calls of a program for each column: of jcobs.h, and of hand.h.
 CALLS = {
     "feed": (["decoder_feed"], ["decoder_feed"]),
     "push": (["decoder_push"], ["decoder_push"]),
@@ -42,7 +42,8 @@ CALLS = {
     "encoder-push": (["encoder_push", "encoder_finish_terminated"], ["encoder_push", "encoder_finish"]),
 }
 RECEIVE_AND_SEND = (["decoder_feed", "encode_terminated"], ["decoder_feed", "encode"])
-# Hundredths of hand.c that jcobs.c may take: of its instructions or cycles, and of its flash to receive by byte and send.
+# The limits of jcobs.c, in hundredths of hand.c: for instructions or cycles, and for the flash of receiving byte by byte and
+# sending.
 LIMITS = {
     "Cortex-M4": {"feed": 160, "encoder-feed": 175, "others": 140, "flash": 210},
     "Cortex-M0+": {"feed": 160, "encoder-feed": 175, "others": 135, "flash": 220},
@@ -56,7 +57,7 @@ def run(words, **options):
 
 
 def measured(name, library, work):
-    """For each call and kind of message the hundredths of instructions of the library and of hand.c."""
+    """Returns the hundredths of instructions of the library and of hand.c, for each call and kind of message."""
     compiler, start, emulator, _ = TARGETS[name]
     sources = [TESTS / "speed.c", TESTS / "hand.c", library] + ([TESTS / start] if start else [])
     includes = f"-I{DEVICE.parent}/include -I{TESTS}"
@@ -71,7 +72,7 @@ def measured(name, library, work):
 
 
 def of_flash(name, library, prefix, which, work):
-    """The bytes of flash of each column, and of a program that receives by byte and sends messages."""
+    """Returns the bytes of flash of each column, and of a program that receives byte by byte and sends messages."""
     compiler = re.sub(r"--specs=\S+|-T \S+|-std=\S+|-D\S+|-Wl\S+|--\w+=semihost", "", TARGETS[name][0])
     built = library if library.suffix == ".a" else compiled(compiler, library, work)[0]
     columns = [*CALLS.values(), RECEIVE_AND_SEND]
@@ -79,13 +80,13 @@ def of_flash(name, library, prefix, which, work):
 
 
 def row(name, kind, speeds, bytes_of_flash):
-    """A row of the table: instructions a byte and bytes of flash."""
+    """Returns a row of the table: instructions per byte and bytes of flash."""
     cells = [f"{speed / 100:.1f}, {size}" for speed, size in zip(speeds, bytes_of_flash)]
     return f"| {name} | {kind} | {' | '.join(cells)} | {bytes_of_flash[-1]:,} |"
 
 
 def above(name, speeds, sizes, hand_sizes):
-    """A line for each figure of jcobs.c that is above its limit."""
+    """Yields a line for each figure of jcobs.c that is above its limit."""
     limits = LIMITS[name]
     for (call, kind), (ours, hands) in speeds.items():
         limit = limits.get(call, limits["others"])
@@ -96,7 +97,7 @@ def above(name, speeds, sizes, hand_sizes):
 
 
 def compare(name, work):
-    """The rows of a target, what is printed, and what is above a limit."""
+    """Returns the rows of a target, the lines to print, and the figures that are above a limit."""
     kept = TARGETS[name][3]
     libraries = {"jcobs.c": SOURCE} | ({"archive": DEVICE / "src" / kept / "libjcobs.a"} if kept else {})
     hand_sizes = of_flash(name, TESTS / "hand.c", "hand", 1, work)

@@ -1,5 +1,5 @@
-/* Where a program for QEMU's mps2 machines starts: the vector table, and then the C library's own start, which asks the
- * machine by semihosting where its memory is. */
+/* The start of a program for QEMU's mps2 machines: the vector table, and then the start code of the C library, which
+ * asks the machine by semihosting where its memory is. */
 extern void _start(void);
 
 #ifdef __ARM_ARCH_8M_MAIN__

@@ -1,5 +1,5 @@
-/* Where a program for simavr's atmega1284p starts: its output goes to the UART, and at its end the processor sleeps with
- * interrupts off, which ends simavr. It is built with -Dmain=program, and CALLS is its argument. */
+/* The start of a program for simavr's atmega1284p. The program's output goes to the UART. At its end the processor
+ * sleeps with interrupts off, which ends simavr. It is built with -Dmain=program, and CALLS is its argument. */
 #include <avr/io.h>
 #include <avr/sleep.h>
 

@@ -1,4 +1,4 @@
-/* ticks.h: how many instructions QEMU has run, or how many cycles simavr. */
+/* ticks.h: counts the instructions that QEMU has run, or the cycles of simavr. */
 #ifndef TICKS_H
 #define TICKS_H
 
@@ -43,7 +43,7 @@ static unsigned long now(void)
 }
 #endif
 
-/* How many the call takes, in units of EACH. */
+/* Returns how many instructions or cycles the call needs, in units of EACH. */
 static unsigned long ticks(void (*call)(void))
 {
     unsigned long before = now();

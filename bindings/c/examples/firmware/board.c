@@ -1,4 +1,4 @@
-/* board.c: start, vector table and UART 0 of QEMU's mps2-an386, an ARM CMSDK UART. */
+/* board.c: the start code, the vector table and UART 0 (an ARM CMSDK UART) of QEMU's mps2-an386. */
 #include "board.h"
 
 #define UART ((volatile unsigned int *)0x40004000) /* data, state, control, interrupt, divider */
@@ -12,7 +12,7 @@ int main(void);
 void uart_start(void)
 {
     UART[DIVIDER] = 16;
-    UART[CONTROL] = 1 | 2 | 8; /* send, receive, interrupt when a byte has come */
+    UART[CONTROL] = 1 | 2 | 8; /* send, receive, interrupt when a byte has arrived */
     ENABLE_INTERRUPT = 1;      /* number 0: UART 0 has received */
 }
 
@@ -40,7 +40,7 @@ void wait_for_interrupt(void)
 
 static void uart_interrupt(void)
 {
-    UART[INTERRUPT] = 2; /* first: a byte that comes from here on interrupts again */
+    UART[INTERRUPT] = 2; /* cleared before the bytes are read: a byte that arrives later interrupts again */
     while (UART[STATE] & 2)
         uart_received((unsigned char)UART[DATA]);
 }

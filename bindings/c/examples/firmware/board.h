@@ -6,7 +6,7 @@ void uart_start(void);
 void uart_send(unsigned char byte);
 void interrupts_off(void);
 void interrupts_on(void);
-void wait_for_interrupt(void);          /* also wakes while interrupts are off, and then handles none */
-void uart_received(unsigned char byte); /* the program's own, called by the interrupt */
+void wait_for_interrupt(void);          /* also returns while interrupts are off, without handling the interrupt */
+void uart_received(unsigned char byte); /* defined by the program, called by the interrupt handler */
 
 #endif

@@ -1,28 +1,30 @@
-/* Firmware for QEMU's mps2-an386 (a Cortex-M4 with a UART): commands come in as frames, telemetry goes out as frames.
+/* Firmware for QEMU's mps2-an386 (a Cortex-M4 with a UART): it receives commands as frames, and sends replies as
+ * frames.
  *
- * The UART's interrupt puts each byte that comes into a ring. The main loop feeds the ring to the decoder, and handles
- * each command as its frame ends:
+ * The UART's interrupt handler puts each received byte into a ring buffer. The main loop feeds the bytes of the ring to
+ * the decoder, and handles each command when its frame ends:
  *
  *     'e' bytes..   echo: sends the bytes back
  *     'a' bytes..   add: adds the bytes up, and sends the sum in two bytes
  *     's'           statistics: sends how many frames were received, broken, and too long, and how often the ring was full
  *
- * A damaged frame is counted, and never affects another. A frame of which the full ring lost bytes is left out. */
+ * A damaged frame is counted, and never affects another frame. If the ring is full and bytes of a frame are lost, the
+ * frame is dropped. */
 #include <jcobs.h>
 
 #include "board.h"
 
-#define MOST 64 /* bytes in a command */
+#define MOST 64 /* the most bytes of a command */
 
-/* THE RECEIVER: what a developer copies, down to the line of dashes. */
+/* THE RECEIVER: copy the code from here down to the line of dashes. */
 
-static volatile unsigned char ring[256]; /* as long as a number of 8 bits counts; one place stays free */
-static volatile unsigned char ring_head; /* the interrupt writes here */
+static volatile unsigned char ring[256]; /* indices of 8 bits wrap around at its length; one place stays free */
+static volatile unsigned char ring_head; /* the interrupt handler writes here */
 static volatile unsigned char ring_tail; /* the main loop reads here */
-static volatile unsigned char ring_cut;  /* bytes after the head are lost, and more until the main loop has seen it */
+static volatile unsigned char ring_cut;  /* bytes are lost while this is set; the main loop clears it */
 static volatile unsigned char overruns;
 
-void uart_received(unsigned char byte) /* called by the interrupt */
+void uart_received(unsigned char byte) /* called by the interrupt handler */
 {
     if (ring_cut)
         return;
@@ -43,8 +45,8 @@ static void complain(unsigned int status);
 
 static void receive(void) /* called by the main loop */
 {
-    static unsigned char is_skipping; /* the rest of a frame of which bytes are lost */
-    unsigned char was_cut = ring_cut; /* asked first: they are lost after all that is in the ring */
+    static unsigned char is_skipping; /* whether the rest of a frame that lost bytes is skipped */
+    unsigned char was_cut = ring_cut; /* read first: the lost bytes come after all bytes in the ring */
 
     while (ring_tail != ring_head) {
         unsigned char byte = ring[ring_tail];
@@ -80,7 +82,7 @@ static void send(const unsigned char *bytes, size_t len)
 
 /* ---------------------------------------------------------------- */
 
-static unsigned char counts[3]; /* frames received, broken, too long */
+static unsigned char counts[3]; /* of frames that were received, broken, too long */
 
 static void handle(const unsigned char *bytes, size_t len)
 {
@@ -126,7 +128,7 @@ int main(void)
 {
     uart_start();
     for (;;) {
-        interrupts_off(); /* so that no byte comes between the question and the wait */
+        interrupts_off(); /* so that no byte arrives between the test and the wait */
         if (ring_tail == ring_head && !ring_cut)
             wait_for_interrupt();
         interrupts_on();

@@ -3,9 +3,9 @@
 
 usage: test.py [WATCH]
 
-Commands go out as frames, whole and damaged, and what comes back is compared. WATCH is a built cobs_watch, which then
-shows what comes back; without it this program decodes it. Then more commands go out than the firmware can reply to while
-nobody reads, so that bytes of some are lost.
+The test sends commands as frames, whole and damaged, and compares the replies. WATCH is the path of a built cobs_watch,
+which then shows the replies; without WATCH this program decodes them, and then sends more commands than the firmware can
+reply to while nobody reads the replies, so that bytes of some commands are lost.
 """
 import os
 import re
@@ -49,7 +49,7 @@ def message(piece):
 
 
 def lines_of(terminal, watch):
-    """The lines that cobs_watch shows of what comes, or would show."""
+    """Yields the lines that cobs_watch shows, or would show, for the replies."""
     if watch:
         with subprocess.Popen([watch], stdin=terminal, stdout=subprocess.PIPE, text=True) as shown:
             try:
@@ -68,7 +68,7 @@ def lines_of(terminal, watch):
 
 
 def overrun(terminal):
-    """A line for each fault of what comes back of commands whose bytes outrun the firmware, which waits until replies are read."""
+    """Sends commands faster than the firmware can handle them, while it waits until replies are read. Yields a line for each fault."""
     sent = [b"e" + number.to_bytes(2, "big") * 30 for number in range(1, 1000)]
     os.write(terminal, b"".join(map(frame, sent)))
     held, counts = b"", []
@@ -78,7 +78,7 @@ def overrun(terminal):
         replies = [message(piece) for piece in held.split(b"\0") if piece]
         counts = [reply[1:] for reply in replies if reply[:1] == b"s"]
         if not counts:
-            os.write(terminal, b"\0" + frame(b"s"))  # again, if it was lost itself
+            os.write(terminal, b"\0" + frame(b"s"))  # again, because the command for the statistics may be lost too
     echoed = [reply for reply in replies if reply[:1] != b"s"]
     print(f"{len(sent)} commands, {len(echoed)} echoed, counts {counts[0].hex()}")
     if any(reply not in sent for reply in echoed) or sorted(echoed) != echoed:
@@ -101,9 +101,9 @@ def main():
     watch = sys.argv[1] if len(sys.argv) > 1 else None
     good = [b"e", b"ehello", bytes([101, 0, 0, 255, 0]), b"a\1\2\3\4", b"a" + bytes([255] * 40)]
     cut = frame(b"ecut off in the middle")
-    bursts = [  # each ends with a command that is answered, and fits into the firmware's ring
+    bursts = [  # each ends with a command that gets a reply, and fits the firmware's ring buffer
         frame(good[0]),
-        b"\x09broken\0" + frame(good[1]),  # says nine bytes, and has six
+        b"\x09broken\0" + frame(good[1]),  # a code of 9, but only six bytes after it
         b"\0\0" + frame(good[2]),
         frame(b"e" + bytes([7] * 100)) + frame(good[3]),  # longer than a command may be
         cut[:9] + b"\0" + frame(good[4]),  # cut off by a zero
@@ -130,7 +130,7 @@ def main():
             shown = lines_of(terminal, watch)
             found = []
             for burst in bursts:
-                os.write(terminal, burst)  # the terminal holds the first one until QEMU has seen that it is open
+                os.write(terminal, burst)  # the terminal keeps the first burst until QEMU sees that the terminal is open
                 found.append(next(shown))
             shown.close()
             if not watch:

@@ -1,6 +1,6 @@
 # A port over this checkout: vcpkg install jcobs --overlay-ports=bindings/c/vcpkg
 #
-# It compiles jcobs.c, as ports take no built libraries.
+# It compiles jcobs.c, because ports don't contain built libraries.
 get_filename_component(SOURCE_PATH "${CMAKE_CURRENT_LIST_DIR}/../../../.." ABSOLUTE)
 
 vcpkg_cmake_configure(SOURCE_PATH "${SOURCE_PATH}" OPTIONS -DJCOBS_FROM_SOURCE=ON)

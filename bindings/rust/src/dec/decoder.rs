@@ -1,4 +1,4 @@
-//! A stream of frames to messages, one after another.
+//! Decodes a stream of frames to messages, one after another.
 //!
 //! The three decoders differ in who owns the buffer.
 
@@ -20,7 +20,7 @@ impl Progress {
         parsed_size: 0,
     };
 
-    // Inlined, so that a loop of pushes of one byte is a loop of `feed`.
+    // This function is inlined, so that a loop of pushes of one byte becomes a loop of `feed`.
     #[inline(always)]
     fn push(&mut self, dest: &mut [u8], data: &[u8]) -> Result<Option<DecodeReport>, DecodeError> {
         match *data {
@@ -63,10 +63,10 @@ impl Progress {
     }
 }
 
-/// The methods that the three decoders share, over their fields `dest` and `progress`.
+/// Defines the methods that the three decoders share, over their fields `dest` and `progress`.
 macro_rules! decoder_methods {
     () => {
-        /// Takes the next byte of a stream of frames, each ended by a zero.
+        /// Takes the next byte of a stream in which a zero ends each frame.
         ///
         /// - `Ok(None)`: no frame has ended.
         /// - `Ok(Some(n))`: a frame has ended, and its message is the first `n` bytes of [`dest`](Self::dest).
@@ -74,36 +74,37 @@ macro_rules! decoder_methods {
         /// # Errors
         ///
         /// - [`DecodeError::InvalidFrame`]: the byte is a zero inside a block. The next byte begins a frame.
-        /// - [`DecodeError::TargetBufTooSmall`]: the message is longer than the buffer. This is the result for the first
-        ///   byte that doesn't fit, and for each byte after it, through the zero that ends the frame.
+        /// - [`DecodeError::TargetBufTooSmall`]: the message is longer than the buffer. This is the result for the
+        ///   first byte that doesn't fit, and for each byte after it, through the zero that ends the frame.
         #[inline]
         pub fn feed(&mut self, data: u8) -> Result<Option<usize>, DecodeError> {
             self.progress.feed(&mut self.dest[..], data)
         }
 
-        /// Takes bytes of a stream of frames, through the zero that ends the first frame, or all of them if no frame ends.
-        /// The bytes after that zero have no effect: push them next.
+        /// Takes bytes of a stream of frames, through the zero that ends the first frame, or all bytes if no frame
+        /// ends. The bytes after that zero have no effect: push them next.
         ///
-        /// - `Ok(None)`: all were taken, and no frame has ended.
+        /// - `Ok(None)`: all bytes were taken, and no frame has ended.
         /// - `Ok(Some(report))`: a frame has ended, after [`parsed_size`](DecodeReport::parsed_size) of these bytes,
         ///   and its message is the first [`frame_size`](DecodeReport::frame_size) bytes of [`dest`](Self::dest).
         ///
         /// # Errors
         ///
-        /// - [`DecodeError::InvalidFrame`]: the frame breaks off inside a block. The bytes were taken through its zero.
-        /// - [`DecodeError::TargetBufTooSmall`]: the message is longer than the buffer. This is the result of each push
-        ///   with bytes that don't fit, and of the push with the zero after them. The bytes were taken through that zero,
-        ///   or all of them.
+        /// - [`DecodeError::InvalidFrame`]: the frame breaks off inside a block. The bytes through the zero that ends
+        ///   it were taken.
+        /// - [`DecodeError::TargetBufTooSmall`]: the message is longer than the buffer. This is the result of the push
+        ///   with the first byte that doesn't fit, and of each later push through the zero that ends the frame. The
+        ///   bytes through that zero were taken, or all bytes if the push doesn't contain it.
         ///
-        /// After an error, continue with the bytes from [`parsed_size`](Self::parsed_size) on. Then a broken frame never
-        /// affects another one.
+        /// After an error, continue with the bytes from [`parsed_size`](Self::parsed_size) on. Then a broken frame
+        /// never affects another frame.
         #[inline]
         pub fn push(&mut self, data: &[u8]) -> Result<Option<DecodeReport>, DecodeError> {
             self.progress.push(&mut self.dest[..], data)
         }
 
-        /// Returns how many bytes the last [`push`](Self::push) or [`feed`](Self::feed) took, whatever it returned; 0 before
-        /// the first. The crate `cobs` doesn't have this call.
+        /// Returns how many bytes the last [`push`](Self::push) or [`feed`](Self::feed) took, even if it returned an
+        /// error. Before the first of these calls the result is 0. The crate `cobs` doesn't have this call.
         #[inline]
         #[must_use]
         pub const fn parsed_size(&self) -> usize {
@@ -119,8 +120,8 @@ macro_rules! decoder_methods {
 
         /// Returns the buffer to which messages are decoded, for writing.
         ///
-        /// It may be changed while no frame is open. If it is changed at another time, the result of the open frame and the
-        /// contents of the buffer are unspecified.
+        /// The buffer may be changed while no frame is open. If it is changed while a frame is open, the result of this
+        /// frame and the contents of the buffer are unspecified.
         #[inline]
         pub fn dest_mut(&mut self) -> &mut [u8] {
             &mut self.dest[..]
@@ -128,10 +129,10 @@ macro_rules! decoder_methods {
     };
 }
 
-/// `reset`, of the decoders that have it.
+/// Defines `reset`, for the decoders that have this method.
 macro_rules! decoder_reset {
     () => {
-        /// Puts the decoder back to the start, when no frame has begun. The buffer and
+        /// Resets the decoder to its initial state, in which no frame has begun. The buffer and
         /// [`parsed_size`](Self::parsed_size) stay as they are.
         #[inline]
         pub fn reset(&mut self) {
@@ -180,7 +181,7 @@ pub struct CobsDecoder<'a> {
 }
 
 impl<'a> CobsDecoder<'a> {
-    /// Makes a decoder that has taken nothing yet, and that decodes to `dest`.
+    /// Makes a decoder that decodes to `dest`, and that has taken no byte yet.
     #[inline]
     #[must_use]
     pub const fn new(dest: &'a mut [u8]) -> CobsDecoder<'a> {
@@ -212,7 +213,7 @@ pub struct CobsDecoderHeapless<const N: usize> {
 }
 
 impl<const N: usize> CobsDecoderHeapless<N> {
-    /// Makes a decoder that has taken nothing yet, with a buffer of zeros.
+    /// Makes a decoder with a buffer of zeros. The decoder has taken no byte yet.
     #[inline]
     #[must_use]
     pub const fn new() -> Self {
@@ -222,8 +223,8 @@ impl<const N: usize> CobsDecoderHeapless<N> {
         }
     }
 
-    /// Makes a decoder over the bytes of this vector, which is filled with zeros up to its capacity. The vector is an array of
-    /// `N` bytes, an [`ArrayVec`], or with the feature `heapless` a vector of that crate.
+    /// Makes a decoder whose buffer holds the bytes of `vec`, followed by zeros. `vec` is an array of `N` bytes, an
+    /// [`ArrayVec`], or with the feature `heapless` a `heapless::Vec`.
     ///
     /// ```
     /// let decoder = jcobs::CobsDecoderHeapless::new_with_vec([7; 3]);
@@ -269,7 +270,7 @@ pub struct CobsDecoderOwned {
 
 #[cfg(feature = "alloc")]
 impl CobsDecoderOwned {
-    /// Makes a decoder that has taken nothing yet, with a buffer of `dest_buf_size` zeros.
+    /// Makes a decoder with a buffer of `dest_buf_size` zeros. The decoder has taken no byte yet.
     #[must_use]
     pub fn new(dest_buf_size: usize) -> Self {
         Self {

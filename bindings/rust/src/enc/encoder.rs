@@ -1,4 +1,4 @@
-//! A message in pieces to a frame in a slice.
+//! Encodes a message in pieces to a frame in a slice.
 
 use crate::enc::DestBufTooSmallError;
 use crate::proved::UnbufferedEncoder;
@@ -22,7 +22,7 @@ pub struct CobsEncoder<'a> {
 }
 
 impl<'a> CobsEncoder<'a> {
-    /// Makes an encoder that has taken nothing yet, and that writes to `out_buf`. No frame fits an empty slice, so an
+    /// Makes an encoder that writes to `out_buf`, and that has taken no byte yet. No frame fits an empty slice, so an
     /// encoder over an empty slice returns an error for each push.
     #[inline]
     #[must_use]
@@ -37,16 +37,16 @@ impl<'a> CobsEncoder<'a> {
     ///
     /// # Errors
     ///
-    /// [`DestBufTooSmallError`] exactly if the frame of the message so far, these bytes included, doesn't fit the slice. Then
-    /// nothing has changed, so the caller can still end the frame of the bytes before, or push fewer bytes.
+    /// Returns [`DestBufTooSmallError`] exactly if the frame of the message so far, including these bytes, doesn't fit
+    /// the slice. Then nothing has changed: the caller can end the message without these bytes, or push fewer bytes.
     #[inline]
     pub fn push(&mut self, data: &[u8]) -> Result<(), DestBufTooSmallError> {
         self.encoder.push(self.dest, data)
     }
 
     /// Ends the message, and returns the length of its frame in bytes. The slice then begins with this frame, without a
-    /// sentinel. It is the frame that [`encode`](crate::encode) writes, and the bytes after it are as they were at first. The
-    /// length is 0 only if the slice is empty.
+    /// sentinel. It is the frame that [`encode`](crate::encode) would write. The bytes after the frame are as they were
+    /// before the first push. The length is 0 only if the slice is empty.
     #[inline]
     #[must_use]
     pub fn finalize(self) -> usize {

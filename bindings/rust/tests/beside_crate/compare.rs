@@ -1,8 +1,8 @@
-//! Compares every call with that of the crate `cobs` 0.5.1, with overflow checks: each state of both state machines with
-//! each byte, all short inputs, and random ones. `upstream-tests.sh` builds and runs it.
+//! Compares every call with the same call of the crate `cobs` 0.5.1, with overflow checks: each state of both state
+//! machines with each byte, all short inputs, and random inputs. `upstream-tests.sh` builds and runs this program.
 //!
-//! Where the repository's `docs/DIFFERENCES.md` says that the crate panics, overflows or returns a wrong length, its
-//! result is held against what that page says instead.
+//! If the repository's `docs/DIFFERENCES.md` says that the crate `cobs` panics, overflows or returns a wrong length,
+//! this crate's result is compared with the result on that page instead.
 
 use std::fmt::Debug;
 use std::panic::{AssertUnwindSafe, catch_unwind};
@@ -19,7 +19,7 @@ impl Random {
         (self.0 >> 20) as usize % end
     }
 
-    /// Bytes in which runs of any length are as likely as zeros in a row.
+    /// Returns bytes in which runs of any length are as likely as zeros in a row.
     fn bytes(&mut self) -> Vec<u8> {
         let length = [self.below(9), self.below(80), 250 + self.below(12), self.below(1200)][self.below(4)];
         let zeros = [1, 2, 8, 100, 100_000][self.below(5)];
@@ -38,12 +38,12 @@ impl Compared {
     }
 }
 
-/// A result in words, which are the same for both crates' types.
+/// Returns a result as text, which is the same for both crates' types.
 fn said<T: Debug>(result: T) -> String {
     format!("{result:?}")
 }
 
-/// The frame of a message, which both crates agree on, since its length can't be wrong in a vector.
+/// Returns the frame of a message. The crates agree on this frame, because the length of a vector can't be wrong.
 fn frame_of(seen: &mut Compared, message: &[u8]) -> Vec<u8> {
     let frame = jcobs::encode_vec(message);
     seen.same("encode_vec", &frame, &cobs::encode_vec(message), &message);
@@ -54,8 +54,8 @@ fn frame_of(seen: &mut Compared, message: &[u8]) -> Vec<u8> {
     frame
 }
 
-/// A call that encodes into a slice: where the frame fits, both write it; otherwise this crate returns an error, or panics
-/// as the crate does, and has written nothing.
+/// Compares a call that encodes into a slice. If the frame fits, both crates write it. Otherwise this crate returns an
+/// error, or panics as the crate `cobs` does, and writes nothing.
 fn into_slice<E>(
     seen: &mut Compared,
     name: &str,
@@ -102,7 +102,7 @@ fn encoders(seen: &mut Compared, random: &mut Random, message: &[u8]) {
     in_pieces(seen, random, message, &frame);
 }
 
-/// `CobsEncoder`, in pieces that aren't empty, and room that is enough or not.
+/// Compares `CobsEncoder`, with pieces that aren't empty, in a slice that is long enough or too short.
 fn in_pieces(seen: &mut Compared, random: &mut Random, message: &[u8], frame: &[u8]) {
     let room = (frame.len() + 2).saturating_sub(random.below(5)).max(1);
     let (mut a, mut b) = (vec![0xAA; room], vec![0xAA; frame.len() + 9]);
@@ -151,7 +151,7 @@ fn decoders(seen: &mut Compared, random: &mut Random, source: &[u8]) {
         if let Ok(length) = ours {
             seen.same("decode_in_place_with_sentinel writes", &a[..length], &b[..length], &source);
         }
-        // With as much room as the source has bytes, the crate's reads no more than it.
+        // With a buffer as long as the source, `decode` of the crate `cobs` doesn't read past the source.
         let (mut a, mut b) = (vec![0xAA; source.len()], vec![0xAA; source.len()]);
         let ours = jcobs::decode_with_sentinel(source, &mut a, sentinel);
         seen.same("decode_with_sentinel", said(ours), said(cobs::decode_with_sentinel(source, &mut b, sentinel)), &source);
@@ -162,10 +162,10 @@ fn decoders(seen: &mut Compared, random: &mut Random, source: &[u8]) {
     }
 }
 
-/// What a stream gives: after how many bytes, and a message, or an error in words.
+/// One result of a stream: the number of bytes before it, and a message, or an error as text.
 type Outcomes = Vec<(usize, Result<Vec<u8>, String>)>;
 
-/// By the crate's decoder, byte by byte. After an overflow it has a decoder anew behind the next zero.
+/// Decodes with the crate `cobs`, byte by byte. After an overflow a new decoder begins after the next zero.
 fn by_crate(stream: &[u8]) -> Outcomes {
     let (mut found, mut dest, mut at) = (Vec::new(), [0; ROOM], 0);
     while at < stream.len() {
@@ -190,7 +190,7 @@ fn by_crate(stream: &[u8]) -> Outcomes {
     found
 }
 
-/// By this crate, in pieces of up to `most` bytes. Of a message that is too long the last error counts.
+/// Decodes with this crate, in pieces of up to `most` bytes. If a message is too long, the last error counts.
 macro_rules! by_pieces {
     ($decoder:expr, $stream:expr, $most:expr, $random:expr) => {{
         let (mut decoder, stream, mut at) = ($decoder, $stream, 0);
@@ -249,7 +249,7 @@ fn streams(seen: &mut Compared, random: &mut Random, stream: &[u8]) {
     seen.same("feed", &ours, &wanted, &stream);
 }
 
-/// Each state that the decoder's state machine can be in, with each byte.
+/// Compares each state that the decoder's state machine can be in, with each byte.
 fn decoder_states(seen: &mut Compared) {
     for left in 0..=u8::MAX {
         for byte in 0..=u8::MAX {
@@ -267,7 +267,7 @@ fn decoder_states(seen: &mut Compared) {
     }
 }
 
-/// Each state that the encoder's state machine comes to, with each byte.
+/// Compares each state that the encoder's state machine reaches, with each byte.
 fn encoder_states(seen: &mut Compared) {
     let in_words = |result: &jcobs::PushResult| match *result {
         jcobs::PushResult::AddSingle(byte) => (0, 0, byte, 0),
@@ -293,7 +293,7 @@ fn encoder_states(seen: &mut Compared) {
     }
 }
 
-/// All byte strings of this length over a few bytes.
+/// Returns all strings of this length over a few bytes.
 fn each(length: usize, mut call: impl FnMut(&[u8])) {
     const BYTES: [u8; 5] = [0, 1, 2, 3, 255];
     for number in 0..BYTES.len().pow(length as u32) {

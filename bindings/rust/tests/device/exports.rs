@@ -1,4 +1,5 @@
-//! The calls of `jcobs.h` over the crate `jcobs`, so that the C tests of the library for devices run over the crate.
+//! Defines the calls of `jcobs.h` over the crate `jcobs`, so that the C tests of the library for devices test the
+//! crate.
 #![no_std]
 
 use core::slice;
@@ -14,7 +15,7 @@ unsafe extern "C" {
 
 #[panic_handler]
 fn panic(_: &core::panic::PanicInfo) -> ! {
-    // SAFETY: it is the C library's, and has no precondition.
+    // SAFETY: this function of the C library has no precondition.
     unsafe { abort() }
 }
 
@@ -71,7 +72,7 @@ fn decoded(consumed: usize, room: usize, result: Result<usize, DecodeError>) -> 
     }
 }
 
-/// How many bytes a frame at the front has, with the zero after it.
+/// Returns how many bytes the frame at the front has, with the zero after it.
 fn through_zero(bytes: &[u8]) -> usize {
     bytes.iter().position(|byte| *byte == 0).map_or(bytes.len(), |at| at + 1)
 }
@@ -179,7 +180,8 @@ pub unsafe extern "C" fn jcobs_decoder_push(decoder: &mut Decoder, buffer: *mut 
     }
 }
 
-/// A whole piece with its zero, by the decoder over a slice, and as `push` and `feed_piece` have it.
+/// Decodes a whole piece with its zero by the decoder over a slice, and compares the result with those of `push` and
+/// `feed_piece`.
 fn piece(buffer: &mut [u8], bytes: &[u8]) -> Answer {
     let (room, len) = (buffer.len(), bytes.len());
     let mut over_slice = CobsDecoder::new(buffer);
@@ -224,7 +226,7 @@ impl Encoder {
         })
     }
 
-    /// Where the frame ends that has come so far.
+    /// Returns the index at which the frame so far ends.
     fn keep(&mut self, encoder: &UnbufferedEncoder) -> usize {
         let EncoderProgress { index, code, is_full } = encoder.progress();
         (self.index, self.taken, self.full) = (index, code.wrapping_sub(1), u8::from(is_full));

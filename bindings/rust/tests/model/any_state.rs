@@ -1,5 +1,5 @@
-//! The coders whose buffer is passed to each call: from any state, over any buffer, no call panics, or returns more than the
-//! buffer holds.
+//! Tests the coders whose buffer is passed to each call: from any state, with any buffer, no call panics, and no call
+//! returns a length that is greater than the buffer's.
 
 use jcobs::{
     DecoderPhase, DestBufTooSmallError, EncoderProgress, PushError, UnbufferedDecoder,
@@ -120,7 +120,7 @@ fn check_encoder(progress: EncoderProgress, len: usize, piece: &[u8]) {
         code,
         is_full,
     } = progress;
-    // The open block, or the full one before it, ends within the buffer.
+    // The open block, or the full block before it, ends within the buffer.
     let is_within =
         (1..255).contains(&code) && index <= len && (is_full || usize::from(code) <= len - index);
     let mut dest = vec![FILL; len];
@@ -150,7 +150,7 @@ fn check_encoder(progress: EncoderProgress, len: usize, piece: &[u8]) {
     }
 }
 
-/// The calls for single bytes and for a few, where `push` of the piece returned this.
+/// Compares the calls for single bytes and for a few bytes with this result of `push` of the piece.
 fn check_by_bytes(
     progress: EncoderProgress,
     len: usize,

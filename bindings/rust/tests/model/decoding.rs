@@ -1,23 +1,23 @@
-//! Frames to messages, in each room and cut.
+//! Decodes frames to messages, in each room and with each cut.
 
 use jcobs::{CobsDecoder, DecodeError, FrameKind, UnbufferedDecoder};
 
 use crate::grammar::{Decoder, encoded};
 use crate::{ALL, FILL, messages, some_messages};
 
-/// The results of the zeros of a stream, each after this many bytes, and what is in the buffer then.
+/// The results of the zeros of a stream: the number of bytes before each result, and the contents of the buffer then.
 type Results = Vec<(usize, Result<usize, DecodeError>, Vec<u8>)>;
 
-/// A stream, and the results of its zeros with this much room.
+/// A stream, and the results of its zeros if the buffer has this room.
 struct Case {
     stream: Vec<u8>,
     room: usize,
     results: Results,
-    /// For each byte, whether it is of a message that is too long by then.
+    /// For each byte, whether its message is too long at this byte.
     too_long: Vec<bool>,
 }
 
-/// A buffer that begins with as much of these bytes as fits.
+/// Returns a buffer that begins with as many of these bytes as fit.
 fn filled(bytes: &[u8], room: usize) -> Vec<u8> {
     let mut dest = vec![FILL; room];
     let fits = bytes.len().min(room);
@@ -45,7 +45,8 @@ impl Case {
         }
     }
 
-    /// Compares the results of a coder, which takes bytes over a buffer and says how many, and what came of them.
+    /// Compares the results of a coder that takes bytes and a buffer, and returns how many bytes it took, and the
+    /// result.
     fn check(
         &self,
         cut: usize,
@@ -78,7 +79,7 @@ impl Case {
         assert!(results.next().is_none(), "{}", place());
     }
 
-    /// By each way to take a piece.
+    /// Decodes by each call that takes a piece.
     fn check_pushes(&self, cut: usize) {
         let mut decoder = UnbufferedDecoder::new();
         self.check(cut, |dest, bytes| match decoder.push(dest, bytes) {
@@ -88,7 +89,7 @@ impl Case {
         });
         let mut decoder = UnbufferedDecoder::new();
         self.check(cut, |dest, bytes| {
-            // The state is all that it has.
+            // The coder has nothing but its state.
             decoder = UnbufferedDecoder::from_phase(decoder.phase());
             match decoder.feed_piece(dest, bytes) {
                 None => (bytes.len(), None),
@@ -96,7 +97,8 @@ impl Case {
             }
         });
         self.check_buffered(cut);
-        // The other two are slow here, and each byte is the same step to them: at every fifth cut or room.
+        // The other two coders are slow here, and do the same step for each byte: they are tested at every fifth cut or
+        // room.
         if (cut + self.room) % 5 != 0 {
             return;
         }
@@ -113,7 +115,7 @@ impl Case {
         self.check_reader(cut);
     }
 
-    /// By the reader of messages, from a source of two parts.
+    /// Decodes with the reader of messages, from a source of two parts.
     #[cfg(feature = "std")]
     fn check_reader(&self, cut: usize) {
         use std::io::Read;
@@ -130,7 +132,7 @@ impl Case {
         assert_eq!(end, None, "{}", place());
     }
 
-    /// By the decoder that borrows its buffer, which is copied to that of `check` after each call.
+    /// Decodes with the decoder that borrows its buffer. The buffer is copied to that of `check` after each call.
     fn check_buffered(&self, cut: usize) {
         let mut buffer = vec![FILL; self.room];
         let mut decoder = CobsDecoder::new(&mut buffer);
@@ -145,7 +147,7 @@ impl Case {
             if bytes[taken - 1] == 0 {
                 decoder.dest_mut().fill(FILL);
             }
-            // Unlike the others it says at the end of a push that the message is too long.
+            // Unlike the others, this decoder says at the end of each push that the message is too long.
             pushed += taken;
             if taken == bytes.len() && bytes[taken - 1] != 0 {
                 let expected = Err(DecodeError::TargetBufTooSmall);
@@ -160,7 +162,7 @@ impl Case {
         });
     }
 
-    /// By bytes one by one.
+    /// Feeds the bytes one by one.
     fn check_feeds(&self) {
         let mut decoder = UnbufferedDecoder::new();
         self.check(0, |dest, bytes| {
@@ -174,12 +176,12 @@ impl Case {
     }
 }
 
-/// The frame of a message and a zero, then those of a short one.
+/// Returns the frame of a message and a zero, and then the frame of a short message and a zero.
 fn stream(message: &[u8]) -> Vec<u8> {
     [&encoded(message)[..], b"\0\x03hi\0"].concat()
 }
 
-/// Calls the functions for a whole frame, which is cut to this length.
+/// Calls the functions for a whole frame, with the frame cut to this length.
 fn check_whole(message: &[u8], room: usize, frame: &[u8]) {
     let place = || format!("{frame:?}, room for {room}");
     let mut decoder = Decoder::default();
@@ -199,7 +201,7 @@ fn check_whole(message: &[u8], room: usize, frame: &[u8]) {
     assert_eq!(result, expected, "{}", place());
     assert_eq!(dest, filled(&decoder.output, room), "{}", place());
 
-    // The others keep only whole blocks of a frame that breaks off.
+    // The other functions keep only the whole blocks of a frame that breaks off.
     let is_frame = !frame.is_empty() && decoder.ended(message.len()).is_ok();
     if !is_frame {
         decoder.output.truncate(decoder.before);
@@ -213,7 +215,7 @@ fn check_whole(message: &[u8], room: usize, frame: &[u8]) {
             decoded_bytes: kept.len(),
         }),
     };
-    // With bytes after it, as a frame for a sentinel that it doesn't have.
+    // The frame, with bytes after it, is decoded for a sentinel that it doesn't contain.
     let sentinel = [0, FILL, 0xFF][room % 3];
     let xored: Vec<_> = frame.iter().map(|byte| byte ^ sentinel).collect();
     let ended = [&xored[..], &[sentinel, 2, sentinel]].concat();
@@ -242,7 +244,7 @@ fn check_whole(message: &[u8], room: usize, frame: &[u8]) {
     }
 }
 
-/// Calls the function for the kind of a frame, which is this message's, or none.
+/// Calls the function for the kind of a frame. The bytes are the frame of this message, or no frame.
 fn check_kind(frame: &[u8], message: Option<&[u8]>) {
     let kind = match message {
         None => FrameKind::NotAFrame,
@@ -258,7 +260,7 @@ fn check_kind(frame: &[u8], message: Option<&[u8]>) {
     }
 }
 
-/// Frames of messages that end with a full block, which may have an empty one after it.
+/// Tests frames of messages that end with a full block, with and without a block 1 after it.
 #[test]
 fn two_frames_of_a_message() {
     for blocks in [1, 2, 3] {
@@ -312,7 +314,7 @@ fn each_room() {
 fn each_cut() {
     let check = |message: &[u8]| {
         let case = Case::of(stream(message), message.len().max(2));
-        // And with the frame broken off by its zero.
+        // Here the zero breaks off the frame.
         let mut broken = case.stream.clone();
         broken.remove(broken.len() - 6);
         let broken = Case::of(broken, message.len().max(2));

@@ -1,18 +1,18 @@
-//! Messages to frames, in each room and cut.
+//! Encodes messages to frames, in each room and with each cut.
 
 use jcobs::{CobsEncoder, DestBufTooSmallError, UnbufferedEncoder};
 
 use crate::grammar::Encoder;
 use crate::{ALL, FILL, messages, some_messages};
 
-/// The ends of a message after its run.
+/// The bytes of a message after its run: each of these is tested.
 const TAILS: [&[u8]; 3] = [&[], &[0], &[0, 7, 7, 7, 7, 7]];
 
-/// A call that takes a byte, with the length of the frame that it returns.
+/// A call that takes a byte, and returns the length of the frame so far.
 type Take<'a> =
     &'a mut dyn FnMut(&mut UnbufferedEncoder, &mut [u8], u8) -> Result<usize, DestBufTooSmallError>;
 
-/// A message, its frame, and the length of the frame of each front of it.
+/// A message, its frame, and the length of the frame of each front of the message.
 struct Case<'a> {
     message: &'a [u8],
     frame: Vec<u8>,
@@ -55,7 +55,7 @@ impl<'a> Case<'a> {
         assert_eq!((returned, dest), written(&between, room), "{}", place());
     }
 
-    /// In the message's own buffer, with this many bytes after the message.
+    /// Encodes in the message's own buffer, which has this many bytes after the message.
     fn check_in_place(&self, more: usize) {
         let overhead = jcobs::max_encoding_overhead(self.message.len());
         let mut buffer = vec![FILL; overhead + self.message.len() + more];
@@ -67,7 +67,7 @@ impl<'a> Case<'a> {
         assert_eq!(buffer, expected, "{:?}", self.message);
     }
 
-    /// By the writer of messages, and as a stream.
+    /// Encodes with the writer of messages, and as a stream.
     #[cfg(feature = "std")]
     fn check_writer(&self) {
         let mut writer = jcobs::MessageWriter::new(Vec::new());
@@ -83,7 +83,7 @@ impl<'a> Case<'a> {
         assert_eq!(stream, written, "{:?}", self.message);
     }
 
-    /// Takes the message byte by byte, and in pieces of a few bytes, as far as it fits.
+    /// Pushes the message byte by byte, and in pieces of a few bytes, as far as it fits.
     fn check_steps(&self, room: usize) {
         let place = || format!("{:?}, room for {room}", self.message);
         let fits = self.lens.partition_point(|&len| len <= room).max(1) - 1;
@@ -166,7 +166,7 @@ impl<'a> Case<'a> {
             "{}",
             place()
         );
-        // The state is all that it has.
+        // The coder has nothing but its state.
         let mut encoder = UnbufferedEncoder::from_progress(encoder.progress());
         if fits[0] {
             assert_eq!(
@@ -184,7 +184,7 @@ impl<'a> Case<'a> {
         }
     }
 
-    /// The buffer has the frame of what was taken, and nothing else has changed.
+    /// Checks that the buffer has the frame of the bytes that were taken, and that nothing else has changed.
     fn check_frame(&self, len: usize, dest: &[u8], cut: usize, fits: [bool; 2]) {
         let of_front;
         let frame = match fits {
@@ -202,7 +202,7 @@ impl<'a> Case<'a> {
     }
 }
 
-/// What a call does that writes these bytes, if they fit.
+/// Checks a call that writes these bytes, if they fit.
 fn written(bytes: &[u8], room: usize) -> (Result<usize, DestBufTooSmallError>, Vec<u8>) {
     let mut dest = vec![FILL; room];
     let Some(front) = dest.get_mut(..bytes.len()) else {

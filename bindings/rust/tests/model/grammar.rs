@@ -1,16 +1,17 @@
-//! The format, byte by byte: a frame is a list of blocks, a block is a code and bytes after it, and the code counts them and
-//! itself. Blocks stand for these bytes, with a zero between two of them unless the first has the code 255.
+//! Models the format byte by byte. A frame is a list of blocks. A block is a code and the bytes after it, and the code
+//! counts these bytes and itself. The message is the bytes of the blocks without their codes, with a zero between two
+//! blocks unless the first has the code 255.
 
 use jcobs::DecodeError;
 
-/// The frame of the bytes so far.
+/// A model of an encoder: the frame of the bytes so far.
 #[derive(Clone, Default)]
 pub struct Encoder {
-    /// The blocks that are ended.
+    /// The blocks that have ended.
     blocks: Vec<u8>,
-    /// The bytes of the open one.
+    /// The bytes of the open block.
     open: Vec<u8>,
-    /// Whether a full block has just ended. Then nothing is open yet.
+    /// Whether a full block has just ended. Then no block is open yet.
     is_full: bool,
 }
 
@@ -47,21 +48,21 @@ pub fn encoded(message: &[u8]) -> Vec<u8> {
     encoder.frame()
 }
 
-/// What the bytes since the last zero decode to.
+/// A model of a decoder: the output of the bytes since the last zero.
 #[derive(Clone, Default)]
 pub struct Decoder {
-    /// All of it, also if there is no room.
+    /// The whole output, even if there is no room for it.
     pub output: Vec<u8>,
-    /// How long it was before the open block.
+    /// The length of the output before the open block.
     pub before: usize,
     /// The code of the open block.
     code: Option<u8>,
-    /// How many of its bytes are missing.
+    /// How many bytes of the open block are missing.
     missing: u8,
 }
 
 impl Decoder {
-    /// Takes a byte. The result is that of a decoder with this much room.
+    /// Takes a byte. Returns the result of a decoder whose buffer has this room.
     pub fn take(&mut self, byte: u8, room: usize) -> Result<Option<usize>, DecodeError> {
         if byte == 0 {
             return std::mem::take(self).ended(room);
@@ -83,7 +84,7 @@ impl Decoder {
         Ok(None)
     }
 
-    /// The result of the zero after these bytes.
+    /// Returns the result of a zero after these bytes.
     pub fn ended(&self, room: usize) -> Result<Option<usize>, DecodeError> {
         let decoded_bytes = self.output.len();
         if self.code.is_none() {
@@ -108,7 +109,7 @@ fn a_message_is_what_its_frame_decodes_to() {
         }
         assert_eq!(decoder.output, message);
         assert_eq!(decoder.ended(message.len()), Ok(Some(message.len())));
-        // Of two frames of a message it is the shorter one: a full block isn't followed by a last one that is empty.
+        // If a message has two frames, this is the shorter one: it doesn't end with the block 1 after a full block.
         let has_full_block = frame.len() > 255 && frame[frame.len() - 256] == 255;
         assert!(!has_full_block || !frame.ends_with(&[1]) || message.ends_with(&[0]));
     });

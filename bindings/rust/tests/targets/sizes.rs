@@ -1,5 +1,6 @@
-//! A program that makes one call, or none, of this crate or of the crate `cobs`, by the `--cfg` it is built with: what it adds is
-//! that call's size. `by` is one of the two. The lengths of the slices aren't known to the compiler.
+//! A program that makes one call of this crate or of the crate `cobs`, or no call. `--cfg` chooses the call. The size
+//! of a call is the size of the program with the call minus the size of the program without a call. `by` is one of the
+//! two crates. The compiler doesn't know the lengths of the slices.
 #![no_std]
 #![no_main]
 

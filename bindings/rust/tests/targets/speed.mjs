@@ -1,7 +1,9 @@
-// Prints the nanoseconds of each call of speed.rs in these modules, a line for each message and call: speed.mjs MODULE..
+// Prints the nanoseconds of each call of speed.rs in these modules, a line for each message and call: speed.mjs
+// MODULE..
 //
-// The modules take turns in each round, and the least time of each counts. All is measured in several passes: in the first one
-// the engine hasn't optimized every call yet, and whatever else the machine does lasts longer than the rounds of one call.
+// The modules take turns in each round, and the least time of each module counts. All calls are measured in several
+// passes: in the first pass the engine hasn't optimized every call yet, and other work of the machine may last longer
+// than all rounds of one call.
 import { readFile } from 'node:fs/promises'
 import { hrtime } from 'node:process'
 
@@ -24,7 +26,7 @@ function taken(module, call, times) {
   return Number(hrtime.bigint() - start) / times
 }
 
-// The modules' least time of one call over one message, in a pass.
+// Returns the least time of each module for one call with one message, in one pass.
 function leastOf(call) {
   const times = modules.map((module) => Math.ceil(ROUND / Math.max(taken(module, call, 2000), 1)))
   const least = modules.map(() => Infinity)

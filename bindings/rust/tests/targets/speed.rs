@@ -1,7 +1,9 @@
-//! Calls of this crate, or of the crate `cobs`, whose instructions are counted: `by` is one of the two.
+//! Makes the calls of this crate, or of the crate `cobs`, whose instructions are counted. `by` is one of the two
+//! crates.
 //!
-//! Under an emulator each call runs between `begin` and `end`, in the order of CALLS for each message; `speeds.py` counts. In
-//! WebAssembly `speed.mjs` takes the time of `repeat`. Each result is compared with a loop over single bytes.
+//! Under an emulator each call runs between `begin` and `end`, in the order of CALLS for each message; `speeds.py`
+//! counts. In WebAssembly `speed.mjs` takes the time of `repeat`. Each result is compared with a loop over single
+//! bytes.
 #![no_std]
 #![no_main]
 
@@ -27,7 +29,7 @@ const KINDS: usize = 5;
 const LENGTHS: [usize; 4] = [8, 64, 200, 1500];
 const ROOM: usize = 1600;
 
-/// A message, its frame with a zero after it, a copy of the frame, and room.
+/// A message, its frame with a zero after it, a copy of the frame, and a buffer.
 struct Work {
     message: [u8; ROOM],
     len: usize,
@@ -47,8 +49,8 @@ impl Work {
         room: [0; ROOM],
     };
 
-    /// Lays out a message of this kind and length: without zeros, of zeros, of random bytes, with a tenth of zeros, and with
-    /// a zero at each sixteenth place.
+    /// Lays out a message of this kind and length: without zeros, of zeros, of random bytes, with a tenth of zeros, and
+    /// with a zero at each sixteenth place.
     fn lay_out(&mut self, kind: usize, len: usize) {
         let mut state = 0x9E37_79B9_u32;
         for place in 0..len {
@@ -88,7 +90,7 @@ impl Work {
         self.stream_len = end + 1;
     }
 
-    /// Whether a call that returned this length wrote the frame, or the message.
+    /// Returns whether a call that returned this length wrote the frame, or the message.
     fn is_right(&self, call: usize, len: usize) -> bool {
         let (written, expected) = match call {
             3 | 4 | 7 => (&self.room, &self.stream[..self.stream_len - 1]),
@@ -99,7 +101,7 @@ impl Work {
     }
 }
 
-// Errors are counted, as receivers do.
+// Errors are counted, as a receiver does.
 #[inline(never)]
 fn feed(work: &mut Work) -> usize {
     let mut decoder = CobsDecoder::new(&mut work.room);
@@ -183,7 +185,7 @@ fn panic(_: &core::panic::PanicInfo) -> ! {
     stop()
 }
 
-/// What ends a program without a system call. The emulator then says that it caught a signal.
+/// Ends the program without a system call. The emulator then says that it caught a signal.
 fn stop() -> ! {
     #[cfg(target_arch = "wasm32")]
     core::arch::wasm32::unreachable();
@@ -208,7 +210,8 @@ extern "C" fn lay_out(kind: usize, len: usize) {
     work.lay_out(kind, len);
 }
 
-/// Makes a call so many times, each over a fresh copy if it is in place, and returns whether the last result was right.
+/// Makes a call this many times, each time with a new copy if the call works in place, and returns whether the last
+/// result was right.
 #[cfg(target_arch = "wasm32")]
 #[unsafe(no_mangle)]
 extern "C" fn repeat(call: usize, times: usize) -> bool {
@@ -237,11 +240,11 @@ extern "C" fn begin() {
 #[unsafe(no_mangle)]
 #[inline(never)]
 extern "C" fn end() {
-    // SAFETY: it does nothing. Of two equal functions the compiler makes one.
+    // SAFETY: it does nothing. The compiler would merge two equal functions.
     unsafe { asm!("nop", "nop") };
 }
 
-/// Is called if all results are right.
+/// This function is called if all results are right.
 #[cfg(not(target_arch = "wasm32"))]
 #[unsafe(no_mangle)]
 #[inline(never)]

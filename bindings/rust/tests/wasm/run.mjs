@@ -1,4 +1,4 @@
-// Compares the calls of a module built of src/lib.rs with loops over single bytes: run.mjs MODULE
+// Compares the calls of a module that was built from src/lib.rs with loops over single bytes: run.mjs MODULE
 import assert from 'node:assert/strict'
 import { readFile } from 'node:fs/promises'
 

@@ -1,13 +1,14 @@
-//! Messages over a port of embedded-io, in memory that is passed. Nothing but `main` needs `std`.
+//! Sends and receives messages over a port of embedded-io, in buffers that the caller passes. Only `main` needs `std`.
 
 use core::convert::Infallible;
 
 use embedded_io::{ErrorType, Read, Write};
 use jcobs::{CobsDecoderHeapless, DecodeError, FrameDecoder};
 
-/// Reads once, and hands on each message that has ended. Returns how many bytes the port had: none at its end.
+/// Reads once, and passes each message that has ended to a function. Returns how many bytes were read: 0 at the port's
+/// end.
 ///
-/// An error of the port loses nothing: the next call continues.
+/// An error of the port loses no byte: the next call continues after the bytes that were read.
 fn receive<R: Read, const N: usize>(
     port: &mut R,
     decoder: &mut CobsDecoderHeapless<N>,
@@ -23,11 +24,11 @@ fn receive<R: Read, const N: usize>(
     Ok(count)
 }
 
-/// Writes the frame of a message and a zero, by way of `frame`.
+/// Writes the frame of a message and a zero to the port. `frame` is a buffer for them.
 ///
 /// # Panics
 ///
-/// If `frame` is shorter than [`jcobs::max_encoding_length`] of the message, and 1.
+/// Panics if `frame` is shorter than [`jcobs::max_encoding_length`] of the message plus 1.
 fn send<W: Write>(port: &mut W, message: &[u8], frame: &mut [u8]) -> Result<(), W::Error> {
     let len = jcobs::encode(message, frame);
     frame[len] = 0;
@@ -35,7 +36,7 @@ fn send<W: Write>(port: &mut W, message: &[u8], frame: &mut [u8]) -> Result<(), 
     port.flush()
 }
 
-/// A port whose two ends are joined, and which gives 3 bytes a read.
+/// A port whose output is connected to its input. Each read returns at most 3 bytes.
 #[derive(Default)]
 struct Loopback(Vec<u8>);
 

@@ -1,4 +1,5 @@
-//! Messages over a line of tokio: `Framed` makes a stream and a sink of them, of anything that reads and writes bytes.
+//! Sends and receives messages over a line with tokio. `Framed` turns anything that reads and writes bytes into a
+//! stream and a sink of messages.
 
 use std::io;
 

@@ -1,4 +1,4 @@
-//! The library for C, as bindings/c/include/jcobs.h declares it.
+//! Declares the library for C, as bindings/c/include/jcobs.h does.
 
 #[derive(Debug, Clone, Copy, PartialEq)]
 #[repr(C)]
@@ -76,7 +76,7 @@ mod declared {
     }
 }
 
-/// A call, with slices in place of pointers and lengths.
+/// Defines a call that takes slices in place of pointers and lengths.
 macro_rules! calls {
     ($($name:ident = $declared:ident($($argument:ident: $type:ty => $($passed:expr),+);* $(;)?) -> $returned:ty;)*) => {
         $(pub fn $name($($argument: $type),*) -> $returned {

@@ -1,5 +1,5 @@
-//! Compares the library for C with this crate, call by call, over random bytes and buffers; the streaming coders from any
-//! state. usage: beside-c ROUNDS
+//! Compares the library for C with this crate, call by call, with random bytes and buffers. The streaming coders begin
+//! in any state. usage: beside-c ROUNDS
 
 mod library;
 
@@ -21,7 +21,8 @@ impl Random {
         (self.0 >> 20) as usize % end
     }
 
-    /// Bytes in which runs of any length are as likely as zeros in a row, and small codes as large ones.
+    /// Returns bytes in which runs of any length are as likely as zeros in a row, and small codes as likely as large
+    /// codes.
     fn bytes(&mut self) -> Vec<u8> {
         let lengths = [
             self.below(9),
@@ -42,7 +43,7 @@ impl Random {
             .collect()
     }
 
-    /// The frame of some message, sometimes with a byte changed.
+    /// Returns the frame of a message, sometimes with one byte changed.
     fn frame(&mut self) -> Vec<u8> {
         let mut frame = jcobs::encode_vec(&self.bytes());
         if self.below(3) == 0 {
@@ -52,7 +53,7 @@ impl Random {
         frame
     }
 
-    /// A buffer of about this length.
+    /// Returns a buffer of about this length.
     fn buffer(&mut self, needed: usize) -> Vec<u8> {
         let lengths = [
             needed,
@@ -77,7 +78,7 @@ impl Compared {
     }
 }
 
-/// What the library for C says of a message that was encoded so.
+/// Returns the result of the library for C that stands for this result of encoding.
 fn encoded(c: Answer) -> Result<usize, DestBufTooSmallError> {
     match c.status {
         OK => Ok(c.length),
@@ -86,7 +87,7 @@ fn encoded(c: Answer) -> Result<usize, DestBufTooSmallError> {
     }
 }
 
-/// What the library for C says of a frame that was decoded so: `None` if there was none.
+/// Returns the result of the library for C that stands for this result of decoding, or `None` if there was no frame.
 fn decoded(c: Answer) -> Option<Result<(usize, usize), DecodeError>> {
     Some(match c.status {
         OK => Ok((c.consumed, c.length)),
@@ -161,7 +162,7 @@ fn decoding(seen: &mut Compared, random: &mut Random) {
     let mut c = random.buffer(source.len());
     let mut rust = c.clone();
     let returned = decoded(library::decode(&source, &mut c));
-    // Zeros alone are an error there too, of another name.
+    // A source of zeros only is an error in C too, with another name.
     let none = if source.is_empty() {
         DecodeError::EmptyFrame
     } else {
@@ -189,7 +190,7 @@ fn decoding(seen: &mut Compared, random: &mut Random) {
         let (mut c, mut rust) = (source.clone(), source.clone());
         let returned = decoded(library::decode_in_place(&mut c));
         let expected = jcobs::decode_in_place_report(&mut rust).map(|report| {
-            // There the zero after the frame is counted.
+            // In C the zero after the frame is counted.
             let (parsed, len) = sizes(report);
             (parsed + usize::from(parsed < source.len()), len)
         });
@@ -225,7 +226,7 @@ fn phase_of(decoder: Decoder) -> DecoderPhase {
     }
 }
 
-/// What the library for C says of a piece that ended so.
+/// Returns the result of the library for C that stands for this end of a piece.
 fn ended(c: Answer) -> Option<(PieceEnd, usize)> {
     let end = match c.status {
         OK => PieceEnd::Message(c.length),
@@ -248,7 +249,7 @@ fn decoder(seen: &mut Compared, random: &mut Random) {
         }
     } else {
         Decoder {
-            // Of more bytes than the buffer has each says something else.
+            // If the message is longer than the buffer, the two results differ.
             written: random.below(buffer.len() + 1),
             missing: random.below(256) as u8,
             joint: random.below(2) as u8,
@@ -325,7 +326,7 @@ fn encoder(seen: &mut Compared, random: &mut Random) {
             rust.progress(),
             &(state, &bytes),
         );
-        // What is at the place of the open block's code isn't specified, until it is known.
+        // The byte at the place of the open block's code isn't specified until the block ends.
         if let (Some(place), Some(of_c)) = (copy.get_mut(c.index), buffer.get(c.index)) {
             *place = *of_c;
         }

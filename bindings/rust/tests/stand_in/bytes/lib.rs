@@ -1,1 +1,2 @@
-//! Stands in for the crate `bytes` where Debian's isn't installed: cargo asks for it, and nothing calls it.
+//! Stands in for the crate `bytes` if Debian's package isn't installed. cargo asks for this crate, but nothing calls
+//! it.

@@ -1,4 +1,4 @@
-//! Stands in for the crate `defmt` where there is no registry: its derive, which says that it was there.
+//! Stands in for the crate `defmt` if there is no registry. It has the derive, which records that it was used.
 extern crate proc_macro;
 
 use proc_macro::{TokenStream, TokenTree};

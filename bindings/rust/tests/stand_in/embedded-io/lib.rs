@@ -1,4 +1,4 @@
-//! The traits of embedded-io 0.6 that the example uses, with its signatures.
+//! The traits of embedded-io 0.6 that the example uses, with their signatures.
 #![no_std]
 
 pub enum ErrorKind {

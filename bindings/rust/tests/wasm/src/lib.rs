@@ -1,7 +1,7 @@
-//! Calls of the crate for `run.mjs`, over two buffers that JavaScript reads and writes.
+//! Exports calls of the crate for `run.mjs`, over two buffers that JavaScript reads and writes.
 //!
-//! A result is a length, or a negative number: -1 if the buffer is too small, -2 if there is no frame, and for a frame that
-//! breaks off after n bytes -3 - n.
+//! A result is a length, or a negative number: -1 if the buffer is too small, -2 if there is no frame, and -3 - n for a
+//! frame that breaks off after n bytes.
 #![no_std]
 
 use core::cell::UnsafeCell;
@@ -10,7 +10,7 @@ use jcobs::{DecodeError, DestBufTooSmallError, PieceEnd, UnbufferedDecoder, Unbu
 
 const ROOM: usize = 4096;
 
-/// What only this module's one thread uses, a call at a time.
+/// A value that only this module's one thread uses, in one call at a time.
 struct Shared<T>(UnsafeCell<T>);
 
 // SAFETY: there is one thread.
@@ -107,7 +107,7 @@ pub extern "C" fn finalize(room: usize) -> i32 {
     encoded(unsafe { ENCODER.get() }.finalize(buffers(0, room).1))
 }
 
-/// Takes the bytes of a stream from `start` on, and returns as `decode` does what ended; -2 if nothing did.
+/// Takes the bytes of a stream from `start` on. If a frame ends, returns its result as `decode` does, and otherwise -2.
 #[no_mangle]
 pub extern "C" fn push_stream(start: usize, len: usize, room: usize) -> i32 {
     let (source, dest) = buffers(len, room);
