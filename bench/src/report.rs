@@ -170,7 +170,7 @@ pub fn pairs(files: &[&str]) {
     }
     if linked.len() > 1 {
         let figures = Figures::read(&linked[1..]);
-        spread("the same, both with LTO", 1.0, |call, row| figures.ratio(call, row, "jcobs", "cobs"));
+        spread("`jcobs` / the crate `cobs`, both with LTO", 1.0, |call, row| figures.ratio(call, row, "jcobs", "cobs"));
     }
 }
 

@@ -18,7 +18,7 @@ NAMES = {
     "encoder 8": "of 8 bytes", "encoder 64": "of 64 bytes", "decode": "`decode`", "decode sentinel": "`decode_with_sentinel`",
     "in place": "`decode_in_place`", "feed": "`CobsDecoder::feed`", "push 1": "`CobsDecoder::push` of 1 byte",
     "push 8": "of 8 bytes", "push 64": "of 64 bytes", "push whole": "of all frames",
-    "counted feed": "errors counted: `feed`", "method feed": "`feed` in a method a byte", "counted push 1": "`push` of 1 byte",
+    "counted feed": "errors counted: `feed`", "method feed": "`feed` in a method, called for each byte", "counted push 1": "`push` of 1 byte",
     "counted push 4": "of 4 bytes", "counted push 8": "of 8 bytes",
     "tried encoder 1": "errors by `?`: `CobsEncoder::push` of 1 byte", "tried encoder 4": "of 4 bytes", "tried encoder 8": "of 8 bytes",
     "encoder state": "`EncoderState::push`",
@@ -97,7 +97,7 @@ def main():
     if sys.argv[1:] == ["below"]:
         rows = list(below())
         print("| call | without LTO | with LTO | reason |\n|---|---|---|---|", *(row[2] for row in rows), sep="\n")
-        print(f"\n{sum(row[0] for row in rows)} rows without LTO, {sum(row[1] for row in rows)} with it.")
+        print(f"\nThe table has {sum(row[0] for row in rows)} ratios without LTO, and {sum(row[1] for row in rows)} with LTO.")
         return
     dashes = sys.argv.index("--")
     plain, linked = best(sys.argv[1:dashes]), best(sys.argv[dashes + 1 :])
