@@ -1,5 +1,6 @@
--- Lemmas on the end of a message that an encoder has taken: its frame for another sentinel, and its frame followed by
--- the sentinel.
+-- What a call that ends a frame ensures (`Finishes`): of `finalize`, for another sentinel once each byte of the frame is
+-- XORed (`Finishes-changed`), and with the terminator after the frame, which the call wrote to all but the last byte of the
+-- buffer (`Finishes-terminated`).
 use Rattle.std.proofs.Common.{◌≡◌, ◌≢◌, ◌∙◌, ◌++◌, ◌+◌, ◌<◌, ◌≤◌, ℕ, nat_le, true, false, List, [], ◌∷◌, All, length, take, drop, set, refl, sym, ap, subst, arith, take_at, length-append, length-drop, length-take-le, take-append-drop, ⊎_elim}
 use Rattle.std.proofs.lemmas.Bool.{leb-true, leb-false, cases_Bool}
 use Rattle.std.proofs.lemmas.List.{length-map, length-set, take-take}

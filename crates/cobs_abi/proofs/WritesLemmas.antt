@@ -1,5 +1,6 @@
--- Lemmas on calls that write a frame and a byte after the frame.
-use Rattle.std.proofs.Common.{◌≡◌, ℕ, ◌+◌, ◌≤◌, ◌<◌, nat_le, true, false, List, [], ◌∷◌, ◌++◌, length, take, drop, set, refl, sym, ap, ◌∙◌, subst, arith, length-append, length-drop, length-take-le, take-append-drop, ⊎_elim}
+-- What a call that writes a frame ensures (`Writes`), with a byte after the frame: the call was passed all but the last byte
+-- of the buffer, so there is room for it (`Writes-terminated`).
+use Rattle.std.proofs.Common.{◌≡◌, ℕ, ◌+◌, ◌≤◌, ◌<◌, List, [], ◌∷◌, ◌++◌, length, take, drop, set, refl, sym, ap, ◌∙◌, subst, arith, length-append, length-drop, length-take-le, take-append-drop}
 use Rattle.std.proofs.lemmas.Bool.{leb-true, leb-false, cases_Bool}
 use Rattle.std.proofs.lemmas.List.{drop-append-le, drop-drop, drop-set-lt, take_more_set, take-append-le}
 use Rattle.cobs_abi.specs.Encode.{Writes}
@@ -9,16 +10,10 @@ use Rattle.cobs_abi.specs.declared.answer.TheConstants.{OK}
 module _ {size taken : ℕ} {IsWanted : List ℕ → Type 0} {buffer : List ℕ} {result : Answer} {buffer' : List ℕ} where
   -- if a call that writes a frame succeeds, the frame fits
   pub Writes-ok : Writes size taken IsWanted buffer result buffer' → result.status ≡ OK → size ≤ length buffer
-  Writes-ok w ok =
-      ⊎_elim (λ (fits : nat_le size (length buffer) ≡ true). leb-true size (length buffer) fits)
-      (λ (long : nat_le size (length buffer) ≡ false). absurd (omega (arith, ok, ap (λ (a : Answer). a.status) (w.too_small (leb-false size (length buffer) long)))))
-      (cases_Bool (nat_le size (length buffer)))
+  Writes-ok w ok = grind (arith, leb-true, leb-false, cases_Bool)
 
   pub Writes-failed : Writes size taken IsWanted buffer result buffer' → (result.status ≡ OK → ⊥) → length buffer < size
-  Writes-failed w other =
-      ⊎_elim (λ (fits : nat_le size (length buffer) ≡ true). absurd (other (ap (λ (a : Answer). a.status) (w.fits (leb-true size (length buffer) fits)))))
-      (λ (long : nat_le size (length buffer) ≡ false). leb-false size (length buffer) long)
-      (cases_Bool (nat_le size (length buffer)))
+  Writes-failed w other = grind (arith, leb-true, leb-false, cases_Bool)
 
 -- the bytes after a frame and its terminator are unchanged, if those after the frame were unchanged in the buffer
 -- without its last byte
@@ -35,9 +30,7 @@ behind_terminator buffer part last end s len within short behind =
 
 -- the buffer begins with the frame and the terminator
 terminated : (part rest : List ℕ) (end s : ℕ) → end ≤ length part → 0 < length rest → take (end + 1) (set (part ++ rest) end s) ≡ take end part ++ s ∷ []
-terminated part rest end s within some =
-    let l = length-append part rest in
-    take_more_set (part ++ rest) end s (omega arith) ∙ ap (λ (xs : List ℕ). xs ++ s ∷ []) (take-append-le end part rest within)
+terminated part rest end s within some = grind (arith, length-append, take_more_set, take-append-le)
 
 module _ {size taken : ℕ} {IsWanted IsEnded : List ℕ → Type 0} {buffer part : List ℕ} {result : Answer} where
   -- a call that was passed a buffer without its last byte, and a byte after the bytes that it wrote

@@ -1,4 +1,5 @@
--- Lemmas on the contents of a buffer to which a text was written.
+-- The words of `jcobs_strerror` are copied as far as they fit, and a zero ends them (`words-written`): by lemmas on parts of
+-- a list.
 use Rattle.std.proofs.Common.{◌≡◌, ℕ, ◌+◌, ◌-◌, ◌<◌, ◌≤◌, min, List, [], ◌∷◌, ◌++◌, length, take, drop, set, get_or, sym, ap, ◌∙◌, arith, length-append, length-take-le, take_all, append_assoc, nat_le, true, false, ⊎_elim}
 use Rattle.std.proofs.lemmas.List.{drop_more, set_at}
 use Rattle.std.proofs.lemmas.Bool.{leb-true, leb-false, cases_Bool}

@@ -1,5 +1,5 @@
--- Lemmas on the first zero of a buffer in which a broken frame was decoded in place. The zero is found after the
--- decoded bytes.
+-- A broken frame that was decoded in its own place: what it decoded to is no longer than the frame (`broken-within`), and the
+-- rest of the buffer is as it was (`behind-kept`). So a search after those bytes finds the frame's zero (`head-drop`).
 use Rattle.std.proofs.Common.{◌≡◌, ◌≤◌, ◌+◌, ◌++◌, ◌∙◌, ℕ, zero, suc, List, [], ◌∷◌, Err, length, drop, sym, ap, arith, take_all}
 use Rattle.std.proofs.lemmas.Bool.{cases_Bool, ne_eqb}
 use Rattle.std.proofs.lemmas.List.{length-take}

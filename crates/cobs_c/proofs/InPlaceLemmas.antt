@@ -1,4 +1,5 @@
--- Lemmas on a frame that is decoded in its own buffer, in which no byte after the frame changes.
+-- The bytes before a buffer's first sentinel are decoded in their own place: the result and the buffer are those for the
+-- whole buffer (`front-result`, `front-buffer`). By clauses of `law_6` and `law_12`.
 use Rattle.std.proofs.Common.{◌≡◌, ◌≢◌, ◌∙◌, ◌⊎◌, inl, inr, ◌++◌, ◌+◌, ◌<◌, ◌≤◌, ℕ, List, [], ◌∷◌, All, length, take, drop, min, get_or, refl, sym, ap, subst, arith, take_all, length-take-le}
 use Rattle.std.proofs.lemmas.List.{length-map}
 use Rattle.std.specs.Int.Bits.{bit_xor}

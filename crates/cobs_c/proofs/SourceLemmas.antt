@@ -1,4 +1,5 @@
--- Lemmas on the number of bytes that a call takes of its source.
+-- The first piece of a source, by where its leading zeros and the piece end (`first_none`, `first_some`), and the result of
+-- `decode` for it (`result-some`). By clauses of `law_12`.
 use Rattle.std.proofs.Common.{◌≡◌, ◌<◌, ◌≤◌, ℕ, List, [], ◌∷◌, length, take, drop, get_or, Some, None, Result, Ok, Err, sym, subst, arith}
 use Rattle.cobs.specs.Grammar.{HasNoZero}
 use Rattle.cobs.specs.Decode.{leading_zeros, len_through_piece, result_of_decode, report_result, outcome_result}

@@ -1,4 +1,5 @@
--- The kept output of a piece, written to the front of a buffer byte by byte, and what of it comes from each block.
+-- The kept output of a piece, written to the front of a buffer byte by byte (`Written`), and what of it comes from each block:
+-- by cutting the piece after its first block (`kept-block`).
 use Rattle.std.proofs.Common.{◌≡◌, ◌≢◌, ◌∙◌, ◌+◌, ◌-◌, ◌<◌, ◌≤◌, ◌⊎◌, ◌==◌, ℕ, Bool, true, false, cond, if◌then◌else◌, List, [], ◌∷◌, ◌++◌, length, take, drop, get_or, set, Result, Ok, Err, refl, sym, ap, arith, inl, inr, append_assoc, append-nil, drop_at, length-append, length-drop, length-take-le, take-append-drop, take_all, take_at}
 use Rattle.std.proofs.lemmas.Bool.{eq-eqb, ne_eqb}
 use Rattle.std.proofs.lemmas.List.{drop-drop, drop_all, drop_more, get_or-drop, set_at}
@@ -95,10 +96,11 @@ written-none h old = grind arith
 abbrev pub Decoded : List ℕ → List ℕ → List ℕ → Result ℕ DecodeError → Type 0
 Decoded h old buffer result = (result ≡ head_result_within h (length old)) × (buffer ≡ overwritten old (kept_output h))
 
-result-of : (h : List ℕ) (whole : Bool) (n : ℕ) → whole_left h ≡ whole → length (kept_output h) ≡ n → cond whole (Ok n) (Err (InvalidFrame n)) ≡ head_result h
-result-of [] whole n w is = grind (arith, kept_output-empty)
-result-of (byte ∷ h) true n w is = grind (arith, all-kept)
-result-of (byte ∷ h) false n w is = grind arith
+-- the result for bytes of which n are kept
+kept-result : (h : List ℕ) (whole : Bool) (n : ℕ) → whole_left h ≡ whole → length (kept_output h) ≡ n → cond whole (Ok n) (Err (InvalidFrame n)) ≡ head_result h
+kept-result [] whole n w is = grind (arith, kept_output-empty)
+kept-result (byte ∷ h) true n w is = grind (arith, all-kept)
+kept-result (byte ∷ h) false n w is = grind arith
 
 module _ {h old buffer : List ℕ} {written : ℕ} {left : List ℕ} (s : Written h old buffer written left) where
   pub written-long : length buffer ≡ length old
@@ -113,11 +115,13 @@ module _ {h old buffer : List ℕ} {written : ℕ} {left : List ℕ} (s : Writte
     kept-long : length (kept_output h) ≡ written
     kept-long = grind (arith, append-nil)
 
-    pub in-place : (whole : Bool) → whole_left h ≡ whole → (cond whole (Ok written) (Err (InvalidFrame written)) ≡ head_result h) × (buffer ≡ overwritten old (kept_output h))
-    in-place whole w = grind (arith, take_all, result-of, kept-long, append-nil)
+    -- the result and the buffer, over bytes that had room for all of them (in their own place)
+    pub all-written-in_place : (whole : Bool) → whole_left h ≡ whole → (cond whole (Ok written) (Err (InvalidFrame written)) ≡ head_result h) × (buffer ≡ overwritten old (kept_output h))
+    all-written-in_place whole w = grind (arith, take_all, kept-result, kept-long, append-nil)
 
+    -- the same for any buffer
     pub all-written : (whole : Bool) → whole_left h ≡ whole → Decoded h old buffer (cond whole (Ok written) (Err (InvalidFrame written)))
-    all-written whole w = grind (arith, common_steps, in-place, result-fits, kept-long)
+    all-written whole w = grind (arith, common_steps, all-written-in_place, result-fits, kept-long)
 
   -- the next byte
   module _ (byte : ℕ) (more : List ℕ) (next : left ≡ byte ∷ more) where

@@ -23,7 +23,7 @@ use Rattle.cobs.proofs.encoding.TakingLemmas.{front-open, reaches-start}
 -- len bytes of a source at `read` were copied after the open block, and so `slice` became `after`
 pub record Copied (s : Start) (slice after : List ℕ) (read len index next : ℕ) : Type 0 where
   pub inside : read + len ≤ length s.source
-  pub fits : whole_end s ≤ length slice
+  pub room : whole_end s ≤ length slice
   pub reaches : Reaches s slice read index next (λ _. Unit {0})
   pub is : after ≡ take next slice ++ (take len (drop read s.source) ++ drop (next + len) slice)
 
@@ -183,7 +183,7 @@ short-copied {source} {old} {slice} {r} {mask} code some few short fits is bits 
       some = some;
       few = few;
       short = omega arith;
-      copied = record { inside = omega arith; fits = fits; reaches = reaches-start some code (omega arith); is = rw all is };
+      copied = record { inside = omega arith; room = fits; reaches = reaches-start some code (omega arith); is = rw all is };
       bits = rw all bits;
     } in
     masked-start window (omega arith)
@@ -219,5 +219,5 @@ row-taken {s} {slice} {after} {read} {index} {next} {P} r short fits n some insi
 pub slice-joined : {s : Start} {slice part : List ℕ} {index next k n m : ℕ} {P : Bool → Type 0} → Reaches s slice 0 index next P → HasNoZero (take k s.source) → k ≤ length s.source → whole_end s ≤ length slice
     → 0 < k → next + k ≤ index + 255 → n ≡ k → m ≡ k → part ≡ take m s.source → Reaches s (put_mid next n slice part) k index (next + k) IsNotFull
 slice-joined {s} {slice} {part} {index} {next} {k} {n} r nonzero within fits some short n-is m-is part-is =
-    let copied : Copied s slice (put_mid next n slice part) 0 k index next = record { inside = omega arith; fits = fits; reaches = Reaches-weaker r (λ full p. tt); is = grind (arith, drop-drop) } in
+    let copied : Copied s slice (put_mid next n slice part) 0 k index next = record { inside = omega arith; room = fits; reaches = Reaches-weaker r (λ full p. tt); is = grind (arith, drop-drop) } in
     Reaches-at refl (omega arith) refl refl (λ full p. p) (copied-joins copied k some (omega arith) short nonzero)

@@ -6,7 +6,6 @@ use Rattle.std.proofs.Math.ListN.{set}
 use Rattle.std.proofs.Math.Seq.{take-set-lt, take-add}
 use Rattle.std.proofs.lemmas.List.{take-take, take-set-le, drop-set-lt, set_split, drop-append-le, drop_all}
 use Rattle.std.proofs.lemmas.List.Elements.{All-append, All-push, All-nil}
-use Rattle.std.proofs.lemmas.Grind.{common_steps}
 use Rattle.cobs.specs.Grammar.{HasNoZero, IsBlock, is_full, joint}
 use Rattle.cobs.proofs.encoding.OpenLemmas.{append-some, concat-push, message_of-close, message_of-more}
 use Rattle.cobs.proofs.format.FrameLemmas.{last_of-push}
@@ -30,10 +29,7 @@ module _ {slice m : List ℕ} {index next : ℕ} {full : Bool} (o : Opened slice
 
   -- if the open block has no bytes, the byte in its code's place doesn't matter either
   pub Opened-same-empty : (slice' : List ℕ) → next ≡ index + 1 → take index slice' ≡ take index slice → Opened slice' m index next full
-  Opened-same-empty slice' empty same = Opened-in slice' same (none slice' ∙ sym (none slice))
-    where
-      none : (xs : List ℕ) → drop (index + 1) (take next xs) ≡ []
-      none xs = grind (arith, common_steps, drop_all, length-take)
+  Opened-same-empty slice' empty same = grind (arith, Opened-in, drop_all, length-take)
 
   -- nor is the byte in its code's place
   pub Opened-code : (x : ℕ) → Opened (set slice index x) m index next full

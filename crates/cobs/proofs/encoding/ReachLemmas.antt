@@ -42,7 +42,7 @@ module _ {s : Start} {slice : List ℕ} {pos index next : ℕ} {P : Bool → Typ
       ordered = omega arith;
       short = short;
       within = within;
-      room = ap (λ (n : ℕ). index + n) goes-on ∙ r.room;
+      end = ap (λ (n : ℕ). index + n) goes-on ∙ r.end;
       rest = r.rest;
       taken = λ m h. by_count (cases_eq k 0) m (r.taken m h);
     }
@@ -78,7 +78,7 @@ module _ {s : Start} {slice : List ℕ} {pos index next : ℕ} {P : Bool → Typ
           ordered = omega arith;
           short = omega arith;
           within = omega arith;
-          room = grind arith;
+          end = grind arith;
           rest = drop-set-lt (whole_end s) slice index (next - index) (omega arith) ∙ r.rest;
           taken = λ m h.
               let t = r.taken m h in

@@ -24,7 +24,7 @@ whole-start {old} {source} some = record {
   ordered = omega arith;
   short = omega arith;
   within = omega arith;
-  room = let e = whole-fits old source some in omega arith;
+  end = let e = whole-fits old source some in omega arith;
   rest = refl;
   taken = λ m h. (false, refl, rw append-nil (from_after h));
 }

@@ -94,16 +94,17 @@ stream_outcomes-piece p n h = grind (arith, filter, stretches-piece)
 pub outcomes_at-nonzero : (p : List ℕ) (b n : ℕ) → b ≢ 0 → outcomes_at p b n ≡ []
 outcomes_at-nonzero p b n h = grind (arith, ne_eqb)
 
-push_outcomes : (p : List ℕ) (b n : ℕ) → HasNoZero p → stream_outcomes (p ++ b ∷ []) n ≡ outcomes_at p b n
-push_outcomes p zero n h = stream_outcomes-piece p n h
-push_outcomes p (suc b) n h =
+-- a front of a piece and one more byte
+pub stream_outcomes-push_piece : (p : List ℕ) (b n : ℕ) → HasNoZero p → stream_outcomes (p ++ b ∷ []) n ≡ outcomes_at p b n
+stream_outcomes-push_piece p zero n h = stream_outcomes-piece p n h
+stream_outcomes-push_piece p (suc b) n h =
     let nonzero = All-push (λ x. x ≢ 0) p (suc b) h (λ e. omega arith) in
     grind (arith, stream_outcomes-no_zero, outcomes_at-nonzero)
 
-push_unended : (p : List ℕ) (b : ℕ) → HasNoZero p → unended (p ++ b ∷ []) ≡ fed p b
+pub unended-push_piece : (p : List ℕ) (b : ℕ) → HasNoZero p → unended (p ++ b ∷ []) ≡ fed p b
 unfolding unended
-push_unended p zero h = grind (arith, stretches-piece)
-push_unended p (suc b) h =
+unended-push_piece p zero h = grind (arith, stretches-piece)
+unended-push_piece p (suc b) h =
     let nonzero = All-push (λ x. x ≢ 0) p (suc b) h (λ e. omega arith) in
     grind (arith, unended-no_zero, fed-nonzero)
 
@@ -122,11 +123,11 @@ unended_no_zero (suc b ∷ t) = grind (arith, slice_split-cons_no, ne_eqb, last_
 
 -- the outcomes
 pub stream_outcomes-push : (t : List ℕ) (b n : ℕ) → stream_outcomes (t ++ b ∷ []) n ≡ stream_outcomes t n ++ outcomes_at (unended t) b n
-stream_outcomes-push t b n = grind (arith, stream_outcomes-append, push_outcomes, unended_no_zero)
+stream_outcomes-push t b n = grind (arith, stream_outcomes-append, stream_outcomes-push_piece, unended_no_zero)
 
 -- the unended bytes
 pub unended-push : (t : List ℕ) (b : ℕ) → unended (t ++ b ∷ []) ≡ fed (unended t) b
-unended-push t b = grind (arith, unended-append, push_unended, unended_no_zero)
+unended-push t b = grind (arith, unended-append, unended-push_piece, unended_no_zero)
 
 -- after a zero nothing is unended
 pub unended-zero : (t : List ℕ) → unended (t ++ 0 ∷ []) ≡ []

@@ -16,7 +16,7 @@ use Rattle.cobs.specs.declared.error.DecodeError.TheVariants.{InvalidFrame, Targ
 use Rattle.cobs.specs.Fields.Decoders.{phase_of}
 use Rattle.cobs.specs.Internal.FeedsQuietly.{FeedsQuietly}
 use Rattle.cobs.proofs.decoding.OutcomeLemmas.{head_alone}
-use Rattle.cobs.proofs.streaming.FrontFed.{FrontFed, over-long, over-written}
+use Rattle.cobs.proofs.streaming.FrontFed.{over-long, over-written}
 use Rattle.cobs.proofs.decoding.PieceCuts.{last_part-last, last_part-more}
 use Rattle.cobs.proofs.decoding.KeptLemmas.{head_result-is}
 use Rattle.cobs.proofs.decoding.TailLemmas.{whole-kept}
@@ -68,9 +68,4 @@ module _ (p q old b1 b2 : List ℕ) (phase : Phase) (inner : UnbufferedDecoder) 
 -- or one of these bytes has no room
 pub kept_stop : (h p old new : List ℕ) (phase : Phase) (run : ℕ) → output p ≡ kept_output h → HasNoZero p → run < length p → FeedsQuietly old Idle (take run p) new phase → next_phase (length new) phase (get_or p run 0) ≡ Overlong
     → (Err TargetBufTooSmall ≡ head_result_within h (length old)) × (new ≡ overwritten old (kept_output h))
-kept_stop h p old new phase run kept none more f over =
-    let alone = head_alone p none in
-    let front : FrontFed p old new phase run = record { begins = omega (arith, ap length alone); within = omega arith; fed = f } in
-    let other = All-get_or (λ b. b ≢ 0) p run 0 more none in
-    let long = over-long front more other over in
-    grind (arith, lt-leb, over-written)
+kept_stop h p old new phase run kept none more f over = grind (arith, head_alone, All-get_or, over-long, lt-leb, over-written)

@@ -18,7 +18,7 @@ use Rattle.cobs.proofs.decoding.OutcomeLemmas.{length-head, outcome_of_long, out
 use Rattle.cobs.proofs.decoding.OutcomeSteps.{overwritten-none}
 use Rattle.cobs.proofs.streaming.FrontFed.{FrontFed, over-count, over-long, over-written, rest, whole, whole-count}
 use Rattle.cobs.proofs.streaming.QuietLemmas.{quiet-written}
-use Rattle.cobs.proofs.streaming.SpanLemmas.{joined}
+use Rattle.cobs.proofs.streaming.SpanLemmas.{FeedsQuietly-more}
 
 -- the bytes before `at` are read: the decoder is then in a block, full or not, of which `left` bytes are missing
 pub record IsRead (source old : List ℕ) (at : ℕ) (new : List ℕ) (full : Bool) (left written : ℕ) : Type 0 where
@@ -43,11 +43,7 @@ pub first-code : (source : List ℕ) (start : ℕ) → start ≡ leading_zeros s
 first-code source start is more e = grind (arith, leading_zeros-stop, get_or-drop, get_or)
 
 pub read-first : (source old : List ℕ) (start : ℕ) → start ≡ leading_zeros source → start < length source → IsRead source old (start + 1) old (eqb (get_or source start 0) 255) (get_or source start 0 - 1) 0
-read-first source old start is more =
-    let b : ℕ = get_or source start 0 in
-    let long = length-drop (leading_zeros source) source in
-    let starts = leading_zeros-stop source (omega arith) in
-    grind (arith, head_some, rest, one, ne_eqb, drop_more, first-code)
+read-first source old start is more = grind (arith, length-drop, leading_zeros-stop, head_some, ne_eqb, drop_more, first-code)
 
 -- a source that has only zeros
 pub no-piece : (source old : List ℕ) (start : ℕ) → start ≡ leading_zeros source → start ≡ length source → Ended source old old None
@@ -113,7 +109,7 @@ module _ {source old new : List ℕ} {at left written : ℕ} {full : Bool} (s : 
           front = record {
             begins = s.front.begins;
             within = omega (arith, s.place, length-drop (leading_zeros source) source);
-            fed = joined (rest source) _ _ _ _ _ _ s.n 1 s.front.fed (rw last (one new (Within full left written) other buffer next));
+            fed = FeedsQuietly-more (rest source) _ _ _ _ _ _ s.n 1 s.front.fed (rw last (one new (Within full left written) other buffer next));
           };
         }
 

@@ -9,13 +9,13 @@ use Rattle.std.proofs.Math.Seq.{take-add}
 use Rattle.std.proofs.lemmas.Grind.{common_steps}
 use Rattle.cobs.specs.Grammar.{HasNoZero}
 use Rattle.cobs.specs.Stream.{ended_pieces, unended, Outcome, Message, Broken, outcome_of, stream_outcomes}
-use Rattle.cobs.specs.Feed.{Phase, PhaseAfter, DecoderAfter, Feeds, fed, result_for, result_at_end}
+use Rattle.cobs.specs.Feed.{Phase, PhaseAfter, DecoderAfter, Feeds, result_for, result_at_end}
 use Rattle.cobs.specs.Push.{error_outcomes}
 use Rattle.cobs.specs.FeedPiece.{AreAlikeAtFirst, FeedsEach, TakesBytes, TakesPiece, outcome_at, IsWithin, IsCountWithin}
 use Rattle.cobs.specs.declared.dec.frame_decoder.PieceEnd.{PieceEnd}
 use Rattle.cobs.specs.declared.error.DecodeError.{DecodeError}
 use Rattle.cobs.proofs.streaming.FeedLemmas.{DecoderAfter-idle}
-use Rattle.cobs.proofs.format.StreamLemmas.{stream_outcomes-no_zero, unended-no_zero, stream_outcomes-push, unended-push, outcomes_at, outcomes_at-nonzero, stream_outcomes-append, unended-append}
+use Rattle.cobs.proofs.format.StreamLemmas.{outcomes_at, outcomes_at-nonzero, stream_outcomes-append, stream_outcomes-no_zero, stream_outcomes-push_piece, unended-append, unended-no_zero, unended-push_piece}
 
 -- from a buffer and a phase before, these bytes led to a buffer, a phase and these outcomes
 abbrev pub SoFar : List ℕ → Phase → List ℕ → Phase → List ℕ → List Outcome → Type 0
@@ -80,12 +80,6 @@ SoFar-start buffer phase = grind (arith, append-nil, unended-no_zero, stream_out
 -- A BYTE ALONE
 
 module _ {buffer buffer' : List ℕ} {phase phase' : Phase} {byte : ℕ} {result : Result (Option ℕ) DecodeError} (f : Feeds buffer phase byte result buffer' phase') where
-  unended_byte : (p : List ℕ) → HasNoZero p → unended (p ++ byte ∷ []) ≡ fed p byte
-  unended_byte p h = grind (arith, unended-push, unended-no_zero)
-
-  outcomes_byte : (p : List ℕ) → HasNoZero p → stream_outcomes (p ++ byte ∷ []) (length buffer) ≡ outcomes_at p byte (length buffer)
-  outcomes_byte p h = grind (arith, stream_outcomes-push, stream_outcomes-no_zero, unended-no_zero)
-
   reported_byte : (p : List ℕ) → DecoderAfter buffer phase p → reported_by byte result buffer' ≡ outcomes_at p byte (length buffer)
   unfolding result_for result_at_end outcome_of
   reported_byte p h = grind (arith, cases_eq, eq-eqb, ne_eqb, take_all, leb-true, outcomes_at-nonzero)
@@ -95,7 +89,7 @@ module _ {buffer buffer' : List ℕ} {phase phase' : Phase} {byte : ℕ} {result
   alike_byte p h = grind (arith, cases_eq, eq-eqb, ne_eqb, length-take, leb-true, outcomes_at-nonzero)
 
   pub TakesBytes-byte : TakesBytes buffer phase (byte ∷ []) (reported_by byte result buffer') buffer' phase'
-  TakesBytes-byte = grind (arith, unended_byte, reported_byte, outcomes_byte, alike_byte, Contains-push_cases, DecoderAfter-idle)
+  TakesBytes-byte = grind (arith, unended-push_piece, reported_byte, stream_outcomes-push_piece, alike_byte, Contains-push_cases, DecoderAfter-idle)
 
 -- the front that the decoder has taken, over its own buffer
 pub here : {buffer₀ buffer : List ℕ} {phase₀ phase : Phase} {done : List ℕ} {found : List Outcome} → SoFar buffer₀ phase₀ buffer phase done found

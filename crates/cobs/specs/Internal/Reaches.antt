@@ -51,6 +51,6 @@ pub record Reaches (start : Start) (slice : List ℕ) (pos index next : ℕ) (P 
   pub ordered : index < next
   pub short : next ≤ index + 255
   pub within : pos ≤ length start.source
-  pub room : index + open_len (next - index) (drop pos start.source) ≡ whole_end start
+  pub end : index + open_len (next - index) (drop pos start.source) ≡ whole_end start
   pub rest : drop (whole_end start) slice ≡ drop (whole_end start) start.slice
   pub taken : (m : List ℕ) → HadTaken start m → (full : Bool) × P full × Opened slice (m ++ take pos start.source) index next full

@@ -1,3 +1,5 @@
+-- The frame was written as for the sentinel 0, which changes no byte (`xor_each-zero`), so it has no zero
+-- (`encoded_nonzero`).
 use Rattle.std.proofs.Common.{arith}
 use Rattle.cobs.proofs.format.SentinelLemmas.{encoded_nonzero}
 use Rattle.cobs.proofs.enc.try_encode.Goals as goal

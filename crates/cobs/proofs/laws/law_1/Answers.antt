@@ -1,3 +1,4 @@
+-- A frame reads as its output: `OutcomeLemmas`, and `output-longer` for a byte more.
 use Rattle.cobs.proofs.decoding.OutcomeLemmas.{output_within, reads_iff, reads_only}
 use Rattle.cobs.proofs.streaming.LastPiece.{output-longer}
 use Rattle.cobs.proofs.laws.law_1.Goals as goal

@@ -1,3 +1,4 @@
+-- The open frame of a streaming encoder: its sizes by `OpenLemmas`, the frames that it may become by `EnumerationLemmas`.
 use Rattle.std.proofs.Common.{sym}
 use Rattle.cobs.proofs.encoding.AfterLemmas.{end-is}
 use Rattle.cobs.proofs.format.EnumerationLemmas.{open_longer, open_shorter}

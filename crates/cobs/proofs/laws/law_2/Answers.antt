@@ -1,3 +1,4 @@
+-- Each message has one encoded frame: `encoded_frame` gives it, and `one_encoded` shows that there is no other.
 use Rattle.cobs.proofs.format.EnumerationLemmas.{encoded_frame}
 use Rattle.cobs.proofs.format.UniqueLemmas.{length-encoded, one_encoded}
 use Rattle.cobs.proofs.format.FrameLemmas.{frame_bytes}

@@ -1,3 +1,4 @@
+-- No frame contains its sentinel: each clause is a lemma of `SentinelLemmas`, and `xor_each-zero` for the sentinel 0.
 use Rattle.std.proofs.Common.{arith}
 use Rattle.cobs.proofs.format.SentinelLemmas.{coded_nonzero, no_sentinel, no_sentinel_for, xor_each-twice}
 use Rattle.cobs.proofs.laws.law_6.Goals as goal

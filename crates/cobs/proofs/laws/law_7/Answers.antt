@@ -1,3 +1,4 @@
+-- The fronts of a frame: each clause is a lemma of `JoinLemmas`.
 use Rattle.cobs.proofs.format.JoinLemmas.{front_frame, front_message}
 use Rattle.cobs.proofs.laws.law_7.Goals as goal
 

@@ -1,3 +1,4 @@
+-- The stream that was written has the messages as its outcomes, by `AreFrames-outcomes`.
 use Rattle.std.proofs.Common.{arith}
 use Rattle.std.proofs.lemmas.Grind.{common_steps}
 use Rattle.cobs.proofs.format.MessagesLemmas.{AreFrames-outcomes}

@@ -1,3 +1,4 @@
+-- `room` is the room for the frames of the messages before this one, and fits a `usize`.
 use Rattle.std.proofs.Common.{◌≡◌, ◌<◌, ◌^◌, take}
 use Rattle.cobs.specs.Messages.{messages_in, room_for_frames}
 use Rattle.cobs.proofs.stream.encode_frames_room.Given as goal

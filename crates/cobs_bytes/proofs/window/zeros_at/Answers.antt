@@ -1,3 +1,4 @@
+-- The mask of the lanes that are zero is the mask of the bytes' zeros, by `zeros_by_lanes`.
 use Rattle.cobs_bytes.proofs.bytes.MaskLemmas.{zeros_by_lanes}
 use Rattle.cobs_bytes.proofs.window.zeros_at.Goals as goal
 

@@ -1,3 +1,4 @@
+-- As many words as fit are copied, and a zero after them: by `words-written`.
 use Rattle.std.proofs.Common.{◌≢◌, ◌++◌, ◌-◌, ℕ, List, length, min, take, drop, set, sym, ap, ◌∙◌, arith}
 use Rattle.std.proofs.lemmas.Bool.{eqb-false}
 use Rattle.cobs_abi.specs.Text.{words}

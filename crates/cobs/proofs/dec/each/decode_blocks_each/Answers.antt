@@ -5,7 +5,7 @@ use Rattle.std.proofs.lemmas.List.Elements.{All-drop}
 use Rattle.cobs.specs.Grammar.{HasNoZero}
 use Rattle.cobs.specs.Piece.{kept_output}
 use Rattle.cobs.proofs.decoding.KeptLemmas.{kept_output-empty}
-use Rattle.cobs.proofs.decoding.WrittenLemmas.{Written, code-some, in-place, kept-block, kept-none, whole-block, whole-none, whole_left, written-behind, written-long, written-more, written-none, zero_before, zero_before-none, zero_before-some}
+use Rattle.cobs.proofs.decoding.WrittenLemmas.{Written, code-some, all-written-in_place, kept-block, kept-none, whole-block, whole-none, whole_left, written-behind, written-long, written-more, written-none, zero_before, zero_before-none, zero_before-some}
 use Rattle.cobs.proofs.dec.each.decode_blocks_each.Goals as goal
 use Rattle.cobs.proofs.dec.each.decode_blocks_each.Goals.{Joined-read-next, then-read-next+then-read-next-2, else-read-next}
 
@@ -85,7 +85,7 @@ returns-then-end-read c =
     let p-some = some old c.args.end c.requires.within i.written c.by_block.read i.order here c.requires.nonzero i.below in
     let less : length (drop c.by_block.read (take c.args.end old)) < get_or c.by_block.buffer c.by_block.read 0
     = omega (arith, c.if-end-read.true, p-long old c.args.end c.requires.within i.written c.by_block.read i.order here c.requires.nonzero i.below) in
-    let both = in-place i.written (kept-none _ _ p-some is-code less) false (i.whole ∙ whole-none _ _ p-some is-code less) in
+    let both = all-written-in_place i.written (kept-none _ _ p-some is-code less) false (i.whole ∙ whole-none _ _ p-some is-code less) in
     record { returned = both.0; buffer = both.1 }
 
 pub by_byte-init : goal.by_byte-init
@@ -140,5 +140,5 @@ pub returns : goal.returns
 returns c =
     let i = c.by_block.invariant in
     let none : drop c.by_block.read (take c.args.end c.args.buffer.now) ≡ [] = drop_all c.by_block.read _ (omega (arith, long c.args.buffer.now c.args.end c.requires.within, c.by_block-test.false)) in
-    let both = in-place i.written (ap kept_output none ∙ kept_output-empty) true (i.whole ∙ ap whole_left none) in
+    let both = all-written-in_place i.written (ap kept_output none ∙ kept_output-empty) true (i.whole ∙ ap whole_left none) in
     record { returned = both.0; buffer = both.1 }

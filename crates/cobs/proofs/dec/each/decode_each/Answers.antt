@@ -1,3 +1,4 @@
+-- An empty source has no piece (`first_piece_empty`), and the buffer stays as it is.
 use Rattle.std.proofs.Common.{arith}
 use Rattle.std.proofs.lemmas.Bool.{eqb-true}
 use Rattle.cobs.proofs.decoding.HeadLemmas.{first_piece_empty}

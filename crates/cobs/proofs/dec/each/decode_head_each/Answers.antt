@@ -81,7 +81,7 @@ module _ (rest : List ℕ) (s : ℕ) where
 
       block-begun : (h old buffer : List ℕ) (written : ℕ) → Written h old buffer written (kept_output p)
           → Written h old buffer written (xor_each s items ++ (zero_before code (drop code p) ++ kept_output (drop code p)))
-      block-begun h old buffer written w = rw (items-are, ← kept-block p code p-some is nonzero small p-fits) w
+      block-begun h old buffer written w = grind (arith, items-are, kept-block, p-some, small, p-fits)
 
       -- and the bytes after it
       abbrev next : List ℕ

@@ -1,3 +1,4 @@
+-- The frame between its sentinels has no zero (`delimited_nonzero`).
 use Rattle.std.proofs.Common.{arith}
 use Rattle.std.proofs.lemmas.Grind.{common_steps}
 use Rattle.cobs.proofs.format.SentinelLemmas.{delimited_nonzero}

@@ -1,3 +1,4 @@
+-- The length of a frame, block by block: `LengthLemmas` for its clauses, and `same_start` for equal starts.
 use Rattle.std.proofs.Common.{arith}
 use Rattle.cobs.proofs.format.LengthLemmas.{encoded_len-full, encoded_len-last, encoded_len-zero}
 use Rattle.cobs.proofs.encoding.OpenLenLemmas.{same_start}

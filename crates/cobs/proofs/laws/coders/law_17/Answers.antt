@@ -1,3 +1,4 @@
+-- A decoder of a caller's own: `FeedLemmas` and `TableLemmas` for one byte, and `ByByteLemmas` for a loop over the bytes.
 use Rattle.cobs.proofs.streaming.ByByteLemmas.{piece-ended, piece-more, piece-nothing}
 use Rattle.cobs.proofs.streaming.FeedLemmas.{Feeds-step}
 use Rattle.cobs.proofs.streaming.TableLemmas.{FeedsByTable-step}

@@ -70,18 +70,7 @@ returns-then-take_short c = record { takes = quietly _ _ _ _ _ (c.take_short.ens
 
 -- no byte was taken before
 kept : (c : Joined-bytes-gt-VERY_FEW) → (c.if-bytes-gt-VERY_FEW.dest ≡ c.args.dest.now) × (c.if-bytes-gt-VERY_FEW.self ≡ c.args.self.now)
-kept c = elim c.if-bytes-gt-VERY_FEW.branch [
-  | then-bytes-gt-VERY_FEW+then-is_idle+else-front-lt-WINDOW w ↦ elim w.else-front-lt-WINDOW.branch [
-    | else-front-lt-WINDOW-via-then-front-lt-WINDOW+else-take_front v ↦
-        let same = v.take_front.ensures.kept v.if-take_front.false in
-        (w.dest-is ∙ v.dest-is ∙ same.0, w.self-is ∙ v.self-is ∙ same.1)
-    | else-front-lt-WINDOW-via-else-front-lt-WINDOW v ↦ (w.dest-is ∙ v.dest-is, w.self-is ∙ v.self-is)
-  ]
-  | then-bytes-gt-VERY_FEW+else-is_idle+else-take_short w ↦
-      let same = w.take_short.ensures.kept w.if-take_short.false in
-      (w.dest-is ∙ same.0, w.self-is ∙ same.1)
-  | else-bytes-gt-VERY_FEW w ↦ (w.dest-is, w.self-is)
-]
+kept c = grind arith
 
 pub returns-then-bytes-le-FEW : goal.returns-then-bytes-le-FEW
 returns-then-bytes-le-FEW c =

@@ -13,8 +13,4 @@ returns-then-take_short c =
     record { pushes = pushed_none bytes _ (omega arith) fed }
 
 pub returns : goal.returns
-returns c = elim c.else-has_vectors.branch [
-  | else-has_vectors-via-then-has_vectors+else-take_short w ↦
-      (let kept = w.take_short.ensures.kept w.if-take_short.false in record { pushes = rw (w.dest-is, w.self-is, kept.0, kept.1) at c.push_long.ensures.pushes })
-  | else-has_vectors-via-else-has_vectors w ↦ record { pushes = rw (w.dest-is, w.self-is) at c.push_long.ensures.pushes }
-]
+returns c = grind arith

@@ -1,5 +1,5 @@
 -- A code is fed, and then the bytes of its block, which were copied after the output (`copied_put`, `block_fed`):
--- together they are fed (`joined`).
+-- together they are fed (`FeedsQuietly-more`).
 use Rattle.std.proofs.Common.{◌≡◌, ◌≢◌, ◌-◌, ◌+◌, ℕ, List, length, take, drop, bit_xor, arith, length-drop, length-take-le}
 use Rattle.std.proofs.lemmas.List.{length-map}
 use Rattle.std.proofs.lemmas.List.Elements.{All-drop, All-take}
@@ -7,7 +7,7 @@ use Rattle.cobs.specs.Sentinel.{xor_each}
 use Rattle.cobs.specs.Internal.FeedsQuietly.{FeedsQuietly}
 use Rattle.cobs.specs.Fields.Decoders.{phase_of}
 use Rattle.cobs.proofs.format.SentinelLemmas.{first_xored, slice_xored}
-use Rattle.cobs.proofs.streaming.SpanLemmas.{block_fed, joined, copied_put}
+use Rattle.cobs.proofs.streaming.SpanLemmas.{block_fed, FeedsQuietly-more, copied_put}
 use Rattle.cobs.proofs.dec.unbuffered.UnbufferedDecoder.take_block.Goals as goal
 
 -- the code, and the bytes of its block that follow
@@ -26,4 +26,4 @@ returns-clause-fed c =
     let nz = All-take (λ b. b ≢ 0) n (drop 1 h) (All-drop (λ b. b ≢ 0) 1 h c.requires.nonzero) in
     let more : FeedsQuietly dest (phase_of inner) (take n (drop 1 h)) _ _
     = block_fed inner n dest (drop 1 h) _ c.take_joint.ensures.going (omega arith) (omega arith) (omega (arith, length-drop 1 h)) nz put in
-    joined h _ _ _ _ _ _ 1 n (rw (first_xored bytes s c.requires.some) c.take_joint.ensures.fed) more
+    FeedsQuietly-more h _ _ _ _ _ _ 1 n (rw (first_xored bytes s c.requires.some) c.take_joint.ensures.fed) more

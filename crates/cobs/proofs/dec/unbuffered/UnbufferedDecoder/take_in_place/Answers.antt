@@ -1,11 +1,11 @@
--- The steps in place are fed one after another (`joined`). A step reads the bytes as they were at the start, since no
+-- The steps in place are fed one after another (`FeedsQuietly-more`). A step reads the bytes as they were at the start, since no
 -- step before it wrote at or after the place that is read (`rest_read`).
 use Rattle.std.proofs.Common.{◌-◌, ℕ, List, take, drop, sym, subst, arith}
 use Rattle.cobs.specs.Fields.Decoders.{phase_of}
 use Rattle.cobs.specs.Grammar.{HasNoZero}
 use Rattle.cobs.specs.Internal.FeedsQuietly.{FeedsQuietly}
 use Rattle.cobs.proofs.streaming.RunLemmas.{rest_read}
-use Rattle.cobs.proofs.streaming.SpanLemmas.{joined}
+use Rattle.cobs.proofs.streaming.SpanLemmas.{FeedsQuietly-more}
 use Rattle.cobs.proofs.dec.unbuffered.UnbufferedDecoder.take_in_place.Goals as goal
 use Rattle.cobs_bytes.proofs.bytes.ListLemmas.{part-nonzero}
 
@@ -29,7 +29,7 @@ by_step-preserved c =
     (rest_read a.buffer.now c.by_step.buffer a.self.now c.by_step.self a.read c.by_step.at a.end i.started i.within c.requires.nonzero i.fed i.behind) e.fed in
     record {
       fed = subst (λ (k : ℕ). FeedsQuietly a.buffer.now (phase_of a.self.now) (take k bytes) new.buffer (phase_of new.self)) (omega arith)
-          (joined bytes a.buffer.now c.by_step.buffer new.buffer (phase_of a.self.now) (phase_of c.by_step.self) (phase_of new.self) (c.by_step.at - a.read) n i.fed more);
+          (FeedsQuietly-more bytes a.buffer.now c.by_step.buffer new.buffer (phase_of a.self.now) (phase_of c.by_step.self) (phase_of new.self) (c.by_step.at - a.read) n i.fed more);
       going = e.going;
       started = omega arith;
       within = e.within;

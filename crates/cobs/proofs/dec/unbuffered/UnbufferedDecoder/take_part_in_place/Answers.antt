@@ -6,7 +6,7 @@ use Rattle.std.proofs.lemmas.List.{length-take-le, drop_more, drop-drop}
 use Rattle.cobs.specs.Fields.Decoders.{phase_of}
 use Rattle.cobs.specs.Internal.FeedsQuietly.{FeedsQuietly}
 use Rattle.cobs.proofs.streaming.RunLemmas.{rest_kept}
-use Rattle.cobs.proofs.streaming.SpanLemmas.{block_fed, joined, copied-there, row_fed}
+use Rattle.cobs.proofs.streaming.SpanLemmas.{block_fed, FeedsQuietly-more, copied-there, row_fed}
 use Rattle.cobs.proofs.dec.unbuffered.UnbufferedDecoder.take_part_in_place.Goals as goal
 use Rattle.cobs.proofs.dec.unbuffered.UnbufferedDecoder.take_part_in_place.Goals.{then-self-eq0, else-self-eq0}
 use Rattle.cobs_bytes.proofs.bytes.ListLemmas.{part-nonzero}
@@ -29,7 +29,7 @@ returns-then-code-gt-WIDE_WINDOW-clause-fed c =
     let kept : drop (c.args.read + 1) joint.dest ≡ drop 1 bytes
     = rest_kept (take 1 bytes) c.args.buffer.now joint.dest c.args.self.now joint.self (c.args.read + 1) (part-nonzero 0 1 _ bytes c.requires.nonzero (omega arith)) f (omega arith) ∙ sym (drop-drop 1 c.args.read c.args.buffer.now) in
     let moved : c.move_back.new.buffer ≡ take joint.self.written joint.dest ++ (take n (drop 1 bytes) ++ drop (joint.self.written + n) joint.dest) = rw (sym kept) c.move_back.ensures in
-    joined bytes _ _ _ _ _ _ 1 n f (block_fed joint.self n joint.dest (drop 1 bytes) c.move_back.new.buffer c.take_joint.ensures.going (omega arith) (omega arith) (omega (arith, length-drop 1 bytes, length-drop c.args.read c.args.buffer.now))
+    FeedsQuietly-more bytes _ _ _ _ _ _ 1 n f (block_fed joint.self n joint.dest (drop 1 bytes) c.move_back.new.buffer c.take_joint.ensures.going (omega arith) (omega arith) (omega (arith, length-drop 1 bytes, length-drop c.args.read c.args.buffer.now))
     (part-nonzero 1 n _ bytes c.requires.nonzero (omega arith)) moved)
 
 pub returns-then-is_all-clause-fed : goal.returns-then-is_all-clause-fed

@@ -1,6 +1,6 @@
 -- Each iteration takes a zero outside a piece, or a run (`ran`) and the byte after it that has no room (`piece-more`). The
 -- bytes of a piece that is too long are passed up to its zero (`passed`).
-use Rattle.std.proofs.Common.{◌≢◌, ◌+◌, ◌-◌, ◌∙◌, sym, subst, arith, None, Ok, refl, get_or, length, drop, take, length-drop, length-take, List, ℕ}
+use Rattle.std.proofs.Common.{◌≢◌, ◌+◌, ◌-◌, sym, subst, arith, None, Ok, refl, get_or, length, drop, take, length-drop, length-take}
 use Rattle.std.proofs.lemmas.List.{get_or-drop, take_all, take_rest}
 use Rattle.cobs.specs.Feed.{Feeds, Idle, Overlong}
 use Rattle.cobs.specs.FeedPiece.{TakesPiece}
@@ -30,18 +30,7 @@ pub by_run-init : goal.by_run-init
 by_run-init c = record { within = omega arith; none_ended = piece-nothing _ _ }
 
 pub returns-then-self-ne0 : goal.returns-then-self-ne0
-returns-then-self-ne0 c =
-    let bytes : List ℕ = c.args.bytes.now in
-    let e = c.position_or_len-len.ensures in
-    let long = length-take (length bytes - c.by_run.taken) (drop c.by_run.taken bytes) in
-    let stop = rw (take_rest bytes c.by_run.taken) at e.stop in
-    let over = over_is c.by_run.self c.if-self-ne0.true in
-    record {
-      within = omega (arith, e.within, long, length-drop c.by_run.taken bytes);
-      none_ended = rw over (passed (goal.at.returns-then-self-ne0 c).After-position_or_len-len);
-      zero = λ inside. sym (get_or-drop c.by_run.taken bytes c.position_or_len-len.result 0) ∙ stop (omega (arith, inside, length-drop c.by_run.taken bytes));
-      begun = λ inside. rw over overlong_open;
-    }
+returns-then-self-ne0 c = grind (arith, length-take, take_rest, over_is, length-drop, passed, get_or-drop, overlong_open)
 
 pub returns-then-not-is_idle : goal.returns-then-not-is_idle
 returns-then-not-is_idle c = record {

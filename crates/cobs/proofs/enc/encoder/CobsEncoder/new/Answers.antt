@@ -1,3 +1,4 @@
+-- A new encoder is at the start of its slice (`start-place`), and has taken nothing.
 use Rattle.std.proofs.Common.{arith}
 use Rattle.cobs.proofs.encoding.TakingLemmas.{start-place}
 use Rattle.cobs.proofs.enc.encoder.CobsEncoder.new.Goals as goal

@@ -1,3 +1,4 @@
+-- The last code completes the open frame, by `completed`.
 use Rattle.std.proofs.Common.{arith}
 use Rattle.cobs.proofs.encoding.OpenLemmas.{completed}
 use Rattle.cobs.proofs.enc.state.EncoderState.finalize.Goals as goal

@@ -1,3 +1,4 @@
+-- A new state has the open frame of the empty message, by `IsOpenFrame-start`.
 use Rattle.std.proofs.Common.{arith}
 use Rattle.cobs.specs.Grammar.{lone_block}
 use Rattle.cobs.proofs.encoding.OpenLemmas.{IsOpenFrame-start}
