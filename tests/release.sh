@@ -136,7 +136,7 @@ programs_archive() {
     mkdir -p "$there" && cp "$tree"/LICENSE-* "$there" &&
         make -s -C "$tree/bindings/programs" install BUILT=x86_64-linux DESTDIR="$there" PREFIX= &&
         sed -e 's|make -C bindings/programs install PREFIX="$HOME/.local"|mkdir -p "$HOME/.local" \&\& cp -R bin share "$HOME/.local"|' \
-            -e 's| Without `PREFIX` they go .* the proved crates\.||' -e 's|\[\(crates[^]]*\)\]([^)]*)|`\1` of the repository|' \
+            -e 's| Without `PREFIX`, the files go .* the proved crates\.||' -e 's|\[\(crates[^]]*\)\]([^)]*)|`\1` of the repository|' \
             "$tree/docs/PROGRAMS.md" >"$there/README.md" && ! grep -q 'bindings/\|](' "$there/README.md" &&
         packed "$folder/$name_of-programs-x86_64-linux.tar.gz" "$work/programs" "$name_of-programs-x86_64-linux"
 }
