@@ -1,12 +1,11 @@
 #!/bin/sh
-# Builds the library for C and all that stands beside it, and runs it.
+# Builds the library for C, its examples and its tests, and runs them.
 #
-# Prints a line for each part: 'ok', 'FAILED' with what it said, or 'skipped' with the Debian packages that are missing. The
-# last line counts them; the status is 0 only if nothing failed.
+# Prints a line for each part: 'ok', 'FAILED' with the output, or 'skipped' with the missing Debian packages. The last line
+# counts the parts; the status is 0 only if no part failed.
 #
-# Some words are meant to be split: flags, and the command that runs what was built for another processor. Some commands
-# are for another shell.
-# shellcheck disable=SC2016,SC2046,SC2086,SC2094
+# Some words are meant to be split: flags, and the command that runs programs for another processor. Some commands are for
+# another shell. shellcheck disable=SC2016,SC2046,SC2086,SC2094
 set -u
 c=$(cd "$(dirname "$0")/.." && pwd)
 cd "$c" || exit 1
@@ -22,7 +21,7 @@ machine=$(uname -m)
 here=build/$machine-unknown-linux-gnu
 flags='-Wall -Wextra -Wpedantic -Wconversion -Werror'
 
-# Whether a compiler has a C library to link with; it can come without one.
+# Checks whether a compiler has a C library to link with. A compiler can be installed without one.
 links() { # COMPILER PACKAGE PART
     has "$("$1" -print-file-name=crti.o)" "$2" "$3"
 }
@@ -33,7 +32,7 @@ header() { # COMPILER LANGUAGE STANDARD..: the header alone, and twice
     shift 2
     printf '#include <jcobs.h>\n#include <jcobs.h>\n' >"$work/header.$language"
     for standard; do
-        # A compiler from before C23 knows it by its working name.
+        # A compiler from before C23 knows this standard by its working name.
         if [ "$standard" = c23 ] && ! "$compiler" -std=c23 -E -x c /dev/null >/dev/null 2>&1; then
             standard=c2x
         fi
@@ -41,7 +40,7 @@ header() { # COMPILER LANGUAGE STANDARD..: the header alone, and twice
     done
 }
 
-# A stream with each kind of piece, and what a reader with room for 8 bytes makes of it.
+# A stream with each kind of piece, and the output of a reader with room for 8 bytes.
 stream() {
     printf '\006hello\000\000\001\000\005\001\000\014hello world\000\003hi\000\004x'
 }
@@ -56,7 +55,7 @@ reads() { # CHUNK
     stream | prints "$answers" $run "$at/read_frames" "$1" 8
 }
 
-# The same stream from a writer that stops in the midst of frames.
+# The same stream from a writer that pauses inside frames.
 reads_slowly() {
     { printf '\006hel'; sleep 0.2; printf 'lo\000\000\001\000\005\001\000\014hello wo'; sleep 0.2
       printf 'rld\000\003hi\000'; sleep 0.2; printf '\004x'; } | prints "$answers" $run "$at/read_frames" 4096 8
@@ -67,7 +66,7 @@ sends() {
     prints '06 68 65 6c 6c 6f 00 01 00 02 78 00' sh -c "od -An -v -tx1 '$work/sent' | tr -s ' \\n' ' ' | sed 's/^ //; s/ \$//'; echo"
 }
 
-# Lines of every length round a block's end, sent and read.
+# Lines of every length near the end of a block are sent and read.
 sends_and_reads() {
     awk 'BEGIN { for (n = 0; n < 600; n += n > 240 && n < 260 || n > 500 && n < 515 ? 1 : 23) { s = ""; for (i = 0; i < n; i++) s = s "a"; print s } }' >"$work/lines"
     $run "$at/send_lines" <"$work/lines" | $run "$at/read_frames" 100 | sed 's/^message [0-9]* *//; s/61/a/g' | diff "$work/lines" -
@@ -90,11 +89,11 @@ calls() {
 symbols() {
     prints "$(calls | sort)" \
         sh -c "nm -D --defined-only $at/libjcobs.so | sed 's/.* T //' | sort" || return 1
-    # The library calls nothing but these two.
+    # The library calls only these two functions.
     ! nm -u "$at/libjcobs.a" | sed -n 's/.* U //p' | sort -u | grep -v -x -e memcpy -e memmove
 }
 
-# The header, the Makefile, the manual and the Rust crate have one version.
+# The header, the Makefile, the manual and the Rust crate have the same version.
 versions() {
     version=$(make -s --no-print-directory version)
     prints "$version" sh -c "sed -n 's/^#define JCOBS_VERSION_[MP][A-Z]* //p' include/jcobs.h | paste -sd." &&
@@ -108,7 +107,8 @@ shared() {
         LD_LIBRARY_PATH=$at "$work/calls"
 }
 
-# On an x86-64 processor without SSE4.2 the loader says that it doesn't load the shared library, and one with it does.
+# On an x86-64 processor without SSE4.2 the loader reports that it doesn't load the shared library. On a processor with SSE4.2
+# it loads the library.
 old_processor() {
     shared || return 1
     if LD_LIBRARY_PATH=$at qemu-x86_64 -cpu core2duo "$work/calls" 2>"$work/loader"; then
@@ -120,7 +120,8 @@ old_processor() {
         LD_LIBRARY_PATH=$at qemu-x86_64 -cpu Nehalem "$work/calls"
 }
 
-# An example over the library that pkg-config finds in a prefix, linked statically and shared, and run as it is.
+# Links an example statically and dynamically with the library that pkg-config finds in a prefix, and runs it without other
+# settings.
 over() { # PREFIX
     PKG_CONFIG_LIBDIR=$1/lib/pkgconfig
     export PKG_CONFIG_LIBDIR
@@ -138,7 +139,7 @@ private_prefix() (
     make install "PREFIX=$work/prefix" && over "$work/prefix"
 )
 
-# /usr/local, empty and in a file system of its own, so that nothing of this machine changes.
+# Installs to an empty /usr/local in a separate file system, so that nothing on this machine changes.
 usr_local() (
     export work at
     unshare -rm sh -c 'mount -t tmpfs none /usr/local && make -o "$at/libjcobs.a" install &&
@@ -148,7 +149,7 @@ usr_local() (
         prints ' 03 68 69 00' od -An -tx1 "$work/sent"
 )
 
-# jcobs.hpp needs neither exceptions nor an allocator: the object of its test calls none.
+# jcobs.hpp needs neither exceptions nor an allocator: the object of its test calls no function for them.
 no_allocator() {
     "${CXX:-c++}" -std=c++17 -fno-exceptions -fno-rtti -O2 -Iinclude -c tests/cpp.cpp -o "$work/cpp.o" &&
         ! nm -uC "$work/cpp.o" | grep -E 'operator (new|delete)|malloc|throw|__cxa'
@@ -158,7 +159,7 @@ throws() {
     "${CXX:-c++}" -std=c++17 $flags -Iinclude tests/throws.cpp "$at/libjcobs.a" -o "$work/throws" && "$work/throws"
 }
 
-# A switch that leaves a status out is a warning, and one that has all is none.
+# A switch without one of the statuses causes a warning, and a switch with all statuses causes none.
 switches() {
     cases='case JCOBS_OK: case JCOBS_MORE: case JCOBS_TOO_SMALL: case JCOBS_BROKEN:'
     for compiler in "${CC:-cc} -x c" "${CXX:-c++} -x c++"; do
@@ -170,21 +171,22 @@ switches() {
     done
 }
 
-# Packed for /usr: nothing in the package has a run path, and each link of the README leads to a file.
+# In a package for /usr no file has a run path, and each link of the README leads to a file.
 packed() (
     make install "DESTDIR=$work/root" PREFIX=/usr && ! grep '^Libs.*rpath' "$work/root/usr/lib/pkgconfig/jcobs.pc" || return 1
     cd "$work/root/usr/share/doc/jcobs" && sed -n 's/.*](\([^) ]*\)).*/\1/p' README.md >"$work/links" && test -s "$work/links" &&
         while read -r link; do test -e "$link" || { echo "$link"; return 1; }; done <"$work/links"
 )
 
-# The commands of an installed README as they are written, in a folder where a program.c is.
+# Runs the commands of an installed README unchanged, in a folder that has a program.c.
 commands_of() ( # README FOLDER
     mkdir -p "$2" && cp examples/send_lines.c "$2/program.c" && cd "$2" || return 1
     awk '/^```/ { inside = $0 == "```sh"; next } inside' "$1" >"$work/commands" && test -s "$work/commands" || return 1
     sh -eux "$work/commands" >"$work/printed" && cat "$work/printed" && grep -q '^message 5 68656c6c6f$' "$work/printed"
 )
 
-# The tarball has the same bytes twice, and unpacked elsewhere its own pkg-config file finds the rest.
+# Two builds of the tarball have the same bytes. If the tarball is unpacked elsewhere, its pkg-config file finds the other
+# files.
 unpacked() (
     tarball=$(make -s --no-print-directory dist) || return 1
     cp "$tarball" "$work/first.tar.gz" && touch include/jcobs.h README.md || return 1
@@ -204,7 +206,7 @@ sums() (
     cd prebuilt && sha256sum -c SHA256SUMS
 )
 
-# The page has no fault and names every call, and each call's own page, installed, is that one.
+# The manual page has no errors and names every call. The installed page of each call is this page.
 manual() (
     man --warnings -E UTF-8 -l -Tutf8 man/jcobs.3 2>&1 >/dev/null | grep . && return 1
     make install "PREFIX=$work/manual" >/dev/null || return 1
@@ -214,7 +216,7 @@ manual() (
     done
 )
 
-# jcobs.c, alone, by each compiler and in each language that it is for.
+# Compiles only jcobs.c, with each compiler and in each language that it supports.
 source_compiles() {
     strict='-Wall -Wextra -Wpedantic -Wconversion -Wsign-conversion -Wshadow -Wcast-qual -Wstrict-prototypes -Werror'
     for compiler in gcc clang; do
@@ -229,12 +231,12 @@ source_compiles() {
             $compiler -std=$standard -O2 ${strict% -Wstrict-prototypes*} -Werror -Iinclude -x c++ -c source/jcobs.c -o "$work/source.o" || return 1
         done
     done
-    # It calls nothing, and has no variables.
+    # jcobs.c calls no function of another file, and has no variables.
     gcc -std=c99 -O2 -fno-tree-loop-distribute-patterns -Iinclude -c source/jcobs.c -o "$work/source.o" &&
         ! nm "$work/source.o" | grep -v ' [TtrR] '
 }
 
-# What cppcheck finds, with the mandatory rules of MISRA C.
+# Runs cppcheck with the mandatory rules of MISRA C.
 source_checked() {
     cppcheck --quiet --std=c99 --enable=warning,portability,performance --error-exitcode=1 -Iinclude --suppress=missingIncludeSystem source/jcobs.c &&
         cppcheck --quiet --std=c99 --addon=misra -Iinclude --suppress=missingIncludeSystem source/jcobs.c 2>&1 |
@@ -242,7 +244,8 @@ source_checked() {
     ! cat "$work/misra" | grep .
 }
 
-# The tests over jcobs.c: the vectors, the calls, random calls between guarded pages, and beside plain C.
+# Builds the tests with jcobs.c: the cases, the calls, random calls next to pages without access, and random calls compared with
+# plain C.
 source_builds() { # COMPILER FLAG..
     for test in tests/vectors.c tests/calls.c tests/guard.c 'device/tests/random.c device/tests/plain.c'; do
         built=${test##*tests/}
@@ -257,7 +260,7 @@ source_tests() { # PROCESSOR CALLS
     part "jcobs.c on $1: $2 random calls beside plain C" $run "$work/source.plain" "$2"
 }
 
-# The library by make for a processor that has none in prebuilt/, linked to a program and shared.
+# Builds the library with make for a processor that has no library in prebuilt/, and links it statically and dynamically.
 made_of_source() { # ARCH: its program is run by $run
     make TARGET="$1-unknown-linux-gnu" "build/$1-unknown-linux-gnu/send_lines" "build/$1-unknown-linux-gnu/libjcobs.so" &&
         prints ' 03 68 69 00' sh -c "echo hi | $run build/$1-unknown-linux-gnu/send_lines | od -An -tx1"
@@ -287,7 +290,7 @@ if has clang clang 'header by clang'; then
     part 'header by clang, C90 to C23' header clang c c90 c99 c11 c17 c23
     part 'header by clang++, C++98 to C++20' header clang++ cpp c++98 c++11 c++14 c++17 c++20
 fi
-# Enums are shorter there.
+# On this processor enums are shorter.
 if has arm-none-eabi-gcc gcc-arm-none-eabi 'header for ARM without a system'; then
     part 'header for ARM without a system' header arm-none-eabi-gcc c c90 c99
 fi

@@ -195,7 +195,7 @@ pub fn decode_in_place_with_sentinel(buff: &mut [u8], sentinel: u8) -> Result<us
     proved::decode_in_place_with_sentinel(buff, sentinel)
 }
 
-/// Returns the message of the first frame of `source`, which [`decode`] would write to a buffer.
+/// Returns the message that [`decode`] would write for the first frame of `source`.
 ///
 /// ```
 /// assert_eq!(jcobs::decode_vec(b"\x03hi\0"), Ok(b"hi".to_vec()));
@@ -212,7 +212,7 @@ pub fn decode_vec(source: &[u8]) -> Result<alloc::vec::Vec<u8>, DecodeError> {
     Ok(decoded)
 }
 
-/// Returns the message of the frame at the front of `source`, which [`decode_with_sentinel`] would write to a buffer.
+/// Returns the message that [`decode_with_sentinel`] would write for the frame at the front of `source`.
 ///
 /// ```
 /// let frame = jcobs::encode_vec_with_sentinel(b"hi", 7);

@@ -1,9 +1,9 @@
 //! Vectors of bytes, on stable Rust and for any target. They have the types and methods of `std::simd` that the
 //! proved source uses.
 //!
-//! The crate's only `unsafe` code is in this file: the calls of SSE2 and NEON. With the feature `small` the crate has
-//! no `unsafe` code. The tests compare every operation with the same operation on single bytes, for each width from 1
-//! to 64.
+//! The crate's only `unsafe` code is in this file: the calls of SSE2 and NEON intrinsics. With the feature `small` the
+//! crate has no `unsafe` code. The tests compare every operation with the same operation on single bytes, for each
+//! width from 1 to 64.
 
 // rustc turns the loops over indices into vector instructions.
 #![allow(clippy::needless_range_loop)]

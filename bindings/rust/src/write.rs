@@ -8,9 +8,9 @@ use crate::frames::append_frame;
 /// These bytes end a frame that was cut off, so that no decoder takes this frame for a message.
 ///
 /// A single zero isn't enough: a frame that was cut off between two blocks would be decoded as a shorter message. If k
-/// bytes of a block are missing (at most 254), the first k of these bytes complete it. The next byte is a code of 255
-/// with fewer than 254 bytes after it, so the frame is broken. If k is 0, the first byte, 1, is a block without bytes:
-/// so fewer than 254 bytes follow the code 255 in this case too.
+/// bytes of a block are missing (at most 254), the first k of these bytes complete the block. The next byte is a code
+/// of 255 with fewer than 254 bytes after it, so the frame is broken. If k is 0, the first byte, 1, is a block without
+/// bytes: so fewer than 254 bytes follow the code 255 in this case too.
 const CLOSING: [u8; 256] = {
     let mut bytes = [255; 256];
     bytes[0] = 1;

@@ -1,20 +1,23 @@
 #!/usr/bin/env python3
-"""Measures flash and instructions of this crate on each target, beside the crate `cobs`, and its feature `small` if that differs.
+"""Measures flash and instructions of this crate, of its feature `small` if that differs, and of the crate `cobs`, on each target.
 
 usage: tests/speeds.py [--docs] [CRATE [TARGET..]]
 
 CRATE has the sources of the crate `cobs` 0.5.1, as cargo downloads them. The figures of the chosen targets replace those in
 bench/results/rust-targets.csv; --docs writes the tables of that file into README.md. Without CRATE nothing is measured.
 
-- Flash: what a call adds to a program, with `opt-level=s` and fat link-time optimization (targets/sizes.rs). memcpy, memmove,
-  memset and memcmp aren't counted: a program has them once. Tables for unwinding are left out, as firmware has none.
-- Instructions: of a call, counted in a trace of qemu-user, with `opt-level=3` and without link-time optimization
-  (targets/speed.rs). The time under an emulator isn't that of a processor, and instructions aren't either, but on a controller
-  most of them take one cycle. The programs for Linux have the memcpy of Debian's C library.
-- Time: of a call in WebAssembly, in Node, the least of rounds in which the three take turns (targets/speed.mjs).
+- Flash: the bytes that a call adds to a program, with `opt-level=s` and fat link-time optimization (targets/sizes.rs). memcpy,
+  memmove, memset and memcmp aren't counted, because a program has each of them once. Tables for unwinding aren't counted, because
+  firmware has none.
+- Instructions: the instructions of a call, counted in a trace of qemu-user, with `opt-level=3` and without link-time optimization
+  (targets/speed.rs). Neither the time under an emulator nor the number of instructions is the time on a processor, but on a
+  microcontroller most instructions take one cycle. The programs for Linux have the memcpy of Debian's C library.
+- Time: the time of a call in WebAssembly, in Node: the least of several rounds, in which the three libraries take turns
+  (targets/speed.mjs).
 
-RUSTC is the compiler, else Debian's /usr/bin/rustc. If it has no library for a target, `core` is built of RUST_SRC, else of
-/usr/src/rustc-VERSION/library (Debian's rust-web-src), once: it stays in target/sysroot-VERSION. Linkers and emulators are
+RUSTC names the compiler; without it Debian's /usr/bin/rustc is used. If the compiler has no library for a target, `core` is built
+from RUST_SRC, or from /usr/src/rustc-VERSION/library (Debian's rust-web-src). It is built only once, and stays in
+target/sysroot-VERSION. Linkers and emulators are
 Debian's gcc-arm-none-eabi, gcc-riscv64-unknown-elf, gcc-arm-linux-gnueabihf, gcc-i686-linux-gnu and gcc-aarch64-linux-gnu with
 their libc6-dev-*-cross, lld, qemu-user and nodejs.
 """
@@ -88,7 +91,7 @@ MEMORY = "memcpy memmove memset memcmp bcmp __aeabi_memcpy __aeabi_memcpy4 __aea
 
 
 def run(*command, **more):
-    """What a command prints. If it fails, so does this."""
+    """Returns the output of a command. If the command fails, the script ends with its errors."""
     done = subprocess.run([str(word) for word in command], capture_output=True, text=True, **more)
     if done.returncode:
         raise SystemExit(f"speeds.py: {' '.join(map(str, command))}: {done.stderr[-3000:]}")
@@ -96,7 +99,7 @@ def run(*command, **more):
 
 
 class Build:
-    """The libraries and programs of a target, in a folder of their own."""
+    """The libraries and programs of a target, in a separate folder."""
 
     def __init__(self, name, crate, work):
         self.target = TARGETS[name]
@@ -107,7 +110,7 @@ class Build:
             self.flags += ["--sysroot", self.core(re.sub(r"\W+", "-", name))]
 
     def core(self, name):
-        """A sysroot with `core` and the functions that compilers call, built if it isn't there."""
+        """Returns a sysroot with `core` and the functions that compilers call, and builds it if it doesn't exist."""
         version = re.search(r"rustc (\S+)", run(RUSTC, "--version"))[1]
         sysroot = RUST / f"target/sysroot-{version}/{name}"
         library = sysroot / "lib/rustlib" / self.target.triple / "lib"
@@ -163,7 +166,7 @@ class Build:
         return to
 
     def size(self, libraries, who, call):
-        """The bytes of code and data of a program with this call."""
+        """Returns the bytes of code and data of a program with this call."""
         program = self.work / f"{call}-of-{who}".replace(" ", "-")
         made = program.with_suffix(".a")
         kind = [
@@ -200,7 +203,7 @@ class Build:
         return int(text) + int(data)
 
     def program(self, libraries, who):
-        """The program whose calls are counted."""
+        """Returns the program whose calls are counted."""
         program = self.work / who
         made = program.with_suffix(".a")
         kind = ["--crate-name", "speed", "--edition", "2024", "-C", "opt-level=3", "-C", "codegen-units=1", "-L", libraries]
@@ -216,7 +219,7 @@ class Build:
 
 
 def traced(emulator, program):
-    """A file with a line for each instruction that a program executes, up to one that isn't defined, by which it ends."""
+    """Returns a file with a line for each instruction that a program executes, up to the undefined instruction that ends it."""
     flag = "-one-insn-per-tb" if "-one-insn-per-tb" in run(emulator.split()[0], "-h") else "-singlestep"
     trace = program.with_suffix(".trace")
     subprocess.run([*emulator.split(), flag, "-d", "exec,nochain", "-D", trace, program], stderr=subprocess.DEVNULL)
@@ -224,7 +227,7 @@ def traced(emulator, program):
 
 
 def counted(trace):
-    """The instructions of each call, in the order of speed.rs: the lines between the last one in `begin` and the first in `end`."""
+    """Returns the instructions of each call, in the order of speed.rs: the lines between the last line in `begin` and the first line in `end`."""
     counts, begun, name = [], None, b""
     with trace.open("rb") as file, mmap.mmap(file.fileno(), 0, access=mmap.ACCESS_READ) as lines:
         for mark in re.finditer(rb"\] (begin|end|done)\n", lines):
@@ -240,13 +243,13 @@ def counted(trace):
 
 
 def timed(programs):
-    """The nanoseconds of each call, in the order of speed.rs, for each of these modules."""
+    """Returns the nanoseconds of each call, in the order of speed.rs, for each of these modules."""
     lines = run("node", HERE / "targets/speed.mjs", *programs).splitlines()
     return zip(*(map(float, line.split(";")) for line in lines))
 
 
 def measured(name, crate):
-    """The lines of the file of figures for a target."""
+    """Yields the lines of the file of figures for a target."""
     with tempfile.TemporaryDirectory() as folder, ThreadPoolExecutor() as pool:
         build = Build(name, crate, Path(folder))
         who = tuple(build.target.libraries)
@@ -266,7 +269,7 @@ def measured(name, crate):
 
 
 def tables(lines):
-    """The tables of README: flash, and how many times as few instructions as the crate `cobs` takes."""
+    """Yields the tables of the README: flash, and the instructions of the crate `cobs` divided by those of this crate."""
     rows = [line.split(";") for line in lines]
     names = [name for name in TARGETS if any(row[0] == name for row in rows)]
     yield f"| bytes of flash | of | {' | '.join(SIZED.values())} |"

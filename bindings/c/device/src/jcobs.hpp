@@ -348,9 +348,9 @@ class sender
     }
 
     // finish ends the message and returns its frame for the sentinel. finish_terminated also writes the sentinel after
-    // the frame, and returns the frame with the sentinel. The returned bytes are in the buffer until the next push. If
-    // they don't fit, the result is an empty view, and nothing has changed; reset drops the message. The result of
-    // finish is empty only if the buffer is empty.
+    // the frame, and returns the frame with the sentinel. The returned bytes are in the buffer until the next push or
+    // feed. If they don't fit, the result is an empty view, and nothing has changed; reset drops the message. The
+    // result of finish is empty only if the buffer is empty.
     [[nodiscard]] view finish(unsigned char sentinel = 0) noexcept
     {
         return for_sentinel(jcobs_encoder_finish(&encoder_, buffer_.data(), buffer_.size()), sentinel);

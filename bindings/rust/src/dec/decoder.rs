@@ -93,8 +93,8 @@ macro_rules! decoder_methods {
         /// - [`DecodeError::InvalidFrame`]: the frame breaks off inside a block. The bytes through the zero that ends
         ///   it were taken.
         /// - [`DecodeError::TargetBufTooSmall`]: the message is longer than the buffer. This is the result of the push
-        ///   with the first byte that doesn't fit, and of each later push through the zero that ends the frame. The
-        ///   bytes through that zero were taken, or all bytes if the push doesn't contain it.
+        ///   with the first byte that doesn't fit, and of each push after it, up to the push with the zero that ends
+        ///   the frame. The bytes through that zero were taken, or all bytes if the push doesn't contain it.
         ///
         /// After an error, continue with the bytes from [`parsed_size`](Self::parsed_size) on. Then a broken frame
         /// never affects another frame.
@@ -103,8 +103,8 @@ macro_rules! decoder_methods {
             self.progress.push(&mut self.dest[..], data)
         }
 
-        /// Returns how many bytes the last [`push`](Self::push) or [`feed`](Self::feed) took, even if it returned an
-        /// error. Before the first of these calls the result is 0. The crate `cobs` doesn't have this call.
+        /// Returns how many bytes the last [`push`](Self::push) or [`feed`](Self::feed) took, even if that call
+        /// returned an error. Before the first of these calls the result is 0. The crate `cobs` doesn't have this call.
         #[inline]
         #[must_use]
         pub const fn parsed_size(&self) -> usize {

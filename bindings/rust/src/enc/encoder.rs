@@ -4,7 +4,7 @@ use crate::enc::DestBufTooSmallError;
 use crate::proved::UnbufferedEncoder;
 use crate::proved::enc::blocks::close;
 
-/// Encodes a message that comes in pieces into a slice.
+/// Encodes a message that comes in pieces, and writes its frame to a slice.
 ///
 /// ```
 /// let mut frame = [0; 16];
