@@ -250,10 +250,10 @@ loop.2.i7.backedge:                               ; preds = %then.21.i, %join.11
 
 define void @jcobs_decoder_feed(ptr noundef writeonly captures(none) initializes((0, 24)) %a0, ptr noundef captures(none) %a1, ptr noundef writeonly captures(none) %a2, i64 noundef %a3, i8 noundef %a4) {
 start:
-  %r12.i = icmp eq i8 %a4, 0
-  br i1 %r12.i, label %then.1.i3, label %join.3.i
+  %r11.i = icmp eq i8 %a4, 0
+  br i1 %r11.i, label %then.1.i, label %join.3.i
 
-then.1.i3:                                        ; preds = %start
+then.1.i:                                         ; preds = %start
   %r1.sroa.0.0.copyload.i = load i64, ptr %a1, align 1
   %r1.sroa.6.0.a1.sroa_idx.i = getelementptr inbounds nuw i8, ptr %a1, i64 8
   %r1.sroa.6.0.copyload.i = load i8, ptr %r1.sroa.6.0.a1.sroa_idx.i, align 1
@@ -263,107 +263,100 @@ then.1.i3:                                        ; preds = %start
   %r1.sroa.8.0.copyload.i = load i8, ptr %r1.sroa.8.0.a1.sroa_idx.i, align 1
   %r17.not.i = icmp eq i8 %r1.sroa.8.0.copyload.i, 0
   tail call void @llvm.memset.p0.i64(ptr noundef nonnull align 1 dereferenceable(16) %a1, i8 0, i64 16, i1 false)
-  br i1 %r17.not.i, label %join.3.i9, label %"cobs_abi::decoding::result_of.exit"
+  br i1 %r17.not.i, label %join.3.i11, label %"cobs_abi::decoding::decode_byte.exit"
 
-join.3.i9:                                        ; preds = %then.1.i3
+join.3.i11:                                       ; preds = %then.1.i
   %r36.not.i = icmp eq i8 %r1.sroa.6.0.copyload.i, 0
-  br i1 %r36.not.i, label %join.6.i12, label %arm.6.i
+  br i1 %r36.not.i, label %join.6.i, label %arm.6.i
 
-join.6.i12:                                       ; preds = %join.3.i9
-  %r56.i13 = icmp ult i64 %a3, %r1.sroa.0.0.copyload.i
-  br i1 %r56.i13, label %"cobs_abi::decoding::result_of.exit", label %arm.3.i
+join.6.i:                                         ; preds = %join.3.i11
+  %r56.i = icmp ult i64 %a3, %r1.sroa.0.0.copyload.i
+  br i1 %r56.i, label %"cobs_abi::decoding::decode_byte.exit", label %"cobs::dec::frame_decoder::PieceEnd::reported.exit"
 
-join.3.i:                                         ; preds = %start
-  %r13.i = getelementptr i8, ptr %a1, i64 10
-  %r14.i = load i8, ptr %r13.i, align 1
-  %r16.not.i = icmp eq i8 %r14.i, 0
-  br i1 %r16.not.i, label %join.3.i14, label %"cobs_abi::decoding::result_of.exit"
-
-join.3.i14:                                       ; preds = %join.3.i
-  %r20.i15 = load i64, ptr %a1, align 8
-  %r21.i16 = getelementptr i8, ptr %a1, i64 8
-  %r22.i17 = load i8, ptr %r21.i16, align 8
-  %r24.not.i = icmp eq i8 %r22.i17, 0
-  br i1 %r24.not.i, label %join.6.i22, label %then.4.i18
-
-then.4.i18:                                       ; preds = %join.3.i14
-  %r32.not.i = icmp ugt i64 %a3, %r20.i15
-  br i1 %r32.not.i, label %join.9.i20, label %then.7.i19
-
-then.7.i19:                                       ; preds = %then.4.i18
-  store i8 1, ptr %r13.i, align 1
-  br label %"cobs_abi::decoding::result_of.exit"
-
-join.9.i20:                                       ; preds = %then.4.i18
-  %r39.i = getelementptr inbounds nuw i8, ptr %a2, i64 %r20.i15
-  store i8 %a4, ptr %r39.i, align 1
-  %r42.i = add nuw i64 %r20.i15, 1
-  store i64 %r42.i, ptr %a1, align 8
-  %r45.i = load i8, ptr %r21.i16, align 8
-  %r47.i21 = add i8 %r45.i, -1
-  store i8 %r47.i21, ptr %r21.i16, align 8
-  br label %arm.2.i
-
-join.6.i22:                                       ; preds = %join.3.i14
-  %r50.i23 = getelementptr i8, ptr %a1, i64 9
-  %r51.i24 = load i8, ptr %r50.i23, align 1
-  %r53.not.i = icmp eq i8 %r51.i24, 0
-  br i1 %r53.not.i, label %join.12.i, label %then.10.i
-
-then.10.i:                                        ; preds = %join.6.i22
-  %r61.not.i = icmp ugt i64 %a3, %r20.i15
-  br i1 %r61.not.i, label %join.15.i, label %then.13.i
-
-then.13.i:                                        ; preds = %then.10.i
-  store i8 1, ptr %r13.i, align 1
-  br label %"cobs_abi::decoding::result_of.exit"
-
-join.15.i:                                        ; preds = %then.10.i
-  %r68.i25 = getelementptr inbounds nuw i8, ptr %a2, i64 %r20.i15
-  store i8 0, ptr %r68.i25, align 1
-  %r71.i26 = add nuw i64 %r20.i15, 1
-  store i64 %r71.i26, ptr %a1, align 8
-  br label %join.12.i
-
-join.12.i:                                        ; preds = %join.15.i, %join.6.i22
-  %r73.i = add i8 %a4, -1
-  store i8 %r73.i, ptr %r21.i16, align 1
-  %r3.i = icmp ne i8 %a4, -1
-  %..i = zext i1 %r3.i to i8
-  store i8 %..i, ptr %r50.i23, align 1
-  br label %arm.2.i
-
-arm.3.i:                                          ; preds = %join.6.i12
+"cobs::dec::frame_decoder::PieceEnd::reported.exit": ; preds = %join.6.i
   %r74.i = icmp eq i64 %r1.sroa.0.0.copyload.i, 0
   %r80.i = icmp eq i8 %r1.sroa.7.0.copyload.i, 0
-  %or.cond.i.not.not = select i1 %r74.i, i1 %r80.i, i1 false
-  %r7.sroa.7.0.i = select i1 %or.cond.i.not.not, i64 0, i64 %r1.sroa.0.0.copyload.i
-  br i1 %or.cond.i.not.not, label %else.2.i, label %"cobs_abi::decoding::result_of.exit"
+  %or.cond.i.not.not.not.not = select i1 %r74.i, i1 %r80.i, i1 false
+  %spec.select = zext i1 %or.cond.i.not.not.not.not to i32
+  %spec.select82 = select i1 %or.cond.i.not.not.not.not, i64 0, i64 %r1.sroa.0.0.copyload.i
+  br label %"cobs_abi::decoding::decode_byte.exit"
 
-arm.2.i:                                          ; preds = %join.12.i, %join.9.i20
-  %r38.i.pr = load i8, ptr %r13.i, align 1
-  %0 = icmp eq i8 %r38.i.pr, 0
-  br i1 %0, label %else.2.i, label %"cobs_abi::decoding::result_of.exit"
-
-else.2.i:                                         ; preds = %arm.3.i, %arm.2.i
-  %r12.i41 = load i64, ptr %a1, align 8
-  %a1.a0.i.i43 = tail call i64 @llvm.umin.i64(i64 %a3, i64 %r12.i41)
-  br label %"cobs_abi::decoding::result_of.exit"
-
-arm.6.i:                                          ; preds = %join.3.i9
+arm.6.i:                                          ; preds = %join.3.i11
   %a1.a0.i.i = tail call i64 @llvm.umin.i64(i64 %a3, i64 %r1.sroa.0.0.copyload.i)
-  br label %"cobs_abi::decoding::result_of.exit"
+  br label %"cobs_abi::decoding::decode_byte.exit"
 
-"cobs_abi::decoding::result_of.exit":             ; preds = %join.6.i12, %then.1.i3, %join.3.i, %then.13.i, %then.7.i19, %arm.3.i, %arm.6.i, %else.2.i, %arm.2.i
-  %r0.i.sroa.0.0 = phi i32 [ 1, %else.2.i ], [ 1, %arm.2.i ], [ 1, %join.3.i ], [ 3, %arm.6.i ], [ 0, %arm.3.i ], [ 1, %then.7.i19 ], [ 1, %then.13.i ], [ 2, %then.1.i3 ], [ 2, %join.6.i12 ]
-  %r0.i.sroa.10.0 = phi i64 [ %a1.a0.i.i43, %else.2.i ], [ %a3, %arm.2.i ], [ %a3, %join.3.i ], [ %a1.a0.i.i, %arm.6.i ], [ %r7.sroa.7.0.i, %arm.3.i ], [ %a3, %then.7.i19 ], [ %a3, %then.13.i ], [ %a3, %then.1.i3 ], [ %a3, %join.6.i12 ]
-  store i32 %r0.i.sroa.0.0, ptr %a0, align 1
-  %r0.sroa.3.0.a0.sroa_idx = getelementptr inbounds nuw i8, ptr %a0, i64 4
-  store i32 0, ptr %r0.sroa.3.0.a0.sroa_idx, align 1
-  %r0.sroa.4.0.a0.sroa_idx = getelementptr inbounds nuw i8, ptr %a0, i64 8
-  store i64 1, ptr %r0.sroa.4.0.a0.sroa_idx, align 1
-  %r0.sroa.5.0.a0.sroa_idx = getelementptr inbounds nuw i8, ptr %a0, i64 16
-  store i64 %r0.i.sroa.10.0, ptr %r0.sroa.5.0.a0.sroa_idx, align 1
+join.3.i:                                         ; preds = %start
+  %r17.i28 = getelementptr i8, ptr %a1, i64 10
+  %r18.i29 = load i8, ptr %r17.i28, align 1
+  %r20.not.i = icmp eq i8 %r18.i29, 0
+  br i1 %r20.not.i, label %join.3.i30, label %"cobs_abi::decoding::decode_byte.exit"
+
+join.3.i30:                                       ; preds = %join.3.i
+  %r26.i31 = load i64, ptr %a1, align 8
+  %r27.i32 = getelementptr i8, ptr %a1, i64 8
+  %r28.i33 = load i8, ptr %r27.i32, align 8
+  %r30.not.i = icmp eq i8 %r28.i33, 0
+  br i1 %r30.not.i, label %join.6.i39, label %then.4.i34
+
+then.4.i34:                                       ; preds = %join.3.i30
+  %r36.i35 = icmp ult i64 %r26.i31, %a3
+  br i1 %r36.i35, label %then.7.i37, label %join.9.i36
+
+then.7.i37:                                       ; preds = %then.4.i34
+  %r42.i = getelementptr inbounds nuw i8, ptr %a2, i64 %r26.i31
+  store i8 %a4, ptr %r42.i, align 1
+  %r45.i38 = add nuw i64 %r26.i31, 1
+  store i64 %r45.i38, ptr %a1, align 8
+  %r48.i = load i8, ptr %r27.i32, align 8
+  %r50.i = add i8 %r48.i, -1
+  store i8 %r50.i, ptr %r27.i32, align 8
+  br label %"cobs_abi::decoding::decode_byte.exit"
+
+join.9.i36:                                       ; preds = %then.4.i34
+  store i8 1, ptr %r17.i28, align 1
+  br label %"cobs_abi::decoding::decode_byte.exit"
+
+join.6.i39:                                       ; preds = %join.3.i30
+  %r59.i = getelementptr i8, ptr %a1, i64 9
+  %r60.i40 = load i8, ptr %r59.i, align 1
+  %r62.not.i = icmp eq i8 %r60.i40, 0
+  br i1 %r62.not.i, label %join.12.i, label %then.10.i
+
+then.10.i:                                        ; preds = %join.6.i39
+  %r68.not.i = icmp ugt i64 %a3, %r26.i31
+  br i1 %r68.not.i, label %join.15.i, label %then.13.i
+
+then.13.i:                                        ; preds = %then.10.i
+  store i8 1, ptr %r17.i28, align 1
+  br label %"cobs_abi::decoding::decode_byte.exit"
+
+join.15.i:                                        ; preds = %then.10.i
+  %r77.i = getelementptr inbounds nuw i8, ptr %a2, i64 %r26.i31
+  store i8 0, ptr %r77.i, align 1
+  %r80.i41 = add nuw i64 %r26.i31, 1
+  store i64 %r80.i41, ptr %a1, align 8
+  br label %join.12.i
+
+join.12.i:                                        ; preds = %join.15.i, %join.6.i39
+  %r4.0.i = phi i64 [ %r80.i41, %join.15.i ], [ %r26.i31, %join.6.i39 ]
+  %r82.i = add i8 %a4, -1
+  store i8 %r82.i, ptr %r27.i32, align 1
+  %r85.i = icmp ne i8 %a4, -1
+  %..i = zext i1 %r85.i to i8
+  store i8 %..i, ptr %r59.i, align 1
+  %a1.a0.i.i43 = tail call i64 @llvm.umin.i64(i64 %a3, i64 %r4.0.i)
+  br label %"cobs_abi::decoding::decode_byte.exit"
+
+"cobs_abi::decoding::decode_byte.exit":           ; preds = %then.1.i, %join.6.i, %"cobs::dec::frame_decoder::PieceEnd::reported.exit", %join.12.i, %then.13.i, %join.9.i36, %then.7.i37, %join.3.i, %arm.6.i
+  %r0.sroa.0.0 = phi i32 [ 1, %join.12.i ], [ %spec.select, %"cobs::dec::frame_decoder::PieceEnd::reported.exit" ], [ 1, %then.13.i ], [ 3, %arm.6.i ], [ 1, %join.3.i ], [ 1, %then.7.i37 ], [ 1, %join.9.i36 ], [ 2, %join.6.i ], [ 2, %then.1.i ]
+  %r0.sroa.8.0 = phi i64 [ %a1.a0.i.i43, %join.12.i ], [ %spec.select82, %"cobs::dec::frame_decoder::PieceEnd::reported.exit" ], [ %a3, %then.13.i ], [ %a1.a0.i.i, %arm.6.i ], [ %a3, %join.3.i ], [ %r45.i38, %then.7.i37 ], [ %a3, %join.9.i36 ], [ %a3, %join.6.i ], [ %a3, %then.1.i ]
+  store i32 %r0.sroa.0.0, ptr %a0, align 1
+  %r0.sroa.4.0.a0.sroa_idx = getelementptr inbounds nuw i8, ptr %a0, i64 4
+  store i32 0, ptr %r0.sroa.4.0.a0.sroa_idx, align 1
+  %r0.sroa.6.0.a0.sroa_idx = getelementptr inbounds nuw i8, ptr %a0, i64 8
+  store i64 1, ptr %r0.sroa.6.0.a0.sroa_idx, align 1
+  %r0.sroa.8.0.a0.sroa_idx = getelementptr inbounds nuw i8, ptr %a0, i64 16
+  store i64 %r0.sroa.8.0, ptr %r0.sroa.8.0.a0.sroa_idx, align 1
   ret void
 }
 

@@ -18,7 +18,7 @@ declare global {
   }
 }
 
-/** Bytes as the calls take them: an ArrayBuffer, a shared one, or any view of one. */
+/** The type of bytes in arguments: an ArrayBuffer, a SharedArrayBuffer, or any view of one of these. */
 export type Bytes = ArrayBuffer | SharedArrayBuffer | ArrayBufferView;
 
 /** The source from which `load` gets the module. */
@@ -35,24 +35,24 @@ export interface EncodeOptions extends SentinelOptions {
 }
 
 export interface PieceOptions extends SentinelOptions {
-  /** The length of the longest message, in bytes. Default 65536; for `frames`, the length of the bytes. */
+  /** The length of the longest message, in bytes. Default 65536; for `frames`, the number of bytes that are passed. */
   maxLength?: number;
 }
 
 export interface DecoderOptions extends PieceOptions {
   /**
-   * Whether to begin after the first sentinel, as is right on a line that may be in the middle of a frame. Default false.
+   * Whether to begin after the first sentinel. This is right on a line that may be in the middle of a frame. Default false.
    */
   skipFirst?: boolean;
 }
 
 /** The outcome of a piece of a stream that a sentinel ended. */
 export type Outcome =
-  /** It is a frame, and this is its message. */
+  /** The piece is a frame, and this is its message. */
   | { message: Uint8Array; broken?: undefined; tooLong?: undefined }
-  /** It breaks off inside a block. The number is how many bytes it decodes to before it breaks off. */
+  /** The piece breaks off inside a block. The number is how many bytes the piece decodes to before it breaks off. */
   | { broken: number; message?: undefined; tooLong?: undefined }
-  /** It decodes to more than `maxLength` bytes. */
+  /** The piece decodes to more than `maxLength` bytes. */
   | { tooLong: true; message?: undefined; broken?: undefined };
 
 /**
@@ -72,16 +72,16 @@ export class CobsError extends Error {
 export function isSupported(): boolean;
 
 /**
- * Loads the module. Every other call needs it. Without an argument it is the module that comes with this file.
- * Once it is loaded, or is being loaded, a further call changes nothing and returns the same promise.
+ * Loads the module, which every other call needs. Without an argument, `load` takes the module that comes with this file. Once
+ * the module is loaded, or is being loaded, a further call changes nothing and returns the same promise.
  * @throws CobsError "unsupported"; or the error of the source, after which `load` can be called again
  */
 export function load(source?: Source): Promise<void>;
 
 /**
- * Loads the module before it returns, for a program that can't wait for a promise. Without an argument it is the module that
- * comes with this file. Once it is loaded, a further call changes nothing. On a page, outside of a worker, Chrome allows this
- * from version 115 on.
+ * Loads the module before it returns, for a program that can't wait for a promise. Without an argument, `loadSync` takes the
+ * module that comes with this file. Once the module is loaded, a further call changes nothing. On a page, outside of a worker,
+ * Chrome allows this call from version 115 on.
  * @throws CobsError "unsupported"; or the error of the source
  */
 export function loadSync(source?: Bytes | WebAssembly.Module): void;
@@ -94,40 +94,43 @@ export function encode(message: Bytes, options?: EncodeOptions): Uint8Array;
 
 /**
  * Encodes a message to the front of `dest`, changes nothing after the frame, and returns the frame's length.
- * @throws RangeError if it doesn't fit; `dest` is then as it was
+ * @throws RangeError if the frame doesn't fit; `dest` is then as it was
  */
 export function encodeInto(message: Bytes, dest: Bytes, options?: EncodeOptions): number;
 
 /**
  * Returns the message of the first frame. Leading sentinels are skipped, and the frame ends at the next sentinel or with the
- * bytes. The bytes after it have no effect.
+ * bytes. The bytes after that sentinel have no effect.
  * @throws CobsError "empty" or "broken"
  */
 export function decode(frame: Bytes, options?: SentinelOptions): Uint8Array;
 
-/** Returns whether bytes are a frame: the encoded one of its message, or that one with a needless last block 01. */
+/**
+ * Returns whether bytes are a frame: "canonical" for the frame that `encode` returns, "longer" for that frame with a needless
+ * last block 01, "notAFrame" for all other bytes.
+ */
 export function frameKind(frame: Bytes, options?: SentinelOptions): "canonical" | "longer" | "notAFrame";
 
 /**
- * Iterates over the outcomes of the pieces of some bytes that a sentinel ends; `end` is the place after that sentinel.
- * Bytes after the last sentinel have no outcome.
+ * Iterates over the outcomes of all pieces of `bytes` that a sentinel ends; `end` is the index after that sentinel. Bytes after
+ * the last sentinel have no outcome.
  */
 export function frames(bytes: Bytes, options?: DecoderOptions): IterableIterator<Outcome & { end: number }>;
 
-/** Takes a stream in chunks of any size. */
+/** Decodes a stream that comes in chunks of any size. */
 export class FrameDecoder {
   constructor(options?: DecoderOptions);
   /**
-   * Calls `visit` for each piece that ends in the chunk; `end` is the place in the chunk after its sentinel. After a visit
-   * that throws or closes the decoder there are no more visits. An error that a visit throws is thrown by `push` once the
-   * whole chunk is taken, so the next chunk is decoded as if nothing had been thrown.
+   * Calls `visit` for each piece that ends in the chunk; `end` is the index in the chunk after the sentinel of that piece.
+   * After a visit that throws or closes the decoder there are no more visits. An error that a visit throws is thrown by `push`
+   * once the whole chunk is taken, so the next chunk is decoded as if nothing had been thrown.
    */
   push(chunk: Bytes, visit: (outcome: Outcome, end: number) => void): void;
   /** Whether a frame has begun that no sentinel has ended yet. */
   get unfinished(): boolean;
   /** How many bytes `skipFirst` has left out, the first sentinel among them. */
   get skipped(): number;
-  /** Frees the decoder's memory. Without this call a garbage collection frees it at some time. */
+  /** Frees the decoder's memory. Without this call, garbage collection frees the memory at some later time. */
   close(): void;
   /** The same, for `using`. */
   [Symbol.dispose](): void;
@@ -156,7 +159,10 @@ export class FrameDecoderStream {
   constructor(options?: DecoderOptions);
   readonly readable: ReadableStream<Outcome>;
   readonly writable: WritableStream<Bytes>;
-  /** Whether a frame has begun that no sentinel has ended yet: at the stream's end, one that was cut off. */
+  /**
+   * Whether a frame has begun that no sentinel has ended yet. At the end of the stream, this says whether the last frame was
+   * cut off.
+   */
   get unfinished(): boolean;
   /** How many bytes `skipFirst` has left out, the first sentinel among them. */
   get skipped(): number;
