@@ -95,8 +95,8 @@ COMMENTS = {
     "": [(" (A choice of this library.)", "")],
     "UnbufferedDecoder::end": [("`len` is the buffer's length.", "It returns how the piece ended. The buffer has buffer_size bytes.")],
     "UnbufferedDecoder::feed_each": [(
-        " For the sentinel 0 it does what [`feed_piece`](Self::feed_piece) does. The function searches for nothing and copies"
-        " no slices, so it is small, and fast for a few bytes.",
+        " For the sentinel 0 it does what [`feed_piece`](Self::feed_piece) does. The function doesn't search ahead or copy"
+        " slices, so it is small, and fast for a few bytes.",
         "",
     ), (
         "The fields are assigned one by one: if the whole decoder is assigned, rustc needs 24 bytes more for a push on a Cortex-M4.", "")],
@@ -123,13 +123,13 @@ COMMENTS = {
     "UnbufferedEncoder::is_within": [("the encoder's progress is possible in a buffer of `len` bytes", "the state is possible in a buffer of this size")],
     "UnbufferedEncoder::push_each": [(", one at a time.", ", if the frame of all bytes so far fits the buffer, and returns whether it does.")],
     "decode_blocks_each": [(
-        " This function is small, and uses no vectors.",
+        " This function is small, and uses no SIMD vectors.",
         " No byte of the frame is a zero. If the last block is cut off, it returns JCOBS_END_BROKEN, with the length of the output"
         " of the blocks before it.",
     )],
-    "decode_each": [(", and the counts are within the bytes and the buffer.", ".")],
+    "decode_each": [(", `consumed` is at most the number of bytes, and `length` is at most the buffer's length.", ".")],
     "decode_piece": [("Returns `None` if the source has no piece.", "It returns JCOBS_END_NONE if there is no piece.")],
-    "encode_each": [(", and the counts are within the bytes and the buffer.", ".")],
+    "encode_each": [(", `consumed` is at most the number of bytes, and `length` is at most the buffer's length.", ".")],
     "encode_in_place": [(
         "in its own buffer, and returns the length of its frame in bytes.",
         "in its own buffer, in which the message begins at index JCOBS_MAX_OVERHEAD(message_len). Returns the length of the"
@@ -152,7 +152,11 @@ COMMENTS = {
         ", given bytes without a zero. It goes from one code to the next.",
     )],
     "leading_zeros": [(" [`decode`](crate::decode) skips these zeros before a frame.", "")],
-    "len_to_zero": [(" The function uses no vectors, so that it is small.", " The loop tests four bytes in each round, and so needs half the instructions.")],
+    "len_to_zero": [(
+        "or the length of `bytes` if there is no zero. The function is small, because it uses no SIMD vectors.",
+        "or the number of all bytes if there is no zero. The loop tests four bytes in each round, and so needs half the"
+        " instructions.",
+    )],
     "result_by": [(
         "a call that took `consumed` bytes and decoded them into a buffer of `room` bytes. `size` is the message's length, or the"
         " error.",

@@ -1,4 +1,4 @@
-//! Constants of blocks that encoders and decoders share.
+//! Constants for blocks, shared by the encoders and the decoders.
 
 /// The code of a full block, that is, the number of bytes that the block has, including the code.
 pub(crate) const FULL_CODE: usize = 255;

@@ -67,7 +67,8 @@ pub struct PushError {
     pub parsed_size: usize,
 }
 
-/// The reason why a call returned no vector. (A choice of this library: if memory runs out, nothing aborts.)
+/// The reason why a call returned no vector. (A choice of this library: if memory runs out, the call returns `Memory`
+/// and doesn't abort the program.)
 ///
 /// ```
 /// let rejected = Err(DecodeVecError::Decode(DecodeError::EmptyFrame));
@@ -123,7 +124,8 @@ impl DecodeReport {
     }
 }
 
-/// The former name of [`DecodeReport`]. It is deprecated since version 0.5.0: use `DecodeReport`.
+/// The former name of [`DecodeReport`]. This name has been deprecated since version 0.5.0 of the crate `cobs`: use
+/// `DecodeReport`.
 ///
 /// ```
 /// let report: DecodingResult = decode(&[2, 7, 0], &mut [0; 4])?;

@@ -35,8 +35,8 @@ pub(crate) fn position_or_len(source: &[u8], byte: u8) -> usize
     memchr(byte, source).unwrap_or(source.len())
 }
 
-/// Returns how many bytes come before the first zero, or the number of all bytes if there is no zero. The function uses
-/// no vectors, so that it is small. (A choice of this library.)
+/// Returns how many bytes come before the first zero, or the length of `bytes` if there is no zero. The function is
+/// small, because it uses no SIMD vectors. (A choice of this library.)
 ///
 /// ```
 /// assert_eq!(rt; len_to_zero(&[3, 7, 8, 0, 2]), 3);
@@ -64,8 +64,8 @@ pub fn len_to_zero(bytes: &[u8]) -> usize
     bytes.len() - rest.len()
 }
 
-/// Returns how many bytes come before the first byte that equals `byte`, or the number of all bytes if no byte does.
-/// The function uses no vectors.
+/// Returns how many bytes come before the first byte that equals `byte`, or the length of `bytes` if no byte does. The
+/// function uses no SIMD vectors.
 #[inline(always)]
 pub(crate) fn len_to(bytes: &[u8], byte: u8) -> usize
     ensures within { result ≤ length bytes.now }

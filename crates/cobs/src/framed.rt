@@ -1,10 +1,10 @@
-//! A reader of frames over any source of bytes.
+//! A reader of frames from any source of bytes.
 //!
 //! `FrameReader` reads chunks of up to 64 bytes from a `FrameSource`: a file, a socket, a serial port or any other
-//! source. Each call of `next_frame` returns one outcome. The reader reads only if no piece ends in the bytes that it
-//! has kept. No byte is lost: the bytes after the end of a piece are kept for the next call, and after a fault the
-//! decoder has taken all bytes that were read. No call of this module allocates. (The rule that a zero ends each piece
-//! is from Cheshire and Baker's paper; the rest of this module is a choice of this library.)
+//! source. Each call of `next_frame` returns one outcome. The reader reads from the source only if no piece ends in the
+//! bytes that the reader has kept. No byte is lost: the bytes after the end of a piece are kept for the next call, and
+//! after a fault the decoder has taken all bytes that were read. No call of this module allocates. (The rule that a
+//! zero ends each piece is from Cheshire and Baker's paper; the rest of this module is a choice of this library.)
 ghost use Rattle.std.specs.Prelude.{◌≡◌, ℕ, ◌≤◌, List, [], ◌∷◌, ◌++◌, length, take, drop, Option, option_map, IfOk, IfNone, IfSome, OnSome, MatchOption};
 ghost use Rattle.cobs.specs.Grammar.{HasNoZero};
 ghost use Rattle.cobs.specs.Stream.{Outcome, stream_outcomes, unended, is_nonempty};
@@ -37,13 +37,13 @@ pub enum Next {
 
     /// The source returned no more bytes, and no piece ended.
     End {
-        /// Whether a piece has begun that no zero has ended yet.
+        /// Whether a piece has begun, and no zero has ended it yet.
         unfinished: bool,
     },
 }
 
-/// The reason why a call of `next_frame` found no outcome. No byte is lost: a later call continues after the bytes that
-/// were read.
+/// The reason why a call of `next_frame` failed. No byte is lost: a later call continues after the bytes that were
+/// read.
 ///
 /// ```
 /// fn next_or_more<D: FrameDecoder, S: FrameSource>(
@@ -85,8 +85,8 @@ pub trait FrameSource {
 
     /// Reads once, into `chunk`.
     ///
-    /// Returns `Some(n)` if the read returned the first n bytes of `chunk`; n is 0 at the end of the source. Returns
-    /// `None` if the read failed.
+    /// Returns `Some(n)` if the read succeeded, and its bytes are the first n bytes of `chunk`; n is 0 at the end of
+    /// the source. Returns `None` if the read failed.
     ///
     /// ```
     /// let mut source = Recorded::new([7; 100].as_slice());
@@ -99,7 +99,8 @@ pub trait FrameSource {
         ensures step { step self.old (option_map (λ n. take n chunk.new) result) self.new };
 }
 
-/// A source of bytes that reads from any reader. Each call reads once, and each error of the reader is a failed read.
+/// A source of bytes that reads from any `Read`. Each call of `read_some` reads once, and each error of the `Read`
+/// counts as a failed read.
 ///
 /// ```
 /// let mut source = Recorded::new([1, 0, 2].as_slice());

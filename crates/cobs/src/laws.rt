@@ -30,9 +30,9 @@ pub use coders::{law_15, law_16, law_17, law_18, law_19, law_20, law_21};
 
 /// A frame reads as its output.
 ///
-/// Bytes read as a message exactly if there is at least one byte, none is a zero, the last block has all bytes that its code
-/// counts, and the message is the output of the bytes. An output is never longer than its piece, and never gets shorter if a
-/// byte is added to the piece.
+/// A list of bytes reads as a message exactly if the list isn't empty, no byte is a zero, the last block has all bytes that its
+/// code counts, and the message is the output of the list. An output is never longer than its piece, and never gets shorter if
+/// a byte is appended to the piece.
 ///
 /// Each decoder cuts bytes at their codes, and so finds out whether the bytes are a frame, and of which message. This law says
 /// that a decoder accepts exactly the frames.
@@ -57,10 +57,10 @@ pub fn law_1()
 
 /// Each message has one encoded frame.
 ///
-/// Each message has exactly one encoded frame, and if the message consists of bytes, so does its encoded frame. So two encoded
-/// frames can be compared byte by byte, for example to find a message in a store or to check a signature. All encoders that
-/// follow the definition write the encoded frame. The length of this frame decides whether `try_encode` and `CobsEncoder`
-/// accept the message.
+/// Each message has exactly one encoded frame. In the clauses, messages and frames are lists of numbers: if each number of the
+/// message is less than 256, so is each number of its encoded frame. So two encoded frames can be compared byte by byte, for
+/// example to find a message in a store or to check a signature. All encoders that follow the definition write the encoded
+/// frame. The length of this frame decides whether `try_encode` and `CobsEncoder` accept the message.
 ///
 /// ```
 /// fn encode_again(message: &[u8], frame: &[u8], dest: &mut [u8]) -> usize
@@ -90,7 +90,7 @@ pub fn law_2()
 /// One frame of a message is its encoded frame. There is a second frame only if the message ends in a full run, that is, a run
 /// of nonzero bytes whose length is a positive multiple of 254. The second frame is one byte longer: it is the encoded frame
 /// followed by 01. A receiver that may accept only one frame for each message, for example because its protocol compares
-/// frames, rejects the longer one: [`frame_kind`](crate::frame_kind) distinguishes them.
+/// frames, rejects the longer frame: [`frame_kind`](crate::frame_kind) distinguishes the two frames.
 ///
 /// ```
 /// fn is_frame_for(piece: &[u8], message: &[u8], buffer: &mut [u8]) -> bool
@@ -134,7 +134,7 @@ pub fn law_4()
 
 /// Equal frames, equal messages.
 ///
-/// Messages with equal encoded frames are equal, and a frame has only one message. So a frame keeps all information of its
+/// Messages with equal encoded frames are equal, and a frame has only one message. So a frame keeps all the information in its
 /// message, and a receiver can't read another message from the frame.
 ///
 /// ```
@@ -247,11 +247,11 @@ pub fn law_8()
 
 /// A stream may be cut anywhere.
 ///
-/// If a stream is cut in two parts, and the unended bytes of the first part are put before the second part, the pieces and the
-/// outcomes of the whole stream are those of the first part, followed by those of the extended second part. The unended bytes
-/// of the whole stream are those of the extended second part. A stream that ends in a zero has no unended bytes. In a stream
-/// without a zero all bytes are unended, and there is no outcome. One or more nonzero bytes with a zero after them are one
-/// piece.
+/// The unended bytes of a stream are the bytes after its last zero. Cut a stream in two parts, and put the unended bytes of the
+/// first part before the second part. Then the pieces and the outcomes of the whole stream are those of the first part,
+/// followed by those of the extended second part. The unended bytes of the whole stream are those of the extended second part.
+/// A stream that ends in a zero has no unended bytes. In a stream without a zero all bytes are unended, and there is no
+/// outcome. One or more nonzero bytes with a zero after them are one piece.
 ///
 /// So a receiver may get a stream in parts of any length, as reads return them. The results are those of one call over the
 /// whole stream: `decode_stream`, `push` and `FrameReader` rely on this law.
@@ -391,8 +391,8 @@ pub fn law_12()
 
 /// The open frame of a streaming encoder.
 ///
-/// This law says at which index the frame so far ends, and how the open frame of an [`EncoderState`](crate::EncoderState)
-/// differs from the encoded frame.
+/// This law says at which index the frame so far ends. It also says how the open frame that an
+/// [`EncoderState`](crate::EncoderState) makes, whose last block isn't full, differs from the encoded frame.
 ///
 /// So if a caller carries out each [`PushResult`](crate::PushResult), the byte reserved for the next code (the placeholder) is
 /// always within the output. The caller's frame is the encoded frame, unless the message ends in a full run: then it is the
@@ -426,8 +426,8 @@ pub fn law_13()
 
 /// A decoder has been fed nothing of a piece exactly if it is idle.
 ///
-/// So [`FrameReader::new`](crate::FrameReader::new) accepts a decoder whose last byte was a zero, and `push` of a new
-/// decoder reads a frame and its zero.
+/// So [`FrameReader::new`](crate::FrameReader::new) accepts a decoder that was last fed a zero, and `push` of a new decoder
+/// reads a frame and its zero.
 ///
 /// ```
 /// fn reader_after_zero(mut decoder: CobsDecoderOwned) -> FrameReader<CobsDecoderOwned>

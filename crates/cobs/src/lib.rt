@@ -3,10 +3,10 @@
 //! COBS turns a message, which may be any bytes, into a frame that never contains a chosen byte value, usually 0. This
 //! byte value is the delimiter; this library calls it the sentinel. The sentinel marks the end of each frame on a
 //! serial line, in a stream or in a file, so after damage a receiver finds the next frame after the next sentinel. A
-//! frame is a list of blocks. A block is a code, which counts the block's bytes including itself, and then nonzero
-//! bytes. Between two blocks the message has a zero, unless the first of the two is a full block, whose code is 255. So
-//! the frame of a message of up to 254 bytes is one byte longer than the message. The frame of a longer message has at
-//! most one more byte for each further 254 bytes, and for a last part of fewer than 254 bytes. The format is that of
+//! frame is a list of blocks. A block is a code, which counts the block's bytes including itself, followed by up to 254
+//! nonzero bytes. Between two blocks the message has a zero, unless the first of the two is a full block, whose code is
+//! 255. So the frame of a message of up to 254 bytes is one byte longer than the message. The frame of a longer message
+//! is longer than the message by at most one byte for every 254 bytes of the message, rounded up. The format is that of
 //! the paper "Consistent Overhead Byte Stuffing" by Stuart Cheshire and Mary Baker.
 //!
 //! This example encodes a message, and decodes it again:
@@ -96,9 +96,9 @@ pub use stream::{FrameOutcome, decode_stream, encode_frames, encode_frames_room}
 /// Returns the greatest overhead of an encoded frame, for a message of `source_len` bytes: by how many bytes the frame
 /// may be longer than the message.
 ///
-/// The greatest overhead is `source_len / 254` rounded up, and 1 for the empty message: each block of 254 bytes has a
-/// code of its own, and a frame has at least one block. A message without zeros reaches this overhead. Sentinels around
-/// the frame aren't counted. The bound is that of the paper by Cheshire and Baker.
+/// The greatest overhead is `source_len / 254` rounded up, and 1 for the empty message: every 254 nonzero bytes of the
+/// message need a code of their own, and a frame has at least one code. A message without zeros reaches this overhead.
+/// Sentinels around the frame aren't counted. The bound is that of the paper by Cheshire and Baker.
 ///
 /// ```
 /// assert_eq!(rt; max_encoding_overhead(0), 1);

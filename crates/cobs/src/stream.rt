@@ -36,7 +36,7 @@ pub enum FrameOutcome {
     TooLong,
 }
 
-/// Converts the end of a piece, whose output is in `buffer`, to its outcome.
+/// Converts the end of a piece, whose output is in `buffer`, to the piece's outcome.
 fn frame_outcome(alloc: Global, end: PieceEnd, buffer: &[u8]) -> Result<FrameOutcome, AllocError>
     requires { IsWithin (length buffer.now) end }
     ensures { IfOk result (λ outcome. outcome_in outcome ≡ outcome_at end buffer.now) }
@@ -155,8 +155,8 @@ pub fn encode_frames(alloc: Global, messages: &[Vec<u8>]) -> Result<Vec<u8>, All
 /// a sum over all messages: [`max_encoding_length`](crate::max_encoding_length) of the message's length, plus 1.
 /// Returns `None` if the sum doesn't fit a `usize`.
 ///
-/// [`encode_frames`] requires that this function returns a number, and allocates that many bytes. This function
-/// allocates nothing.
+/// [`encode_frames`] requires that this function returns `Some(n)`, and allocates n bytes. This function allocates
+/// nothing.
 ///
 /// ```
 /// let messages = [b"hi".to_vec(alloc)?, Vec::new(alloc)];

@@ -82,8 +82,8 @@ pub fn decode_each(
 
 /// Takes a byte of a piece, writes its output to the buffer, and returns how many bytes of the open message the buffer then
 /// holds.
-// A byte inside a block has a return of its own, with a length that needs no test: so compilers make fewer instructions for a
-// call with one byte than of the step of a loop.
+// A byte inside a block has a return of its own, with a length that needs no test. So compilers generate fewer
+// instructions for a call with one byte than they would from the step of a loop.
 #[inline(always)]
 fn take_one(decoder: &mut UnbufferedDecoder, buffer: &mut [u8], byte: u8) -> usize
     requires nonzero { byte ≢ 0 }

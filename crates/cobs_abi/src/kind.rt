@@ -1,6 +1,6 @@
 //! The kinds of frames.
 
-/// The bytes are no frame.
+/// The bytes aren't a frame.
 pub const NOT_A_FRAME: u32 = 0;
 
 /// The bytes are a frame: the one that encoders write for its message.

@@ -1,4 +1,5 @@
-//! Shared by the libraries for C: the structs and numbers that cross to C, and the postcondition of each exported call.
+//! The code that the libraries for C share: the structs and numbers that are passed to C, and the postcondition of each
+//! exported call.
 //!
 //! `cobs_c` exports all calls. `cobs_small` exports some of these calls, with other bodies. The contract of each
 //! exported function is one definition of `specs/`, whose name says what the call does. So a call has the same contract

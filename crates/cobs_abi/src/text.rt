@@ -4,8 +4,7 @@ ghost use Rattle.cobs_abi.specs.Text.{words};
 
 use crate::answer::{BROKEN, EMPTY, MORE, OK, TOO_SMALL};
 
-/// The version as one number: 10,000 times the major number, plus 100 times the minor number, plus the number of the
-/// patch.
+/// The version as one number: 10,000 times the major number, plus 100 times the minor number, plus the patch number.
 pub const VERSION: u32 = 10000;
 
 /// Returns the meaning of a status.

@@ -146,8 +146,8 @@ fn decode_long_in_place(buffer: &mut [u8], consumed: &mut usize) -> (u32, usize)
             result_by(consumed, room, Ok(report.frame_size()))
         }
         Err(DecodeError::InvalidFrame { decoded_bytes }) => {
-            // The frame is longer than the decoded bytes. The bytes after these haven't changed, so the frame's end can
-            // still be found.
+            // The frame is longer than the decoded bytes. The buffer hasn't changed after the decoded bytes, so the
+            // frame's end can still be found.
             let end = decoded_bytes + first_sentinel(&buffer[decoded_bytes..], 0);
             let error = DecodeError::InvalidFrame { decoded_bytes };
             result_by(with_zero(end, room), room, Err(error))

@@ -26,9 +26,9 @@ pub extern "C" fn jcobs_max_length(message_len: usize) -> usize
         .unwrap_or(0)
 }
 
-/// Does what [`jcobs_encode`] does with any message. Returns how many bytes were taken, and the length of the frame.
-/// The length is 0 if the frame doesn't fit. It is a separate function, so that no registers are saved before a short
-/// message is encoded.
+/// Does what [`jcobs_encode`] does, for a message of any length. Returns how many bytes were taken, and the length of
+/// the frame. The length is 0 if the frame doesn't fit. `encode_long` is a separate function, so that no registers are
+/// saved before a short message is encoded.
 #[inline(never)]
 fn encode_long(message: &[u8], frame: &mut [u8]) -> (usize, usize)
     ensures encodes { Encodes message.now frame.old
@@ -50,9 +50,9 @@ pub extern "C" fn jcobs_encode(message: &[u8], frame: &mut [u8]) -> Answer
     law_4(); // The length of a frame, and its bound
     let len = message.len();
     // A message of up to 254 bytes fits if `frame` is longer than the message. Then the message is encoded here,
-    // without a call. Messages of fewer than `FEW` bytes are tested for first, so that compilers give them code without
-    // the other cases. The message's length is computed from the frame's, so that no register has to keep it. All this
-    // makes the encoding of short messages faster.
+    // without a call. Messages of fewer than `FEW` bytes are tested for first, so that compilers generate code for them
+    // without the other cases. The message's length is computed from the frame's, so that no register has to keep it.
+    // All this makes the encoding of short messages faster.
     if len < frame.len() {
         if len < FEW {
             let length = encode(message, frame);

@@ -8,7 +8,7 @@ use cobs::laws::{law_2, law_6, law_13};
 use cobs_abi::{Answer, OK, done, encode_byte, end_of, finish, finish_terminated, too_small};
 use cobs_bytes::lanes::xor_bytes;
 
-/// Puts the encoder back to the start, even if its state is corrupt. The encoder has then taken no byte.
+/// Puts the encoder back to the start, even if its state is corrupt. After the reset, the encoder has taken no bytes.
 #[unsafe(no_mangle)]
 pub extern "C" fn jcobs_encoder_reset(encoder: &mut UnbufferedEncoder)
     ensures fresh { IsFreshEncoder encoder.new }
@@ -39,7 +39,7 @@ pub extern "C" fn jcobs_encoder_push(
 }
 
 /// Ends the message, if its frame fits the buffer. Even if the state is corrupt, the buffer keeps its length, and the
-/// returned `length` is at most that.
+/// returned `length` is at most the buffer's length.
 #[unsafe(no_mangle)]
 pub extern "C" fn jcobs_encoder_finish(encoder: &mut UnbufferedEncoder, buffer: &mut [u8]) -> Answer
     ensures finishes { Finishes 0 IsFrameOnWire encoder.old buffer.old result

@@ -23,7 +23,7 @@ pub struct Checksum {
 impl Checksum {
     ghost use Rattle.cobs_live.specs.Checksum.{body_of, is_checked, sum_of};
 
-    /// Makes a check with these parameters, whose checksum has the lowest byte first if `little` is set.
+    /// Makes a check with these parameters. Its checksum has the lowest byte first if `little` is set.
     pub fn new(params: Params, little: bool) -> Self
         requires sized { (0 < params.size) × (params.size ≤ 4) }
         ensures params { result.params ≡ params }
@@ -79,7 +79,7 @@ impl Checksum {
         bytes
     }
 
-    /// Returns the bytes before the checksum if they end with the right checksum, and otherwise `None`.
+    /// Returns the bytes before the checksum if `bytes` ends with the right checksum, and otherwise `None`.
     pub fn checked<'a>(&self, bytes: &'a [u8]) -> Option<&'a [u8]>
         ensures body { IfSome result (λ body. body.now ≡ body_of self.now bytes.now) }
         ensures right { IsSome result ↔ IsTrue (is_checked self.now bytes.now) }

@@ -201,7 +201,8 @@ impl Times {
         }
     }
 
-    /// Writes the time of a piece: in seconds, or for `Stamp::Date` as a date.
+    /// Writes the time of a piece: in seconds, as date and time of day for `Stamp::Date`, or nothing for
+    /// `Stamp::Untimed`.
     fn write_time<W: Write>(&self, output: &mut W, stamp: Stamp) -> io::Result<()>
         ensures written { OnOk result
             (Appends (W.contents output.old) (W.contents output.new) (time_text stamp self.now)) }

@@ -1,4 +1,4 @@
-//! Composes the text of short messages in memory, and writes it at once.
+//! Composes the text of short messages in memory, and writes it in one call.
 ghost use Rattle.std.specs.Prelude.{◌≡◌, ◌<◌, ◌≤◌, ◌+◌, ◌*◌, ◌++◌, ℕ, IfOk, IsTrue, OnOk, codes, false, length, take};
 ghost use Rattle.std.specs.Fmt.{decimal};
 ghost use Rattle.std.specs.Io.KnownBytes.{Appends};
@@ -26,19 +26,19 @@ use std::str;
 /// The length in bytes of the longest message whose text is composed.
 const SHORT_LEN: usize = 256;
 
-/// At most this many bytes of a line aren't digits of its message: the word `message` and a space, a number of up to 40
-/// digits, a space and a newline.
+/// The most bytes that a line can have besides the digits of its message: the word `message` and a space, a number of
+/// up to 40 digits, a space and a newline.
 const LINE: usize = 50;
 
-/// The most bytes that a composed text has.
+/// The greatest length in bytes of a composed text.
 const ROOM: usize = 2_048;
 
 /// The error of a call whose text doesn't fit.
 #[derive(Debug, PartialEq, Eq, Clone, Copy)]
 struct Full;
 
-/// A text that is composed in memory and then written at once. The result of each write has to be tested, and this test
-/// costs more than composing the text of a short message. So there is at most one write for each message.
+/// A text that is composed in memory and then written in one call. The result of each write has to be tested, and this
+/// test costs more than composing the text of a short message. So there is at most one write for each message.
 #[derive(Drop)]
 pub struct Composed {
     bytes: [u8; ROOM],
@@ -88,7 +88,7 @@ impl Composed {
     }
 
     /// Adds the text of a piece and returns true if three conditions hold: the piece is a short message, its text fits,
-    /// and the view shows either digits without colours, numbers and times, or raw messages without numbers. Otherwise
+    /// and the view shows either raw messages without numbers, or digits without colours, numbers or times. Otherwise
     /// adds nothing and returns false. If the view's filter holds the message back, its text is empty. The text is
     /// written later, so one write can contain the text of many messages.
     #[inline(always)]
@@ -146,9 +146,9 @@ impl Composed {
     }
 
     /// Replaces the composed text by the text of a piece and returns true if three conditions hold: the piece is a
-    /// short message, its text fits, and the view shows JSON without colour, number and time. Otherwise returns false.
-    /// The composed text may then be a part of the piece's text, so the caller clears it. If the view's filter holds
-    /// the message back, its text is empty.
+    /// short message, its text fits, and the view shows JSON without colour, number or time. Otherwise returns false.
+    /// After `compose` has returned false, the composed text may be only a part of the piece's text, so the caller
+    /// clears it. If the view's filter holds the message back, its text is empty.
     #[inline(always)]
     pub fn compose(&mut self, view: &View, number: u64, times: &Times, piece: &Sight<'_>) -> bool
         ensures shown { IsTrue result → take self.new.len self.new.bytes
@@ -250,8 +250,8 @@ impl Composed {
         Ok(())
     }
 
-    /// Adds the characters before the first one that needs an escape, in one copy, and then that character with its
-    /// escape. Returns the rest of the text.
+    /// Adds the characters before the first one that needs an escape, in one copy, and then that character in its
+    /// escaped form. Returns the rest of the text.
     fn put_run<'a>(&mut self, text: &'a str) -> Result<&'a str, Full>
         ensures put { IfOk result (λ rest. WritesFront (contents_of self.old) (contents_of self.new) text.now rest.now) }
         ensures shorter { IfOk result (λ rest. 0 < length text.now → length rest.now < length text.now) }
@@ -388,7 +388,7 @@ impl Composed {
     }
 }
 
-/// Returns whether the view shows pieces without colour, number and time.
+/// Returns whether the view shows pieces without colour, number or time.
 fn is_bare(view: &View) -> bool
     ensures bare { IsTrue result
         → (view.now.color ≡ false) × (view.now.number ≡ false) × (view.now.stamp ≡ Untimed) }

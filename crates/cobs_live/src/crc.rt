@@ -43,8 +43,8 @@ pub struct Params {
     /// The initial value of the register.
     pub init: u32,
 
-    /// Whether the bits of each byte are reversed, and at the end the bits of the register (*refin* and *refout* of the
-    /// catalogue).
+    /// Whether the bits of each byte, and at the end the bits of the register, are reversed (*refin* and *refout* of
+    /// the catalogue).
     pub reflected: bool,
 
     /// The number with which the checksum is XORed at the end.
@@ -80,8 +80,8 @@ impl Crc {
 /// The highest bit of a register.
 const HIGH: u32 = 0x8000_0000;
 
-/// Returns a table with an entry for each byte: the register that had this byte in its high bits and zeros below, after
-/// eight steps of [`shifted`].
+/// Returns a table with an entry for each byte: the register after eight steps of [`shifted`], if it starts with this
+/// byte in its high bits and zeros below.
 pub(crate) fn table_of(poly: u32) -> [u32; 256]
     ensures table { IsTable poly result }
 {
@@ -92,7 +92,7 @@ pub(crate) fn table_of(poly: u32) -> [u32; 256]
     words
 }
 
-/// Returns the register that had this byte in its high bits and zeros below, after eight steps of [`shifted`].
+/// Returns the register after eight steps of [`shifted`], if it starts with this byte in its high bits and zeros below.
 fn word_of(poly: u32, byte: u32) -> u32
     requires byte { byte < 256 }
     ensures word { result ≡ word_of poly byte }

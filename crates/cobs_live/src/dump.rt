@@ -80,7 +80,7 @@ fn write_characters<W: Write>(output: &mut W, row: &[u8]) -> io::Result<()>
     output.write_all(shown)
 }
 
-/// Replaces each byte that isn't a visible ASCII character or a blank by a dot.
+/// Replaces each byte with a dot, unless it is a visible ASCII character or a blank.
 fn to_characters(bytes: &mut [u8])
     ensures shown { bytes.new ≡ map character bytes.old }
 {

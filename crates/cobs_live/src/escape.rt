@@ -39,8 +39,8 @@ pub fn write_escaped<W: Write>(output: &mut W, text: &str) -> io::Result<()>
     Ok(())
 }
 
-/// Writes the characters before the first one that needs an escape, in one write, and then that character with its
-/// escape. Returns the rest of the text.
+/// Writes the characters before the first one that needs an escape, in one write, and then that character in its
+/// escaped form. Returns the rest of the text.
 fn write_run<'a, W: Write>(output: &mut W, text: &'a str) -> io::Result<&'a str>
     ensures written { IfOk result (λ rest. WritesFront (W.contents output.old) (W.contents output.new) text.now rest.now) }
     ensures shorter { IfOk result (λ rest. 0 < length text.now → length rest.now < length text.now) }

@@ -9,12 +9,12 @@ use thiserror::Error;
 /// The reason why showing or sending ended early.
 #[derive(Debug, PartialEq, Eq, Drop, Error)]
 pub enum WatchFault {
-    /// A read failed, and not because it was interrupted; or memory ran out while `send` read a line. All pieces that
-    /// had ended have been shown, or all earlier lines have been sent.
+    /// A read failed for a reason other than an interruption, or memory ran out while `send` read a line. All pieces
+    /// that had ended have been shown, or all earlier lines have been sent.
     #[error("read failed")]
     ReadFailed,
 
-    /// A write failed, and not because it was interrupted. Part of the bytes may have been written.
+    /// A write failed for a reason other than an interruption. Some of the bytes may have been written.
     #[error("write failed")]
     WriteFailed,
 
@@ -23,7 +23,7 @@ pub enum WatchFault {
     OutputClosed,
 
     /// Memory ran out. In `show`, memory runs out only at the start, before anything is read or written. In `send`,
-    /// memory runs out for the frame of a line.
+    /// memory runs out while the frame of a line is made.
     #[error("out of memory")]
     OutOfMemory,
 }

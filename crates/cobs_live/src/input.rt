@@ -1,4 +1,5 @@
-//! Inputs whose reads have the output as an argument, so that contracts can say what had been written at each read.
+//! Inputs whose reads have the output as an argument, so that contracts can say what had been written when each read
+//! began.
 ghost use Rattle.std.specs.Prelude.{◌≡◌, ◌+◌, ◌++◌, List, Option, ℕ, IfOk, OnOk, IfSome, vec_len};
 ghost use Rattle.std.specs.Prelude.{length};
 ghost use Rattle.std.specs.Io.{StopsAt, appended_bytes};
@@ -22,8 +23,8 @@ pub enum Came {
 /// An input whose reads have the output as an argument.
 ///
 /// Contracts describe an input by a relation, `step`, between a state of the input, a read, and the state after that
-/// read. The read includes the contents of the output when the read began. So a theorem about any input can say what
-/// had been written at each read.
+/// read. The record of the read includes the contents of the output when the read began. So a theorem about any input
+/// can say what had been written when each read began.
 pub trait LiveInput<W: Write + Drop> {
     /// The bytes that the next reads will return, if they are known.
     ghost remaining: { Self → Option (List ℕ) };
@@ -31,7 +32,7 @@ pub trait LiveInput<W: Write + Drop> {
     /// Whether this read may change the input from the first state to the second.
     ghost step: { Self → ReadEvent (Option ℕ) → Self → Type 0 };
 
-    /// Reads bytes into `chunk` once, as `Read::read` does, or returns that the line hung up.
+    /// Reads bytes into `chunk` once, as `Read::read` does, or returns `HungUp` if the line hung up.
     fn read_beside(&mut self, output: &BufWriter<W>, chunk: &mut [u8]) -> io::Result<Came>
         ensures len { length chunk.new ≡ length chunk.old }
         ensures bytes { ReadTakes (remaining self.old) (remaining self.new) result chunk.new }

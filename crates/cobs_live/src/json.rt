@@ -11,8 +11,8 @@ use cobs_lines::write_digits;
 use std::io::{self, Write};
 use std::str;
 
-/// Writes the piece with this number as a JSON object on a line. `stamp` says whether the object has a member `time`,
-/// and which time that is.
+/// Writes the piece with this number as a JSON object, on its own line. `stamp` says whether the object has a member
+/// `time`, and which time that is.
 pub fn write_json<W: Write>(
     output: &mut W,
     number: u64,

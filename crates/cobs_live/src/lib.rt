@@ -1,7 +1,7 @@
-//! Shows the frames of a live line as they arrive, and sends lines as frames, over any reader and writer.
+//! Shows the frames of a live line as they arrive, and sends lines of an input as frames, over any reader and writer.
 //!
 //! This crate is the program `cobs_watch` without its command line. `show::run_show` reads a stream of frames, and shows
-//! each piece when its sentinel arrives. `send::run_send` sends each line as a frame.
+//! each piece when its sentinel arrives. `send::run_send` sends each line of an input as a frame.
 //!
 //! `seen` holds a piece of a stream, with its kind and its bytes, before it is shown. `shown` holds the settings that say
 //! which pieces are shown, and in which style. `line`, `json`, `dump`, `capture`, `escape` and `composed` write the text

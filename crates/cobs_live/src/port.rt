@@ -1,5 +1,5 @@
-//! Readers and writers with one more duty: they wait instead of blocking and record why a call failed, or they open a
-//! line again, or they also write to a log.
+//! Readers and writers with one more duty: they try a call again if it would block and record why a call failed, or
+//! they open a line again, or they also write to a log.
 
 use crate::input::{Came, LiveInput};
 use std::cell::Cell;
@@ -149,8 +149,8 @@ impl<C: Clock + Drop, O: Opener<R> + Drop, R: Read + Drop, W: Write + Drop> Live
 
     ghost step = { λ from read to. GivesNext R.remaining from.line to.line read.came };
 
-    /// Waits until the line is open, and reads from it once. Returns how many bytes were read, or that the line hung
-    /// up.
+    /// Waits until the line is open, and reads from it once. Returns how many bytes were read, or `HungUp` if the line
+    /// hung up.
     fn read_beside(&mut self, _output: &BufWriter<W>, chunk: &mut [u8]) -> io::Result<Came> {
         self.wait();
         let Some(line) = &mut self.line else {
@@ -229,7 +229,7 @@ impl<W: Write + Drop, L: Write + Drop> Write for Logged<W, L> {
 
     ghost contents = { λ logged. W.contents (logged_inner logged) };
 
-    /// Writes the bytes, and then writes those that the writer has accepted to the log.
+    /// Writes the bytes, and then writes to the log those that the writer has accepted.
     fn write(&mut self, buf: &[u8]) -> io::Result<usize>
         ensures bound { WritesAtMost result buf.now }
         ensures bytes { WriteAppends (W.contents self.old.inner) (W.contents self.new.inner) result buf.now }

@@ -22,11 +22,11 @@ pub struct Sight<'a> {
     /// The kind of the piece.
     pub kind: Kind,
 
-    /// How many bytes the piece decodes to, without a right checksum; `usize::MAX` if it decodes to more than the
-    /// buffer holds.
+    /// How many bytes the piece decodes to, not counting its checksum if that is right; `usize::MAX` if it decodes to
+    /// more than the buffer holds.
     pub len: usize,
 
-    /// The bytes of a message, without a right checksum. For a broken or too long piece, the decoded bytes that the
-    /// buffer holds, or none if they aren't shown.
+    /// The bytes of a message, without its checksum if that is right. For a broken or too long piece, the decoded bytes
+    /// that the buffer holds, or none if they aren't shown.
     pub bytes: &'a [u8],
 }

@@ -39,20 +39,21 @@ const NEAREST: usize = 16;
 /// A zero is searched for in at most this many bytes before all bytes are passed to the decoder.
 const NEAR: usize = 64;
 
-/// The most bytes of a read, 64 KiB. If a read returns fewer bytes, they are shown before more bytes are read.
+/// The most bytes that one read can return, 64 KiB. If a read returns fewer bytes, they are shown before more bytes are
+/// read.
 pub const CHUNK_LEN: usize = 65_536;
 
 /// Shows each piece of the input when its sentinel arrives. At the end of the input, shows `unfinished` if another
-/// piece has begun. A hang-up of the line doesn't end a piece: shows `unfinished` if a piece has begun, and then `hung
-/// up`. After a hang-up, all bytes up to the next sentinel are skipped.
+/// piece has begun. A hang-up of the line doesn't end a piece. At a hang-up, shows `unfinished` if a piece has begun,
+/// and then `hung up`. After a hang-up, all bytes up to the next sentinel are skipped.
 ///
 /// It calls [`Watch::show_next`] repeatedly. Each call reads once, shows the pieces that ended, and flushes the output.
 /// So all pieces that have ended so far have been written before the program waits for more bytes. Memory is allocated
 /// only before the first read: for a message of the greatest length, and for a chunk of the input.
 ///
-/// If `counting.at_end` is set, the counts are written to `errors` at the end, also after a fault. With
+/// If `counting.at_end` is set, the counts are written to `errors` at the end, even after a fault. With
 /// `counting.every`, the counts so far are also written when bytes arrive, if at least that many milliseconds have
-/// passed since the start, or since the counts were last written. If the counts can't be written, that is no fault.
+/// passed since the start, or since the counts were last written. A failure to write the counts isn't a fault.
 ///
 /// - `ReadFailed`: a read failed, for example because the line hung up. All pieces that had ended have been shown, and
 ///   then `unfinished` if another one had begun.
@@ -148,7 +149,7 @@ impl<'a> Watch<'a> {
     ///
     /// # Errors
     /// `ReadFailed` if the read failed; no piece has ended in this call. `WriteFailed` if a write or a flush failed. If
-    /// it failed because nobody reads the output any more, the error is `OutputClosed` instead.
+    /// the write or the flush failed because nobody reads the output any more, the error is `OutputClosed` instead.
     pub fn show_next<C: Clock + Drop, S: LiveInput<W>, W: Write + Drop>(
         &mut self,
         timer: &Timer<'_, C>,
@@ -293,8 +294,8 @@ fn has_begun(phase: DecoderPhase) -> bool
     }
 }
 
-/// XORs each byte with the sentinel, so that frames for that sentinel become frames for 0. For 0 nothing changes, and
-/// the bytes aren't accessed.
+/// XORs each byte with the sentinel, so that frames for that sentinel become frames for 0. If the sentinel is 0, the
+/// bytes don't change and aren't accessed.
 fn change_sentinel(bytes: &mut [u8], sentinel: u8)
     ensures { bytes.new ≡ xor_each sentinel bytes.old }
 {

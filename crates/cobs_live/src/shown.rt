@@ -28,11 +28,11 @@ pub enum Style {
     /// The bytes of each message, followed by a newline. Other pieces aren't shown.
     Raw,
 
-    /// A line for each piece, and below it the bytes of a message, sixteen per line, with their offset and as
-    /// characters.
+    /// A line for each piece, and below it the bytes of a message, sixteen per line: their offset, hexadecimal digits
+    /// and characters.
     Hexdump,
 
-    /// A JSON object for each piece, on a line.
+    /// A JSON object for each piece, on its own line.
     Json,
 
     /// The bytes of each message and nothing else. Other pieces aren't shown.
@@ -89,7 +89,7 @@ pub struct View {
     /// Which pieces are shown.
     pub filter: Filter,
 
-    /// The checksum with which each message should end, if any. A right checksum isn't shown.
+    /// The checksum with which each message should end, if any. The checksum isn't shown if it is right.
     pub checksum: Option<Checksum>,
 
     /// Whether the decoded bytes of a broken or too long piece are shown, as far as the buffer holds them.
@@ -102,8 +102,8 @@ pub struct Settings {
     /// Which pieces are shown, and how.
     pub view: View,
 
-    /// The length in bytes of the longest message that is shown, with its checksum if it has one. A piece that decodes
-    /// to more bytes is too long.
+    /// The length in bytes of the longest message that is shown, including its checksum if it has one. A piece that
+    /// decodes to more bytes is too long.
     pub length: usize,
 
     /// The byte that ends each frame.
@@ -246,7 +246,7 @@ fn write_time<W: Write>(output: &mut W, view: &View, times: &Times) -> io::Resul
     }
 }
 
-/// Shows the end of a stream: that a piece is unfinished, if one had begun.
+/// Shows the end of a stream: writes `unfinished` if a piece had begun.
 pub fn show_end<W: Write>(output: &mut W, view: &View, unfinished: bool) -> io::Result<()>
     ensures shown { OnOk result (Appends (W.contents output.old) (W.contents output.new)
         (shown_end view.now unfinished)) }
@@ -261,7 +261,7 @@ pub fn show_end<W: Write>(output: &mut W, view: &View, unfinished: bool) -> io::
     }
 }
 
-/// Shows that a line hung up. If a piece had begun before the hang-up, that is shown first.
+/// Shows that a line hung up. If a piece had begun before the hang-up, `unfinished` is shown first.
 pub fn show_hang_up<W: Write>(output: &mut W, view: &View, unfinished: bool) -> io::Result<()>
     ensures shown { OnOk result (Appends (W.contents output.old) (W.contents output.new)
         (shown_hang_up view.now unfinished)) }

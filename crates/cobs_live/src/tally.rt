@@ -30,8 +30,8 @@ pub struct Counting {
     /// Whether the tally is written when the program ends: at the end of the input, or after a fault.
     pub at_end: bool,
 
-    /// If there is a number, the tally is also written when bytes arrive, if at least this many milliseconds have
-    /// passed since the tally was last written, or since the start.
+    /// With a number, the tally is also written when bytes arrive, if at least this many milliseconds have passed since
+    /// the tally was last written, or since the start.
     pub every: Option<u64>,
 }
 

@@ -21,8 +21,9 @@ pub extern "C" fn jcobs_decoder_is_idle(decoder: &UnbufferedDecoder) -> u32
     if decoder.is_idle() { 1 } else { 0 }
 }
 
-/// Takes bytes of the stream, through the zero that ends the first piece, or all of them if no piece ends. Even if the state
-/// is corrupt, nothing outside the buffers is accessed, and the counts are within the bytes and the buffer.
+/// Takes bytes of the stream: those through the zero that ends the first piece, or all bytes if no piece ends. Even if
+/// the state is corrupt, nothing outside the buffers is accessed, `consumed` is at most the number of bytes, and
+/// `length` is at most the buffer's length.
 #[unsafe(no_mangle)]
 pub extern "C" fn jcobs_decoder_push(
     decoder: &mut UnbufferedDecoder,
@@ -35,7 +36,7 @@ pub extern "C" fn jcobs_decoder_push(
     decode_each(decoder, buffer, bytes, 0)
 }
 
-/// Takes one byte of the stream, as a push of that byte does.
+/// Takes the next byte of the stream, as `jcobs_decoder_push` does.
 #[unsafe(no_mangle)]
 pub extern "C" fn jcobs_decoder_feed(
     decoder: &mut UnbufferedDecoder,

@@ -6,7 +6,7 @@ ghost use Rattle.cobs_abi.specs.Stream.{EncodesNext, Finishes, IsFreshEncoder};
 use cobs::UnbufferedEncoder;
 use cobs_abi::{Answer, encode_byte, encode_each, finish, finish_terminated};
 
-/// Puts the encoder back to the start, even if its state is corrupt. The encoder has then taken no byte.
+/// Puts the encoder back to the start, even if its state is corrupt. After the reset, the encoder has taken no bytes.
 #[unsafe(no_mangle)]
 pub extern "C" fn jcobs_encoder_reset(encoder: &mut UnbufferedEncoder)
     ensures fresh { IsFreshEncoder encoder.new }
@@ -15,7 +15,8 @@ pub extern "C" fn jcobs_encoder_reset(encoder: &mut UnbufferedEncoder)
 }
 
 /// Takes the next bytes of a message, if the frame of all bytes so far fits the buffer. Even if the state is corrupt,
-/// nothing outside the buffers is accessed, and the counts are within the bytes and the buffer.
+/// nothing outside the buffers is accessed, `consumed` is at most the number of bytes, and `length` is at most the
+/// buffer's length.
 #[unsafe(no_mangle)]
 pub extern "C" fn jcobs_encoder_push(
     encoder: &mut UnbufferedEncoder,
@@ -28,7 +29,7 @@ pub extern "C" fn jcobs_encoder_push(
     encode_each(encoder, buffer, bytes)
 }
 
-/// Takes the next byte of a message, as a push of that byte does.
+/// Takes the next byte of a message, as `jcobs_encoder_push` does.
 #[unsafe(no_mangle)]
 pub extern "C" fn jcobs_encoder_feed(
     encoder: &mut UnbufferedEncoder,

@@ -427,8 +427,8 @@ static JCOBS_INLINE jcobs_answer jcobs_decoder_answer(const jcobs_decoder *decod
     return jcobs_make_answer(JCOBS_MORE, len, jcobs_decoder_length(decoder, buffer_size));
 }
 
-/* Takes bytes of the stream, through the zero that ends the first piece, or all of them if no piece ends. Even if
- * the state is corrupt, nothing outside the buffers is accessed.
+/* Takes bytes of the stream: those through the zero that ends the first piece, or all bytes if no piece ends. Even
+ * if the state is corrupt, nothing outside the buffers is accessed.
  * Proved, by the contract in decoder.rt: the result, the state and the buffer are those that the definition of the
  * stream gives after these bytes, however the stream is cut into calls. In every state consumed is at most the
  * number of bytes passed, and length is at most buffer_size. */
@@ -498,7 +498,7 @@ static JCOBS_INLINE size_t jcobs_decoder_take_and_measure(jcobs_decoder *decoder
     return jcobs_min(at, buffer_size);
 }
 
-/* Takes one byte of the stream, as a push of that byte does.
+/* Takes the next byte of the stream, as jcobs_decoder_push does.
  * Proved, by the contract in decoder.rt: the result, the state and the buffer are those that the definition of the
  * stream gives after these bytes, however the stream is cut into calls. In every state consumed is at most the
  * number of bytes passed, and length is at most buffer_size. */
@@ -531,9 +531,9 @@ size_t jcobs_max_length(size_t message_len)
 }
 
 /* Returns whether spare bytes cover the overhead of every message of len bytes: whether len is at most 254 times
- * spare. The formula halves both sides, so that half of len, rounded up, is compared with 127 times spare, and
- * then adds spare to both sides. So the function divides only by powers of two, because small processors have no
- * instruction for other divisions, and no sum overflows. */
+ * spare. The formula halves both sides of this comparison, so that half of len, rounded up, is compared with 127
+ * times spare, and then adds spare to both sides. So no sum overflows, and the function divides only by powers of
+ * two: small processors have no instruction for other divisions. */
 static JCOBS_INLINE int jcobs_covers_overhead(size_t len, size_t spare)
 {
     return (len - len / 2 + spare - 1) / 128 < spare;
@@ -685,8 +685,8 @@ static JCOBS_INLINE void jcobs_encoder_append_byte(jcobs_encoder *encoder, unsig
     }
 }
 
-/* Writes the code of the open block, unless the frame ends with a full block, and returns the frame's length. The
- * byte in the code's place may have any value before. */
+/* Writes the code of the open block, unless the frame ends with a full block, and returns the frame's length.
+ * Before the call, the byte in the code's place may have any value. */
 static JCOBS_INLINE size_t jcobs_close_block(unsigned char *buffer, size_t buffer_size, jcobs_progress progress)
 {
     size_t index = progress.index;
@@ -734,7 +734,8 @@ jcobs_answer jcobs_encode_in_place(void *buffer, size_t buffer_size, size_t mess
     return jcobs_ok_answer(message_len, length);
 }
 
-/* Puts the encoder back to the start, even if its state is corrupt. The encoder has then taken no byte.
+/* Puts the encoder back to the start, even if its state is corrupt. After the reset, the encoder has taken no
+ * bytes.
  * Proved, by the contract in encoder.rt: after the call the encoder has taken no byte, whatever its state was. */
 void jcobs_encoder_reset(jcobs_encoder *encoder)
 {
@@ -857,7 +858,7 @@ static jcobs_answer jcobs_encoder_feed_byte(jcobs_encoder *encoder, unsigned cha
     return jcobs_ok_answer(1, jcobs_encoder_append_and_measure(encoder, buffer, byte));
 }
 
-/* Takes the next byte of a message, as a push of that byte does.
+/* Takes the next byte of a message, as jcobs_encoder_push does.
  * Proved, by the contract in encoder.rt: the status is OK exactly if the frame of the message so far, with these
  * bytes, fits. If it isn't OK, the state and the buffer are as they were. In every state consumed is at most the
  * number of bytes passed, and length is at most buffer_size. */
@@ -868,7 +869,7 @@ jcobs_answer jcobs_encoder_feed(jcobs_encoder *encoder, void *buffer, size_t buf
 
 /* Ends the message, if the state is possible in a buffer of this size, and returns the length of its encoded frame
  * in bytes. The buffer begins with that frame, and the encoder is ready for the next message. Every byte after the
- * frame is as it was. */
+ * frame is as it was before this call. */
 static jcobs_frame jcobs_encoder_close(jcobs_encoder *encoder, unsigned char *buffer, size_t buffer_size)
 {
     if (!jcobs_encoder_is_within(encoder, buffer_size)) {

@@ -28,9 +28,9 @@ pub use unbuffered::UnbufferedEncoder;
 
 /// Writes the encoded frame of `source` to the front of `dest`, and returns the frame's length in bytes.
 ///
-/// The frame consists of blocks, as in Cheshire and Baker's paper. If the message's last run of nonzero bytes has a
-/// positive length divisible by 254, the message has two frames: the longer frame is the shorter frame followed by the
-/// byte `1`. This function writes the shorter frame, which is a choice of this library. No byte of the frame is the
+/// The frame consists of blocks, as in Cheshire and Baker's paper. If the message ends in a run of nonzero bytes whose
+/// length is a positive multiple of 254, the message has two frames: the longer frame is the shorter frame followed by
+/// the byte `1`. This function writes the shorter frame. No byte of the frame is the
 /// sentinel 0, and no sentinel is written before or after the frame. The bytes of `dest` after the frame stay as they
 /// were.
 ///
@@ -63,8 +63,7 @@ fn encode_long(source: &[u8], dest: &mut [u8]) -> usize {
 /// Does what [`encode`] does, if the frame fits `dest`.
 ///
 /// # Errors
-/// `DestBufTooSmallError` exactly if the frame is longer than `dest`. This error changes no byte of `dest`, which is a
-/// choice of this library.
+/// `DestBufTooSmallError` exactly if the frame is longer than `dest`. This error changes no byte of `dest`.
 #[inline]
 pub fn try_encode(source: &[u8], dest: &mut [u8]) -> Result<usize, DestBufTooSmallError> {
     if !has_vectors() {

@@ -19,8 +19,8 @@ pub(crate) fn position_or_len(source: &[u8], byte: u8) -> usize {
     memchr(byte, source).unwrap_or(source.len())
 }
 
-/// Returns how many bytes come before the first zero, or the number of all bytes if there is no zero. The function uses
-/// no vectors, so that it is small.
+/// Returns how many bytes come before the first zero, or the length of `bytes` if there is no zero. The function is
+/// small, because it uses no SIMD vectors.
 // Not inlined, so that its loops can use all registers of a small processor. The loops advance the address of the
 // remaining bytes, so that no address is computed from an index. With four bytes per iteration, a byte costs half as
 // many instructions as with one byte per iteration.
@@ -39,8 +39,8 @@ pub fn len_to_zero(bytes: &[u8]) -> usize {
     bytes.len() - rest.len()
 }
 
-/// Returns how many bytes come before the first byte that equals `byte`, or the number of all bytes if no byte does.
-/// The function uses no vectors.
+/// Returns how many bytes come before the first byte that equals `byte`, or the length of `bytes` if no byte does. The
+/// function uses no SIMD vectors.
 #[inline(always)]
 pub(crate) fn len_to(bytes: &[u8], byte: u8) -> usize {
     for i in 0..bytes.len() {

@@ -1,11 +1,11 @@
 // Made by bindings/rust/translate.py from `crates/cobs/src/framed.rt`: change that file, and run it again.
-//! A reader of frames over any source of bytes.
+//! A reader of frames from any source of bytes.
 //!
 //! `FrameReader` reads chunks of up to 64 bytes from a `FrameSource`: a file, a socket, a serial port or any other
-//! source. Each call of `next_frame` returns one outcome. The reader reads only if no piece ends in the bytes that it
-//! has kept. No byte is lost: the bytes after the end of a piece are kept for the next call, and after a fault the
-//! decoder has taken all bytes that were read. No call of this module allocates. (The rule that a zero ends each piece
-//! is from Cheshire and Baker's paper; the rest of this module is a choice of this library.)
+//! source. Each call of `next_frame` returns one outcome. The reader reads from the source only if no piece ends in the
+//! bytes that the reader has kept. No byte is lost: the bytes after the end of a piece are kept for the next call, and
+//! after a fault the decoder has taken all bytes that were read. No call of this module allocates. (The rule that a
+//! zero ends each piece is from Cheshire and Baker's paper; the rest of this module is a choice of this library.)
 
 use crate::proved::dec::{FrameDecoder, PieceEnd};
 #[cfg(feature = "std")]
@@ -39,13 +39,13 @@ pub enum Next {
 
     /// The source returned no more bytes, and no piece ended.
     End {
-        /// Whether a piece has begun that no zero has ended yet.
+        /// Whether a piece has begun, and no zero has ended it yet.
         unfinished: bool,
     },
 }
 
-/// The reason why a call of `next_frame` found no outcome. No byte is lost: a later call continues after the bytes that
-/// were read.
+/// The reason why a call of `next_frame` failed. No byte is lost: a later call continues after the bytes that were
+/// read.
 ///
 /// ```
 /// use jcobs::{FrameDecoder, FrameReader, FrameSource, Next, ReadFault};
@@ -90,8 +90,8 @@ pub enum ReadFault {
 pub trait FrameSource {
     /// Reads once, into `chunk`.
     ///
-    /// Returns `Some(n)` if the read returned the first n bytes of `chunk`; n is 0 at the end of the source. Returns
-    /// `None` if the read failed.
+    /// Returns `Some(n)` if the read succeeded, and its bytes are the first n bytes of `chunk`; n is 0 at the end of
+    /// the source. Returns `None` if the read failed.
     ///
     /// ```
     /// # #[cfg(feature = "std")] {
@@ -106,7 +106,8 @@ pub trait FrameSource {
     fn read_some(&mut self, chunk: &mut [u8; 64]) -> Option<usize>;
 }
 
-/// A source of bytes that reads from any reader. Each call reads once, and each error of the reader is a failed read.
+/// A source of bytes that reads from any `Read`. Each call of `read_some` reads once, and each error of the `Read`
+/// counts as a failed read.
 ///
 /// ```
 /// # #[cfg(feature = "std")] {

@@ -39,7 +39,7 @@ pub enum FrameOutcome {
     TooLong,
 }
 
-/// Converts the end of a piece, whose output is in `buffer`, to its outcome.
+/// Converts the end of a piece, whose output is in `buffer`, to the piece's outcome.
 #[cfg(feature = "alloc")]
 fn frame_outcome(end: PieceEnd, buffer: &[u8]) -> Result<FrameOutcome, AllocError> {
     match end {

@@ -17,10 +17,10 @@ use std::alloc::{AllocError, Global};
 /// Decodes a stream of frames, each ended by a zero, into a slice that it borrows.
 ///
 /// `feed` takes one byte of the stream, and `push` takes any number of bytes. When a frame ends, its message is at the
-/// front of the slice, and stays there until the next frame begins. A piece of the stream is the bytes between two
-/// zeros. The outcome of a piece depends only on the bytes of the piece and on the length of the slice: the decoder is
-/// idle after every zero, so a broken frame never affects another frame. The rule that a zero ends each frame is from
-/// Cheshire and Baker's paper.
+/// front of the slice, and stays there until the decoder takes the next nonzero byte. A piece of the stream is the
+/// bytes between two zeros. The outcome of a piece depends only on the bytes of the piece and on the length of the
+/// slice: the decoder is idle after every zero, so a broken frame never affects another frame. The rule that a zero
+/// ends each frame is from Cheshire and Baker's paper.
 ///
 /// ```
 /// let mut buffer = [0; 8];
@@ -59,7 +59,7 @@ impl<'a> CobsDecoder<'a> {
 
     /// Takes the next byte of the stream.
     ///
-    /// - `Ok(None)`: the byte ended no piece, and the slice begins with the output of the piece so far.
+    /// - `Ok(None)`: the byte didn't end a piece, and the slice begins with the output of the piece so far.
     /// - `Ok(Some(n))`: the byte was the zero after a whole frame, and the message is the slice's first `n` bytes.
     ///
     /// The bytes of the slice after the output are as they were.
@@ -68,8 +68,8 @@ impl<'a> CobsDecoder<'a> {
     /// - `InvalidFrame`: the byte was a zero inside a block. `decoded_bytes` is the length of the piece's output, which
     ///   is at the front of the slice.
     /// - `TargetBufTooSmall`: the output of the piece is longer than the slice, and the slice holds the first bytes of
-    ///   the output. `feed` returns this error for the first byte that has no room, and for each byte after that,
-    ///   through the zero that ends the piece.
+    ///   the output. `feed` returns this error for the first byte whose output doesn't fit, and for each byte after
+    ///   that, up to and including the zero that ends the piece.
     ///
     /// After every zero the decoder is idle. (The results for the bytes after an overflow are a choice of this
     /// library.)
@@ -142,10 +142,10 @@ impl<'a> CobsDecoder<'a> {
 
     /// Returns the whole slice, for writing.
     ///
-    /// Writing while a piece is open changes no result for this piece; only the bytes of its message are then
-    /// unspecified. A proof about a caller of `dest_mut` knows the bytes of the slice while the slice is borrowed, but
-    /// it doesn't know the decoder's state after the write. If the caller writes with
-    /// [`write_dest`](crate::WriteBuffer::write_dest) instead, the proof knows the state too.
+    /// Writing in the middle of a piece doesn't change the results for this piece, but the bytes of its message are
+    /// then unspecified. A proof about a caller of `dest_mut` can use the bytes of the slice while the returned
+    /// reference is in use, but not the decoder's state after the write. If the caller writes with
+    /// [`write_dest`](crate::WriteBuffer::write_dest) instead, the proof can use the state too.
     ///
     /// ```
     /// let mut buffer = [7; 2];
@@ -257,9 +257,8 @@ impl CobsDecoderOwned {
         self.inner.feed(&mut self.dest, byte)
     }
 
-    /// Takes the next bytes of the stream, with the results and errors of
-    /// [`CobsDecoder::push`](crate::CobsDecoder::push): it stops after the first byte for which `feed` doesn't return
-    /// `Ok(None)`.
+    /// Takes the next bytes of the stream, and stops after the first byte for which `feed` doesn't return `Ok(None)`.
+    /// The results and errors are those of [`CobsDecoder::push`](crate::CobsDecoder::push).
     ///
     /// ```
     /// let mut decoder = CobsDecoderOwned::new(alloc, 8)?;

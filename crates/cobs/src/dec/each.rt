@@ -1,4 +1,4 @@
-//! Decoders that take one byte after another, for targets without vectors.
+//! Decoders that take one byte after another, for targets without SIMD vectors.
 ghost use Rattle.std.specs.Prelude.{◌≡◌, ◌≢◌, ◌+◌, ◌≤◌, ◌++◌, Some, length, min, take, drop};
 ghost use Rattle.cobs.specs.Decode.{first_output, head_result, in_place, in_place_report, result_of_decode, result_of_sentinel_decode};
 ghost use Rattle.cobs.specs.FirstPiece.{end_of_first};
@@ -15,8 +15,8 @@ use crate::error::{DecodeError, DecodeReport};
 use crate::find::{leading_zeros, len_to, len_to_zero};
 
 /// Decodes the frame in the first `end` bytes of the buffer, in place and one byte after another, and returns the
-/// message's length. Every byte after the message is as it was. This function is small, and uses no vectors. (A choice
-/// of this library.)
+/// message's length. Every byte after the message is as it was. This function is small, and uses no SIMD vectors. (A
+/// choice of this library.)
 ///
 /// Precondition: the buffer has at least `end` bytes, and none of its first `end` bytes is a zero.
 /// [`len_to_zero`](crate::len_to_zero) returns the number of bytes before the first zero.
@@ -121,8 +121,8 @@ fn ended(written: usize, missing: usize, at: usize) -> Option<(PieceEnd, usize)>
 /// bytes were consumed: the leading zeros, the piece, and the zero after the piece if there is one. Returns `None` if
 /// the source has no piece.
 ///
-/// This function decodes as [`decode`](crate::decode) does, but it reports the number of consumed bytes for a broken or
-/// too long piece too. The function is small, and uses no vectors. (A choice of this library.)
+/// This function decodes as [`decode`](crate::decode) does, but it also reports the number of consumed bytes if the
+/// piece is broken or too long. The function is small, and uses no SIMD vectors. (A choice of this library.)
 ///
 /// ```
 /// let mut dest = [170; 3];

@@ -52,8 +52,8 @@ fn decode_blocks(source: &[u8], dest: &mut [u8], sentinel: u8) -> Result<usize, 
 ///   blocks is longer than `dest`. `dest` then holds the first bytes of that message or output.
 /// - `InvalidFrame` if the frame breaks off inside a block and the output of its whole blocks fits `dest`. Then `dest`
 ///   begins with that output, `decoded_bytes` is the length of the output, and every byte of `dest` after the output is
-///   as it was. The output ends with the zero that joins the last whole block to the broken block, unless the last
-///   whole block is full.
+///   as it was. If the block before the broken block isn't full, the output ends with the zero that joins the two
+///   blocks.
 ///
 /// Frames for a sentinel other than 0 are from Cheshire and Baker's paper; the results for broken frames are a choice
 /// of this library.
@@ -130,8 +130,8 @@ pub fn decode_vec(alloc: Global, source: &[u8]) -> Result<Vec<u8>, DecodeVecErro
 /// bytes of the message.
 ///
 /// This function reads the frame as [`decode_with_sentinel`] does, up to the first sentinel or the source's end. If the
-/// source begins with a sentinel, the function returns an empty vector. Memory is allocated, and errors are returned,
-/// as in [`decode_vec`].
+/// source begins with a sentinel, the function returns an empty vector. Memory is allocated as in [`decode_vec`]. The
+/// errors are also those of [`decode_vec`], except that `Decode` has the error of [`decode_with_sentinel`].
 ///
 /// ```
 /// let message = decode_vec_with_sentinel(alloc, &[252, 245, 244, 253, 243], 255)?;

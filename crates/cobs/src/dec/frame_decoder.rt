@@ -131,12 +131,12 @@ pub trait FrameDecoder {
 /// A decoder that lends its buffer for writing.
 ///
 /// Writing replaces the bytes of the buffer. The decoder's state stays the same, and the buffer stays the same slice.
-/// So if a decoder has taken the front of a piece (`PhaseAfter`), the results for this piece stay the same; only the
+/// So a write after the front of a piece was taken (`PhaseAfter`) doesn't change the results for this piece, but the
 /// bytes of its message are then unspecified.
 ///
-/// Each decoder that has this trait also has a method `dest_mut` of its own. The slice of a `CobsDecoder` is itself
-/// borrowed, so the proof of a caller of `CobsDecoder::dest_mut` knows only the bytes of the slice, and only while the
-/// slice is borrowed. A caller whose proof needs the decoder's state too writes with
+/// Each decoder of this library that implements this trait also has an inherent method `dest_mut`. A `CobsDecoder`
+/// borrows its slice, so a proof about a caller of `CobsDecoder::dest_mut` can use only the bytes of the slice, and
+/// only while the returned reference is in use. If the proof also needs the decoder's state, the caller writes with
 /// [`write_dest`](WriteBuffer::write_dest), or in code that is generic over this trait. (The trait is this library's
 /// own.)
 ///

@@ -92,9 +92,8 @@ impl<const N: usize> CobsDecoderHeapless<N> {
         self.inner.feed(self.dest.as_mut_slice(), byte)
     }
 
-    /// Takes the next bytes of the stream, with the results and errors of
-    /// [`CobsDecoder::push`](crate::CobsDecoder::push): it stops after the first byte for which `feed` doesn't return
-    /// `Ok(None)`.
+    /// Takes the next bytes of the stream, and stops after the first byte for which `feed` doesn't return `Ok(None)`.
+    /// The results and errors are those of [`CobsDecoder::push`](crate::CobsDecoder::push).
     ///
     /// ```
     /// let mut decoder = CobsDecoderHeapless::<8>::new();

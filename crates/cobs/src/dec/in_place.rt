@@ -35,7 +35,7 @@ fn move_back(buffer: &mut [u8], at: usize, read: usize, len: usize)
 impl UnbufferedDecoder {
     /// Takes one step over the bytes at indices `read` to `end - 1` of the buffer, and writes their output to the same
     /// buffer. Returns how many bytes the step took. The steps are those of `take_part` in `run.rt`, except that a step
-    /// takes only one row of codes 1, and that the output always has room.
+    /// takes at most one row of 32 blocks 01, and that the output always fits.
     #[inline(always)]
     fn take_part_in_place(&mut self, buffer: &mut [u8], read: usize, end: usize) -> usize
         requires going { self.old.too_long ≡ 0 }
@@ -158,11 +158,11 @@ fn decode_span_in_place(buffer: &mut [u8], len: usize) -> bool
 ///
 /// - `EmptyFrame` if the buffer is empty.
 /// - `InvalidFrame` if the frame breaks off inside a block. The buffer then begins with the output of the whole blocks
-///   before the broken block. The output ends with the zero that joins the last whole block to the broken block, unless
-///   the last whole block is full. `decoded_bytes` is the length of the output, and every byte of the buffer after the
-///   output is as it was.
+///   before the broken block. If the block before the broken block isn't full, the output ends with the zero that joins
+///   the two blocks. `decoded_bytes` is the length of the output, and every byte of the buffer after the output is as
+///   it was.
 ///
-/// An error, too, leaves the bytes after the output as they were. (A choice of this library.)
+/// The bytes after the output are unchanged even if an error is returned. (A choice of this library.)
 ///
 /// ```
 /// let mut buf = [3, 10, 11, 2, 12, 0];
@@ -200,8 +200,9 @@ pub fn decode_in_place_report(buf: &mut [u8]) -> Result<DecodeReport, DecodeErro
 /// Decodes a short frame as [`decode_in_place_report`] does, or returns `None` and leaves the buffer as it was.
 ///
 /// This function decodes a buffer that is a whole frame of 2 to 65 bytes, with or without a zero after it. If the
-/// target has vectors, [`decode_in_place_report`] calls this function first. Like
-/// [`decode_short`](crate::decode_short), this function calls no other function. (A choice of this library.)
+/// target has SIMD vectors, [`decode_in_place_report`] calls this function first. Like
+/// [`decode_short`](crate::decode_short), this function is marked `#[inline(always)]`, and so are the functions of this
+/// library that it calls. (A choice of this library.)
 ///
 /// ```
 /// let mut buf = [3, 10, 11, 0];

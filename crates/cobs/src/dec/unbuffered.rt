@@ -27,13 +27,13 @@ pub enum DecoderPhase {
 
     /// Inside a piece.
     Within {
-        /// Whether the open block is full, so that no zero joins it to the next block.
+        /// Whether the open block is full; no zero joins a full block to the next block.
         is_full: bool,
 
         /// How many bytes of the open block are missing.
         missing: u8,
 
-        /// How many bytes of the piece's output are written.
+        /// How many bytes of the piece's output have been written.
         written: usize,
     },
 
@@ -47,10 +47,10 @@ pub enum DecoderPhase {
 /// of its own, only a few numbers. So a program can use the buffer for other data between two pieces, and a decoder can
 /// be in a struct together with its buffer, or be passed to another language.
 ///
-/// While a piece is open, that is from its first byte to the zero that ends it, the caller passes the same buffer to
-/// each call and doesn't change the buffer between two calls. If the caller passes another buffer, of any length, each
-/// call is still safe: no call panics, or returns a message that is longer than the buffer. But the results for that
-/// piece, and the bytes of the buffer, are then unspecified.
+/// While a piece is open, that is, from its first byte to the zero that ends it, the caller must pass the same buffer
+/// to each call and must not change the buffer between two calls. If the caller passes another buffer, of any length,
+/// each call is still safe: no call panics or returns a message that is longer than the buffer. But the results for
+/// that piece, and the bytes of the buffer, are then unspecified.
 ///
 /// ```
 /// let mut decoder = UnbufferedDecoder::new();
@@ -68,7 +68,7 @@ pub enum DecoderPhase {
 #[repr(C)]
 #[derive(Debug, Clone, Copy, PartialEq, Eq)]
 pub struct UnbufferedDecoder {
-    /// How many bytes of this piece's output are written.
+    /// How many bytes of this piece's output have been written.
     pub written: usize,
     /// How many bytes of the open block are missing.
     pub missing: u8,
@@ -81,7 +81,7 @@ pub struct UnbufferedDecoder {
 /// For up to this many bytes, a step for each byte is faster than a search.
 const FEW: usize = 16;
 
-/// For up to this many bytes, a step for each byte is faster than the tests before a copy in vectors.
+/// For up to this many bytes, a step for each byte is faster than the tests that precede a copy in SIMD vectors.
 const VERY_FEW: usize = 3;
 
 /// No piece has begun.
@@ -162,7 +162,7 @@ impl UnbufferedDecoder {
         }
     }
 
-    /// Returns whether no piece has begun, so that the next nonzero byte begins a piece.
+    /// Returns true if no piece has begun; the next nonzero byte then begins a piece.
     ///
     /// ```
     /// let mut decoder = UnbufferedDecoder::new();

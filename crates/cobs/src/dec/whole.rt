@@ -87,10 +87,10 @@ fn decode_long(source: &[u8], dest: &mut [u8]) -> Result<DecodeReport, DecodeErr
 
 /// Decodes a short frame as [`decode`] does, or returns `None` and leaves `dest` as it was.
 ///
-/// This function decodes a source of 2 to 65 nonzero bytes, with or without a zero after them, if `dest` has room for
-/// one byte fewer than these nonzero bytes. If the target has vectors, [`decode`] calls this function first.
-/// `decode_short` calls no other function, so that it can be compiled into a function that decodes small frames. (A
-/// choice of this library.)
+/// This function decodes a source of `n` nonzero bytes, with or without a zero after them, if `n` is 2 to 65 and `dest`
+/// has at least `n - 1` bytes. If the target has SIMD vectors, [`decode`] calls this function first. `decode_short` and
+/// the functions of this library that it calls are marked `#[inline(always)]`, so that they are compiled into a caller
+/// that decodes small frames. (A choice of this library.)
 ///
 /// ```
 /// let mut dest = [170; 3];

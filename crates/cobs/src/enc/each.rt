@@ -9,9 +9,9 @@ use crate::error::DestBufTooSmallError;
 
 /// Does what [`encode`](crate::encode) does, one byte at a time.
 ///
-/// Each iteration takes at most as many bytes as the open block has room for, so no single byte needs a test whether the block
-/// is full. A full block is closed when another byte follows. The last block is closed after the loop, whether it is full or
-/// not.
+/// Each iteration of the outer loop takes at most as many bytes as the open block has room for, so the inner loop
+/// doesn't test for each byte whether the block is full. A full block is closed when another byte follows. The last
+/// block is closed after the loop, whether it is full or not.
 pub(crate) fn write_each(source: &[u8], dest: &mut [u8]) -> usize
     requires { encoded_len source.now ≤ length dest.old }
     ensures frame { IsEncodedFrame (take result dest.new) source.now }
@@ -45,9 +45,9 @@ pub(crate) fn write_each(source: &[u8], dest: &mut [u8]) -> usize
     next
 }
 
-/// Does what [`try_encode`](crate::try_encode) does, one byte at a time: in less code and more time, for small devices.
-/// The function reads the message twice only if `dest` is shorter than the longest frame of a message of that length.
-/// (A choice of this library.)
+/// Does what [`try_encode`](crate::try_encode) does, one byte at a time: with less code, but more slowly. It is for
+/// small devices. The function reads the message twice only if `dest` is shorter than the longest frame of a message of
+/// that length. (A choice of this library.)
 ///
 /// # Errors
 /// Those of [`try_encode`](crate::try_encode).

@@ -1,4 +1,4 @@
-//! An encoder into a slice, for a message that comes in pieces.
+//! An encoder that writes to a slice, for a message that comes in pieces.
 ghost use Rattle.std.specs.Prelude.{length};
 ghost use Rattle.cobs.specs.OpenBlock.{IsPlaceIn};
 ghost use Rattle.cobs.specs.Fields.Progress.{reached_by};
@@ -7,11 +7,11 @@ use crate::enc::UnbufferedEncoder;
 use crate::enc::blocks::close;
 use crate::error::DestBufTooSmallError;
 
-/// Encodes a message that comes in pieces, into a slice that it borrows.
+/// Encodes a message that comes in pieces, and writes the frame to a slice that the encoder borrows.
 ///
 /// However the message is cut into pieces, the frame is the one that [`encode`](crate::encode) writes. After each push
 /// the slice begins with the frame of the bytes taken so far, except the code of the open block;
-/// [`finalize`](CobsEncoder::finalize) writes this last code. A slice that is as long as the frame is enough.
+/// [`finalize`](CobsEncoder::finalize) writes this last code. The slice needn't be longer than the frame.
 ///
 /// The blocks are those of the paper by Cheshire and Baker; the calls are those of the crate `cobs`.
 ///

@@ -15,7 +15,7 @@ use crate::max_encoding_overhead;
 /// The message has `len` bytes, and begins in `buffer` at the index that
 /// [`max_encoding_overhead`](crate::max_encoding_overhead) returns for `len`; the bytes before the message don't
 /// matter. After the call `buffer` begins with the frame that [`encode`](crate::encode) writes. Every byte of `buffer`
-/// after the frame stays as it was, even a byte of the message.
+/// after the frame stays as it was, even if the byte belongs to the message.
 ///
 /// Precondition: `buffer` is at least as long as [`max_encoding_length`](crate::max_encoding_length) returns for `len`,
 /// so the whole message lies within `buffer`. (A choice of this library.)

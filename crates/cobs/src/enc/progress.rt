@@ -23,7 +23,7 @@ pub struct EncoderProgress {
     pub is_full: bool,
 }
 
-/// The start: one open block without bytes at the front of the buffer.
+/// The progress at the start: the open block has no bytes yet, and begins at the front of the buffer.
 pub(crate) const START: EncoderProgress = EncoderProgress {
     index: 0,
     code: 1,

@@ -34,8 +34,8 @@ pub enum PushResult {
 /// output is one placeholder, a byte of any value. Each result of [`push`](EncoderState::push) says what a byte of the
 /// message changes in the output, and [`finalize`](EncoderState::finalize) returns the last change. A caller that
 /// carries out all changes has a frame of the message: the one whose last block isn't full. [`encode`](crate::encode)
-/// writes the same frame, unless the message's last run of nonzero bytes has a positive length divisible by 254. In
-/// that case the caller has the longer frame, which is the frame that `encode` writes, followed by the byte `1`.
+/// writes the same frame, unless the message ends in a run of nonzero bytes whose length is a positive multiple of 254.
+/// In that case the caller has the longer frame, which is the frame that `encode` writes, followed by the byte `1`.
 ///
 /// ```
 /// let mut output = [0; 3];

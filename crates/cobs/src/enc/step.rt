@@ -1,4 +1,4 @@
-//! The encoder byte by byte: the step for a byte of the message, and a piece as a loop over its bytes.
+//! The encoder, byte by byte: the step for one byte of the message, and a loop over the bytes of a piece.
 ghost use Rattle.std.specs.Prelude.{◌≡◌, ◌<◌, ◌≤◌, ◌+◌, ◌++◌, ◌↔◌, [], ◌∷◌, ℕ, List, length, drop, IsOk, IsTrue, IfOk, OnOk, OnErr, false};
 ghost use Rattle.cobs.specs.Length.{encoded_len};
 ghost use Rattle.cobs.specs.OpenBlock.{CobsEncoderAfter, HasRoomFor, IsPlaceIn, end_after, end_of};
@@ -187,7 +187,8 @@ impl UnbufferedEncoder {
 
     /// Takes the next bytes of the message, one at a time.
     ///
-    /// `push_each` does what [`push`](UnbufferedEncoder::push) does, in less code and more time: for small devices.
+    /// `push_each` does what [`push`](UnbufferedEncoder::push) does, with less code, but more slowly. It is for small
+    /// devices.
     ///
     /// # Errors
     /// Those of [`push`](UnbufferedEncoder::push).

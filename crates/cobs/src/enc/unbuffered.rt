@@ -18,10 +18,10 @@ use cobs_bytes::window::has_vectors;
 /// numbers, which are all 0 at the start, say how much of the frame is in the buffer. So an encoder can be in a struct
 /// together with its buffer, or be passed to another language.
 ///
-/// From the first push to the end of the message the caller passes the same buffer to each call and doesn't change the
-/// buffer between two calls. If the caller passes another buffer, of any length, or sets the numbers to any values,
-/// each call is still safe: no call panics, or returns a length that is greater than the buffer's length. But the bytes
-/// of the buffer are then unspecified.
+/// From the first push to the end of the message, the caller must pass the same buffer to each call, and must not
+/// change the buffer between two calls. If the caller passes another buffer, of any length, or sets the three numbers
+/// to any values, each call is still safe: no call panics, and no call returns a length greater than the buffer's
+/// length. But the bytes of the buffer are then unspecified.
 ///
 /// ```
 /// let mut encoder = UnbufferedEncoder::new();
@@ -102,7 +102,7 @@ impl UnbufferedEncoder {
         }
     }
 
-    /// Puts the encoder back to the start: it has then taken no byte.
+    /// Resets the encoder to its state at the start: the encoder has then taken no byte.
     ///
     /// ```
     /// let mut buffer = [170; 2];
@@ -194,7 +194,7 @@ impl UnbufferedEncoder {
     }
 
     /// Ends the message, and returns the length of its encoded frame in bytes. The buffer begins with that frame, and
-    /// the encoder is ready for the next message. Every byte after the frame is as it was.
+    /// the encoder is ready for the next message. Every byte after the frame is as it was before this call.
     ///
     /// # Errors
     /// `DestBufTooSmallError` if the encoder's progress isn't possible in a buffer of this length. This error changes

@@ -45,8 +45,8 @@ pub fn law_15()
 /// code. At the end of the message the encoder writes the code of the open block, unless the last block is full.
 ///
 /// If more bytes of the message follow, the length of the whole frame is a sum: the index of the open block, plus the
-/// length of the encoded frame of the open block's bytes and the bytes that follow. The clause `goes_on` says this; its
-/// `a` stands for any nonzero bytes, as many as the open block has.
+/// length of the encoded frame of the open block's bytes and the bytes that follow. The clause `goes_on` states this
+/// sum; its `a` stands for any nonzero bytes, as many as the open block has.
 ///
 /// So your own encoder with these steps writes the frames of [`encode`](crate::encode).
 ///
@@ -76,8 +76,8 @@ pub fn law_16()
 /// A decoder of your own, byte by byte.
 ///
 /// In any phase and for any byte, the table of [`DecoderState`](crate::DecoderState) makes the same step as the
-/// streaming decoders. Feeding bytes one by one has the same result as one `feed_piece`: both stop after the zero that
-/// ends the first piece, or after the last byte.
+/// streaming decoders. Feeding bytes one by one has the same result as one call of `feed_piece`: both stop after the
+/// zero that ends the first piece, or after the last byte.
 ///
 /// So your own decoder with this step decodes as the streaming decoders do, and a loop over `feed_byte` does what
 /// `feed_piece` does.
@@ -136,10 +136,11 @@ pub fn law_18()
 /// The kind of a frame, block by block.
 ///
 /// A single block is a canonical frame. A block with other bytes after it is a frame exactly if the other bytes are a
-/// frame. This frame is canonical exactly if the other bytes are canonical, with one exception: a full block followed
-/// by the lone block, 01, is not canonical. Bytes are no frame if there are fewer of them than the first code says.
+/// frame. The whole frame is canonical exactly if the other bytes are a canonical frame, with one exception: a full
+/// block followed by the lone block, 01, is not canonical. Bytes aren't a frame if there are fewer of them than the
+/// first code says.
 ///
-/// So your own reader that goes from code to code learns whether it has a frame, and of which kind.
+/// So your own reader that goes from code to code can tell whether the bytes are a frame, and which kind of frame.
 ///
 /// ```
 /// fn is_canonical_behind(block: &[u8], frame: &[u8]) -> bool
@@ -164,10 +165,10 @@ pub fn law_19()
 
 /// The output of a piece, block by block.
 ///
-/// A block is whole, and its output is its bytes without the code. A block with other bytes after it is whole exactly
-/// if the other bytes are whole. The kept output is then the block's output, a zero unless the block is full, and the
-/// kept output of the other bytes. Bytes are broken if there are fewer of them than the first code says, and their kept
-/// output is then empty. The kept output of a whole piece is its output.
+/// A single block is whole, and its output is its bytes without the code. A block with other bytes after it is whole
+/// exactly if the other bytes are whole. The kept output of both together is the block's output, then a zero unless the
+/// block is full, and then the kept output of the other bytes. Bytes are broken if there are fewer of them than the
+/// first code says, and their kept output is then empty. The kept output of a whole piece is its output.
 ///
 /// So your own decoder that goes from code to code writes the bytes that [`decode_in_place`](crate::decode_in_place)
 /// writes.

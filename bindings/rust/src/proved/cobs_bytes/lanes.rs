@@ -6,8 +6,8 @@
 use crate::proved::cobs_bytes::window::{WIDE_WINDOW, WINDOW, by_width};
 use crate::simd::*;
 
-/// Moves `len` bytes, which are `N` to `2 * N` bytes, from index `from` to the front of the buffer, as two vectors that
-/// may overlap.
+/// Moves `len` bytes from index `from` to the front of the buffer, as two vectors that may overlap. `len` is from `N`
+/// to `2 * N`.
 #[inline(always)]
 fn move_two<const N: usize>(buffer: &mut [u8], from: usize, len: usize) {
     let front = Simd::<u8, N>::from_slice(&buffer[from..]);
@@ -53,7 +53,7 @@ pub fn copy_xored_short(source: &[u8], dest: &mut [u8], sentinel: u8) -> bool {
 
 /// Copies all bytes as one slice.
 // Not inlined: compilers that can't see that two slices don't overlap add a loop for slices that do, and this loop
-// would cost each caller registers. The parameters have the order of those of `memmove`, so that this function only
+// would cost each caller registers. The parameters are in the same order as those of `memmove`, so this function only
 // jumps to `memmove`.
 #[inline]
 fn copy_slice(dest: &mut [u8], source: &[u8]) {

@@ -11,7 +11,7 @@ pub const WIDE_WINDOW: usize = 64;
 
 /// Returns whether the target has vectors with which short data are copied faster. If it has none, a loop over bytes is
 /// faster, and its code is much smaller.
-// This function has no clause, so that its callers are proved for both kinds of target.
+// This function has no `ensures` clause, so that its callers are proved for both kinds of target.
 #[inline(always)]
 pub fn has_vectors() -> bool {
     crate::simd::HAS_VECTORS
@@ -83,7 +83,7 @@ pub fn first_zero(bytes: &[u8]) -> usize {
 }
 
 /// Copies `N` to `2 * N` bytes to `dest`, from index `at` on, as two vectors that may overlap, and returns which of
-/// them are zeros.
+/// these bytes are zeros.
 #[inline(always)]
 fn copy_two<const N: usize>(source: &[u8], dest: &mut [u8], at: usize) -> u64 {
     let len = source.len();

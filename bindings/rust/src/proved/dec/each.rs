@@ -1,5 +1,5 @@
 // Made by bindings/rust/translate.py from `crates/cobs/src/dec/each.rt`: change that file, and run it again.
-//! Decoders that take one byte after another, for targets without vectors.
+//! Decoders that take one byte after another, for targets without SIMD vectors.
 
 use crate::proved::block::{FULL, FULL_CODE};
 use crate::proved::dec::frame_decoder::PieceEnd;
@@ -7,7 +7,7 @@ use crate::proved::error::{DecodeError, DecodeReport};
 use crate::proved::find::{leading_zeros, len_to, len_to_zero};
 
 /// Decodes the frame in the first `end` bytes of the buffer, in place and one byte after another, and returns the
-/// message's length. Every byte after the message is as it was. This function is small, and uses no vectors.
+/// message's length. Every byte after the message is as it was. This function is small, and uses no SIMD vectors.
 ///
 /// Precondition: the buffer has at least `end` bytes, and none of its first `end` bytes is a zero.
 /// `len_to_zero` returns the number of bytes before the first zero.
@@ -92,8 +92,8 @@ fn ended(written: usize, missing: usize, at: usize) -> Option<(PieceEnd, usize)>
 /// bytes were consumed: the leading zeros, the piece, and the zero after the piece if there is one. Returns `None` if
 /// the source has no piece.
 ///
-/// This function decodes as [`decode`](crate::decode) does, but it reports the number of consumed bytes for a broken or
-/// too long piece too. The function is small, and uses no vectors.
+/// This function decodes as [`decode`](crate::decode) does, but it also reports the number of consumed bytes if the
+/// piece is broken or too long. The function is small, and uses no SIMD vectors.
 #[inline(always)]
 pub fn decode_piece(source: &[u8], dest: &mut [u8]) -> Option<(PieceEnd, usize)> {
     let start = leading_zeros(source);

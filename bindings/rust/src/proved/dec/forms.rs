@@ -38,8 +38,8 @@ fn decode_blocks(source: &[u8], dest: &mut [u8], sentinel: u8) -> Result<usize, 
 ///   blocks is longer than `dest`. `dest` then holds the first bytes of that message or output.
 /// - `InvalidFrame` if the frame breaks off inside a block and the output of its whole blocks fits `dest`. Then `dest`
 ///   begins with that output, `decoded_bytes` is the length of the output, and every byte of `dest` after the output is
-///   as it was. The output ends with the zero that joins the last whole block to the broken block, unless the last
-///   whole block is full.
+///   as it was. If the block before the broken block isn't full, the output ends with the zero that joins the two
+///   blocks.
 ///
 /// Frames for a sentinel other than 0 are from Cheshire and Baker's paper; the results for broken frames are a choice
 /// of this library.

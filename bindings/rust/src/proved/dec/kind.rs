@@ -1,10 +1,10 @@
 // Made by bindings/rust/translate.py from `crates/cobs/src/dec/kind.rt`: change that file, and run it again.
-//! The kind of a frame: whether bytes are a frame, and whether encoders write this frame for its message.
+//! The kind of a frame: whether some bytes are a frame, and if so, whether encoders write this frame for its message.
 
 use crate::proved::block::FULL_CODE;
 use crate::proved::find::zero_or_len;
 
-/// Whether bytes are a frame, and whether encoders write this frame for its message.
+/// Whether some bytes are a frame, and if so, whether encoders write this frame for its message.
 ///
 /// ```
 /// use jcobs::{FrameKind, frame_kind};
@@ -16,26 +16,26 @@ use crate::proved::find::zero_or_len;
 #[cfg_attr(feature = "serde", derive(serde::Serialize, serde::Deserialize))]
 #[cfg_attr(feature = "defmt", derive(defmt::Format))]
 pub enum FrameKind {
-    /// The bytes are no frame: there are no bytes, one of the bytes is a zero, or the bytes break off inside a block.
+    /// The bytes aren't a frame: there are no bytes, one of the bytes is a zero, or the bytes break off inside a block.
     NotAFrame,
 
     /// The bytes are a frame, and encoders write this frame for its message.
     Canonical,
 
-    /// The bytes are the longer frame of a message: the frame that encoders write for this message, followed by a block
-    /// without bytes, 01. Only a message whose last run of nonzero bytes has a positive length divisible by 254 has a
+    /// The bytes are the longer frame of a message: the frame that encoders write for this message, followed by the
+    /// lone block 01. Only a message whose last run of nonzero bytes has a positive length divisible by 254 has a
     /// longer frame.
     Longer,
 }
 
 /// Returns whether the bytes are a frame, and whether encoders write this frame for its message.
 ///
-/// `bytes` are the bytes between two sentinels. A frame is the longer frame of its message exactly if its last two
-/// blocks are a full block and a block without bytes; decoders read both frames of a message alike. Nothing is
+/// `bytes` are the bytes between two sentinels. A frame is the longer frame of its message if and only if its last two
+/// blocks are a full block and the lone block 01. Decoders return the same message for both frames. Nothing is
 /// allocated.
 ///
-/// A frame is defined by its blocks, as in Cheshire and Baker's paper. That the shorter one of a message's two frames is
-/// canonical is a choice of this library: all its `encode` functions write that frame.
+/// A frame is defined by its blocks, as in Cheshire and Baker's paper. If a message has two frames, the shorter frame
+/// is canonical (a choice of this library): all `encode` functions of this library write the shorter frame.
 pub fn frame_kind(bytes: &[u8]) -> FrameKind {
     if zero_or_len(bytes) < bytes.len() {
         return FrameKind::NotAFrame;

@@ -1,7 +1,7 @@
 // Made by bindings/rust/translate.py from `crates/cobs/src/dec/run.rt`: change that file, and run it again.
-//! The walk of the decoders over the bytes before a sentinel, on targets with vectors. A step takes a long block, rows
-//! of 32 codes of blocks without bytes, or a *span*. A span is copied at once, together with the codes among its bytes;
-//! then a zero is written over each code.
+//! The walk of the decoders over the bytes before a sentinel, on targets with SIMD vectors. A step takes a long block,
+//! rows of 32 blocks 01, or a *span*. A span is copied at once, together with the codes among its bytes; then a zero is
+//! written over each code.
 
 use crate::proved::block::FULL_BLOCK_BYTES;
 use crate::proved::cobs_bytes::lanes::{copy_xored, copy_xored_short};
@@ -17,10 +17,10 @@ use crate::proved::find::zero_or_len;
 /// begins in the same span.
 pub(crate) const SPAN_MAX: usize = FULL_BLOCK_BYTES - 1;
 
-/// Takes rows of 32 bytes from the front of `bytes`, as long as each byte of a row is `byte`, and writes a row of zeros
-/// to `dest` for each, from index `at` on. The function stops if `dest` has no room for another row. It stops after
-/// seven rows too, because the caller treats the rows as one span, and eight rows would be longer than a span. Returns
-/// how many zeros it wrote.
+/// Takes rows of 32 bytes from the front of `bytes`, as long as each byte of a row is `byte`, and for each row writes a
+/// row of zeros to `dest`, from index `at` on. The function stops if `dest` has no room for another row. It also stops
+/// after seven rows, because the caller treats the rows as one span, and eight rows would be too long for a span.
+/// Returns how many zeros it wrote.
 #[inline(always)]
 fn write_rows(dest: &mut [u8], at: usize, bytes: &[u8], byte: u8) -> usize {
     let most = bytes.len().min(dest.len().saturating_sub(at)).min(SPAN_MAX);
@@ -45,8 +45,8 @@ impl UnbufferedDecoder {
         self.missing = code - 1;
     }
 
-    /// Returns how many of `len` bytes one span can have. If the open block is full, the span ends no later than the
-    /// open block.
+    /// Returns how many of the next `len` bytes one span can contain. If the open block is full, the span ends no later
+    /// than the open block.
     #[inline(always)]
     pub(crate) fn span_len(&self, len: usize) -> usize {
         if self.joint == 0 {
@@ -57,8 +57,8 @@ impl UnbufferedDecoder {
     }
 
     /// Takes the code of a block that follows a whole block, and as many bytes of the new block as `bytes` has and
-    /// `dest` has room for. Returns how many bytes it took, including the code: 0 only if the zero that joins the two
-    /// blocks has no room.
+    /// `dest` has room for. Returns how many bytes it took, including the code: 0 only if there is no room for the zero
+    /// that joins the two blocks.
     #[inline(always)]
     fn take_block(&mut self, dest: &mut [u8], bytes: &[u8], sentinel: u8) -> usize {
         if self.joint != 0 && dest.len() <= self.written {
@@ -125,8 +125,8 @@ impl UnbufferedDecoder {
         ));
     }
 
-    /// Takes a span of up to 253 bytes, and returns how many bytes it took: 0 if the first byte has no room. No full
-    /// block ends before the last of these bytes.
+    /// Takes a span of up to 253 bytes, and returns how many bytes it took: 0 if there is no room for the first byte.
+    /// The span is chosen so that no full block ends before its last byte.
     #[inline(always)]
     fn take_span(&mut self, dest: &mut [u8], bytes: &[u8], sentinel: u8) -> usize {
         let at = self.written;
@@ -141,8 +141,8 @@ impl UnbufferedDecoder {
         len
     }
 
-    /// Takes all of `bytes` at once if they are 1 to 31 bytes, none of them is a zero, they have room, and no full
-    /// block ends before the last of them. Returns whether it took them.
+    /// Takes all of `bytes` at once if they are 1 to 31 bytes, none of them is a zero, `dest` has room for them, and no
+    /// full block ends before the last of them. Returns whether it took them.
     #[inline(always)]
     pub(crate) fn take_short(&mut self, dest: &mut [u8], bytes: &[u8]) -> bool {
         let at = self.written;
@@ -186,9 +186,9 @@ impl UnbufferedDecoder {
         true
     }
 
-    /// Takes the bytes of one step, and returns their number, which is 0 only if the first byte has no room. A step is
-    /// one of three: a block that has at least 64 bytes after its code, begins the piece or follows a full block; rows
-    /// of 32 codes of blocks without bytes; or a span.
+    /// Takes the bytes of one step, and returns their number, which is 0 only if there is no room for the output of the
+    /// first byte. A step takes one of three things: a block that begins the piece, follows a full block, or has at
+    /// least 64 bytes after its code; rows of 32 blocks 01; or a span.
     #[inline(always)]
     fn take_part(&mut self, dest: &mut [u8], bytes: &[u8], sentinel: u8) -> usize {
         if self.missing == 0 {
@@ -207,7 +207,8 @@ impl UnbufferedDecoder {
         self.take_span(dest, bytes, sentinel)
     }
 
-    /// Takes bytes, none of which is the sentinel, as long as their output has room, and returns how many it took.
+    /// Takes `bytes`, none of which is the sentinel, as long as `dest` has room for their output, and returns how many
+    /// bytes it took.
     #[inline(always)]
     pub(crate) fn take_blocks(&mut self, dest: &mut [u8], bytes: &[u8], sentinel: u8) -> usize {
         // `here` is a copy of the numbers that change, so that they stay in registers.
@@ -229,8 +230,8 @@ impl UnbufferedDecoder {
         taken
     }
 
-    /// Takes the bytes before the first zero, as long as their output has room, and returns how many it took. One search finds
-    /// the zero.
+    /// Takes the bytes before the first zero, as long as `dest` has room for their output, and returns how many bytes
+    /// it took. One search finds the zero.
     #[inline(always)]
     pub(crate) fn take_run(&mut self, dest: &mut [u8], bytes: &[u8]) -> usize {
         // If the piece is too long, `feed` returns an error for each of its bytes, so no byte is taken here.

@@ -84,8 +84,8 @@ impl UnbufferedDecoder {
 
     /// Takes bytes of a stream of frames for this sentinel, one step for each byte. The function stops after the
     /// sentinel that ends the first piece, or takes all bytes if no piece ends. For the sentinel 0 it does what
-    /// [`feed_piece`](Self::feed_piece) does. The function searches for nothing and copies no slices, so it is small,
-    /// and fast for a few bytes.
+    /// [`feed_piece`](Self::feed_piece) does. The function doesn't search ahead or copy slices, so it is small, and
+    /// fast for a few bytes.
     ///
     /// ```
     /// use jcobs::{PieceEnd, UnbufferedDecoder};

@@ -1,7 +1,7 @@
 // Made by bindings/rust/translate.py from `crates/cobs/src/enc/blocks.rt`: change that file, and run it again.
-//! How a message is cut into blocks: the core of the encoders into a slice on targets with vectors. A *window* is 32
-//! bytes that are copied at once. The *mask* of a window is a number with one bit for each byte of the window; the bit
-//! is 1 if the byte is a zero.
+//! Cuts a message into blocks: the core of the encoders that write to a slice, on targets with vectors. A *window* is
+//! 32 bytes that are copied at once. The *mask* of a window is a number with one bit for each byte of the window; the
+//! bit is 1 if the byte is a zero.
 
 use crate::proved::block::FULL_CODE;
 use crate::proved::cobs_bytes::window::{
@@ -33,9 +33,9 @@ pub(crate) fn fits_window_and_block(progress: EncoderProgress, len: usize) -> bo
     0 < len && len <= WINDOW && progress.code as usize + len < FULL_CODE
 }
 
-/// Writes the code of the open block, which the mask's first zero closes. Returns the index of the next code, and the
-/// mask without that zero. No branch tests whether the mask has a zero. If the mask has no zero, the block stays open,
-/// and its code is written again later, so the byte that is written here doesn't matter.
+/// Writes the code of the open block, which the first zero marked in the mask closes. Returns the index of the next
+/// code, and the mask without the bit of that zero. No branch tests whether the mask marks a zero. If the mask marks no
+/// zero, the block stays open, and its code is written again later, so the byte that is written here doesn't matter.
 #[inline(always)]
 fn mark_first(dest: &mut [u8], index: usize, next: usize, zeros: u64) -> (usize, u64) {
     let place = next + zeros.trailing_zeros() as usize;
@@ -44,8 +44,8 @@ fn mark_first(dest: &mut [u8], index: usize, next: usize, zeros: u64) -> (usize,
     (index, zeros & zeros.wrapping_sub(1))
 }
 
-/// Writes the code of each block that a zero of the mask closes. Each iteration writes up to two codes, because there
-/// may be many zeros. Returns the index of the next code.
+/// Writes the code of each block that a zero marked in the mask closes. Each iteration writes up to two codes, because
+/// there may be many zeros. Returns the index of the next code.
 #[inline(always)]
 fn mark_zeros(dest: &mut [u8], index: usize, next: usize, zeros: u64) -> usize {
     let mut index = index;
@@ -61,7 +61,7 @@ fn mark_zeros(dest: &mut [u8], index: usize, next: usize, zeros: u64) -> usize {
 
 /// Takes the first `len` bytes of `source` one by one. The caller ensures that these bytes can't fill the open block.
 /// The code of the next block is written over each zero. No branch tests whether a byte is a zero, since a processor
-/// may predict the branch wrong. Instead, the code of the open block is written for each byte.
+/// may predict the branch wrong. Instead, the code of the open block is written again after each byte.
 #[inline(always)]
 pub(crate) fn append_few(
     source: &[u8],
@@ -126,7 +126,7 @@ fn write_codes_of_zeros(source: &[u8], dest: &mut [u8], at: usize) -> usize {
 /// block is closed, and the caller copies the next bytes as slices, because a run that fills one block often fills more
 /// blocks. Otherwise each zero of the window is replaced by the code of the block that the zero begins, and the last
 /// block stays open for the next window. If the window has only zeros, the rows of 32 zeros after it aren't copied:
-/// their codes are written at once. No byte after the frame is written.
+/// their codes are written 32 at a time. No byte after the frame is written.
 #[inline(always)]
 fn append_windows(
     source: &[u8],
@@ -208,8 +208,8 @@ fn append_long_run(
     (read + 1, progress_at(next, next + 1, false))
 }
 
-/// Takes all bytes of `source`, whose first run has `run` bytes. The function first takes this run. Then, until no byte
-/// is left, it takes windows up to the next long run, and that run.
+/// Takes all bytes of `source`, whose first run has `run` bytes. The function first takes this run. Then it repeats two
+/// steps until no byte is left: it takes windows up to the next long run, and then it takes that run.
 #[inline(never)]
 pub(crate) fn append_rest(
     source: &[u8],
@@ -232,8 +232,8 @@ pub(crate) fn append_rest(
 /// Continues the frame in `dest` with `source`, from `progress` on, and returns the progress after `source`. [`close`]
 /// writes the code of the open block later; until then the byte at the place of the code doesn't matter.
 ///
-/// [`append_windows`] takes most bytes. Usually few bytes are left; [`append_rest`] takes them if they are more than a
-/// window, or if they may fill the open block.
+/// [`append_windows`] takes most bytes. Usually few bytes are left; [`append_rest`] takes them if there are more of
+/// them than a window holds, or if they may fill the open block.
 #[inline(always)]
 pub(crate) fn append(source: &[u8], dest: &mut [u8], progress: EncoderProgress) -> EncoderProgress {
     let (read, progress) = append_windows(source, dest, progress);
@@ -248,8 +248,8 @@ pub(crate) fn append(source: &[u8], dest: &mut [u8], progress: EncoderProgress) 
     }
 }
 
-/// Writes the code of the open block, unless the frame ends with a full block, and returns the frame's length. The byte
-/// in the code's place may have any value before.
+/// Writes the code of the open block, unless the frame ends with a full block, and returns the frame's length. Before
+/// the call, the byte in the code's place may have any value.
 // The room is tested first, though only a full block leaves none. Otherwise compilers test whether the block is full in the
 // caller's loop over single bytes, which can make that loop half as fast in the Rust crate with link-time optimization.
 #[inline(always)]
@@ -262,8 +262,8 @@ pub(crate) fn close_block(dest: &mut [u8], progress: EncoderProgress) -> usize {
     index
 }
 
-/// Does what [`close_block`] does. On a target with vectors it always stores a byte: after a full block, the byte that is
-/// already there.
+/// Does what [`close_block`] does. On a target with vectors, `close` also stores a byte after a full block, if the
+/// slice has a byte there: it stores the value that the byte already has.
 // Then compilers keep the caller's loop over single bytes as it is written. If only an open block's code were stored, this
 // loop would be slower in the Rust crate on x86-64. Without vectors the code is `close_block`, which needs fewer bytes of flash.
 #[inline(always)]

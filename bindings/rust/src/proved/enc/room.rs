@@ -27,9 +27,9 @@ fn fits_each(code: u8, bytes: &[u8], spare: usize) -> bool {
 }
 
 /// Returns whether `spare` bytes cover the overhead of every message of `len` bytes: whether `len` is at most 254 times
-/// `spare`. The formula halves both sides, so that half of `len`, rounded up, is compared with 127 times `spare`, and
-/// then adds `spare` to both sides. So the function divides only by powers of two, because small processors have no
-/// instruction for other divisions, and no sum overflows.
+/// `spare`. The formula halves both sides of this comparison, so that half of `len`, rounded up, is compared with 127
+/// times `spare`, and then adds `spare` to both sides. So no sum overflows, and the function divides only by powers of
+/// two: small processors have no instruction for other divisions.
 #[inline(always)]
 fn covers_overhead(len: usize, spare: usize) -> bool {
     (len - len / 2 + spare - 1) / 128 < spare
@@ -55,8 +55,8 @@ pub(crate) fn has_room(code: u8, bytes: &[u8], room: usize) -> bool {
 /// The function counts all full blocks except a full block at the end of the frame. If one of the next bytes that could
 /// fill a block is a zero, the block doesn't become full, and the count continues after the last zero among these
 /// bytes. If none of these bytes is a zero, the run fills the block. The function then searches for the end of the run,
-/// because the run fills a block with each 254 of its bytes. If the end of the first run was searched for, the `Some`
-/// has the length of this run, so that the encoder needn't search again; otherwise the `Some` has 0.
+/// because the run fills a block with each 254 of its bytes. If the function searched for the end of the first run, the
+/// `Some` contains the length of this run, so that the encoder needn't search again; otherwise the `Some` contains 0.
 #[inline(never)]
 fn fits(code: usize, source: &[u8], room: usize) -> Option<usize> {
     if room < source.len() {
@@ -95,10 +95,10 @@ fn fits(code: usize, source: &[u8], room: usize) -> Option<usize> {
     None
 }
 
-/// Takes `source` as [`append`] does if the frame then fits `dest`, and returns whether the frame fits. Usually the
-/// lengths of `source` and `dest` decide, since the frame of a message without zeros is the longest; calling [`fits`]
-/// each time would be slower. A long run that [`fits`] has searched isn't searched again. This function isn't inlined,
-/// so that a short push doesn't save registers for it.
+/// Takes `source`, as [`append`] does, but only if the frame then fits `dest`. Returns whether the frame fits. Usually
+/// the lengths of `source` and `dest` decide, since the frame of a message without zeros is the longest; calling
+/// [`fits`] each time would be slower. A long run that [`fits`] has searched isn't searched again. This function isn't
+/// inlined, so that a short push doesn't save registers for it.
 #[inline(never)]
 pub(crate) fn try_append(source: &[u8], dest: &mut [u8], progress: &mut EncoderProgress) -> bool {
     // Copied field by field, here and below: a load of all fields at once would have to wait, because they were stored

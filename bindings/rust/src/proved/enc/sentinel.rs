@@ -9,8 +9,7 @@ use crate::proved::error::DestBufTooSmallError;
 /// Does what [`encode_with_sentinel`](crate::encode_with_sentinel) does, if the frame fits `dest`.
 ///
 /// # Errors
-/// `DestBufTooSmallError` exactly if the frame is longer than `dest`. This error changes no byte of `dest`, which is a
-/// choice of this library.
+/// `DestBufTooSmallError` exactly if the frame is longer than `dest`. This error changes no byte of `dest`.
 #[inline]
 pub fn try_encode_with_sentinel(
     source: &[u8],
@@ -32,7 +31,7 @@ pub fn try_encode_with_sentinel(
 ///
 /// # Errors
 /// `DestBufTooSmallError` exactly if the frame and both sentinels together are longer than `dest`. This error changes
-/// no byte of `dest`, which is a choice of this library.
+/// no byte of `dest`.
 pub fn try_encode_including_sentinels(
     source: &[u8],
     dest: &mut [u8],

@@ -1,5 +1,5 @@
 // Made by bindings/rust/translate.py from `crates/cobs/src/enc/step.rt`: change that file, and run it again.
-//! The encoder byte by byte: the step for a byte of the message, and a piece as a loop over its bytes.
+//! The encoder, byte by byte: the step for one byte of the message, and a loop over the bytes of a piece.
 
 use crate::proved::block::{FULL_BLOCK_BYTES, FULL_CODE};
 use crate::proved::enc::UnbufferedEncoder;
@@ -145,7 +145,8 @@ impl UnbufferedEncoder {
 
     /// Takes the next bytes of the message, one at a time.
     ///
-    /// `push_each` does what [`push`](UnbufferedEncoder::push) does, in less code and more time: for small devices.
+    /// `push_each` does what [`push`](UnbufferedEncoder::push) does, with less code, but more slowly. It is for small
+    /// devices.
     ///
     /// # Errors
     /// Those of [`push`](UnbufferedEncoder::push).
