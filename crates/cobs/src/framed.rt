@@ -1,10 +1,11 @@
 //! A reader of frames from any source of bytes.
 //!
 //! `FrameReader` reads chunks of up to 64 bytes from a `FrameSource`: a file, a socket, a serial port or any other
-//! source. Each call of `next_frame` returns one outcome. The reader reads from the source only if no piece ends in the
-//! bytes that the reader has kept. No byte is lost: the bytes after the end of a piece are kept for the next call, and
-//! after a fault the decoder has taken all bytes that were read. No call of this module allocates. (The rule that a
-//! zero ends each piece is from Cheshire and Baker's paper; the rest of this module is a choice of this library.)
+//! source. Each call of `next_frame` returns the outcome of one piece, the end of the source, or a fault. The reader
+//! reads from the source only if no piece ends in the bytes that the reader has kept. No byte is lost: the bytes after
+//! the end of a piece are kept for the next call, and after a fault the decoder has taken all bytes that were read. No
+//! call of this module allocates. (The rule that a zero ends each piece is from Cheshire and Baker's paper; the rest of
+//! this module is a choice of this library.)
 ghost use Rattle.std.specs.Prelude.{◌≡◌, ℕ, ◌≤◌, List, [], ◌∷◌, ◌++◌, length, take, drop, Option, option_map, IfOk, IfNone, IfSome, OnSome, MatchOption};
 ghost use Rattle.cobs.specs.Grammar.{HasNoZero};
 ghost use Rattle.cobs.specs.Stream.{Outcome, stream_outcomes, unended, is_nonempty};
@@ -85,8 +86,8 @@ pub trait FrameSource {
 
     /// Reads once, into `chunk`.
     ///
-    /// Returns `Some(n)` if the read succeeded, and its bytes are the first n bytes of `chunk`; n is 0 at the end of
-    /// the source. Returns `None` if the read failed.
+    /// Returns `Some(n)` if the read succeeded: the bytes that were read are then the first n bytes of `chunk`. At the
+    /// end of the source, n is 0. Returns `None` if the read failed.
     ///
     /// ```
     /// let mut source = Recorded::new([7; 100].as_slice());

@@ -57,9 +57,9 @@ pub fn law_1()
 
 /// Each message has one encoded frame.
 ///
-/// Each message has exactly one encoded frame. In the clauses, messages and frames are lists of numbers: if each number of the
-/// message is less than 256, so is each number of its encoded frame. So two encoded frames can be compared byte by byte, for
-/// example to find a message in a store or to check a signature. All encoders that follow the definition write the encoded
+/// Each message has exactly one encoded frame. So two encoded frames can be compared byte by byte, for example to find a
+/// message in a store or to check a signature. In the clauses, messages and frames are lists of numbers: if each number of the
+/// message is less than 256, so is each number of its encoded frame. All encoders that follow the definition write the encoded
 /// frame. The length of this frame decides whether `try_encode` and `CobsEncoder` accept the message.
 ///
 /// ```
@@ -253,8 +253,8 @@ pub fn law_8()
 /// A stream that ends in a zero has no unended bytes. In a stream without a zero all bytes are unended, and there is no
 /// outcome. One or more nonzero bytes with a zero after them are one piece.
 ///
-/// So a receiver may get a stream in parts of any length, as reads return them. The results are those of one call over the
-/// whole stream: `decode_stream`, `push` and `FrameReader` rely on this law.
+/// So a receiver may get a stream in parts of any length, as reads return them. The joined results are those of one call over
+/// the whole stream. `decode_stream`, `push` and `FrameReader` rely on this law.
 ///
 /// ```
 /// fn decode_in_two<D: FrameDecoder>(
@@ -391,8 +391,8 @@ pub fn law_12()
 
 /// The open frame of a streaming encoder.
 ///
-/// This law says at which index the frame so far ends. It also says how the open frame that an
-/// [`EncoderState`](crate::EncoderState) makes, whose last block isn't full, differs from the encoded frame.
+/// An open frame is a frame whose last block isn't full; an [`EncoderState`](crate::EncoderState) makes the open frame of a
+/// message. This law says at which index the frame so far ends, and how the open frame differs from the encoded frame.
 ///
 /// So if a caller carries out each [`PushResult`](crate::PushResult), the byte reserved for the next code (the placeholder) is
 /// always within the output. The caller's frame is the encoded frame, unless the message ends in a full run: then it is the

@@ -2,10 +2,11 @@
 //! A reader of frames from any source of bytes.
 //!
 //! `FrameReader` reads chunks of up to 64 bytes from a `FrameSource`: a file, a socket, a serial port or any other
-//! source. Each call of `next_frame` returns one outcome. The reader reads from the source only if no piece ends in the
-//! bytes that the reader has kept. No byte is lost: the bytes after the end of a piece are kept for the next call, and
-//! after a fault the decoder has taken all bytes that were read. No call of this module allocates. (The rule that a
-//! zero ends each piece is from Cheshire and Baker's paper; the rest of this module is a choice of this library.)
+//! source. Each call of `next_frame` returns the outcome of one piece, the end of the source, or a fault. The reader
+//! reads from the source only if no piece ends in the bytes that the reader has kept. No byte is lost: the bytes after
+//! the end of a piece are kept for the next call, and after a fault the decoder has taken all bytes that were read. No
+//! call of this module allocates. (The rule that a zero ends each piece is from Cheshire and Baker's paper; the rest of
+//! this module is a choice of this library.)
 
 use crate::proved::dec::{FrameDecoder, PieceEnd};
 #[cfg(feature = "std")]
@@ -90,8 +91,8 @@ pub enum ReadFault {
 pub trait FrameSource {
     /// Reads once, into `chunk`.
     ///
-    /// Returns `Some(n)` if the read succeeded, and its bytes are the first n bytes of `chunk`; n is 0 at the end of
-    /// the source. Returns `None` if the read failed.
+    /// Returns `Some(n)` if the read succeeded: the bytes that were read are then the first n bytes of `chunk`. At the
+    /// end of the source, n is 0. Returns `None` if the read failed.
     ///
     /// ```
     /// # #[cfg(feature = "std")] {

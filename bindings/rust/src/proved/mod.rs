@@ -31,8 +31,8 @@ pub use stream::{FrameOutcome, decode_stream};
 /// Returns the greatest overhead of an encoded frame, for a message of `source_len` bytes: by how many bytes the frame
 /// may be longer than the message.
 ///
-/// The greatest overhead is `source_len / 254` rounded up, and 1 for the empty message: every 254 nonzero bytes of the
-/// message need a code of their own, and a frame has at least one code. A message without zeros reaches this overhead.
+/// The greatest overhead is `source_len / 254` rounded up, and 1 for the empty message: each group of up to 254 nonzero
+/// bytes has a code of its own, and a frame has at least one code. A message without zeros reaches this overhead.
 /// Sentinels around the frame aren't counted. The bound is that of the paper by Cheshire and Baker.
 pub const fn max_encoding_overhead(source_len: usize) -> usize {
     if source_len == 0 {

@@ -36,8 +36,8 @@ pub fn encode_vec(alloc: Global, source: &[u8]) -> Result<Vec<u8>, AllocError>
 /// Returns a 0, the encoded frame of `source` and another 0 as a vector.
 ///
 /// Precondition: [`max_encoding_length`](crate::max_encoding_length) of the message's length, plus 2, fits a `usize`.
-/// Memory is allocated once, for a frame of this greatest length and both sentinels. The vector that is returned has
-/// only the bytes of the frame and both sentinels. (A choice of this library.)
+/// Memory is allocated once, for a frame of this greatest length and both sentinels. The returned vector has only the
+/// bytes of the frame and both sentinels. (A choice of this library.)
 ///
 /// # Errors
 /// `AllocError` if memory runs out.

@@ -75,9 +75,10 @@ pub fn law_16()
 
 /// A decoder of your own, byte by byte.
 ///
-/// In any phase and for any byte, the table of [`DecoderState`](crate::DecoderState) makes the same step as the
-/// streaming decoders. Feeding bytes one by one has the same result as one call of `feed_piece`: both stop after the
-/// zero that ends the first piece, or after the last byte.
+/// In any phase and for any byte, the streaming decoders make the step that the table of
+/// [`DecoderState`](crate::DecoderState) describes, unless the output is too long for the buffer. Feeding bytes one by
+/// one has the same result as one call of `feed_piece`: both stop after the zero that ends the first piece, or after
+/// the last byte.
 ///
 /// So your own decoder with this step decodes as the streaming decoders do, and a loop over `feed_byte` does what
 /// `feed_piece` does.
@@ -109,8 +110,8 @@ pub fn law_17()
 /// After all bytes of a frame have been fed, feeding the zero after the frame returns the length of the message.
 /// `feed_piece` of an idle decoder stops after the zero that ends the first piece. If this piece is a frame,
 /// `feed_piece` returns the length of the message too. A push of a frame and its zero to an idle decoder also returns
-/// the length of the message. After each of these calls the buffer begins with the message. All this holds if the
-/// buffer has room for the message. No piece that isn't a frame is decoded as a message.
+/// the length of the message. After each of these calls the buffer begins with the message. Each of these results
+/// requires that the buffer has room for the message. No piece that isn't a frame is decoded as a message.
 ///
 /// So a frame that [`encode`](crate::encode) wrote is read by each of these calls.
 ///
@@ -140,7 +141,8 @@ pub fn law_18()
 /// block followed by the lone block, 01, is not canonical. Bytes aren't a frame if there are fewer of them than the
 /// first code says.
 ///
-/// So your own reader that goes from code to code can tell whether the bytes are a frame, and which kind of frame.
+/// So your own reader that goes from code to code can tell whether the bytes are a frame, and which kind of frame they
+/// are.
 ///
 /// ```
 /// fn is_canonical_behind(block: &[u8], frame: &[u8]) -> bool

@@ -1,7 +1,7 @@
 // Made by bindings/rust/translate.py from `crates/cobs/src/enc/blocks.rt`: change that file, and run it again.
-//! Cuts a message into blocks: the core of the encoders that write to a slice, on targets with vectors. A *window* is
-//! 32 bytes that are copied at once. The *mask* of a window is a number with one bit for each byte of the window; the
-//! bit is 1 if the byte is a zero.
+//! Cuts a message into blocks: the core of the encoders that write to a slice, on targets with SIMD vectors. A *window*
+//! is 32 bytes that are copied at once. The *mask* of a window is a number with one bit for each byte of the window;
+//! the bit is 1 if the byte is a zero.
 
 use crate::proved::block::FULL_CODE;
 use crate::proved::cobs_bytes::window::{
@@ -262,7 +262,7 @@ pub(crate) fn close_block(dest: &mut [u8], progress: EncoderProgress) -> usize {
     index
 }
 
-/// Does what [`close_block`] does. On a target with vectors, `close` also stores a byte after a full block, if the
+/// Does what [`close_block`] does. On a target with SIMD vectors, `close` also stores a byte after a full block, if the
 /// slice has a byte there: it stores the value that the byte already has.
 // Then compilers keep the caller's loop over single bytes as it is written. If only an open block's code were stored, this
 // loop would be slower in the Rust crate on x86-64. Without vectors the code is `close_block`, which needs fewer bytes of flash.

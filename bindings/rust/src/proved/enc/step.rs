@@ -115,7 +115,8 @@ impl UnbufferedEncoder {
     }
 
     /// Takes up to 8 bytes of the message if they fit and can't fill the open block, and returns whether it took them.
-    /// If it took none, nothing has changed, and [`push`](UnbufferedEncoder::push) takes the bytes if they fit.
+    /// If it took none, it changed nothing; a call of [`push`](UnbufferedEncoder::push) then takes the bytes if they
+    /// fit.
     ///
     /// No branch tests whether a byte is a zero, because a processor could predict the branch wrong. So pushing single
     /// bytes, or the fields of a record, is faster with `push_few` than with [`push`](UnbufferedEncoder::push) if zeros
@@ -145,8 +146,8 @@ impl UnbufferedEncoder {
 
     /// Takes the next bytes of the message, one at a time.
     ///
-    /// `push_each` does what [`push`](UnbufferedEncoder::push) does, with less code, but more slowly. It is for small
-    /// devices.
+    /// `push_each` does what [`push`](UnbufferedEncoder::push) does, but is smaller and slower: `push_each` is meant
+    /// for small devices.
     ///
     /// # Errors
     /// Those of [`push`](UnbufferedEncoder::push).

@@ -38,8 +38,8 @@ pub struct UnbufferedEncoder {
     /// How many bytes the open block has, at most 253.
     pub taken: u8,
 
-    /// Not 0 if the frame's last block is full. Then the open block is empty, and `index` is the place after the full
-    /// block.
+    /// Not 0 if the frame's last block is full. If `full` isn't 0, the open block is empty, and `index` is the place
+    /// after the full block.
     pub full: u8,
 }
 
