@@ -1,4 +1,4 @@
-// COBS as Node's own streams, as the package serialport pipes them:
+// COBS as Node's own streams, to be used in a pipe with the package serialport:
 //
 //     port.pipe(new FrameDecoderTransform({ skipFirst: true })).on("data", ({ message }) => ..);
 import { Transform } from "node:stream";

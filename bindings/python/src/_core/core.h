@@ -13,9 +13,9 @@
 
 #include "jcobs.h"
 
-/* These macros change reference counts by calls of functions. The headers of CPython before 3.12 change reference
- * counts inline, and don't know of immortal objects, which CPython 3.12 shares between interpreters. If each
- * interpreter has its own GIL, two threads could change the count of such an object at once. */
+/* These macros call functions to change reference counts. The headers of CPython before 3.12 change reference counts
+ * inline, and don't know of immortal objects, which CPython 3.12 shares between interpreters. If each interpreter has
+ * its own GIL, two threads could change the count of such an object at once. */
 #undef Py_INCREF
 #undef Py_DECREF
 #undef Py_XDECREF
@@ -43,7 +43,7 @@
  * buffer are copied, so that no other thread or process can change the bytes while a call reads them. */
 PyObject *bytes_of(PyObject *data, const char *name);
 
-/* The arguments of a call by name. The first argument must be passed, by position or by name. */
+/* The name of a call, and the names of its arguments. The first argument must be passed, by position or by name. */
 typedef struct {
     const char *call;
     Py_ssize_t count;
@@ -58,7 +58,8 @@ int arguments_of(const Signature *signature, PyObject *const *args, Py_ssize_t c
 /* Returns the bytes of a bytes object, for libjcobs. */
 unsigned char *start_of(PyObject *bytes);
 
-/* Converts an argument to a sentinel, 0 if there is none, or returns 0 with an error. */
+/* Converts an argument to a sentinel (the sentinel is 0 if the argument is NULL) and returns 1, or returns 0 with an
+ * error. */
 int sentinel_of(PyObject *number, unsigned char *result);
 
 /* Converts an argument to a length, or returns 0 with an error. */

@@ -37,7 +37,7 @@ static void decoder_dealloc(PyObject *self)
     free_object(self);
 }
 
-/* Pushes bytes through the next sentinel. It releases the GIL if that sentinel is far away. */
+/* Pushes bytes to the decoder, up to and including the next sentinel. Releases the GIL if that sentinel is far away. */
 static jcobs_answer decoder_step(Decoder *self, const unsigned char *bytes, size_t len)
 {
     int far = len >= LONG && memchr(bytes, self->sentinel, LONG) == NULL;
@@ -103,8 +103,8 @@ static PyObject *decoder_outcomes(Decoder *self, PyObject *chunk, PyObject *clas
 }
 
 /* feed(chunk, classes): a list of objects of the three classes. An error occurs only at the end of a frame, so the
- * decoder is then at its start; the rest of the chunk is dropped. The decoder is at its start too if there is no memory
- * for a copy of the chunk. */
+ * decoder is then in its initial state; the rest of the chunk is dropped. The decoder is also reset if there is no
+ * memory for a copy of the chunk. */
 static PyObject *decoder_feed(PyObject *object, PyObject *const *args, Py_ssize_t count)
 {
     Decoder *self = (Decoder *)object;

@@ -7,7 +7,7 @@
 
 #include "core.h"
 
-/* Decodes a frame for any sentinel, without sentinels in it. The room always suffices. */
+/* Decodes a frame that has no sentinels around it, for any sentinel. The room always suffices. */
 static jcobs_answer decode_frame(const unsigned char *frame, size_t len, unsigned char *message, size_t room,
                                  unsigned char sentinel)
 {
@@ -195,7 +195,7 @@ static const char encode_document[] =
 static const char decode_document[] =
     "decode(frame, *, sentinel=0)\n--\n\n"
     "Decodes a frame, and returns its message.\n\n"
-    "Leading sentinels are skipped, and the frame ends at the next sentinel, or with the bytes. The bytes after that\n"
+    "Leading sentinels are skipped, and the frame ends at the next sentinel or at the last byte. The bytes after that\n"
     "sentinel have no effect: use a `Decoder` for more than one frame.\n\n"
     "Raises `DecodeError` if the frame breaks off inside a block, or if there is no frame.\n\n"
     ">>> jcobs.decode(b\"\\x06hello\")\n"
@@ -204,7 +204,7 @@ static const char decode_document[] =
     "b'hello'";
 static const char frame_kind_document[] =
     "frame_kind(frame, *, sentinel=0)\n--\n\n"
-    "Returns whether bytes, without a sentinel around them, are a frame, and whether `encode` returns it.\n\n"
+    "Returns whether bytes are a frame without sentinels around it, and whether `encode` returns that frame.\n\n"
     "\"canonical\" is the frame that `encode` returns for its message. \"longer\" is that frame with one needless "
     "block\n"
     "after it, which decoders accept too. Anything else is \"not_a_frame\".\n\n"

@@ -1,4 +1,4 @@
-"""Consistent Overhead Byte Stuffing (COBS), by proved code.
+"""Consistent Overhead Byte Stuffing (COBS), with proved code if `jcobs.backend` is "prebuilt".
 
 A message is turned into a frame that never contains one byte value, the sentinel, so that the sentinel can mark where
 frames end on a serial line, in a stream or in a file:

@@ -1,4 +1,4 @@
-"""Shows the frames that come on a serial port or on standard input, or sends lines as frames."""
+"""Shows the frames that arrive on a serial port or on standard input, or sends lines as frames."""
 
 from __future__ import annotations
 

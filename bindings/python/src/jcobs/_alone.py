@@ -27,7 +27,7 @@ def is_at_work(frame: FrameType) -> bool:
 
 
 def begins(calls: List[FrameType], mine: FrameType) -> bool:
-    """Adds the stack frame of a call to those of the same use, and returns whether no other of these calls is running.
+    """Adds the stack frame of a call to `calls`, and returns whether no other call in `calls` is running.
 
     If another call is running, the stack frame is removed again. The stack frame of a call that has ended may still be
     there, if a signal handler raised an exception before the call could remove it. Only such a stack frame is removed

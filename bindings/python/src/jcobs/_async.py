@@ -1,4 +1,4 @@
-"""Frames from the streams of asyncio, trio and anyio, and messages to them."""
+"""Reads frames from the streams of asyncio, trio and anyio, and sends messages to them."""
 
 from __future__ import annotations
 
@@ -39,12 +39,12 @@ class AsyncFrameReader(Frames):
     """Reads frames from a stream of asyncio, trio or anyio, and sends messages.
 
     `read` returns the outcome of one frame: a `Message`, `Broken` or `TooLong`. `async for` yields each outcome as soon
-    as its frame ends, until the stream ends. If a read is cancelled, as by a timeout, no byte is lost, and the next
-    call continues where that read stopped.
+    as its frame ends, until the stream ends. If a read is cancelled, for example by a timeout, no byte is lost, and the
+    next call continues where that read stopped.
 
-    The stream is an `asyncio.StreamReader`, an object with `receive_some`, such as a stream of trio, or one with
-    `receive`, such as a stream of anyio. For asyncio `writer` is the `StreamWriter`. For trio and anyio, messages are
-    sent by `send_all` or `send`: of `writer` if that is passed, otherwise of the stream.
+    The stream is an `asyncio.StreamReader`, an object with `receive_some` (such as a stream of trio) or an object with
+    `receive` (such as a stream of anyio). For asyncio `writer` is the `StreamWriter`. For trio and anyio, messages are
+    sent with the method `send_all` or `send` of `writer`, or of the stream if no `writer` is passed.
 
     If `sync` is true, a sentinel is sent before the first frame, so that bytes left by an earlier sender or by noise
     don't become part of that frame.
@@ -181,8 +181,8 @@ class AsyncFrameReader(Frames):
         """Drops the outcomes that weren't read, and all bytes that have arrived.
 
         If these bytes end inside a frame, this call also drops the bytes that follow, until none has arrived for
-        `quiet` seconds. If bytes still arrive after one second, this call stops, and the next outcome is that of the
-        frame that is then open.
+        `quiet` seconds. If bytes are still arriving after one second, this call stops; if it stops in the middle of a
+        frame, the next outcome is for that frame.
         """
         end = time.monotonic() + LONGEST_DISCARD
         while await self._take_within(Deadline(quiet).left() or 0.0 if self.unfinished else 0.0):
@@ -197,8 +197,8 @@ class AsyncFrameReader(Frames):
         """Sends a message: its frame, and the sentinel after it. Raises TypeError if there is no `writer`.
 
         If this call is cancelled or fails, a stream of trio or anyio may have sent a part of the frame. The next write
-        then first sends bytes that end this frame, and the receiver reports at most one `Broken` or `TooLong` for that
-        frame and these bytes.
+        then first sends bytes that end the cut frame. For this frame and these bytes together, the receiver reports at
+        most one `Broken` or `TooLong`.
         """
         if self._writer is None:
             raise TypeError("to write, pass the stream's writer: AsyncFrameReader(stream, writer=writer)")
@@ -227,8 +227,8 @@ class AsyncFrameReader(Frames):
         """Sends a message, and returns the next message that is received, as its reply.
 
         Raises TimeoutError if no message has arrived after `timeout` seconds, and `DecodeError` if the reply is damaged
-        or too long. If `discard` is true, the bytes that have arrived so far are dropped first, such as a late reply to
-        another request.
+        or too long. If `discard` is true, the bytes that have arrived so far, such as a late reply to an earlier
+        request, are dropped first.
         """
         Deadline(timeout)
         if discard:

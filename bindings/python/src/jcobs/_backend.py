@@ -1,8 +1,8 @@
-"""Which code does the work: the extension `_core` if it can be loaded, or else `_plain`, which is in Python.
+"""Chooses the code to use: the extension `_core` if it can be loaded, otherwise `_plain`, which is written in Python.
 
-If the environment variable JCOBS_BACKEND is "python", `_plain` does the work. If the variable has any other value, an
-extension that can't be loaded raises ImportError. An extension of another version, which an installation may have left
-behind, isn't used.
+If the environment variable JCOBS_BACKEND is "python", `_plain` does the work. With "prebuilt" or "compiled",
+ImportError is raised if the extension can't be loaded. An extension of another version, which an installation may have
+left behind, isn't used.
 """
 
 from __future__ import annotations

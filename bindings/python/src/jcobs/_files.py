@@ -1,4 +1,4 @@
-"""How the bytes of serial ports, sockets, pipes and files are read and written."""
+"""Reads and writes the bytes of serial ports, sockets, pipes and files."""
 
 from __future__ import annotations
 
@@ -87,10 +87,10 @@ def is_ready(file: Any, timeout: float) -> bool:
 
 
 def read_port(port: Any, timeout: Optional[float], kept: Kept) -> bool:
-    """Reads the bytes that a serial port has, or waits for the next one.
+    """Reads the bytes that a serial port has, or waits for the next byte.
 
-    It waits for the descriptor. If it set the port's own timeout, the port would be configured again while bytes
-    arrive.
+    This function waits on the descriptor. If it set the port's own timeout instead, the port would be configured again
+    while bytes are arriving.
     """
     waiting = port.in_waiting
     if not waiting:
@@ -103,7 +103,7 @@ def read_port(port: Any, timeout: Optional[float], kept: Kept) -> bool:
 
 
 def read_port_by_its_timeout(port: Any, timeout: Optional[float], kept: Kept) -> bool:
-    """Reads the bytes that a port without a descriptor has, or waits for the next one: a port on Windows or of rfc2217://.
+    """Reads the bytes that a port without a descriptor (on Windows, or of rfc2217://) has, or waits for the next byte.
     """
     waiting = port.in_waiting
     if waiting or timeout is None:
@@ -119,7 +119,7 @@ def read_port_by_its_timeout(port: Any, timeout: Optional[float], kept: Kept) ->
 def read_port_at_a_socket(port: Any, timeout: Optional[float], kept: Kept) -> bool:
     """Reads the bytes that a port of socket:// has, or waits for some.
 
-    Its `in_waiting` is 1 for any number of bytes.
+    The port's `in_waiting` is 1 for any number of waiting bytes above 0.
     """
     own = port.timeout
     if not wait([port.fileno()], own if timeout is None else timeout):
@@ -215,7 +215,7 @@ def read_of(file: Any) -> Read:
 
 
 def send(file: Any, data: bytes) -> None:
-    """Writes all of the data to a file, or raises an exception after some of it."""
+    """Writes all of the data to a file, or raises an exception; a part of the data may then have been written."""
     if hasattr(file, "sendall"):
         file.sendall(data)
         return

@@ -15,7 +15,7 @@ FrameKind = Literal["not_a_frame", "canonical", "longer"]
 
 
 class DecodeError(ValueError):
-    """Raised by `decode` if the bytes have no message, and by `request` of a reader if the reply has none.
+    """Raised by `decode` if the bytes aren't a frame, and by a reader's `request` if the reply is damaged or too long.
 
     `kind` is "broken" if the frame breaks off inside a block, or "empty" if there are no bytes, or only sentinels. If a
     reader raises the error, `kind` may also be "too_long": the message is longer than `max_length`. `data` is the bytes
@@ -51,7 +51,7 @@ max_length = core.max_length
 
 
 def encode_in_place(buffer: WriteableBuffer, length: int, *, sentinel: int = 0) -> int:
-    """Encodes a message in its own buffer, and returns the length of its frame.
+    """Encodes a message in place in `buffer`, and returns the length of its frame.
 
     Before the call the message, which has `length` bytes, begins at index `max_length(length) - length` of `buffer`; the
     bytes before it don't matter. Afterwards `buffer` begins with the frame, and the bytes after the frame are as they

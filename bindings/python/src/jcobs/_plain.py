@@ -1,6 +1,7 @@
 """The calls of the extension `_core`, written in Python, for use without the extension.
 
-Each byte of a frame for another sentinel is XORed with that sentinel, so every loop needs to know only the sentinel 0.
+Each byte of a frame for a sentinel other than 0 is XORed with that sentinel, so the loops have to handle only the
+sentinel 0.
 """
 
 from __future__ import annotations
@@ -119,7 +120,7 @@ def encode(data: ReadableBuffer, *, sentinel: int = 0, terminated: bool = False)
 def decode(frame: ReadableBuffer, *, sentinel: int = 0) -> bytes:
     """Decodes a frame, and returns its message.
 
-    Leading sentinels are skipped, and the frame ends at the next sentinel, or with the bytes. The bytes after that
+    Leading sentinels are skipped, and the frame ends at the next sentinel or at the last byte. The bytes after that
     sentinel have no effect: use a `Decoder` for more than one frame.
 
     Raises `DecodeError` if the frame breaks off inside a block, or if there is no frame.
@@ -142,7 +143,7 @@ def decode(frame: ReadableBuffer, *, sentinel: int = 0) -> bytes:
 
 
 def frame_kind(frame: ReadableBuffer, *, sentinel: int = 0) -> FrameKind:
-    """Returns whether bytes, without a sentinel around them, are a frame, and whether `encode` returns it.
+    """Returns whether bytes are a frame without sentinels around it, and whether `encode` returns that frame.
 
     "canonical" is the frame that `encode` returns for its message. "longer" is that frame with one needless block
     after it, which decoders accept too. Anything else is "not_a_frame".

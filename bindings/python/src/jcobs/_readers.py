@@ -1,4 +1,4 @@
-"""Frames from files, serial ports, sockets and the streams of asyncio, trio and anyio, and messages to them."""
+"""Reads frames from files, serial ports, sockets and streams of asyncio, trio and anyio, and sends messages to them."""
 
 from __future__ import annotations
 
@@ -34,15 +34,16 @@ def closing(count: int, sentinel: int) -> bytes:
     A single sentinel isn't enough: a frame that was cut off between two of its blocks is the frame of a shorter
     message. If k bytes of a block are missing (k is less than `count`), the first k of the returned bytes complete that
     block. The next byte is a code of 255 with fewer than 254 bytes after it, so the frame is broken. Up to 254 bytes of
-    a block can be missing. So for a `count` of 255 the first returned byte is the code of an empty block, because 254
-    bytes would follow the code of a full one.
+    a block can be missing. So for a `count` of 255 the first returned byte is 1, the code of an empty block: if it were
+    255 and no byte of a block were missing, 254 bytes would follow it and make a full block.
     """
     spoiling = b"\xff" * count if count < 255 else b"\x01" + b"\xff" * 254
     return bytes(byte ^ sentinel for byte in spoiling + b"\0")
 
 
 def reply_of(outcome: Optional[Outcome]) -> bytes:
-    """Returns the message of the reply to a request, or raises an error if there is none, or if it is damaged or too long."""
+    """Returns the message of a reply, or raises an error if there is no reply, or if the reply is damaged or too long.
+    """
     if outcome is None:
         raise TimeoutError("no reply came in time")
     if not isinstance(outcome, Message):
@@ -51,7 +52,7 @@ def reply_of(outcome: Optional[Outcome]) -> bytes:
 
 
 class Deadline:
-    """The moment at which a call stops waiting, or no such moment."""
+    """The moment at which a call stops waiting, or none if the call waits without a limit."""
 
     def __init__(self, timeout: Optional[float]) -> None:
         if isinstance(timeout, (str, bytes)) or not (timeout is None or hasattr(timeout, "__float__")):
@@ -65,7 +66,7 @@ class Deadline:
 
 
 class Frames(Coder):
-    """A decoder, the bytes that it has to decode next, and the outcomes that weren't returned yet."""
+    """A decoder, the bytes that it has to decode next, and the outcomes that haven't been returned yet."""
 
     def __init__(self, max_length: int, sentinel: int, sync: bool) -> None:
         self._decoder = Decoder(max_length, sentinel)
@@ -112,9 +113,10 @@ class Frames(Coder):
     def _decode(self) -> bytes:
         """Decodes the chunk that has arrived, and returns this chunk.
 
-        If a signal handler raises an exception, or memory runs out, the chunk stays, and the next call decodes it. Only a
-        frame that had begun before the chunk is lost. A single call into C decodes the chunk, keeps the outcomes and
-        drops the chunk, so that no exception of a signal handler can come between these steps.
+        If a signal handler raises an exception, or memory runs out, the chunk stays, and the next call decodes it. The
+        only frame that is lost is the one that had begun before the chunk, if there is one. A single call into C
+        decodes the chunk, keeps the outcomes and drops the chunk, so that no exception of a signal handler can come
+        between these steps.
         """
         chunk = self._arrived[0]
         left = self._without_rest(chunk) if self._headless else chunk
@@ -153,8 +155,9 @@ class FrameReader(Frames):
     as its frame ends, until the stream ends or a timeout of the port or socket passes. After a timeout reading can
     continue. No byte is lost if the read of the file raises an exception.
 
-    If a signal handler raises an exception, no byte of a socket, a pipe or a file is lost. Bytes may be lost in
-    pyserial and in the `makefile` of a socket: then the frames that these bytes belong to are reported as one `Broken`.
+    If a signal handler raises an exception, no byte of a socket, a pipe or a file is lost, with the extension and
+    CPython 3.11 or later. Bytes may be lost in plain Python, on an older CPython, in pyserial and in the `makefile` of
+    a socket: then the frames that these bytes belong to are reported as one `Broken`.
 
     If `sync` is true, a sentinel is sent before the first frame, so that bytes left by an earlier sender or by noise
     don't become part of that frame.
@@ -216,8 +219,8 @@ class FrameReader(Frames):
     def read(self, timeout: Optional[float] = None) -> Optional[Outcome]:
         """Returns the outcome of the next frame, or None if it hasn't ended after `timeout` seconds.
 
-        Without `timeout` the call waits as long as the object itself waits. None then means that the object's own
-        timeout has passed, or that the object never waits and has no bytes now. Raises EOFError at the end of the
+        Without `timeout` the call waits as long as the object itself waits. In that case, None means that the object's
+        own timeout has passed, or that the object never waits and has no bytes now. Raises EOFError at the end of the
         stream.
 
         With a timeout, bytes that other code such as `readline` has left in a file's own buffer aren't seen: open the file
@@ -294,8 +297,8 @@ class FrameReader(Frames):
         """Drops the outcomes that weren't read, and all bytes that have arrived.
 
         If these bytes end inside a frame, this call also drops the bytes that follow, until none has arrived for
-        `quiet` seconds. If bytes still arrive after one second, this call stops, and the next outcome is that of the
-        frame that is then open.
+        `quiet` seconds. If bytes are still arriving after one second, this call stops; if it stops in the middle of a
+        frame, the next outcome is for that frame.
 
         A file in memory or on a disk is read to its end.
 
@@ -318,10 +321,10 @@ class FrameReader(Frames):
     def write(self, message: ReadableBuffer) -> None:
         """Sends a message: its frame, and the sentinel after it.
 
-        If this call fails, or a signal handler ends it by an exception, a part of the frame may have been sent. The
-        next write then first sends bytes that end this frame, and the receiver reports at most one `Broken` or
-        `TooLong` for that frame and these bytes. A port may still be sending when this call returns: the port's own
-        `flush` waits until everything is sent.
+        If this call fails, or a signal handler ends it by raising an exception, a part of the frame may have been sent.
+        The next write then first sends bytes that end the cut frame. For this frame and these bytes together, the
+        receiver reports at most one `Broken` or `TooLong`. A port may still be sending when this call returns: the
+        port's own `flush` waits until everything is sent.
 
         >>> import io
         >>> file = io.BytesIO()
@@ -341,7 +344,7 @@ class FrameReader(Frames):
         or too long. After such an error the reply, or the rest of it, may still arrive. If `discard` is true, the bytes
         that have arrived so far are dropped first, so that they aren't mistaken for the reply to this message.
 
-        A reply to an earlier request that arrives after that is mistaken for the reply to this one, because COBS
+        If the reply to an earlier request arrives later, it is mistaken for the reply to this request, because COBS
         doesn't say which reply belongs to which request. If that can happen, number the requests.
         """
         Deadline(timeout)
@@ -356,8 +359,9 @@ def frames(
 ) -> FrameReader:
     """Returns an iterator over the outcomes of the frames in bytes, or in a binary file such as a log.
 
-    Each frame is decoded when its outcome is asked for. The iterator is a `FrameReader`: at the end its `unfinished`
-    says whether the last frame was cut off, and its `messages` skips damaged frames.
+    The bytes are read and decoded in chunks of up to 65536 bytes, as the outcomes are asked for. The iterator is a
+    `FrameReader`: at the end its `unfinished` says whether the last frame was cut off, and its `messages` skips damaged
+    frames.
 
     >>> for outcome in jcobs.frames(b"\\x03hi\\x00\\x05a\\x00\\x06hello\\x00"):
     ...     print(outcome)

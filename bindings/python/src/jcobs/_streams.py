@@ -61,8 +61,8 @@ class Coder:
 class Decoder(Coder):
     """Decodes a stream of frames that comes in chunks of any size.
 
-    `max_length` is the length of the longest message; the decoder allocates this much memory at once. A broken or too
-    long frame never affects the next one.
+    `max_length` is the length of the longest message; this much memory is allocated when the decoder is created. A
+    broken or too long frame never affects the next one.
 
     A decoder is for one thread at a time: while a call is at work, each method raises RuntimeError in other threads, and
     in signal handlers.
@@ -77,7 +77,8 @@ class Decoder(Coder):
         """Decodes the next bytes of the stream, and returns the outcome of each frame that ends in them, in order.
 
         Raises MemoryError if there isn't enough memory for these outcomes. Then these outcomes are lost, and the
-        decoder is reset. The same happens if a signal handler raises an exception, as for Ctrl-C.
+        decoder is reset. Outcomes are also lost, and the decoder reset, if a signal handler raises an exception, as the
+        one for Ctrl-C does.
 
         >>> decoder = jcobs.Decoder(max_length=5)
         >>> for outcome in decoder.feed(b"\\x03hi\\x00\\x06hel\\x00\\x07hello!\\x00"):
@@ -117,8 +118,8 @@ class Decoder(Coder):
 class Encoder(Coder):
     """Encodes messages that come in pieces.
 
-    `max_length` is the length of the longest message; the encoder allocates this much memory at once. An encoder is for
-    one thread at a time, like a `Decoder`.
+    `max_length` is the length of the longest message; memory for such a message or its frame is allocated when the
+    encoder is created. An encoder is for one thread at a time, like a `Decoder`.
 
     >>> encoder = jcobs.Encoder()
     >>> encoder.feed(b"hel")

@@ -1,12 +1,12 @@
-"""The names of the module `cobs.cobs` of the package `cobs`, so that a script switches by its import line:
+"""Has the names of the module `cobs.cobs` of the package `cobs`, so that a script needs to change only its import line:
 
 >>> from jcobs import compat as cobs    # was: from cobs import cobs
 >>> cobs.decode(cobs.encode(b"hello"))
 b'hello'
 
-As in `cobs`, `decode` takes a frame without a sentinel after it, and returns no bytes for no bytes. On damage `decode`
-raises a `DecodeError` of this module, with the texts that `cobs` uses. Both functions raise TypeError for a str. This
-package has nothing like the module `cobs.cobsr` (COBS/R): keep the package `cobs` for that.
+As in `cobs`, `decode` takes a frame without a sentinel after it, and returns empty bytes for empty bytes. If the frame
+is damaged, `decode` raises a `DecodeError` of this module, with the texts that `cobs` uses. Both functions raise
+TypeError for a str. This package has nothing like the module `cobs.cobsr` (COBS/R): keep the package `cobs` for that.
 """
 
 from __future__ import annotations
