@@ -2,8 +2,8 @@
  *
  * COBS encodes a message, which may be any bytes, as a frame that never contains a certain byte value: the sentinel. So
  * the sentinel can mark the end of each frame on a serial line or in a file. The sentinel is 0, except in the calls
- * that have a parameter `sentinel`. The frame of a message of up to 254 bytes is 1 byte longer than the message. Each
- * further 254 bytes of a message, or part of them, add at most 1 byte to the frame.
+ * that have a parameter `sentinel`. The frame of a message of up to 254 bytes is 1 byte longer than the message. The
+ * frame of a longer message has at most 1 extra byte for each 254 bytes, or part of 254 bytes, of the message.
  *
  * To receive, in reads of any size:
  *
@@ -60,11 +60,12 @@
  *
  * Preconditions
  *
- * Each pointer to bytes comes with a number of bytes. A parameter named len or .._len is the number of bytes that are
- * there. A parameter named .._size is the number of bytes for which a buffer has room. The pointer must be valid for
- * reads of that many bytes, and unless it points to const, also for writes. If the number is 0, the pointer isn't used
- * and may be NULL. The number must be at most PTRDIFF_MAX. The buffers of a call must not overlap each other or the
- * state. To encode or decode within one buffer, use jcobs_encode_in_place or jcobs_decode_in_place.
+ * Each pointer to bytes comes with a number of bytes. A parameter named len, or with a name that ends in _len, is the
+ * number of bytes of input. A parameter with a name that ends in _size is the number of bytes for which a buffer has
+ * room. The pointer must be valid for reads of that many bytes, and also for writes if it doesn't point to const. If
+ * the number is 0, the pointer isn't used and may be NULL. The number must be at most PTRDIFF_MAX. The buffers of a
+ * call must not overlap each other or the state. To encode or decode within one buffer, use jcobs_encode_in_place or
+ * jcobs_decode_in_place.
  *
  * A pointer to a state must be valid. The state may have any contents. Even if the state is corrupt, the call returns
  * and accesses no memory outside its buffers; consumed is at most the number of bytes passed, and length is at most the
@@ -84,21 +85,21 @@
  *
  * - consumed is the number of bytes that the call has taken from the message, the source or the pushed bytes;
  * - length is the number of bytes at the front of the buffer that belong to the result. The bytes after them are as
- *   they were before the call. After a call of a streaming coder, they are as they were before the frame or the message
- *   began; but if an encoder returns TOO_SMALL, the whole buffer is as it was before the call. The only exception is
- *   jcobs_decode_in_place_with_sentinel.
+ *   they were before the call. After a call of a streaming coder, the bytes after the result are as they were before
+ *   the frame or the message began; but if an encoder returns TOO_SMALL, the whole buffer is as it was before the call.
+ *   The only exception is jcobs_decode_in_place_with_sentinel, which changes bytes after the result.
  *
  * A frame is a sequence of blocks. A block is a code, from 1 to 255, followed by code - 1 nonzero bytes. A block with
  * the code 255 is full. A broken frame ends inside its last block; the blocks before that block are whole. The output
  * of the whole blocks includes the zero after the last whole block, unless that block is full. For example, the output
  * of the whole blocks of 02 41 05 42 is 41 00.
  *
- * For jcobs_decode, jcobs_decode_in_place and their forms with a sentinel, no sentinel has to follow the frame. Without
- * a sentinel the frame ends with the source, and consumed is the source's length. So a frame that was cut off between
- * two blocks is decoded as a shorter frame, with status OK. If your protocol ends each frame with a sentinel, test
- * whether source[consumed - 1] is the sentinel. The test works also after a call in place, because no call changes the
- * sentinel or the bytes after it. The streaming decoder reports a frame only when its sentinel has arrived. COBS has no
- * checksum: damage that turns a frame into another frame isn't noticed.
+ * jcobs_decode, jcobs_decode_in_place and their forms with a sentinel don't need a sentinel after the frame. Without a
+ * sentinel the frame ends at the end of the source, and consumed is the source's length. So a frame that was cut off
+ * between two blocks is decoded as a shorter frame, with status OK. If your protocol ends each frame with a sentinel,
+ * test whether source[consumed - 1] is the sentinel. This test also works after a call in place, because no call
+ * changes the sentinel or the bytes after it. The streaming decoder reports a frame only when its sentinel has arrived.
+ * COBS has no checksum: damage that turns a frame into another frame isn't noticed.
  *
  * The built library, libjcobs.a, needs x86-64-v2 on x86-64 (SSE4.2 and POPCNT: Intel processors since 2009, AMD
  * processors since 2011), and ARMv8-A on aarch64. The library has call frame information for debuggers, but no unwind
@@ -159,8 +160,8 @@ typedef struct jcobs_answer {
     size_t length;       /* how many bytes at the front of the buffer belong to the result */
 } jcobs_answer;
 
-/* The results of jcobs_frame_kind. They say whether bytes, without sentinels around them, are a frame, and whether they
- * are the frame that encoders write. */
+/* The results of jcobs_frame_kind. A result says whether bytes, without sentinels around them, are a frame, and whether
+ * that frame is the one that encoders write. */
 enum jcobs_kind {
     JCOBS_NOT_A_FRAME = 0, /* there are no bytes, a byte is 0, or the bytes break off inside a block */
     JCOBS_CANONICAL = 1,   /* the frame that encoders write for its message */
@@ -193,8 +194,8 @@ typedef struct jcobs_encoder {
 /* clang-format on */
 
 /* With these attributes GCC and Clang check that the result of a call is used, and that a pointer to a state isn't
- * NULL. GCC also checks that the memory at a pointer is as long as the length that is passed with the pointer. The
- * parameters `pointer` and `length` of the macros are positions in the list of arguments. The calls that finish a
+ * NULL. GCC also checks that the memory at a pointer is at least as long as the length that is passed with the pointer.
+ * The parameters `pointer` and `length` of the macros are positions in the list of arguments. The calls that finish a
  * message are marked as calls that only write to the buffer, though they also read the pushed bytes from it. Otherwise
  * GCC would warn if nothing was pushed, because then nothing has been written to the buffer. */
 #ifdef __GNUC__
@@ -264,7 +265,7 @@ JCOBS_API jcobs_answer jcobs_encode_in_place(void *buffer, size_t buffer_size, s
  *              the buffer is as it was */
 
 /* Decodes the first frame of the source to the front of the buffer `message`. Leading zeros are skipped, and the frame
- * ends at the next zero or with the source. A buffer as long as the source is always long enough. */
+ * ends at the next zero or at the end of the source. A buffer as long as the source is always long enough. */
 JCOBS_API jcobs_answer jcobs_decode(const void *source, size_t source_len, void *message, size_t message_size)
     JCOBS_READS(1, 2) JCOBS_WRITES(3, 4) JCOBS_CHECKED;
 /* returns: status OK, consumed the leading zeros, the frame and the zero after it, length of the message
@@ -273,10 +274,10 @@ JCOBS_API jcobs_answer jcobs_decode(const void *source, size_t source_len, void 
  *              first bytes
  *          status EMPTY, consumed source_len, length 0: the source has no bytes, or only zeros */
 
-/* Decodes the frame at the front of the source, for this sentinel, to the front of the buffer `message`. The frame ends
- * at the first sentinel or with the source. No sentinel is skipped: if the source begins with a sentinel, the message
- * is empty. So the results for the sentinel 0 may differ from those of jcobs_decode, which skips leading zeros, and
- * whose output of a broken frame includes the block that is cut off. */
+/* Decodes the frame at the front of the source, for the given sentinel, to the front of the buffer `message`. The frame
+ * ends at the first sentinel or at the end of the source. No sentinel is skipped: if the source begins with a sentinel,
+ * the message is empty. So the results for the sentinel 0 may differ from those of jcobs_decode, which skips leading
+ * zeros, and whose output of a broken frame includes the block that is cut off. */
 JCOBS_API jcobs_answer jcobs_decode_with_sentinel(const void *source, size_t source_len, void *message,
                                                   size_t message_size, unsigned char sentinel) JCOBS_READS(1, 2)
     JCOBS_WRITES(3, 4) JCOBS_CHECKED;
@@ -286,22 +287,22 @@ JCOBS_API jcobs_answer jcobs_decode_with_sentinel(const void *source, size_t sou
  *              is longer, and the buffer has its first bytes
  *          status EMPTY, consumed 0, length 0: the source has no bytes */
 
-/* Decodes the frame at the front of the buffer in place. The frame ends at the first zero or with the buffer. No zero
- * is skipped: if the buffer begins with a zero, the message is empty. There is always room, because no message is
- * longer than its frame. */
+/* Decodes the frame at the front of the buffer in place. The frame ends at the first zero or at the end of the buffer.
+ * No zero is skipped: if the buffer begins with a zero, the message is empty. There is always room, because no message
+ * is longer than its frame. */
 JCOBS_API jcobs_answer jcobs_decode_in_place(void *buffer, size_t buffer_len) JCOBS_CHANGES(1, 2) JCOBS_CHECKED;
 /* returns: status OK, consumed the frame and the zero after it, length of the message
  *          status BROKEN, consumed as for OK, length of the output of the whole blocks
  *          status EMPTY, consumed 0, length 0: the buffer has no bytes */
 
-/* Does what jcobs_decode_in_place does, for this sentinel. The bytes of the buffer from the message's end to the
+/* Does what jcobs_decode_in_place does, for the given sentinel. The bytes of the buffer from the message's end to the
  * frame's end are XORed with the sentinel. The sentinel and the bytes after it aren't changed, so the next frame begins
  * at buffer + consumed. */
 JCOBS_API jcobs_answer jcobs_decode_in_place_with_sentinel(void *buffer, size_t buffer_len, unsigned char sentinel)
     JCOBS_CHANGES(1, 2) JCOBS_CHECKED;
 /* returns: as jcobs_decode_in_place, with the sentinel instead of the zero */
 
-/* Returns whether the bytes are a frame for the sentinel 0, and whether they are the frame that encoders write. */
+/* Returns whether the bytes are a frame for the sentinel 0, and whether that frame is the one that encoders write. */
 JCOBS_API unsigned int jcobs_frame_kind(const void *bytes, size_t len) JCOBS_READS(1, 2) JCOBS_CHECKED;
 /* returns: one of enum jcobs_kind */
 
@@ -329,8 +330,8 @@ JCOBS_API jcobs_answer jcobs_decoder_feed(jcobs_decoder *decoder, void *buffer, 
                                           unsigned char byte) JCOBS_STATE JCOBS_WRITES(2, 3) JCOBS_CHECKED;
 /* returns: as jcobs_decoder_push; consumed is 1 */
 
-/* Does what jcobs_decoder_push does, for a stream in which this sentinel ends each frame. In the built library this
- * call is slower than jcobs_decoder_push, because it decodes byte by byte. */
+/* Does what jcobs_decoder_push does, for a stream in which the given sentinel ends each frame. In the built library
+ * this call is slower than jcobs_decoder_push, because it decodes byte by byte. */
 JCOBS_API jcobs_answer jcobs_decoder_push_with_sentinel(jcobs_decoder *decoder, void *buffer, size_t buffer_size,
                                                         const void *bytes, size_t len,
                                                         unsigned char sentinel) JCOBS_STATE JCOBS_WRITES(2, 3)

@@ -155,7 +155,7 @@ using buffer = basic_view<unsigned char>;     // bytes that are written
     return JCOBS_MAX_LENGTH(message_len) < message_len ? 0 : JCOBS_MAX_LENGTH(message_len);
 }
 
-// Returns by how many bytes the longest frame of a message of message_len bytes is longer than the message.
+// Returns the greatest number of bytes that encoding adds to a message of message_len bytes, without a sentinel.
 constexpr std::size_t max_overhead(std::size_t message_len) noexcept
 {
     return JCOBS_MAX_OVERHEAD(message_len);
@@ -193,14 +193,14 @@ constexpr std::size_t max_overhead(std::size_t message_len) noexcept
     return jcobs_decode(source.data(), source.size(), message.data(), message.size());
 }
 
-// Decodes the frame at the front of the source, for this sentinel. No sentinel is skipped: if the source begins with a
-// sentinel, the message is empty.
+// Decodes the frame at the front of the source, for the given sentinel, to the front of a buffer. No sentinel is
+// skipped: if the source begins with a sentinel, the message is empty.
 [[nodiscard]] inline jcobs_answer decode_with_sentinel(view source, buffer message, unsigned char sentinel) noexcept
 {
     return jcobs_decode_with_sentinel(source.data(), source.size(), message.data(), message.size(), sentinel);
 }
 
-// Decode the frame at the front of a buffer in place, for the sentinel 0 or for this sentinel.
+// Decode the frame at the front of a buffer in place, for the sentinel 0 or for the given sentinel.
 [[nodiscard]] inline jcobs_answer decode_in_place(buffer bytes) noexcept
 {
     return jcobs_decode_in_place(bytes.data(), bytes.size());
@@ -210,16 +210,16 @@ constexpr std::size_t max_overhead(std::size_t message_len) noexcept
     return jcobs_decode_in_place_with_sentinel(bytes.data(), bytes.size(), sentinel);
 }
 
-// Returns whether bytes, without sentinels around them, are a frame, and whether they are the shortest frame of its
+// Returns whether bytes, without sentinels around them, are a frame, and whether that frame is the shortest one for its
 // message.
 [[nodiscard]] inline jcobs_kind frame_kind(view bytes) noexcept
 {
     return static_cast<jcobs_kind>(jcobs_frame_kind(bytes.data(), bytes.size()));
 }
 
-// Decodes a stream of frames, which may be passed in pieces of any size, to a buffer. The sentinel follows each frame.
-// The buffer must outlive the receiver. A receiver can be moved, but not in a callback of its own push. A receiver that
-// was moved from is idle, and has no buffer.
+// Decodes a stream of frames to a buffer. The sentinel follows each frame, and the stream may be passed in pieces of
+// any size. The buffer must outlive the receiver. A receiver can be moved, but not in a callback of its own push. A
+// receiver that was moved from is idle, and has no buffer.
 class receiver
 {
   public:
@@ -243,9 +243,9 @@ class receiver
     }
 
     // Calls on_message(view) for each message whose frame ends in these bytes, and on_error(jcobs_answer) for each
-    // frame that is broken or too long. A message is in the buffer while on_message runs; then the next frame may
-    // overwrite it. If a callback throws, the push has taken the bytes through the frame of this callback, and no bytes
-    // after the frame. The receiver is then idle, and the next push begins a new frame.
+    // frame that is broken or too long. A message is in the buffer while on_message runs; after that, the next frame
+    // may overwrite the message. If a callback throws, the push has taken all bytes through the sentinel of the frame
+    // that the callback got, and no bytes after it. The receiver is then idle, and the next push begins a new frame.
     template <class OnMessage, class OnError> void push(view bytes, OnMessage &&on_message, OnError &&on_error)
     {
         consumed_ = 0;
@@ -335,8 +335,8 @@ class sender
         return *this;
     }
 
-    // push takes the next bytes of the message, and feed takes the next byte. They return false if the frame with these
-    // bytes doesn't fit the buffer; then nothing has changed.
+    // push takes the next bytes of the message, and feed takes the next byte. Both return false if the frame of the
+    // message with the new bytes doesn't fit the buffer; then nothing has changed.
     [[nodiscard]] bool push(view bytes) noexcept
     {
         return jcobs_encoder_push(&encoder_, buffer_.data(), buffer_.size(), bytes.data(), bytes.size()).status ==
@@ -349,8 +349,8 @@ class sender
 
     // finish ends the message and returns its frame for the sentinel. finish_terminated also writes the sentinel after
     // the frame, and returns the frame with the sentinel. The returned bytes are in the buffer until the next push or
-    // feed. If they don't fit, the result is an empty view, and nothing has changed; reset drops the message. The
-    // result of finish is empty only if the buffer is empty.
+    // feed. If the frame, or the frame with the sentinel, doesn't fit the buffer, the result is an empty view, and
+    // nothing has changed; reset drops the message. The result of finish is empty only if the buffer is empty.
     [[nodiscard]] view finish(unsigned char sentinel = 0) noexcept
     {
         return for_sentinel(jcobs_encoder_finish(&encoder_, buffer_.data(), buffer_.size()), sentinel);

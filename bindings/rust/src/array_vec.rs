@@ -95,7 +95,7 @@ impl<const N: usize> DerefMut for ArrayVec<N> {
     }
 }
 
-/// Makes a full vector of the array.
+/// Makes a full vector from the array.
 impl<const N: usize> From<[u8; N]> for ArrayVec<N> {
     fn from(bytes: [u8; N]) -> Self {
         Self { bytes, len: N }

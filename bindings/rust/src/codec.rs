@@ -41,8 +41,8 @@ pub struct MessageCodec {
 }
 
 impl MessageCodec {
-    /// Makes a codec that receives messages of up to `max_len` bytes. It allocates that many bytes. Messages
-    /// that it sends may be longer.
+    /// Makes a codec that receives messages of up to `max_len` bytes. It allocates that many bytes. Messages that the
+    /// codec sends may be longer.
     #[must_use]
     pub fn new(max_len: usize) -> Self {
         Self {

@@ -1,4 +1,4 @@
-//! Decodes frames: the signatures of the crate `cobs`, over the proved functions.
+//! Decodes frames: functions with the signatures of the crate `cobs`, which call the proved functions.
 
 mod decoder;
 
@@ -19,7 +19,7 @@ impl Default for UnbufferedDecoder {
     }
 }
 
-/// Keeps the error, and drops the number of bytes that were taken. So `?` works for a push to each of the decoders:
+/// Keeps the error, and drops the number of bytes that were taken. So `?` works for a push to any of the decoders:
 ///
 /// ```
 /// use jcobs::{DecodeError, UnbufferedDecoder};
@@ -83,7 +83,7 @@ impl core::error::Error for ReadFault {}
 pub type DecodingResult = DecodeReport;
 
 /// Decodes the first frame of `source` to the front of `dest`. Leading zeros are skipped, and the frame ends at the
-/// next zero, or with the source. The bytes of `dest` after the message stay as they are.
+/// next zero, or at the end of the source. The bytes of `dest` after the message stay as they are.
 ///
 /// The report's [`parsed_size`](DecodeReport::parsed_size) counts the leading zeros, the frame, and the zero after it
 /// if there is one.
@@ -112,8 +112,8 @@ pub fn decode(source: &[u8], dest: &mut [u8]) -> Result<DecodeReport, DecodeErro
 }
 
 /// Decodes the frame at the front of `buff` in place, and returns the message's length in bytes. The frame ends at the
-/// first zero, or with the buffer. No zero is skipped: if `buff` begins with a zero, the message is empty. The bytes
-/// after the message stay as they are.
+/// first zero, or at the end of the buffer. No zero is skipped: if `buff` begins with a zero, the message is empty. The
+/// bytes after the message stay as they are.
 ///
 /// ```
 /// let mut buff = *b"\x02a\x02b\0";
@@ -150,8 +150,9 @@ pub fn decode_in_place_report(buf: &mut [u8]) -> Result<DecodeReport, DecodeErro
 }
 
 /// Decodes the frame at the front of `source`, for the given sentinel, to the front of `dest`, and returns the
-/// message's length in bytes. The frame ends at the first sentinel, or with the source. No sentinel is skipped: if
-/// `source` begins with a sentinel, the message is empty. The bytes of `dest` after the message stay as they are.
+/// message's length in bytes. The frame ends at the first sentinel, or at the end of the source. No sentinel is
+/// skipped: if `source` begins with a sentinel, the message is empty. The bytes of `dest` after the message stay as
+/// they are.
 ///
 /// ```
 /// let mut frame = [0; 8];
@@ -177,8 +178,8 @@ pub fn decode_with_sentinel(
     proved::decode_with_sentinel(source, dest, sentinel)
 }
 
-/// Does what [`decode_in_place`] does, for the given sentinel. First each byte of `buff`, even after the frame, is
-/// XORed with the sentinel, as in the crate `cobs`.
+/// Does what [`decode_in_place`] does, for the given sentinel. First each byte of `buff`, including the bytes after the
+/// frame, is XORed with the sentinel, as in the crate `cobs`.
 ///
 /// ```
 /// let mut buff = [0; 3];
@@ -233,8 +234,8 @@ pub fn decode_vec_with_sentinel(
     Ok(decoded)
 }
 
-/// Returns whether the bytes are a frame, and whether they are the frame that encoders write for its message. The crate
-/// `cobs` doesn't have this call.
+/// Returns whether the bytes are a frame, and whether that frame is the one that encoders write for its message. The
+/// crate `cobs` doesn't have this call.
 ///
 /// ```
 /// use jcobs::{FrameKind, frame_kind};

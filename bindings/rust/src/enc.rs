@@ -1,4 +1,4 @@
-//! Encodes messages: the signatures of the crate `cobs`, over the proved functions.
+//! Encodes messages: functions with the signatures of the crate `cobs`, which call the proved functions.
 
 mod encoder;
 
@@ -97,8 +97,8 @@ pub fn try_encode_including_sentinels(
 }
 
 /// Writes the frame of `source` for the given sentinel to the front of `dest`, and returns the frame's length in bytes.
-/// It is the frame for the sentinel 0, with each byte XORed with `sentinel`. The bytes after the frame stay as they
-/// are.
+/// This frame is the frame for the sentinel 0 with each byte XORed with `sentinel`. The bytes after the frame stay as
+/// they are.
 ///
 /// ```
 /// let mut dest = [0; 4];

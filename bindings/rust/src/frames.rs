@@ -201,8 +201,8 @@ pub(crate) fn append_frame(stream: &mut Vec<u8>, message: &[u8]) -> Result<(), A
     memory::append(stream, room, |zeros| encode(message, zeros) + 1)
 }
 
-/// Returns the greatest length of the stream that [`encode_frames`] makes of these messages: the sum of
-/// [`max_encoding_length`] plus 1 over the messages. Returns `None` if this sum doesn't fit a `usize`.
+/// Returns the greatest length of the stream that [`encode_frames`] makes of messages as long as these: the sum, over
+/// all messages, of [`max_encoding_length`] plus 1. Returns `None` if this sum doesn't fit a `usize`.
 ///
 /// ```
 /// assert_eq!(jcobs::encode_frames_room(["hi", ""]), Some(6));

@@ -3,8 +3,8 @@
 //!
 //! COBS encodes a message, which may be any bytes, as a frame that never contains a certain byte value: the sentinel.
 //! So the sentinel, usually 0, can mark the end of each frame on a serial line or in a file. The frame of a message of
-//! up to 254 bytes is 1 byte longer than the message. Each further 254 bytes of a message, or part of them, add at most
-//! 1 byte to the frame.
+//! up to 254 bytes is 1 byte longer than the message. The frame of a longer message has at most 1 extra byte for each
+//! 254 bytes, or part of 254 bytes, of the message.
 //!
 //! # Switching from `cobs`
 //!
@@ -75,17 +75,17 @@
 //! | messages to record as a stream | [`encode_frames`] |
 //! | a message that needs a buffer for its frame | [`max_encoding_length`] |
 //!
-//! The folder `examples` of the repository has a program for a serial line with tokio, a receiver over embedded-io, and
-//! a receiver whose bytes arrive in an interrupt handler.
+//! The folder `bindings/rust/examples` of the repository has a program for a serial line with tokio, a receiver over
+//! embedded-io, and a receiver whose bytes arrive in an interrupt handler.
 //!
 //! # What is proved
 //!
 //! The functions of `src/proved/` are translated from the crates `cobs` and `cobs_bytes` in Rattle, which is Rust with
 //! contracts. In Rattle each function is proved to return the right result, not to panic, and to end, for a `usize` of
-//! 64 bits. The other files of `src/` are tested, not proved. They have the signatures of the crate `cobs`, choose a
-//! proved function for a push of one byte, and add the types for `std::io` and tokio. Memory safety depends on the
-//! compiler and on `memchr`: in this crate only `src/simd.rs` has `unsafe` code, and with the feature `small` no file
-//! has `unsafe` code.
+//! 64 bits. The other files of `src/` are tested, not proved. These files have the signatures of the crate `cobs`,
+//! choose a proved function for a push of one byte, and add the types for `std::io` and tokio. Memory safety depends on
+//! the compiler and on `memchr`: in this crate only `src/simd.rs` has `unsafe` code, and with the feature `small` no
+//! file has `unsafe` code.
 //!
 //! # Features
 //!
@@ -107,7 +107,7 @@
 //! of flash.
 #![no_std]
 #![cfg_attr(feature = "small", forbid(unsafe_code))]
-// Pages of docs.rs then say which feature an item needs.
+// With `doc_cfg` the pages of docs.rs say which feature an item needs.
 #![cfg_attr(docsrs, feature(doc_cfg))]
 
 #[cfg(feature = "alloc")]
@@ -170,7 +170,7 @@ pub use crate::read::MessageReader;
 #[cfg(feature = "std")]
 pub use crate::write::MessageWriter;
 
-/// Returns by how many bytes the longest frame of a message of `source_len` bytes is longer than the message. This
+/// Returns the greatest number of bytes that encoding adds to a message of `source_len` bytes, without sentinels. This
 /// number is `source_len / 254`, rounded up, or 1 for the empty message.
 ///
 /// ```
@@ -194,7 +194,7 @@ pub const fn max_encoding_overhead(source_len: usize) -> usize {
 ///
 /// # Panics
 ///
-/// Panics if the length doesn't fit a `usize`. No slice is long enough for that.
+/// Panics if the length doesn't fit a `usize`. No slice is so long that this happens.
 #[inline]
 #[must_use]
 pub const fn max_encoding_length(source_len: usize) -> usize {

@@ -27,7 +27,7 @@ pub(crate) fn copied(bytes: &[u8]) -> Result<Vec<u8>, AllocError> {
     Ok(copy)
 }
 
-/// Appends the bytes that `write` writes to the front of `room` zeros. `write` returns their number.
+/// Appends `room` zeros, passes them to `write`, and keeps as many of these bytes as `write` returns.
 #[cfg(feature = "alloc")]
 #[inline]
 pub(crate) fn append(

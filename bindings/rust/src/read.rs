@@ -7,7 +7,7 @@ use crate::dec::{DecodeError, PieceEnd, UnbufferedDecoder};
 
 /// Reads messages from a serial port, a socket or a file: from anything that is [`BufRead`].
 ///
-/// A [`BufReader`](std::io::BufReader) makes a `BufRead` of any [`Read`](io::Read), and reads all bytes at once that
+/// A [`BufReader`](std::io::BufReader) makes a `BufRead` of any [`Read`](io::Read), and reads at once all bytes that
 /// have arrived, up to its capacity. The crate `cobs` doesn't have this type.
 ///
 /// ```
@@ -83,7 +83,7 @@ impl<R: BufRead> MessageReader<R> {
     /// - `Ok(Some(Err(error)))`: a frame that is damaged ([`DecodeError::InvalidFrame`], with the number of bytes it
     ///   decoded to), or whose message is longer than `max_len` ([`DecodeError::TargetBufTooSmall`]). Call again: this
     ///   frame never affects another frame.
-    /// - `Ok(None)`: the source has ended, after a zero or before its first byte. If the source grows, call again.
+    /// - `Ok(None)`: the source has ended, and no frame is open. If the source grows, call again.
     ///
     /// Zeros without a frame between them are skipped. The call reads the source until a zero ends a frame, however
     /// many bytes come before the zero. The bytes of a message that is too long are dropped.
@@ -144,8 +144,8 @@ impl<R> MessageReader<R> {
         &self.inner
     }
 
-    /// Returns the source for changes, for example to set its timeout. Bytes that you read from it directly are missing
-    /// from the next message.
+    /// Returns the source as a mutable reference, for example to set its timeout. Bytes that you read from it directly
+    /// are missing from the next message.
     pub fn get_mut(&mut self) -> &mut R {
         &mut self.inner
     }

@@ -1,4 +1,4 @@
-//! Vectors of bytes, on stable Rust and for any target. They have the types and methods of `std::simd` that the
+//! Vectors of bytes, on stable Rust and for any target. This module has the types and methods of `std::simd` that the
 //! proved source uses.
 //!
 //! The crate's only `unsafe` code is in this file: the calls of SSE2 and NEON intrinsics. With the feature `small` the
@@ -125,7 +125,8 @@ impl<const N: usize> Mask<N> {
     }
 }
 
-/// Returns up to 16 bytes with zeros after them, because rustc makes no vector from fewer bytes.
+/// Returns these bytes, at most 16, padded with zeros to 16 bytes, because rustc doesn't use vector instructions for
+/// fewer bytes.
 #[inline(always)]
 fn widened(bytes: &[u8]) -> [u8; 16] {
     let mut wide = [0; 16];
@@ -212,7 +213,7 @@ mod sse2 {
 
     #[inline(always)]
     pub fn of_sixteen(mask: &[u8; 16]) -> u64 {
-        // SAFETY: the target has SSE2, and 16 bytes are loaded from any address.
+        // SAFETY: the target has SSE2, and the load reads the 16 bytes of `mask`, which may have any alignment.
         let bits = unsafe { _mm_movemask_epi8(_mm_loadu_si128(mask.as_ptr().cast())) };
         // `cast_unsigned` needs Rust 1.87.
         u64::from(u32::from_ne_bytes(bits.to_ne_bytes()))

@@ -92,7 +92,7 @@ impl<W> MessageWriter<W> {
         &self.inner
     }
 
-    /// Returns the inner writer, for changes. Bytes that you write to it directly come between two frames.
+    /// Returns the inner writer as a mutable reference. Bytes that you write to it directly come between two frames.
     pub fn get_mut(&mut self) -> &mut W {
         &mut self.inner
     }

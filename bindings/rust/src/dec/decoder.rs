@@ -93,8 +93,9 @@ macro_rules! decoder_methods {
         /// - [`DecodeError::InvalidFrame`]: the frame breaks off inside a block. The bytes through the zero that ends
         ///   it were taken.
         /// - [`DecodeError::TargetBufTooSmall`]: the message is longer than the buffer. This is the result of the push
-        ///   with the first byte that doesn't fit, and of each push after it, up to the push with the zero that ends
-        ///   the frame. The bytes through that zero were taken, or all bytes if the push doesn't contain it.
+        ///   with the first byte that doesn't fit, and of each later push that isn't empty, through the push with the
+        ///   zero that ends the frame. The bytes through that zero were taken, or all bytes if the push doesn't contain
+        ///   it.
         ///
         /// After an error, continue with the bytes from [`parsed_size`](Self::parsed_size) on. Then a broken frame
         /// never affects another frame.

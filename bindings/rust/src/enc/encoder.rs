@@ -1,4 +1,4 @@
-//! Encodes a message in pieces to a frame in a slice.
+//! Encodes a message that comes in pieces, and writes its frame to a slice.
 
 use crate::enc::DestBufTooSmallError;
 use crate::proved::UnbufferedEncoder;
