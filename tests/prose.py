@@ -221,7 +221,8 @@ VERSIONS = [
     ("bindings/c/CMakeLists.txt", r"^project\(jcobs VERSION ([\d.]+)"),
     ("bindings/c/cmake/jcobs-config-version.cmake", r"PACKAGE_VERSION ([\d.]+)"),
     ("bindings/c/man/jcobs.3", r'^\.TH .*"jcobs ([\d.]+)"'),
-    ("bindings/c/CMakeLists.txt", r"^project\(jcobs VERSION ([\d.]+)"),
+    ("bindings/c/CMakeLists.txt", r"POSITION_INDEPENDENT_CODE ON VERSION ([\d.]+)"),
+    ("bindings/c/device/idf_component.yml", r'^version: "([^"]*)"'),
     ("bindings/c/device/library.json", r'"version": "([^"]*)"'),
     ("bindings/c/vcpkg/jcobs/vcpkg.json", r'"version": "([^"]*)"'),
     ("library.json", r'"version": "([^"]*)"'),
@@ -231,6 +232,9 @@ VERSIONS = [
     ("bindings/web/package.json", r'"version": "([^"]*)"'),
     ("bindings/web/dist/jcobs.js", r"^// jcobs ([\d.]+),"),
     ("bindings/web/dist/jcobs.cjs", r"^// jcobs ([\d.]+),"),
+    ("crates/cobs_tool/cobs_tool.1", r'^\.TH .*"jcobs ([\d.]+)"'),
+    ("crates/cobs_watch/cobs_watch.1", r'^\.TH .*"jcobs ([\d.]+)"'),
+    ("crates/cobs_watch/src/options.rt", r'^const VERSION: &str = "([^"]*)"'),
 ]
 
 
@@ -245,6 +249,9 @@ def other_versions():
     parts = [re.search(rf"#define JCOBS_VERSION_{part} (\d+)", header)[1] for part in ("MAJOR", "MINOR", "PATCH")]
     if ".".join(parts) != version:
         yield f"bindings/c/include/jcobs.h: its version is {'.'.join(parts)}, that of VERSION {version}"
+    number = sum(int(part) * weight for part, weight in zip(parts, (10000, 100, 1)))
+    if f"pub const VERSION: u32 = {number};" not in (TOP / "crates/cobs_abi/src/text.rt").read_text():
+        yield f"crates/cobs_abi/src/text.rt: VERSION isn't {number}, the version of jcobs.h as a number"
     for name in documents():
         for found in re.findall(r"\bjcobs-(\d+\.\d+\.\d+)", (TOP / name).read_text()):
             if found != version:

@@ -122,8 +122,8 @@ export class FrameDecoder {
   constructor(options?: DecoderOptions);
   /**
    * Calls `visit` for each piece that ends in the chunk; `end` is the index in the chunk after the sentinel of that piece.
-   * After a visit that throws or closes the decoder there are no more visits. An error that a visit throws is thrown by `push`
-   * once the whole chunk is taken, so the next chunk is decoded as if nothing had been thrown.
+   * If a visit closes the decoder or throws an error, this push makes no more visits. An error that a visit throws is thrown by
+   * `push` once the whole chunk is taken, so the next chunk is decoded as if nothing had been thrown.
    */
   push(chunk: Bytes, visit: (outcome: Outcome, end: number) => void): void;
   /** Whether a frame has begun that no sentinel has ended yet. */

@@ -165,8 +165,8 @@ export class FrameDecoder {
 
   /**
    * Calls `visit(outcome, end)` for each piece that ends in `chunk`; `end` is the index in the chunk after the sentinel of that
-   * piece. After a visit that throws or closes the decoder there are no more visits. An error that a visit throws is thrown
-   * once the whole chunk is taken, so that the next chunk is decoded as if nothing had been thrown.
+   * piece. If a visit closes the decoder or throws an error, this push makes no more visits. An error that a visit throws is
+   * thrown once the whole chunk is taken, so that the next chunk is decoded as if nothing had been thrown.
    */
   push(chunk, visit) {
     if (!this.#held.isOpen || this.#isClosing) throw new Error("the decoder is closed");

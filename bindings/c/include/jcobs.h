@@ -265,7 +265,7 @@ JCOBS_API jcobs_answer jcobs_encode_in_place(void *buffer, size_t buffer_size, s
  *              the buffer is as it was */
 
 /* Decodes the first frame of the source to the front of the buffer `message`. Leading zeros are skipped, and the frame
- * ends at the next zero or at the end of the source. A buffer as long as the source is always long enough. */
+ * ends at the next zero or at the end of the source. A buffer of source_len bytes is always long enough. */
 JCOBS_API jcobs_answer jcobs_decode(const void *source, size_t source_len, void *message, size_t message_size)
     JCOBS_READS(1, 2) JCOBS_WRITES(3, 4) JCOBS_CHECKED;
 /* returns: status OK, consumed the leading zeros, the frame and the zero after it, length of the message

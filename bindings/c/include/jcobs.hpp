@@ -292,7 +292,7 @@ class receiver
     }
 
   private:
-    // Takes the bytes through the sentinel that ends the first frame, or all bytes if no frame ends. There is at least
+    // Takes the bytes up to and including the sentinel that ends the first frame, or all bytes if no frame ends. There is at least
     // one byte. For a sentinel other than 0 the bytes are fed one by one, because the archives for devices don't have
     // jcobs_decoder_push_with_sentinel.
     jcobs_answer next(const unsigned char *bytes, std::size_t len) noexcept

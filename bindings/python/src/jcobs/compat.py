@@ -5,7 +5,7 @@
 b'hello'
 
 As in `cobs`, `decode` takes a frame without a sentinel after it, and returns empty bytes for empty bytes. If the frame
-is damaged, `decode` raises a `DecodeError` of this module, with the texts that `cobs` uses. Both functions raise
+is damaged, `decode` raises a `DecodeError` of this module, with the text that `cobs` uses. Both functions raise
 TypeError for a str. This package has nothing like the module `cobs.cobsr` (COBS/R): keep the package `cobs` for that.
 """
 
