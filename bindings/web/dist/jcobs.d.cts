@@ -1,4 +1,4 @@
-/** Consistent Overhead Byte Stuffing, by the proved code in cobs.wasm. */
+/** Consistent Overhead Byte Stuffing (COBS), implemented by the proved code in cobs.wasm. */
 
 // These names aren't in every `lib`. The declarations add nothing to those of `dom`, of @types/node and of newer compilers.
 declare global {
@@ -99,8 +99,8 @@ export function encode(message: Bytes, options?: EncodeOptions): Uint8Array;
 export function encodeInto(message: Bytes, dest: Bytes, options?: EncodeOptions): number;
 
 /**
- * Returns the message of the first frame. Leading sentinels are skipped, and the frame ends at the next sentinel or with the
- * bytes. The bytes after that sentinel have no effect.
+ * Returns the message of the first frame. Leading sentinels are skipped, and the frame ends at the next sentinel or at
+ * the last byte. The bytes after that sentinel have no effect.
  * @throws CobsError "empty" or "broken"
  */
 export function decode(frame: Bytes, options?: SentinelOptions): Uint8Array;
@@ -122,8 +122,8 @@ export class FrameDecoder {
   constructor(options?: DecoderOptions);
   /**
    * Calls `visit` for each piece that ends in the chunk; `end` is the index in the chunk after the sentinel of that piece.
-   * After a visit that throws or closes the decoder there are no more visits. An error that a visit throws is thrown by `push`
-   * once the whole chunk is taken, so the next chunk is decoded as if nothing had been thrown.
+   * If a visit closes the decoder or throws an error, this push makes no more visits. An error that a visit throws is thrown by
+   * `push` once the whole chunk is taken, so the next chunk is decoded as if nothing had been thrown.
    */
   push(chunk: Bytes, visit: (outcome: Outcome, end: number) => void): void;
   /** Whether a frame has begun that no sentinel has ended yet. */
@@ -144,7 +144,7 @@ export class FrameEncoder {
    * @throws RangeError if the message would be longer than `maxLength`; then none of the bytes is taken
    */
   push(piece: Bytes): void;
-  /** How many bytes of the message were taken so far. */
+  /** How many bytes of the message have been taken so far. */
   get length(): number;
   /** Returns the frame of all bytes that were taken, and begins the next message. */
   finish(options?: { terminated?: boolean }): Uint8Array;
@@ -154,7 +154,7 @@ export class FrameEncoder {
   [Symbol.dispose](): void;
 }
 
-/** Takes bytes, and returns outcomes. Bytes that no sentinel has ended when the stream ends have no outcome. */
+/** Takes bytes, and returns outcomes. Bytes after the last sentinel of the stream have no outcome. */
 export class FrameDecoderStream {
   constructor(options?: DecoderOptions);
   readonly readable: ReadableStream<Outcome>;

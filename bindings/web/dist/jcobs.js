@@ -378,8 +378,8 @@ function isGone(view) {
 //     const frame = encode(Uint8Array.of(10, 11, 0, 12));            // 3 10 11 2 12
 //     const frames = port.readable.pipeThrough(new FrameDecoderStream({ maxLength: 4096 }));
 //
-// This file copies bytes into the module's memory and results out of it. Which bytes a frame has and what a stream
-// decodes to is decided only by the module.
+// This file copies bytes into the module's memory and results out of it. Only the module decides which bytes a frame
+// has, and what a stream decodes to.
 
 
 /**
@@ -418,7 +418,10 @@ function maxEncodedLength(length) {
   return loaded().machine.maxLength(length);
 }
 
-/** Returns enough room for the frame of `length` bytes: a code, one byte for each 254 bytes, and a sentinel fit. */
+/**
+ * Returns enough room for the frame of a message of `length` bytes: for a code, one more code for each 254 bytes, and
+ * a sentinel.
+ */
 const roomFor = (length) => length + Math.floor(length / 128) + 2;
 
 /** Returns the frame of a message, with a sentinel after it if `terminated` is true. */
@@ -447,8 +450,8 @@ function encodeInto(message, dest, options) {
 }
 
 /**
- * Returns the message of the first frame. Leading sentinels are skipped, and the frame ends at the next sentinel or with the
- * bytes.
+ * Returns the message of the first frame. Leading sentinels are skipped, and the frame ends at the next sentinel or at
+ * the last byte.
  */
 function decode(frame, options) {
   const bytes = bytesOf(frame);
@@ -533,8 +536,8 @@ class FrameDecoder {
 
   /**
    * Calls `visit(outcome, end)` for each piece that ends in `chunk`; `end` is the index in the chunk after the sentinel of that
-   * piece. After a visit that throws or closes the decoder there are no more visits. An error that a visit throws is thrown
-   * once the whole chunk is taken, so that the next chunk is decoded as if nothing had been thrown.
+   * piece. If a visit closes the decoder or throws an error, this push makes no more visits. An error that a visit throws is
+   * thrown once the whole chunk is taken, so that the next chunk is decoded as if nothing had been thrown.
    */
   push(chunk, visit) {
     if (!this.#held.isOpen || this.#isClosing) throw new Error("the decoder is closed");
@@ -582,7 +585,7 @@ class FrameDecoder {
     }
   }
 
-  /** Frees the decoder's memory. During a push, that push frees the memory at its end. */
+  /** Frees the decoder's memory. If a push is under way, the memory is freed at the end of that push. */
   close() {
     if (this.#isPushing) this.#isClosing = true;
     else this.#close();
@@ -620,7 +623,7 @@ function* outcomesOf(bytes, decoder) {
   }
 }
 
-/** Encodes a message that comes in pieces, of up to `maxLength` bytes. */
+/** Encodes a message that comes in pieces. The message has up to `maxLength` bytes. */
 class FrameEncoder {
   #held;
   #encoder;
@@ -637,7 +640,7 @@ class FrameEncoder {
     this.#encoder = this.#held.arena.machine.encoder(this.#held.state, this.#held.buffer, room);
   }
 
-  /** How many bytes of the message were taken so far. */
+  /** How many bytes of the message have been taken so far. */
   get length() {
     return this.#taken;
   }
@@ -683,16 +686,16 @@ class FrameEncoder {
 }
 
 /**
- * Makes the two ends of a stream, `readable` and `writable`, as a TransformStream has them. `take` is called with each chunk,
- * and with a function `give` for its results. `close` is called once, however the stream ends: engines don't notify a
- * TransformStream of every end.
+ * Makes the two ends of a stream, `readable` and `writable`, like those of a TransformStream. `take` is called with
+ * each chunk, and with a function `give` for its results. `close` is called once, however the stream ends: engines
+ * don't notify a TransformStream of every end.
  */
 function ends(take, close) {
   const link = { take, close, out: null, into: null, wake: () => {}, isWanted: false, isOver: false, reason: undefined };
   return { readable: readableOf(link), writable: writableOf(link) };
 }
 
-/** Ends both ends of the stream. `end` is the controller of one end, to which the reason is passed. */
+/** Makes the stream fail. `end` is the controller of one end, to which the reason is passed. */
 function fail(link, end, reason) {
   if (link.isOver) return;
   link.isOver = true;
@@ -761,7 +764,10 @@ class FrameDecoderStream {
     this.writable = writable;
   }
 
-  /** Whether a frame has begun that no sentinel has ended yet: at the stream's end, one that was cut off. */
+  /**
+   * Whether a frame has begun that no sentinel has ended yet. At the end of the stream, this says whether the last
+   * frame was cut off.
+   */
   get unfinished() {
     return this.#decoder.unfinished;
   }

@@ -52,13 +52,7 @@ pub extern "C" fn jcobs_decoder_feed(
     ensures decodes { DecodesNext decoder.old buffer.old (byte ∷ []) result
         decoder.new buffer.new }
 {
-    // Most bytes are inside a block. This case is tested for first, so that compilers generate code for it without the
-    // other cases.
-    let is_data = byte != 0 && decoder.missing != 0 && decoder.too_long == 0;
-    if is_data && decoder.written < buffer.len() {
-        return decode_each(decoder, buffer, &[byte], 0);
-    }
-    decode_each(decoder, buffer, &[byte], 0)
+    decode_byte(decoder, buffer, byte)
 }
 
 /// Takes bytes of a stream of frames for this sentinel, as `jcobs_decoder_push` does for the sentinel 0.
