@@ -1,4 +1,4 @@
-"""COBS as one writes it in plain Python, a loop over the bytes: what the tests and bench.py compare with."""
+"""COBS as one writes it in plain Python, with a loop over the bytes. The tests compare the package with this module."""
 
 
 def encode(message):
