@@ -103,8 +103,7 @@ def read_port(port: Any, timeout: Optional[float], kept: Kept) -> bool:
 
 
 def read_port_by_its_timeout(port: Any, timeout: Optional[float], kept: Kept) -> bool:
-    """Reads the bytes that a port without a descriptor (on Windows, or of rfc2217://) has, or waits for the next byte.
-    """
+    """Reads the bytes that a port without a descriptor (on Windows, or of rfc2217://) has, or waits for the next byte."""
     waiting = port.in_waiting
     if waiting or timeout is None:
         return keep_some(kept, port, waiting)

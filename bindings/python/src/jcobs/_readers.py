@@ -42,8 +42,7 @@ def closing(count: int, sentinel: int) -> bytes:
 
 
 def reply_of(outcome: Optional[Outcome]) -> bytes:
-    """Returns the message of a reply, or raises an error if there is no reply, or if the reply is damaged or too long.
-    """
+    """Returns the message of a reply, or raises an error if there is no reply, or if the reply is damaged or too long."""
     if outcome is None:
         raise TimeoutError("no reply came in time")
     if not isinstance(outcome, Message):
@@ -101,8 +100,7 @@ class Frames(Coder):
                 self._lose(True)
 
     def _without_rest(self, chunk: bytes) -> bytes:
-        """Drops the rest of a frame whose beginning is lost, and reports that frame as `Broken` when its sentinel comes.
-        """
+        """Drops the rest of a frame whose beginning is lost, and reports that frame as `Broken` when its sentinel comes."""
         after = chunk.find(self._sentinel) + 1
         self._arrived[0] = chunk[after:] if after else b""
         if after:
