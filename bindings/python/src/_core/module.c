@@ -238,7 +238,8 @@ static int add_type(PyObject *module, const char *name, PyType_Spec *spec)
     return 0;
 }
 
-/* The code behind the calls: "prebuilt" is libjcobs, proved machine code; "compiled" is jcobs.c, compiled here. */
+/* The code behind the calls: "prebuilt" is libjcobs, which Rattle's compiler built from the proved source; "compiled" is
+ * jcobs.c, compiled here. */
 #ifdef JCOBS_COMPILED
 #define BACKEND "compiled"
 #else
