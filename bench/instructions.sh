@@ -1,7 +1,8 @@
 #!/bin/sh
-# instructions.sh OLD NEW: a table of the instructions a byte of each call of libjcobs, by two drivers of bench/src over two
-# versions of it. Callgrind counts what the driver's `measured` does, three times over the same messages, and nothing else;
-# the calls are counted side by side.
+# Prints a table of the instructions per byte of each call of libjcobs, in two versions: instructions.sh OLD NEW
+#
+# OLD and NEW are drivers of bench/src, each linked with one version of libjcobs. Callgrind counts only the instructions in the
+# driver's function `measured`, which makes a call three times over the same messages. All calls are counted at the same time.
 set -eu
 workloads="zeros;none;every 16;runs of 20 to 45;random;alternating;5 % zeros;i32, signed;text;telemetry;below 20;200 bytes;8 bytes;1 byte"
 calls="encode;encoder feed;encoder 8;encoder 64;encoder whole;decode;decode sentinel;in place;feed;push 8;push 64;push whole"

@@ -5,7 +5,10 @@
  * Each call decodes 64 messages of one kind and length, or as many as 256 KiB hold. `time` prints a line for each call,
  * kind and length: the nanoseconds of the older version and of this one, the least of several rounds in which the two
  * take turns. `count` makes every call once with each, for Callgrind, and prints the same lines without times. Each
- * result is checked. */
+ * result is checked.
+ *
+ * For messages without zeros, lines with the call `search and copies` compare the older version's decode with the C
+ * library's own search and copies: one memchr for each frame, and one memmove for each block. */
 #define _POSIX_C_SOURCE 199309L
 #include "../bindings/c/include/jcobs.h"
 
@@ -28,21 +31,44 @@ struct library {
     __typeof__(jcobs_decode_in_place) *decode_in_place;
     __typeof__(jcobs_decoder_push) *push;
 };
+/* A decoder of frames whose messages have no zeros, with the search and the copies and nothing else: it tests neither
+ * the frame nor the buffer's length. */
+static jcobs_answer search_and_copy(const void *source, size_t size, void *dest, size_t room);
+
+enum { OLD, NEW, BARE, LIBRARIES };
 static const struct library libraries[] = {{old_jcobs_decode, old_jcobs_decode_in_place, old_jcobs_decoder_push},
-                                           {jcobs_decode, jcobs_decode_in_place, jcobs_decoder_push}};
+                                           {jcobs_decode, jcobs_decode_in_place, jcobs_decoder_push},
+                                           {search_and_copy, NULL, NULL}};
 
 static const char *const calls[] = {"decode", "push whole", "push 64", "push 16",
                                     "push 8", "push 1",     "stream",  "in place"};
 /* Those of bench/src/workload.rs, and `records`. A message of `text` is one line over and over. */
 static const char *const kinds[] = {"zeros", "none", "random", "runs of 20 to 45", "text", "records", "i32, 16 bits"};
 static const size_t lengths[] = {1, 2, 4, 8, 16, 32, 64, 100, 200, 1500, 8192, LONGEST};
-enum { CALLS = sizeof calls / sizeof *calls, KINDS = sizeof kinds / sizeof *kinds };
+enum { CALLS = sizeof calls / sizeof *calls, KINDS = sizeof kinds / sizeof *kinds, NONE = 1 };
 enum { IN_PLACE = CALLS - 1, LENGTHS = sizeof lengths / sizeof *lengths };
 /* How many bytes each push gets at most; 0 of the other calls. The stream is pushed with all bytes that are left. */
 static const size_t chunks[CALLS] = {0, FRAMES_SIZE, 64, 16, 8, 1};
 
 static unsigned char frames[FRAMES_SIZE], copies[FRAMES_SIZE], output[LONGEST];
 static size_t starts[MESSAGES + 1], count, length; /* a frame ends with a zero */
+
+/* A pointer, because compilers replace a call of `memmove` by a slower loop if they see that the length is short. */
+static void *(*volatile copy)(void *, const void *, size_t) = memmove;
+
+static jcobs_answer search_and_copy(const void *source, size_t size, void *dest, size_t room)
+{
+    const unsigned char *code = source, *end = memchr(source, 0, size);
+    unsigned char *out = dest;
+
+    (void)room;
+    while (code < end) {
+        copy(out, code + 1, *code - 1u);
+        out += *code - 1;
+        code += *code;
+    }
+    return (jcobs_answer){JCOBS_OK, size, (size_t)(out - (unsigned char *)dest)};
+}
 
 static uint64_t dice;
 
@@ -173,20 +199,36 @@ static double clock_time(void)
     return least;
 }
 
-static void time_both(size_t call, double clock)
+/* The least times of the older version, and of this one or of the search and the copies. */
+static void time_both(int newer, size_t call, double clock)
 {
-    double least[2] = {1e18, 1e18};
+    double least[LIBRARIES] = {1e18, 1e18, 1e18};
     size_t repeats = 1;
 
-    while (times(&libraries[0], call, repeats) * (double)repeats < LEAST_NS)
+    while (times(&libraries[OLD], call, repeats) * (double)repeats < LEAST_NS)
         repeats *= 2;
     for (int round = 0; round < ROUNDS; round++)
-        for (int i = 0; i < 2; i++) {
-            double time = times(&libraries[i], call, repeats) - (call == IN_PLACE ? clock : clock / (double)repeats);
+        for (int by = OLD; by <= newer; by += newer) {
+            double time = times(&libraries[by], call, repeats) - (call == IN_PLACE ? clock : clock / (double)repeats);
 
-            least[i] = time < least[i] ? time : least[i];
+            least[by] = time < least[by] ? time : least[by];
         }
-    printf(";%.2f;%.2f", least[0], least[1]);
+    printf(";%.2f;%.2f", least[OLD], least[newer]);
+}
+
+static void compare(int counts, int newer, const char *name, size_t call, size_t kind, double clock)
+{
+    for (size_t i = 0; i < LENGTHS; i++) {
+        prepare(kind, lengths[i]);
+        printf("%s;%s;%zu", name, kinds[kind], lengths[i]);
+        for (int by = OLD; counts && by <= newer; by += newer) {
+            memcpy(copies, frames, starts[count]);
+            measured(&libraries[by], call);
+        }
+        if (!counts)
+            time_both(newer, call, clock);
+        puts("");
+    }
 }
 
 int main(int arguments, char **argument)
@@ -198,16 +240,7 @@ int main(int arguments, char **argument)
         return 2;
     for (size_t call = 0; call < CALLS; call++)
         for (size_t kind = 0; kind < KINDS; kind++)
-            for (size_t i = 0; i < LENGTHS; i++) {
-                prepare(kind, lengths[i]);
-                printf("%s;%s;%zu", calls[call], kinds[kind], lengths[i]);
-                for (int by = 0; counts && by < 2; by++) {
-                    memcpy(copies, frames, starts[count]);
-                    measured(&libraries[by], call);
-                }
-                if (!counts)
-                    time_both(call, clock);
-                puts("");
-            }
+            compare(counts, NEW, calls[call], call, kind, clock);
+    compare(counts, BARE, "search and copies", 0, NONE, clock);
     return 0;
 }

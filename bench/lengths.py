@@ -1,12 +1,13 @@
 #!/usr/bin/env python3
-"""Compares decoding by libjcobs with another version, at twelve lengths: lengths.py [--docs] [--runs NUMBER] FOLDER
+"""Compares decoding by two versions of libjcobs at twelve lengths: lengths.py [--docs] [--runs NUMBER] FOLDER
 
-FOLDER is a checkout of that version, whose prebuilt library is taken: `git worktree add FOLDER 698a4ba` for
-docs/DECISIONS.md, into which --docs writes the tables. Both libraries are linked into one program (lengths.c), which
+FOLDER is a checkout of the other version, with its prebuilt library. For docs/DECISIONS.md, into which --docs writes the
+tables, `git worktree add FOLDER 698a4ba` makes this folder. Both libraries are linked into one program (lengths.c), which
 decodes messages of seven kinds. The first table has the speed relative to the other version, by the least time of NUMBER
-runs, 8 if none is given. The second has the instructions of the other version divided by those of this one, which
-Callgrind counts. Each figure is a geometric mean over the kinds. It needs cc, objcopy and valgrind, and took a minute
-on a machine with other load.
+runs (default 8). The second table has the instructions of the other version divided by those of this version, which
+Callgrind counts. Each figure of these two tables is a geometric mean over the kinds. The third table has the speed of the
+C library's own search and copies, without any test: it shows how fast a decoder can be that searches once and copies each
+block. The script needs cc, objcopy and valgrind, and took a minute on a machine with other load.
 """
 
 import argparse
@@ -35,6 +36,10 @@ CALLS = {
     "in place": "`decode_in_place`",
 }
 SMALL_NUMBERS = "i32, 16 bits"
+NO_ZEROS = "none"
+# The rows of the third table, and the lengths that are its columns.
+BOUND = {"decode": "`decode` of the library", "search and copies": "only the search and the copies, in C"}
+LONG = {200: "200 bytes", 1500: "1,500 bytes", 8192: "8 KiB", 65536: "64 KiB"}
 HEAD = """| call | all lengths | 1 to 64 bytes | 200 bytes | 64 KiB | all lengths, without small numbers |
 |---|--:|--:|--:|--:|--:|"""
 
@@ -98,6 +103,15 @@ def commit_of(folder):
     return run("git", "-C", folder, "rev-parse", "--short=8", "HEAD").strip()
 
 
+def bound(ratios):
+    titles = list(LONG.values())
+    lines = [f"| | {' | '.join(titles)} |", "|---|" + "--:|" * len(titles)]
+    for call, title in BOUND.items():
+        cells = [f"{ratios[call, NO_ZEROS, str(n)]:.2f}" for n in LONG]
+        lines.append(f"| {title} | {' | '.join(cells)} |")
+    return "\n".join(lines)
+
+
 def write(text):
     inner = "\n" + re.sub(r"^(?=.)", "  ", text, flags=re.M) + "\n  "
     marked = re.compile(r"(?<=<!-- lengths -->\n).*(?=<!-- end of lengths -->)", re.S)
@@ -122,7 +136,8 @@ def main():
         instructions = counted(compiled, Path(folder))
     commits = f"commit {commit_of(TOP)} compared with {commit_of(options.old)}"
     text = f"**By time**, {commits}, at a load average of {load:.0f}:\n\n{table(speed)}\n\n"
-    text += f"**By instructions**, {commits}, with the caller's loop:\n\n{table(instructions)}\n"
+    text += f"**By instructions**, {commits}, with the caller's loop:\n\n{table(instructions)}\n\n"
+    text += f"**By time**, {commits}, only messages without zeros:\n\n{bound(speed)}\n"
     print(text)
     if options.docs:
         write(text)

@@ -1,6 +1,7 @@
-/* What a C programmer would write in place of the library: COBS without checks, with every check byte by byte, and with
- * every check by memchr and memcpy. Byte and streaming calls are as such code usually has them: a state by its address and a
- * length as the result. Byte by byte there are also calls that check and return as much as the library's. */
+/* C code that a programmer would write instead of using the library. There are three kinds: COBS without checks, with every
+ * check and byte by byte, and with every check by memchr and memcpy. The calls for single bytes and for streams have the usual
+ * form of such code: a pointer to the state, and a length as the result. Byte by byte there are also calls that make the checks
+ * of the library's calls, and return the same members. */
 #ifndef RIVALS_H
 #define RIVALS_H
 

@@ -1,21 +1,22 @@
 #!/bin/sh
-# Measures what ships, as a program links it: libjcobs.a, jcobs.c, and the Rust crate of bindings/rust, beside what someone would take
-# instead.
+# Measures libjcobs.a, jcobs.c and the Rust crate of bindings/rust, as a program links them, and compares them with the usual
+# alternatives.
 #
 #     bench/run.sh [--crate FOLDER] [--quick] [--docs]   prints the tables of the documents
-#     bench/run.sh [--crate FOLDER] check                compares what each makes of 6,000 messages, and measures nothing
-#     bench/run.sh --old FOLDER                          times and instructions of libjcobs, beside those of another version
+#     bench/run.sh [--crate FOLDER] check                compares the results for 6,000 messages, and measures nothing
+#     bench/run.sh --old FOLDER                          compares times and instructions of libjcobs with those of another version
 #
-# --crate FOLDER: the sources of the crate `cobs` 0.5.1, as cargo downloads them; without them the Rust tables are left out.
-# --old FOLDER:   a checkout of another version of this repository, whose prebuilt library is taken.
-# --quick:        one place in memory, one round, no link-time optimization: for a look, not for the document.
-# --docs:         writes them into docs/PERFORMANCE.md, README.md and bindings/rust/README.md, and writes every figure into
+# --crate FOLDER: the sources of the crate `cobs` 0.5.1, as cargo downloads them. Without them the Rust tables are left out.
+# --old FOLDER:   a checkout of another version of this repository, with its prebuilt library.
+# --quick:        measures at one place in memory, in one round, and without link-time optimization. Not for the documents.
+# --docs:         writes the tables into docs/PERFORMANCE.md, README.md and bindings/rust/README.md, and every figure into
 #                 bench/results/ and docs/images/performance.svg.
 #
-# It needs rustc, cc, and the crate `memchr` (Debian's librust-memchr-dev); --old needs valgrind. It took seven minutes on a
-# machine with other load, and takes half a minute with --quick. C is built with -O3 for x86-64-v2, for which libjcobs is, jcobs.c with
-# -O2 for any x86-64, and Rust as `cargo build --release` does it. The driver is built at four places in memory: on some
-# processors a loop is half as fast where one of its jumps crosses a multiple of 32 bytes. The best place counts, for each implementation, in three rounds.
+# The script needs rustc, cc, and the crate `memchr` (Debian's librust-memchr-dev); --old also needs valgrind. It took seven
+# minutes on a machine with other load, and half a minute with --quick. The C code is compiled with -O3 for x86-64-v2, like
+# libjcobs; jcobs.c is compiled with -O2 for any x86-64; the Rust code is compiled as by `cargo build --release`. The driver is
+# built at four places in memory, because on some processors a loop is half as fast if one of its jumps crosses a multiple of
+# 32 bytes. For each implementation the best place counts, in three rounds.
 set -eu
 here=$(cd "$(dirname "$0")" && pwd)
 top=$(dirname "$here")

@@ -1,5 +1,6 @@
-"""Cases whose results are worked out by hand: those of the tests of the original crate, `cobs` 0.5.1, each named after its
-test, and others named by their subject. A case is the call, its arguments and its results, and the model has to agree."""
+"""Cases whose results were worked out by hand. Some are the tests of the crate `cobs` 0.5.1, each named after its test; the others
+are named after their subject. A case is a call, its arguments and its results, and the model must return the same results.
+"""
 
 import model
 from definition import masked
@@ -35,7 +36,7 @@ EXAMPLES = [
 
 
 def example_as_tested(message, frame):
-    """What the original crate's tests do with an example: there into a buffer of 128s, back, and in place."""
+    """Yields the calls that the crate's tests make with an example: encode into a buffer of bytes 0x80, decode, decode in place."""
     in_place = message + frame[len(message) :]
     yield "encode", [message, b"\x80" * len(frame)], [len(frame), frame]
     yield "decode", [frame + b"\0", b"\x80" * len(message)], ["ok", len(frame) + 1, len(message), message]
@@ -44,7 +45,7 @@ def example_as_tested(message, frame):
 
 
 def example_by_other_calls(message, frame):
-    """An example into a buffer that is a byte short, one that fits and one with a byte to spare, and by other calls."""
+    """Yields an example with a buffer that is one byte too short, exactly long enough, and one byte longer; and with other calls."""
     for call, written in [("try_encode", frame), ("try_encode_including_sentinels", b"\0" + frame + b"\0")]:
         room = b"\xaa" * len(written)
         yield call, [message, room[1:]], ["too_small", NONE, room[1:]]
@@ -115,7 +116,7 @@ def roundtrip_tests():
         name = "test_encode_decode_with_sentinel"
         yield name, "encode_with_sentinel", [given, MESSAGE, bytes(5)], [5, frame]
         yield name, "decode_with_sentinel", [given, frame, bytes(4)], ["ok", 4, MESSAGE]
-        # The frame has a byte more than its message, and in place that last one stays after it.
+        # The frame has one byte more than its message. In place, its last byte stays after the message.
         yield name, "decode_in_place_with_sentinel", [given, frame], ["ok", 4, MESSAGE + b"\x0c"]
     for first, frame in [
         (1, b"\2\1"),
@@ -157,7 +158,7 @@ def decoder_tests():
 
 
 def original():
-    """The cases of the original crate's tests."""
+    """Yields the cases of the tests of the crate."""
     yield from encoding_tests()
     yield from decoding_tests()
     for name, message, frame in EXAMPLES:
@@ -355,7 +356,7 @@ def streams():
         (bytes(4), [], [bytes(4)]),
         (b"", [], [b""]),
         (bytes(32), [DELIMITED + b"\0"], [after, 14, "message", HELLO]),
-        # what a result leaves of a piece comes next
+        # the bytes of a piece after a result are taken next
         (bytes(4), [b"\3\1\0\2\5\0"], [b"\5\0\0\0", 3, "broken", b"\1", 6, "message", b"\5"]),
         (
             bytes(4),
@@ -388,12 +389,12 @@ def streams():
 
 def readers():
     outcomes = ["message", b"\7\x08", "broken", 1, "too_long", NONE, "message", b"\x09", "end", NONE]
-    # how many reads each of the five results takes, for reads of this size
+    # how many reads are needed for each of the five results, for reads of this size
     for size, reads in [(1, [5, 3, 7, 3, 1]), (2, [3, 1, 4, 1, 1]), (5, [1, 1, 1, 1, 1]), (64, [1, 0, 0, 0, 1])]:
         results = [word for at, made in enumerate(reads) for word in [made, *outcomes[2 * at : 2 * at + 2]]]
         yield "reader", "next_frame", [4, *in_pieces(DAMAGED, size)], results
     end = [1, "end", NONE]
-    # an unfinished piece goes on after the source's end
+    # an unfinished piece continues after the end of the source
     results = [1, "message", b"\5", 1, "unfinished", NONE, 1, "message", b"\1\7", *end]
     yield "reader", "next_frame", [4, b"\2\5\0\3\1", b"", b"\7\0"], results
     # three frames of one read: the second and the third are found without another
@@ -404,13 +405,13 @@ def readers():
 
 
 def level(call, arguments, results):
-    """`owed` for a message's frame and a frame's message."""
+    """Returns `owed` for the frame of a message and the message of a frame, and `choice` for other results."""
     is_frame = call == "decode_vec" and results[0] == "ok" and model.frame_kind(*arguments) == ["canonical"]
     return "owed" if is_frame or call in ("encode_vec", "encode_vec_with_sentinel", "encode_frames") else "choice"
 
 
 def add(group, cases, others=()):
-    """Adds the cases to a group, after a comparison with the model, but those that another group has."""
+    """Compares the cases with the model, and adds them to a group, except those that another group has."""
     for name, call, arguments, results in cases:
         found = getattr(model, call)(*arguments)
         assert found == results, f"{name}: {call} {arguments}: by hand {results}, by the model {found}"
@@ -419,11 +420,11 @@ def add(group, cases, others=()):
 
 
 def of_tests(group):
-    """The cases of the original crate's tests. Two tests may have the same one."""
+    """Adds the cases of the tests of the crate. Two tests may have the same case."""
     seen = set()
     for case in original():
         add(group, [case])
-        # by_hand.txt has had the cases of this test as examples, and its lines don't change
+        # by_hand.txt has the cases of this test as examples already, and its lines don't change
         if case[0] != "test_encode_2":
             seen |= group.seen
         group.seen = set()
@@ -432,7 +433,7 @@ def of_tests(group):
 
 
 def of_own(group, others):
-    """The other cases."""
+    """Adds the other cases."""
     for cases in [examples, encoders, decoders, vectors_and_kinds, streams, readers]:
         add(group, cases(), others)
     return group

@@ -1,12 +1,13 @@
 #!/usr/bin/env python3
-"""Changes one digit of a result in each file of vectors, and sees that the run then fails.
+"""Changes one digit of a result in each file of cases, one at a time, and checks that the run then fails.
 
 usage: conformance/change_digit.py COMMAND..
 
-The command is a runner that reads vectors from standard input, as crates/cobs_conformance/out/cobs_conformance. In each file
-every tenth case that has a digit in its result is changed in turn (a letter, where the file's results have no digits), and
-run with the nine lines behind it: the runner has to name that case alone, say that one differs, and end with status 1. With
-no change to the file it has to end with 0."""
+The command is a program that reads cases from standard input, such as crates/cobs_conformance/out/cobs_conformance. In each
+file, every tenth case that has a digit in its result is changed (a letter is changed if no result of the file has a digit). The
+changed case is run together with the nine lines after it. The program must name only the changed case, report that one case
+differs, and end with status 1. For the unchanged file, the program must end with status 0.
+"""
 
 import glob
 import os
@@ -17,7 +18,7 @@ HERE = os.path.dirname(os.path.abspath(__file__))
 
 
 def changed(line, digits):
-    """The line with the last digit of its result changed, or None where it has none."""
+    """Returns the line with the last digit of its result changed, or None if the result has no digit."""
     arrow = line.index("->")
     for at in range(len(line) - 1, arrow + 1, -1):
         if line[at] in digits:

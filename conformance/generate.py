@@ -1,7 +1,8 @@
 #!/usr/bin/env python3
-"""Writes the vectors: a file for each group of calls beside this script, and all of them, one behind another, as what the
-program crates/cobs_conformance is run on. README.md has the format. With --check nothing is written, and the status is 1
-where a file isn't what would be written."""
+"""Writes the files of cases, one for each group of calls, next to this script, and the input of the program
+crates/cobs_conformance, which is all of these files one after another. README.md has the format. With --check nothing is
+written, and the status is 1 if a file differs from the text that would be written.
+"""
 
 import itertools
 import os
@@ -39,12 +40,12 @@ HELLO = b"\x0chello world"
 
 
 def short_sources():
-    """Pieces, broken pieces and zeros in every order, up to four bytes."""
+    """Returns frames, broken frames and zeros in every order, up to four bytes."""
     return lists([0, 1, 2, 3], 4)
 
 
 def long_frames():
-    """Frames with full blocks, the longer ones among them, and what is left of them when cut round a block's end."""
+    """Yields frames with full blocks, also longer frames, and parts of these frames that are cut near the end of a block."""
     ones = filled(254, 1)
     full, nearly = b"\xff" + ones, b"\xfe" + ones[1:]
     yield from [full, nearly, full + b"\1", full + b"\1\1", full + b"\2\5", full + b"\3\5", full + full]
@@ -56,7 +57,7 @@ def long_frames():
 
 
 def lengths():
-    group = Group("lengths", "The greatest length of a frame: for a message of so many bytes.")
+    group = Group("lengths", "The greatest overhead and the greatest length of the frame, for the length of a message.")
     few = [*range(6), *LENGTHS, 1000, 1016, 1017, 65024, 65025, 65535, 1 << 20, (1 << 31) - 1 - (1 << 23)]
     for length in few:
         group.choice("overhead", "max_encoding_overhead", length)
@@ -65,7 +66,7 @@ def lengths():
 
 
 def encoding():
-    group = Group("encode", "Whole messages to frames: handed out, and into a buffer with room.")
+    group = Group("encode", "Encoding whole messages: frames that are returned, and frames that are written into a buffer.")
     for label, messages in [
         ("short", SHORT_MESSAGES),
         ("named", NAMED_MESSAGES),
@@ -88,7 +89,7 @@ def encoding():
 
 
 def rooms():
-    group = Group("room", "Encoding into every room, from none to one byte more than enough.")
+    group = Group("room", "Encoding into buffers of every length, from 0 to one byte more than the frame.")
     for message in [*lists([0, 1], 3), *NAMED_MESSAGES[:7]]:
         for room in range(len(encoded_frame(message)) + 2):
             group.choice("try", "try_encode", message, filled(room))
@@ -109,7 +110,7 @@ def rooms():
 
 
 def sentinels():
-    group = Group("sentinel", "Other sentinels: each once, and what the forms for them return.")
+    group = Group("sentinel", "Calls with a sentinel: every sentinel, and for some sentinels more cases.")
     for sentinel in map(lambda it: bytes([it]), range(256)):
         frame = masked(FRAME, sentinel[0])
         group.owed("encode", "encode_vec_with_sentinel", sentinel, MESSAGE)
@@ -146,7 +147,7 @@ def sentinels():
 
 
 def decoding():
-    group = Group("decode", "Whole frames to messages: handed out, and into a buffer.")
+    group = Group("decode", "Decoding whole frames: messages that are returned, and messages that are written into a buffer.")
     for label, messages in [
         ("short", SHORT_MESSAGES),
         ("named", NAMED_MESSAGES),
@@ -186,7 +187,7 @@ def decoding():
 
 
 def damage():
-    group = Group("damage", "Each one-byte damage of the frame 030a0b020c, of two blocks.")
+    group = Group("damage", "The frame 030a0b020c, which has two blocks, with each byte changed to each other value.")
     for place, byte in itertools.product(range(len(FRAME)), range(256)):
         damaged = FRAME[:place] + bytes([byte]) + FRAME[place + 1 :]
         if byte == 0:
@@ -200,7 +201,7 @@ def damage():
 
 
 def in_place():
-    group = Group("in-place", "Frames decoded where they lie, and every byte behind the message.")
+    group = Group("in-place", "Decoding in place, with every byte of the buffer after the message.")
     for source in short_sources():
         group.choice("any-report", "decode_in_place_report", source)
     for source in lists([0, 1, 2, 3], 2):
@@ -223,7 +224,7 @@ def in_place():
 
 
 def encoder():
-    group = Group("encoder", "A streaming encoder over a buffer, given a message in pieces.")
+    group = Group("encoder", "A streaming encoder with a buffer, for a message in pieces.")
     for message in [*lists([0, 1], 2), b"\1\0\1", MESSAGE, b"hello"]:
         frame = encoded_frame(message)
         for room in range(1, len(frame) + 2):
@@ -262,7 +263,7 @@ def cut_twice(stream):
 
 
 def decoder():
-    group = Group("decoder", "A streaming decoder over a buffer, given a stream in pieces: each result with its place.")
+    group = Group("decoder", "A streaming decoder with a buffer, for a stream in pieces: each result, with the number of bytes consumed so far.")
     for cut in range(len(STREAM) + 1):
         group.choice("cut", "decoder", filled(4), STREAM[:cut], STREAM[cut:])
     for cut in range(len(STREAM_OF_OVERFLOW) + 1):
@@ -294,7 +295,7 @@ def decoder():
 
 
 def streams():
-    group = Group("stream", "Whole streams: the outcome of each piece, and a stream of messages.")
+    group = Group("stream", "Decoding whole streams: the outcome of each frame. Encoding messages as a stream.")
     good = b"\0".join([b"", FRAME, b"\1", b"", b"\2\5", encoded_frame(b"\0\0"), HELLO, b""])
     for cut in range(len(good) + 1):
         group.owed("messages", "decode_stream", 16, good[:cut], good[cut:])
@@ -323,7 +324,7 @@ def streams():
 
 
 def reader():
-    group = Group("reader", "A reader of frames over a source that gives its bytes in these reads.")
+    group = Group("reader", "A reader of frames, with a source that returns these bytes in its reads.")
     for size in [1, 2, 5, 7, 64]:
         group.choice("reads", "next_frame", 4, *in_pieces(STREAM, size))
         group.choice("reads", "next_frame", 4, *in_pieces(STREAM[:-1], size))
@@ -344,7 +345,7 @@ def reader():
 
 
 def kinds():
-    group = Group("kind", "Whether a list is a frame, and the shorter one of its message where there are two.")
+    group = Group("kind", "Whether bytes are a frame; if a message has two frames, whether they are the shorter one.")
     for given in [*lists([0, 1, 2, 3], 3), *long_frames(), b"\5", b"\xff", FRAME, FRAME[:4], b"\1\xff" + filled(254, 1) + b"\1"]:
         group.choice("any", "frame_kind", given)
     group.choice("any", "frame_kind", b"\xff" + filled(253, 1))
@@ -352,7 +353,7 @@ def kinds():
 
 
 def states():
-    group = Group("state", "The state machines: the result of one more byte, and the state that follows.")
+    group = Group("state", "The two state machines: the result for a byte in a state, and the state that follows.")
     for message in [*lists([0, 1], 3), filled(252, 1), filled(253, 1), filled(254, 1), filled(255, 1), b"\0" + filled(253, 9)]:
         for byte in [b"\0", b"\1", b"\xff"]:
             group.choice("encoder", "encoder_state", message, byte)
@@ -370,8 +371,8 @@ def main(words):
     texts, joined = {}, ""
     groups = [make() for make in GROUPS]
     groups.append(long.of_lengths(Group("long", "Calls with 5,000 to 70,000 bytes, written in parts.", word=long.in_parts)))
-    groups.append(by_hand.of_tests(Group("original", "The tests of the original crate: a name has that of its test.")))
-    groups.append(by_hand.of_own(Group("by-hand", "Other cases whose results are worked out by hand."), groups))
+    groups.append(by_hand.of_tests(Group("original", "The tests of the crate cobs 0.5.1. Each case has the name of its test.")))
+    groups.append(by_hand.of_own(Group("by-hand", "Other cases whose results were worked out by hand."), groups))
     for group in groups:
         text = "\n".join(group.lines) + "\n"
         texts[f"{HERE}/{group.name.replace('-', '_')}.txt"] = text

@@ -1,4 +1,4 @@
-"""A file of vectors, line by line. README.md has the format."""
+"""Builds a file of cases, line by line. README.md has the format."""
 
 import model
 
@@ -10,7 +10,7 @@ def word(value):
 
 
 class Group:
-    """A file of vectors: its lines, each with a name of its own."""
+    """A file of cases. Each line has a different name."""
 
     def __init__(self, name, *about, word=word):
         self.name, self.lines, self.seen, self.count = name, [f"# {line}" for line in about], set(), {}
@@ -25,7 +25,7 @@ class Group:
         self.lines.append(f"{self.name}-{label}-{self.count[label]} {said}")
 
     def has(self, call, arguments, results):
-        """Whether there is such a case, of either level."""
+        """Returns whether there is such a case, of either level."""
         said = " ".join(map(self.word, [call, *arguments, "->", *results]))
         return f"owed {said}" in self.seen or f"choice {said}" in self.seen
 
@@ -36,7 +36,7 @@ class Group:
         self.line(label, "owed", call, arguments, getattr(model, call)(*arguments))
 
     def owed_decoding(self, label, call, *arguments):
-        """A decoding whose error is owed, but not how it is named or counted."""
+        """Adds a case of a decoding call. Every library must return an error, but may name it and count the bytes as it likes."""
         status, length, after = getattr(model, call)(*arguments)
         results = [status, length, after] if status == "ok" else ["refused", "?", "?"]
         self.line(label, "owed", call, arguments, results)

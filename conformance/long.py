@@ -1,5 +1,6 @@
-"""Long cases: 5,000 to 70,000 bytes, in parts. Their lengths are on both sides of those at which a library's faster ways may
-begin, and at which a count of 16 bits is full."""
+"""Long cases: messages of 5,000 to 70,000 bytes, written in parts. Their lengths are on both sides of those at which faster code of
+a library may begin, and at which a 16-bit count overflows.
+"""
 
 import model
 from definition import encoded_frame, masked, parts
@@ -12,7 +13,7 @@ INTEGERS = b"".join(number.to_bytes(4, "little") for number in range(230, 281))
 
 
 def repeated(value, at):
-    """What the bytes from a place on are repetitions of, and how many; the byte alone where they are none."""
+    """Returns the bytes that are repeated from index `at` on, and how often; or the byte at `at`, and 1, if none are repeated."""
     for needle in [1024, 512, 8]:
         size = value.find(value[at : at + needle], at + 1, at + LONGEST_PART + needle) - at
         unit, count = value[at : at + size], 1
@@ -25,7 +26,7 @@ def repeated(value, at):
 
 
 def in_parts(value):
-    """A word whose bytes are in parts: what is there several times is written once, with how often."""
+    """Returns a value as a word in parts: repeated bytes are written once, with their count."""
     if not isinstance(value, bytes):
         return str(value)
     text, at = "", 0
@@ -37,12 +38,12 @@ def in_parts(value):
 
 
 def rows(unit, length):
-    """A unit again and again, to this length."""
+    """Returns `unit`, repeated up to this length."""
     return (unit * (length // len(unit) + 1))[:length]
 
 
 def ones_but(length, *places):
-    """Bytes 01 with a zero at each of the places."""
+    """Returns bytes 01, with a zero at each of these indices."""
     message = bytearray(b"\1" * length)
     for place in places:
         message[place] = 0
@@ -53,7 +54,7 @@ ONES, ZEROS, MIXED = rows(b"\1", 70_000), bytes(70_000), rows(INTEGERS, 70_000)
 
 
 def messages():
-    """Each kind of content: no zero, nothing else, a zero every so many bytes, rows of zeros, zeros round a length."""
+    """Yields messages without zeros, of only zeros, with zeros at regular distances, with rows of zeros, and with zeros near a length."""
     for length in LENGTHS:
         yield "no-zero", rows(b"\1", length)
     for length in [5080, 8193, 65537]:
@@ -80,7 +81,7 @@ def whole_messages(group):
 
 
 def encoding_rooms(group):
-    """One byte short, exact, one more."""
+    """Adds cases with a buffer that is one byte too short, exactly long enough, and one byte longer."""
     for message in [ONES[:5080], ONES[:8193], ZEROS[:8193], MIXED[:8500]]:
         frame = encoded_frame(message)
         for room in [len(frame) - 1, len(frame), len(frame) + 1]:
@@ -108,7 +109,7 @@ def sentinels(group):
 
 
 def damaged(frame):
-    """A frame without its last byte, with a zero near its end, and with a last code that is one too great."""
+    """Yields a frame without its last byte, with a zero near its end, and with a last code that is too great by one."""
     last = len(frame) - len(parts(frame)[-1])
     yield frame[:-1]
     yield frame[:-3] + b"\0" + frame[-2:]
@@ -135,7 +136,7 @@ def decoding(group):
 
 
 def cut(given, *sizes):
-    """Pieces of these sizes, and what is left."""
+    """Returns pieces of these sizes, and a piece with the remaining bytes."""
     pieces, at = [], 0
     for size in sizes:
         pieces, at = [*pieces, given[at : at + size]], at + size
@@ -152,7 +153,7 @@ def encoders(group):
 
 
 def decoders(group):
-    """Streaming decoders: everything at once and in pieces, a buffer that is too short, a piece that breaks off late."""
+    """Adds cases of streaming decoders: streams at once and in pieces, a buffer that is too short, a frame that breaks off at its end."""
     for message in [ONES[:8193], ZEROS[:8193], MIXED[:8500], ones_but(8500, 8191)]:
         frame = encoded_frame(message)
         stream = frame + b"\0\2\5\0"

@@ -1,4 +1,4 @@
-"""The messages of several groups of generate.py: short, named and long ones, runs at the ends of blocks, and rows of zeros."""
+"""The messages that several groups of generate.py use: short, named and long ones, runs that end with a block, and rows of zeros."""
 
 import itertools
 
@@ -57,7 +57,7 @@ def long_messages():
 
 
 def at_block_ends():
-    """A few long messages on both sides of a block's end."""
+    """Yields a few long messages that end just before, at and just after the end of a block."""
     for length in [253, 254, 255, 508, 509]:
         yield filled(length, 1)
         yield with_zero(length, length - 1)
@@ -66,7 +66,7 @@ def at_block_ends():
 
 
 def round_words():
-    """Runs and rows of zeros of lengths round those of machine words and vectors, with a little behind them."""
+    """Yields runs and rows of zeros whose lengths are near those of machine words and vectors, with a few bytes after them."""
     for length in [7, 8, 9, 15, 16, 17, 31, 32, 33, 63, 64, 65, 127, 128, 129]:
         yield counting(length) + b"\0\1\2"
         yield bytes(length) + b"\1"
@@ -74,8 +74,8 @@ def round_words():
 
 
 def at_edges():
-    """Runs that end a block, or a byte beside its end, after a few bytes and with more behind them. Where a frame of them
-    has room for no byte more, each code that is counted wrongly is noticed."""
+    """Yields runs that end at the end of a block, or one byte before or after it, with and without bytes before and after them. If
+    the buffer has exactly the length of the frame, the cases notice each code that is counted wrongly."""
     for length in [253, 254, 255, 507, 508, 509]:
         for front in [b"", b"\0", b"\1\0"]:
             yield front + filled(length, 7)
@@ -83,7 +83,7 @@ def at_edges():
 
 
 def dense_messages():
-    """Short blocks behind a first one, so that the codes of some bytes in turn lead from each place to each other."""
+    """Yields messages with a first block and short blocks after it, so that the codes are at many different distances."""
     for first in [0, 1, 6, 14, 15, 16, 40]:
         for period in [1, 2, 3, 4]:
             yield counting(first) + b"\0" + (counting(period - 1) + b"\0") * (72 // period) + b"\1"

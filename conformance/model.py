@@ -1,7 +1,8 @@
-"""What each call returns, by the definition of blocks and pieces, and what is in the buffer after it.
+"""Computes the results of each call, and the contents of the buffer after the call, from the definition of blocks and pieces.
 
-A function here takes the words of a line before '->' as values, and gives those behind it. Where COBS itself leaves
-an result open, docs/PROMISES.md says what this library returns; the lines for such results are marked `choice`.
+A function of this file takes the words of a line before '->' as values, and returns the values of the words after '->'. If COBS
+itself doesn't determine a result, docs/PROMISES.md says what this library returns; the lines with such results are marked
+`choice`.
 """
 
 from definition import encoded_frame, is_longer, is_whole, kept_output, masked, output
@@ -18,7 +19,7 @@ def max_encoding_length(length):
 
 
 def laid_over(before, given):
-    """The buffer after `given` is written at its front."""
+    """Returns the buffer after `given` is written to its front."""
     return given + before[len(given) :]
 
 
@@ -68,7 +69,7 @@ def encode_with_sentinel(sentinel, message, before):
 
 
 def encoder(before, *pieces):
-    """A streaming encoder: a piece is rejected if the frame of all bytes so far and its own doesn't fit."""
+    """Returns the results of a streaming encoder. A piece is rejected if the frame of all bytes so far and of this piece doesn't fit."""
     taken, results = b"", []
     for piece in pieces:
         fits = len(encoded_frame(taken + piece)) <= len(before)
@@ -85,7 +86,7 @@ def encode_frames(*messages):
 
 
 def outcome(piece, room):
-    """What a nonempty piece comes to in a buffer of `room` bytes."""
+    """Returns the outcome of a nonempty piece with a buffer of `room` bytes."""
     if len(output(piece)) > room:
         return "too_long", NONE
     return ("message", output(piece)) if is_whole(piece) else ("broken", len(output(piece)))
@@ -160,7 +161,7 @@ def frame_kind(given):
 
 
 def bytes_that_fit(piece, room):
-    """The length of the longest front of a piece whose output fits."""
+    """Returns how many bytes of a piece, from its first byte on, decode to an output that fits."""
     if len(output(piece)) <= room:
         return len(piece)
     fit, over = 0, len(piece)
@@ -171,7 +172,7 @@ def bytes_that_fit(piece, room):
 
 
 def decoder(before, *pieces):
-    """A streaming decoder: every result but 'nothing yet', as the bytes taken, a kind and the buffer's front."""
+    """Returns every result of a streaming decoder except 'nothing yet': the bytes consumed, a kind, and the first bytes of the buffer."""
     room, buffer, piece, taken, events = len(before), before, b"", 0, []
     for given in pieces:
         if given == "reset":
@@ -195,14 +196,14 @@ def decoder(before, *pieces):
 
 
 def decode_stream(room, *pieces):
-    """The outcome of each piece that a zero ends, for one decoder that is given the bytes in several calls."""
+    """Returns the outcome of each frame or broken frame that a zero ends, for one decoder that gets the bytes in several calls."""
     ended = b"".join(pieces).split(b"\0")[:-1]
     return [word for piece in ended if piece for word in outcome(piece, room)]
 
 
 def next_frame(room, *reads):
-    """A reader of frames over a source that gives these reads, and 0 bytes from then on: the result of each call,
-    until one says that the source has ended after all reads were made."""
+    """Returns the results of a reader of frames, until a call reports the end of the source after all reads were made. The source
+    returns these reads, and then 0 bytes for each read."""
     left, bytes_left, results = list(reads), b"", []
     while True:
         made = 0
@@ -228,8 +229,8 @@ def next_frame(room, *reads):
 
 
 def encoder_state(message, byte):
-    """The state machine after the bytes of `message`: its result for one more byte, its place then, and the frame
-    that its caller has, who inserts each placeholder. That frame's last block is never full."""
+    """Returns the result of the state machine for one more byte after the bytes of `message`, its index and code after this byte, and
+    the frame of its caller, who inserts each placeholder. The last block of this frame is never full."""
 
     def opened(given):
         frame = encoded_frame(given)
@@ -251,7 +252,7 @@ def encoder_state(message, byte):
 
 
 def decoder_state(state, left, byte):
-    """The decoding state machine, by its table: the result for a byte in a state, and the state that follows."""
+    """Returns the result of the decoding state machine for a byte in a state, and the state that follows, from its table."""
     byte = byte[0]
     begun = ("grab_chain", 254) if byte == 255 else ("grab", byte - 1)
     if state != "idle" and left > 0:

@@ -1,10 +1,12 @@
 #!/usr/bin/env python3
-"""A COBS library as one writes it: one loop, a placeholder that is patched, a decoder that takes byte by byte. And the
-runner that holds it against the vectors:
+"""A plain COBS library: an encoder with one loop, which patches a placeholder, and a decoder that takes single bytes. And the
+program that runs the cases with this library:
 
     cat conformance/*.txt | python3 conformance/plain.py
 
-prints each case that differs, and last how many. wrong_bodies.py puts wrong bodies into it."""
+The program prints each case that differs, and then the number of cases. wrong_bodies.py puts wrong function bodies into the
+library.
+"""
 
 import sys
 
@@ -54,7 +56,7 @@ class Encoder:
 
 
 class Measure(Encoder):
-    """Goes where an encoder would go, and writes nothing."""
+    """Counts like an encoder, but writes nothing."""
 
     def __init__(self, encoder):
         self.index, self.code, self.full = encoder.index, encoder.code, encoder.full
@@ -64,7 +66,7 @@ class Measure(Encoder):
 
 
 class Decoder:
-    """Takes a stream byte by byte. A result is None, or a kind and what begins the buffer."""
+    """Decodes a stream byte by byte. A result is None, or a kind and the number of bytes in the buffer."""
 
     def __init__(self, buffer):
         self.buffer = buffer
@@ -107,7 +109,7 @@ class Decoder:
         return ("message" if self.left == 0 else "broken"), self.count
 
     def push(self, piece):
-        """The first result that isn't None, and how many bytes were taken."""
+        """Returns the first result that isn't None, and how many bytes were taken."""
         for at, byte in enumerate(piece):
             result = self.feed(byte)
             if result:
@@ -116,7 +118,7 @@ class Decoder:
 
 
 class Source:
-    """Gives the reads of a case, and 0 bytes behind the last one."""
+    """Returns the reads of a case, and 0 bytes after the last one."""
 
     def __init__(self, reads):
         self.reads, self.made = reads, 0
@@ -127,7 +129,7 @@ class Source:
 
 
 class Reader:
-    """Reads frames from a source, and keeps what it has read behind one."""
+    """Reads frames from a source, and keeps the bytes that it has read after a frame."""
 
     def __init__(self, decoder):
         self.decoder, self.kept, self.unfinished = decoder, b"", False
@@ -156,7 +158,7 @@ class Reader:
 
 
 class Library:
-    """The calls of the vectors, by the words of their arguments. `-` and digits are read and written at the end."""
+    """The calls of the cases. The arguments and results are values; `-` and digits are converted below."""
 
     Encoder, Decoder, StreamDecoder, Reader = Encoder, Decoder, Decoder, Reader
 
@@ -380,7 +382,7 @@ REFUSALS = {"empty", "invalid", "too_small", "broken", "too_long"}
 
 
 def written_out(word):
-    """A word without its parts: the digits of each as often as the number after the star says."""
+    """Expands a word that is written in parts: repeats the digits of each part as often as the number after the star says."""
     parts = (part.partition("*") for part in word.split("+"))
     return "".join(digits * int(count or 1) for digits, _, count in parts)
 
@@ -404,7 +406,7 @@ def agrees(wanted, came):
 
 
 def run(library, line):
-    """Whether the library returns what a case's line wants, the case's name, what is wanted and what came."""
+    """Returns whether the library's results are those of a case, the name of the case, the expected results, and the library's results."""
     words = line.split(" ")
     name, _, call = words[:3]
     arrow = words.index("->")

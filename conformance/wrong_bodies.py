@@ -1,9 +1,10 @@
 #!/usr/bin/env python3
-"""Puts one wrong body after another into the plain library, and shows which case notices it.
+"""Puts wrong function bodies into the library of plain.py, one at a time, and shows a case that notices each of them.
 
-Prints for each body how many cases notice it, how many of those every COBS library owes, and the first of them with what
-it wants and what it gets. The status is 1 where some body is noticed by no case, or where the plain library itself
-differs."""
+For each wrong body the script prints how many cases notice it, how many of these cases hold for every COBS library (level
+`owed`), and the first of these cases with the expected and the actual result. The status is 1 if no case notices a body, or if
+the library itself fails a case.
+"""
 
 import glob
 import itertools
@@ -293,7 +294,7 @@ def main():
 
 
 def reported(name, count, found):
-    """Says which case notices a body first, and whether one does."""
+    """Prints the first case that notices a body, and returns whether there is one."""
     if not found:
         print(f"{name}: NOTICED BY NO CASE")
         return False
@@ -304,7 +305,7 @@ def reported(name, count, found):
 
 
 def shortened(words, other):
-    """A long result from a little before the place where it differs from the other one."""
+    """Returns a part of a long result, which begins a little before the first difference from the other result."""
     first = next((at for at, pair in enumerate(zip(words, other)) if pair[0] != pair[1]), min(len(words), len(other)))
     start = max(0, first - 20)
     return ".." * (start > 0) + words[start : first + 20] + ".." * (first + 20 < len(words))

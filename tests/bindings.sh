@@ -1,7 +1,8 @@
 #!/bin/sh
-# Builds and runs the bindings: for each folder of bindings/ its tests/run.sh, whose last line counts what passed, failed and
-# was skipped where a tool is missing; then the commands of the READMEs of the bindings and of the one at the top, in a copy of the
-# repository and without the toolchain. The last line here is their sum; the status is 0 only if nothing failed.
+# Builds and tests the bindings. For each folder of bindings/ the script runs tests/run.sh, whose last line counts the parts that
+# passed, failed, and were skipped because a tool is missing. Then it runs the commands of the READMEs (those of the bindings and
+# the one at the top) in a copy of the repository, without the toolchain. The last line is the sum of all counts. The status is 0
+# only if nothing failed.
 set -u
 root=$(cd "$(dirname "$0")/.." && pwd)
 # shellcheck source=SCRIPTDIR/count.sh

@@ -1,5 +1,6 @@
-"""The public calls of crates/cobs, for tests/docs.py: which rows the documents must have for each; and the functions of
-`wrong_code.txt` and `REFUSED.md`."""
+"""Lists the public calls of crates/cobs for tests/docs.py: the rows that the documents must have for each call, and the functions
+that `wrong_code.txt` and `REFUSED.md` name.
+"""
 import re
 from functools import cache
 from pathlib import Path

@@ -1,11 +1,12 @@
 #!/bin/sh
-# Sees that the vectors are what the definition gives, that they notice wrong bodies and changed digits, and that plain
-# code in Python and in C passes what it must.
+# Checks that the files of cases are those that the definition gives, that the cases notice wrong function bodies and changed
+# digits, and that plain code in Python and in C passes the cases that it must pass.
 #
 # usage: tests/conformance.sh
 #
-# Takes python3 and a C compiler (cc, or CC). Where the program crates/cobs_conformance is built (rt run in its folder),
-# digits are changed under it, else under the plain library in Python. Ends within two minutes.
+# The script needs python3 and a C compiler (cc, or CC). If the program crates/cobs_conformance is built (by `rt run` in its
+# folder), the changed digits are checked with this program, and otherwise with the plain library in Python. The script ends
+# within two minutes.
 set -eu
 
 top=$(cd "$(dirname "$0")/.." && pwd)

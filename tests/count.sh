@@ -1,8 +1,8 @@
-# Counts what passed, failed and was skipped: the tests source this file.
+# Counts the parts that passed, failed and were skipped. The test scripts source this file.
 #
-# `part` runs a command, and prints 'ok' with what it said after '= ', or 'FAILED' with the end of what it said; `has` and
-# `skip` print 'skipped' with what is missing; `finish` ends with the line that counts them, and the status 0 only if
-# nothing failed. $work is a folder that goes away.
+# `part` runs a command, and prints 'ok' with the text of the output's line that begins with '= ', or 'FAILED' with the end of the
+# output. `has` and `skip` print 'skipped' with the missing tool. `finish` ends the script with the line that counts the parts; the
+# status is 0 only if nothing failed. $work is a folder that is removed at the end.
 # shellcheck shell=sh
 work=$(mktemp -d)
 trap 'rm -rf "$work"' EXIT

@@ -1,11 +1,12 @@
 #!/bin/sh
-# Runs what there is for controllers in emulators, and measures it: the archives for three processors, and jcobs.c, compiled for
-# each.
+# Tests and measures the code for microcontrollers in emulators: the archives for three processors, and jcobs.c compiled for each
+# processor.
 #
-# On each target: the vectors of the calls that it has, through the C interface; random calls, each compared with plain C,
-# with bytes around the buffers that no call may change, and states of random bytes. Then flash, stack and instructions a byte,
-# with limits; the packages; and the firmware of bindings/c/examples/firmware, on a serial line. It needs no Rattle toolchain.
-# Prints a line for each part; the last line counts them. The status is 0 only if nothing failed.
+# On each target the script runs the conformance cases of the calls that the target has, through the C interface. It also makes
+# random calls and compares each with plain C; around the buffers are bytes that no call may change, and many states are random
+# bytes. Then it measures flash, stack and instructions per byte, some of which have limits, and tests the packages and the
+# firmware of bindings/c/examples/firmware on a serial line. It needs no Rattle toolchain. It prints a line for each part; the last
+# line counts the parts. The status is 0 only if nothing failed.
 #
 # Lists of flags are meant to be split.
 # shellcheck disable=SC2086,SC2317
@@ -206,7 +207,7 @@ if has arm-none-eabi-gcc gcc-arm-none-eabi 'Cortex-M' && has /usr/lib/arm-none-e
     target arm cortex-m0plus
     target arm cortex-m4
     for cpu in cortex-m0plus cortex-m3 cortex-m4 cortex-m33; do source_target arm $cpu 30000; done
-    part 'instructions: the archive for cortex-m4' instructions 200 130 arm cortex-m4 "$(archive cortex-m4)"
+    part 'instructions: the archive for cortex-m4' instructions 200 140 arm cortex-m4 "$(archive cortex-m4)"
     part 'instructions: jcobs.c on cortex-m4' instructions 120 50 arm cortex-m4 "$source"
     part 'instructions: jcobs.c on cortex-m0plus' instructions 120 60 arm cortex-m0plus "$source"
 fi

@@ -1,34 +1,34 @@
 #!/usr/bin/env python3
-"""Checks the documents, and the documentation of crates/cobs, against what they are about.
+"""Checks that the documents, and the doc comments of crates/cobs, agree with the sources.
 
 usage: tests/docs.py [--write]
 
 - Each public item of crates/cobs/src has an example in its doc comment: types, traits, functions, methods, the methods
   of public traits, the methods of impls of other traits that have a doc comment of their own, and modules.
-- crates/cobs_doc_vectors has each of these examples as a test or a function, but for its layout. With --write they are
-  written (examples.py); run `rt fmt` there then, and write the imports of a new test by hand.
+- crates/cobs_doc_vectors has each of these examples as a test or a function, perhaps laid out differently. With --write the
+  tests are written (examples.py). Then run `rt fmt` there, and write the imports of a new test by hand.
 - The proof of an example of a law, if the tests have one, is printed with it.
-- The functions that README.md and crates/cobs/CALLING.md show are in a crate of tests; of a test, its statements.
+- Each example in README.md and crates/cobs/CALLING.md is a function of a crate of tests, or the statements of a test.
 - The contracts in crates/cobs/CALLING.md are those of src, of the calls in QUOTED. With --write they are written.
-- No file outside crates/cobs names its proofs, or a type by the private module that it is in: what a caller cites are
-  its specs, its laws and the public names of its types.
+- No file outside crates/cobs names its proofs, or names a type by its private module. Callers cite only the specs, the laws and
+  the public names of types.
 - docs/MAP.md names each file of the repository, or a folder that it is in.
-- docs/PROMISES.md, crates/cobs/CALLING.md and docs/DIFFERENCES.md have a row of each public call that is their matter
-  (calls.py).
+- docs/PROMISES.md, crates/cobs/CALLING.md and docs/DIFFERENCES.md have a row for each public call that they must
+  list (calls.py).
 - In docs/PROMISES.md the calls, laws, callers and words are links to their files. With --write they are written (where.py).
 - docs/READING.md explains each sign and word of the proof language that a public clause of crates/cobs uses (signs.py).
-- Each clause, field and word of tests/names.txt is there, which version 1 keeps. With --write new ones are added (names.py).
-- Each block of tests/wrong_code.txt can be applied, and its function is there. `tests/REFUSED.md` counts and names these
-  and the edits of must-fail/. With --write the blocks are counted, and the names go that aren't there any more.
+- Each clause, field and word of tests/names.txt exists, because version 1 keeps them. With --write new ones are added (names.py).
+- Each block of tests/wrong_code.txt can be applied, and its function exists. `tests/REFUSED.md` counts and names these blocks
+  and the edits of must-fail/. With --write the counts are written, and names that don't exist any more are removed.
 - No imports of the libraries go in a ring; files have at most 450 lines and functions 40 (layout.py).
-- The links of each document, the paths and commands that it shows, and the clauses that it names are there; scripts can be run; names in src/ and
-  specs/ are plain; all versions are that of the file VERSION (prose.py).
+- The links of each document, the paths and commands that it shows, and the clauses that it names exist. Scripts are executable.
+  Names in src/ and specs/ are plain. All versions are that of the file VERSION (prose.py).
 - Counts, sizes and the toolchain in documents are those of the tree, copies are equal, and addresses can exist (facts.py).
 - The drawing and the table of crates of docs/ARCHITECTURE.md are what docs/architecture.py makes of the manifests (facts.py).
 
-Only files that git tracks are read. It prints what differs, and the status is then 1. It also prints hints
-at words that have a plainer one and at comments of functions that don't begin with a verb, and what grew since the last commit, or in it if nothing is changed (growth.py); these change
-no status.
+Only files that git tracks are read. The script prints each difference, and the status is then 1. It also prints hints about
+words for which there is a plainer one, and about comments of functions that don't begin with a verb. It prints which counts grew
+since the last commit, or in the last commit if nothing has changed since (growth.py). Hints and counts don't change the status.
 """
 import posixpath
 import re

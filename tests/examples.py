@@ -1,8 +1,9 @@
-"""The examples in the documents and the doc comments of crates/cobs: tests/docs.py has them written as tests and compared.
+"""Writes the examples of the documents and of the doc comments of crates/cobs as tests, and compares them with the tests, for
+tests/docs.py.
 
-An example in a doc comment is a function, or statements over `rt` and `alloc`. Those of a file or folder of crates/cobs/src
-are one file of crates/cobs_doc_vectors/src, below its imports: each function, and a test of each list of statements.
-What README.md and CALLING.md show is in the callers, or is one of the tests.
+An example in a doc comment is a function, or statements that use `rt` and `alloc`. The examples of a file or folder of
+crates/cobs/src are one file of crates/cobs_doc_vectors/src, below its imports: each function as it is, and each list of
+statements as a test. The examples of README.md and CALLING.md are in the crates of callers, or are tests.
 """
 import re
 from itertools import takewhile

@@ -1,4 +1,6 @@
-"""The facts that tests/docs.py checks in documents: counts, laws and their titles, copies, the drawing, the toolchain, addresses, bytes read."""
+"""Checks facts in documents, for tests/docs.py: counts, laws and their titles, copies, the drawing, the toolchain, addresses, and bytes
+read.
+"""
 import re
 import subprocess
 import sys
@@ -16,9 +18,9 @@ DEVICE, SPEEDS = "bindings/c/device/README.md", "docs/PERFORMANCE.md"
 # The figures in the sentences of README.md, and the cell of a table that has each: its file, how the table's head and the row
 # begin, and the column.
 FIGURES = [
-    (r"decoder of `jcobs\.c` needs ([\d,]+) bytes", DEVICE, "target | of | flash: decoder", "Cortex-M4 | jcobs.c", "flash: decoder"),
-    (r"receives byte by byte and sends whole messages needs ([\d,]+) bytes", DEVICE, "target | of | feed", "Cortex-M4 | jcobs.c", "receive and send"),
-    (r"for the same task, with fewer checks, needs ([\d,]+) bytes", DEVICE, "target | of | feed", "Cortex-M4 | by hand", "receive and send"),
+    (r"decoder of `jcobs\.c` needs ([\d,]+) bytes", DEVICE, "target | code | flash: decoder", "Cortex-M4 | jcobs.c", "flash: decoder"),
+    (r"receives byte by byte and sends whole messages needs ([\d,]+) bytes", DEVICE, "target | code | decoder feed", "Cortex-M4 | jcobs.c", "receive and send"),
+    (r"for the same task, with fewer checks, needs ([\d,]+) bytes", DEVICE, "target | code | decoder feed", "Cortex-M4 | by hand", "receive and send"),
     (r"messages of 20 to 64 bytes at ([\d,]+) MB/s", SPEEDS, "`libjcobs`, MB/s", "telemetry", "decode"),
     (r"and `jcobs\.c` at ([\d,]+) MB/s", SPEEDS, "`jcobs.c` by `cc -O2`, MB/s", "telemetry", "decode"),
     (r"fed single bytes, `libjcobs` runs at ([\d,]+) MB/s", SPEEDS, "`libjcobs`, MB/s", "telemetry", "feed"),

@@ -1,22 +1,22 @@
 #!/bin/sh
-# Fails the growths of memory one after another, and checks that each call is then out of memory, and returns its value
-# where no growth of its own fails.
+# Makes memory allocations fail, one after another, and checks that each call then returns the error for missing memory, and
+# otherwise returns its value.
 #
 # usage: tests/fail-alloc.sh [--rounds N] [FIRST]
 #
-# Two files of tests run again and again, unproved: crates/cobs_frame_vectors/src/memory.rt and
-# crates/cobs_tool/src/memory_limits.rt. At round N the Nth growth that a test asks for fails.
+# The script runs two files of tests again and again, without proofs: crates/cobs_frame_vectors/src/memory.rt and
+# crates/cobs_tool/src/memory_limits.rt. In round N, the Nth request for more memory that a test makes fails.
 #
-# In the first file each call has a test of its own, which finds out whether a growth of the call failed: it ends with the
-# words "out of memory" where one did and the call said so, passes where none did, and ends with other words where the call
-# said something else. The rounds end when every test passes.
+# In the first file each call has a separate test, which knows whether a request of the call failed. If a request failed and the
+# call reported that, the test ends with the words "out of memory". If no request failed, the test passes. If the call returned
+# something else, the test ends with other words. The rounds end when every test passes.
 #
-# In the second file all tests but the last have to pass in each round. The last one, which runs every mode and wants its
-# output, fails as long as a growth of its own does. It doesn't see a failed growth that nothing came of, so the rounds end
-# when it has passed in three of them one after another, and it may not fail after a round in which it passed.
+# In the second file all tests except the last must pass in each round. The last test runs every mode of the program and expects its
+# output, so it fails as long as one of its requests fails. This test doesn't see a failed request that had no effect. So the
+# rounds end when the test has passed in three rounds, and the test must not fail after a round in which it passed.
 #
-# With --rounds, each file gets at most N rounds, from the first growth on or from FIRST on. A round takes about a quarter
-# of a minute. The gate runs four of each, with which the first file is at its end.
+# With --rounds, each file gets at most N rounds, from the first request on or from request FIRST on. A round takes about a quarter
+# of a minute. The gate runs four rounds of each file, which is enough for every test of the first file to pass.
 set -u
 
 PATH=/opt/rattle/bin:$PATH

@@ -1,4 +1,4 @@
-"""What grew against the parent commit, for tests/docs.py to print. Nothing fails for it: no text is written for a count."""
+"""Lists the counts that grew since the parent commit, for tests/docs.py to print. Growth is no error: no text is written for a count."""
 import subprocess
 from pathlib import Path
 

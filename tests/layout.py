@@ -1,5 +1,6 @@
-"""Whether the crates are laid out as CONTRIBUTING.md says: in the libraries imports go one way, and files and functions
-are short everywhere, but for a file of tests."""
+"""Checks that the crates are laid out as CONTRIBUTING.md says: in the libraries no imports form a ring, and files and functions
+are short everywhere, except in files of tests.
+"""
 import re
 from pathlib import Path
 

@@ -1,8 +1,8 @@
-"""The names that proofs of callers cite, and that version 1 keeps: tests/names.txt, for tests/docs.py.
+"""Checks the names that proofs of callers cite, and that version 1 keeps: tests/names.txt, for tests/docs.py.
 
-A line of names.txt is a public call of crates/cobs with the names of its clauses, a record of specs/ with its fields, or a file of
-specs/ with its words. specs/Internal/ is left out. Each name of the file has to be there. `tests/docs.py --write` adds new ones,
-and removes none: CHANGELOG.md says that they stay.
+A line of names.txt has a public call of crates/cobs with the names of its clauses, a record of specs/ with its fields, or a file
+of specs/ with its words. specs/Internal/ is left out. Each name in names.txt must exist. `tests/docs.py --write` adds new names,
+and removes none: CHANGELOG.md says that the names stay.
 """
 import re
 from pathlib import Path

@@ -1,6 +1,6 @@
-"""What tests/docs.py checks in the documents as text: words, links, commands, names and versions.
+"""Checks the text of the documents for tests/docs.py: words, links, commands, names and versions.
 
-A document is each Markdown file of the repository. Of the sources the comments are read, and the names in src/ and specs/.
+A document is each Markdown file of the repository. Of the sources, the comments are checked, and the names in src/ and specs/.
 """
 import os
 import re
@@ -40,7 +40,6 @@ NAME_WORDS = re.compile(r"answer(s|ed)?|refus\w*|lack\w*|tell\w*|told", re.I)
 NAMED = re.compile(r"crates/[^/]+/(src|specs)/.*\.(rt|antt)")
 # The public names that stay, by the files that have them. The clauses `answer` and `refused` of public calls stay too.
 PUBLIC_NAMES = [
-    (r"crates/cobs(_abi|_c|_live|_doc_vectors)?/", r"\blacking\b"),  # of `DecoderPhase` and `jcobs_decoder`
     (r"crates/cobs_(abi|c|small)/", r"\bAnswer\b|(?:\bcrate::|\bdeclared\.|\bmod |\buse )answer\b"),  # `jcobs_answer`
 ]
 RT_COMMANDS = set("all check ci doc expand fmt lemma lib must-fail new plant run selftest test tidy try verdict version".split())

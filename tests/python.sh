@@ -1,14 +1,14 @@
 #!/bin/sh
-# Tests the binding for Python (bindings/python), in environments of its own and without a network:
-#   - pip installs it, with a C compiler and without one, and the first example of its README runs;
-#   - its tests by pytest, with the extension and with the plain Python that is there without one, and on PyPy; with C
-#     compiled from source; on a processor that the library isn't for;
-#   - its types, by mypy in strict mode; the layout of its files, by black and clang-format;
-#   - a wheel and a source distribution are built; the latter is built and tested elsewhere;
-#   - the wheel runs on each other CPython from 3.9 on that is there.
-# Hypothesis has 2,000 examples of each property, or as many as JCOBS_EXAMPLES says.
-# PYTHON names the interpreter; else it is the first one that has what is needed. A part whose tool is missing is
-# skipped, and the tool named. The last line counts; the status is 0 only if nothing failed.
+# Tests the binding for Python (bindings/python), in separate environments and without a network:
+#   - pip installs the package, with a C compiler and without one, and the first example of its README runs;
+#   - its tests run with pytest: with the extension, with plain Python, on PyPy, with C compiled from source, and on an emulated
+#     processor that the library doesn't support;
+#   - mypy checks its types in strict mode; black and clang-format check the layout of its files;
+#   - a wheel and a source distribution are built; the source distribution is then built and tested in another folder;
+#   - the wheel runs on each other installed CPython from 3.9 on.
+# Hypothesis makes 2,000 examples of each property, or as many as JCOBS_EXAMPLES says.
+# PYTHON names the interpreter; without it the first interpreter that has the needed packages is used. If a tool is missing, the
+# script skips the part that needs it, and names the tool. The last line counts the parts; the status is 0 only if nothing failed.
 set -u
 root=$(cd "$(dirname "$0")/.." && pwd)
 # shellcheck source=SCRIPTDIR/count.sh

@@ -1,10 +1,10 @@
 #!/bin/sh
-# Tests in two minutes, without the Rattle toolchain, what comes built: the library for C, the packages for Rust, Python and
-# Node over it, and the documents.
+# Tests the built parts in two minutes, without the Rattle toolchain: the library for C, the packages for Rust, Python and Node,
+# and the documents.
 #
-# Each language builds and runs a first frame and all cases of conformance/. It takes Debian's gcc, cargo (Rust 1.83)
-# with librust-memchr-dev and librust-serde-derive-dev, nodejs, and python3-dev, -setuptools, -pytest and -hypothesis;
-# what is missing is skipped and named. Nothing is written into the repository.
+# For each language the script builds and runs a first example, and runs all conformance cases. It needs Debian's gcc, cargo (Rust
+# 1.83) with librust-memchr-dev and librust-serde-derive-dev, nodejs, and python3-dev, -setuptools, -pytest and -hypothesis. If one
+# of these is missing, the script skips the part that needs it, and names it. Nothing is written into the repository.
 #
 # The functions are called by 'part'.
 # shellcheck disable=SC2317

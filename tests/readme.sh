@@ -1,16 +1,16 @@
 #!/bin/sh
 # Runs the commands of a README as they are written: tests/readme.sh README..
 #
-# They are run in a copy of the repository that has nothing built, block by block, with a home folder of their own: what is
-# in a fence for sh in the README's own folder, and an indented block at the top of the repository. A program.c is there for
-# those who read of one. The Rattle toolchain isn't in the PATH, so what passes here passes for those who have none. pip and
-# npm ask no network, and pip installs into an empty environment. Lines for Cargo.toml and src/main.rs make a program that
-# is run.
+# The commands run in a copy of the repository that has nothing built, block by block, with a new home folder. A block that is
+# fenced as sh runs in the README's folder, and an indented block runs at the top of the repository. If a README speaks of a file
+# program.c, the folder has one. The Rattle toolchain isn't in the PATH, so a command that passes here also passes for users
+# without the toolchain. pip and npm use no network, and pip installs into an empty environment. Lines for Cargo.toml and
+# src/main.rs are made into a program, which is run.
 #
-# If a fence for text follows a block, the block's output has to end with these lines.
+# If a block fenced as text follows, the output must end with its lines.
 #
-# Prints a line for each block: 'ok' with its seconds, or 'FAILED' with what it said; and 'skipped' for each line that isn't
-# run, with the reason. The last line counts; the status is 0 only if nothing failed.
+# The script prints a line for each block: 'ok' with its seconds, or 'FAILED' with its output. It prints 'skipped' for each line
+# that isn't run, with the reason. The last line counts the blocks; the status is 0 only if nothing failed.
 set -u
 root=$(cd "$(dirname "$0")/.." && pwd)
 # shellcheck source=SCRIPTDIR/count.sh

@@ -1,7 +1,7 @@
 #!/bin/sh
-# Makes the artifacts of a release and checks each: tests/release.sh [--as-built] [FOLDER]
+# Makes the artifacts of a release and checks each of them: tests/release.sh [--as-built] [FOLDER]
 #
-# In FOLDER, which a second run fills again with the same bytes, or in a folder that goes away:
+# The artifacts are written to FOLDER, or to a folder that is removed at the end. A second run writes the same bytes:
 #   jcobs-VERSION-source.tar.gz            the repository
 #   jcobs-VERSION-{x86_64,aarch64}-linux.tar.gz     the library for C, as `make dist` packs it
 #   jcobs-VERSION-c-source.tar.gz          jcobs.c, for every other system
@@ -12,16 +12,16 @@
 #   jcobs-VERSION.crate                    the crate for Rust
 #   jcobs-VERSION-page.tar.gz              the page, as static files for any server
 #   SHA256SUMS
-# The libraries in them are those of the folders prebuilt/, whose sums are compared first. Then the toolchain proves and
-# builds them again, and the module, in some minutes, and the bytes are compared, and Frama-C proves all contracts of
-# check/frama-c; not with --as-built. Each artifact is unpacked or installed elsewhere, and an example of it runs. No
-# network is used.
+# The artifacts contain the libraries of the folders prebuilt/, whose sums are compared first. Then the toolchain proves the crates
+# and builds the libraries and the module again, which takes some minutes, and the bytes are compared; and Frama-C proves all
+# contracts of check/frama-c. With --as-built these steps are left out. Each artifact is unpacked or installed in another folder,
+# and an example runs with it. No network is used.
 #
 # REPOSITORY=https://.. makes the packages for registries: their metadata name this address, and their READMEs say how to
-# install from the registry. Without it they name none, and their READMEs say how to install the file beside them.
+# install from the registry. Without REPOSITORY, the metadata name no address, and the READMEs say how to install the file.
 #
-# Prints a line for each part: 'ok', 'FAILED' with what it said, or 'skipped' with the Debian packages that are missing. The
-# last line counts them; the status is 0 only if nothing failed.
+# The script prints a line for each part: 'ok', 'FAILED' with the output, or 'skipped' with the missing Debian packages. The last
+# line counts the parts; the status is 0 only if nothing failed.
 #
 # The functions are called by 'part'.
 # shellcheck disable=SC2016,SC2317
@@ -94,8 +94,9 @@ jcobs: Consistent Overhead Byte Stuffing for C and C++, as one file of C
     cc -I. examples/send_lines.c jcobs.c -o send_lines
     echo hello | ./send_lines
 
-jcobs.c compiles by any C99 compiler. jcobs.h describes each call, jcobs.3 is its manual page (man ./jcobs.3), and jcobs.hpp
-has it for C++17. jcobs.c is made of a proved module, and tested; its top says how.
+jcobs.c compiles with any C99 compiler. jcobs.h describes each call, jcobs.3 is the manual page (man ./jcobs.3), and jcobs.hpp has
+the calls for C++17. Most of jcobs.c is translated from proved code. The comment at its top says what is proved, and how the file
+is tested.
 END
         packed "$folder/$name_of-c-source.tar.gz" "$work/c-source" "$name_of-c-source"
 }
@@ -103,8 +104,11 @@ END
 device_archive() {
     there=$work/device/$name_of-device
     mkdir -p "$there" &&
-        (cd "$tree/bindings/c/device" && cp -R README.md src cmake zephyr library.json library.properties platformio.py CMakeLists.txt idf_component.yml \
+        (cd "$tree/bindings/c/device" && cp -R README.md src cmake examples zephyr library.json library.properties platformio.py CMakeLists.txt idf_component.yml \
             "$there") &&
+        names_repository "$there/library.properties" '^category=' "url=$repository" &&
+        names_repository "$there/library.json" '^  "license": ' "  \"repository\": {\"type\": \"git\", \"url\": \"$repository\"}," &&
+        names_repository "$there/idf_component.yml" '^description: ' "url: $repository" &&
         cp "$tree"/LICENSE-* "$there" && cp "$tree/bindings/c/include/jcobs.h" "$there/src/jcobs.h" &&
         sed -i 's,`\.\./,`bindings/c/,g' "$there/README.md" &&
         packed "$folder/$name_of-device.tar.gz" "$work/device" "$name_of-device"
@@ -116,7 +120,7 @@ package_readme() { # BINDING FILE
     what=./$2
     [ -z "$repository" ] || what=jcobs
     sed -i "/--no-index/s,\./bindings/$1,./$2,; s,\./bindings/$1,$what,; s,\[\([^]]*\)\](\.\./[^)]*),\1,g; s,npm install --prefix build ,npm install ," "$tree/bindings/$1/README.md"
-    [ -z "$repository" ] || sed -i 's/^In the repository, in a virtual/In a virtual/; s/, and the package is on no index\././' "$tree/bindings/$1/README.md"
+    [ -z "$repository" ] || sed -i 's/^In the repository, in a virtual/In a virtual/; s/, and no package index has the package\././' "$tree/bindings/$1/README.md"
 }
 
 # Puts the address of the repository into the metadata of a package: after a line, one that has it.

@@ -1,9 +1,8 @@
-/* Counts how often the calls of libjcobs.a search by memchr and copy a slice, by the length of the message.
+/* Counts how often the calls of libjcobs.a search with memchr and copy a slice, for each length of the message.
  *
- * tests/search.sh links it with the shipped archive. memcpy and memmove are wrapped by the linker, which counts them;
- * a debugger counts the searches, since memchr is a local function of the archive: it stops there and adds 1 to `searches`.
- * Copies that the compiler writes as instructions aren't counted, so a slice is a call.
- */
+ * tests/search.sh links this file with the shipped archive. The linker wraps memcpy and memmove, so that they count their calls. A
+ * debugger counts the searches, because memchr is a local function of the archive: the debugger stops there and adds 1 to
+ * `searches`. A copy that the compiler writes as instructions isn't counted, so only calls count as slices. */
 #include <stdio.h>
 #include <stdlib.h>
 #include <string.h>

@@ -1,8 +1,8 @@
 #!/bin/sh
-# Checks that the shipped library for C searches by memchr and copies slices: search.sh [ARCHIVE]
+# Checks that the shipped library for C searches with memchr and copies slices: search.sh [ARCHIVE]
 #
-# Needs a C compiler, gdb and nm, on x86-64. It prints a row for each call, message and length, with how many searches and
-# slices the call made, and fails if a call makes fewer than tests/search.c asks for.
+# The script needs a C compiler, gdb and nm, on x86-64. It prints a row for each call, message and length, with the number of
+# searches and of copied slices. It fails if a call makes fewer of them than tests/search.c requires.
 set -eu
 cd "$(dirname "$0")/.."
 archive=$(realpath "${1:-bindings/c/prebuilt/x86_64-linux/libjcobs.a}")

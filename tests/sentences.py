@@ -3,10 +3,10 @@
 
 usage: tests/sentences.py [SEED [COUNT]]
 
-A sentence that somebody who didn't write it has to read twice is mended. The sentences are those of the Markdown files
-that users and contributors read, of the manual pages, of the doc comments of crates/cobs and crates/cobs_live, and of the
-comments and docstrings of the headers for C and C++, of the hand-written code of the Rust crate, and of the packages for
-Python, Node and browsers. SEED is any text, and the date if left out. COUNT is 40 if left out.
+If a person who didn't write a sentence has to read it twice, rewrite the sentence. The sentences are taken from the Markdown
+files that users and contributors read, from the manual pages, from the doc comments of crates/cobs and crates/cobs_live, and from
+the comments and docstrings of the headers for C and C++, of the hand-written code of the Rust crate, and of the packages for
+Python, Node and browsers. SEED is any text; the default is the date. The default of COUNT is 40.
 """
 import ast
 import datetime

@@ -1,8 +1,8 @@
-"""The signs and words of the proof language that a reader of contracts meets: docs/READING.md must explain each.
+"""Lists the signs and words of the proof language that contracts use, for tests/docs.py: docs/READING.md must explain each of them.
 
-Read are the clauses of the public functions of crates/cobs, and of the methods of its public traits and of other traits. What
-counts is each sign, each word that is imported from the toolchain's own definitions, and each ending such as `.now`. Of specs/,
-where READING.md sends its reader, the words that begin a definition count, and the signs.
+The script reads the clauses of the public functions of crates/cobs, of the methods of its public traits, and of its methods of
+other traits. It lists each sign, each word that is imported from the toolchain's own definitions, and each ending such as `.now`.
+From specs/, to which READING.md sends its readers, it lists the signs, and the words that begin a definition.
 """
 import re
 from pathlib import Path

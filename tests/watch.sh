@@ -1,6 +1,6 @@
 #!/bin/sh
-# Runs cobs_watch as people do: over pseudo-terminals, pipes and files, with each option, and over much data.
-# WATCH_MIB says over how many MiB its speed is measured, WATCH which program is run, if it is built already.
+# Tests cobs_watch as people run it: over pseudo-terminals, pipes and files, with each option, and with much data.
+# WATCH_MIB is the number of MiB with which the speed is measured. WATCH is the path of a built program to test.
 set -eu
 cd "$(dirname "$0")/.."
 rt=$(command -v rt || echo /opt/rattle/bin/rt)

@@ -1,12 +1,13 @@
 #!/bin/sh
-# Tests the binding for the browser (bindings/web):
-#   - the vectors of conformance/ and the tests of jcobs.js, in Node;
+# Tests the binding for browsers and Node (bindings/web):
+#   - the conformance cases and the tests of jcobs.js, in Node;
 #   - the package: installed, required, bundled by esbuild and rollup, and the examples of its README;
-#   - the types in jcobs.d.ts, by the TypeScript compiler;
-#   - the speed of decode, which for messages with zeros is at least that of plain JavaScript;
-#   - the vectors and the page in Chromium, by keys, clicks and pastes; both in a WebKit engine too;
-#   - the pictures of docs/FORMAT.md and the first drawing of the page, drawn anew and compared.
-# A part whose tool is missing is skipped, and the tool named. The last line counts; the status is 0 only if nothing failed.
+#   - the types in jcobs.d.ts, with the TypeScript compiler;
+#   - the speed of decode, which for messages with zeros must be at least that of plain JavaScript;
+#   - the conformance cases and the page in Chromium, with keys, clicks and pastes, and in a WebKit engine;
+#   - the pictures of docs/FORMAT.md and the first drawing of the page, which are drawn again and compared.
+# If a tool is missing, the script skips the part that needs it, and names the tool. The last line counts the parts; the status is
+# 0 only if nothing failed.
 set -u
 root=$(cd "$(dirname "$0")/.." && pwd)
 web=$root/bindings/web

@@ -1,8 +1,8 @@
-"""Where the calls and definitions of docs/PROMISES.md are, for tests/docs.py: each row of a table links to their files.
+"""Links the calls and definitions that docs/PROMISES.md names to their files, for tests/docs.py.
 
-In a row, the first code span of each public call, call of the library for C, law, caller and word of specs/ is a link to its
-file: it is in brackets, and the list at the end of the page has the files. `tests/docs.py --write` writes both. A name that
-several files have, such as `feed`, isn't a link, and the name of a clause isn't one either.
+In each row of a table, the first code span of each public call, call of the library for C, law, caller and word of specs/ is a
+link: the code span is in brackets, and the list at the end of the page has the file. `tests/docs.py --write` writes the links and
+the list. If several files have a name, such as `feed`, the name isn't a link. The name of a clause isn't a link either.
 """
 import re
 from functools import cache

@@ -1,22 +1,22 @@
 #!/usr/bin/env python3
-"""Plants wrong definitions and wrong bodies in copies of the crates, one at a time, and checks that the prover rejects each.
+"""Puts wrong definitions and wrong bodies into copies of the crates, one at a time, and checks that the prover rejects each of them.
 
 usage: tests/wrong_code.py [--jobs N] [--write] [WORD..]
 
 Each block of tests/wrong_code.txt changes a line or two: a definition in a crate's specs/, or a body in its src/. A block
 begins with a line '== NAME' and ends at an empty line. 'only: CRATE::FUNCTION' names the function that must be rejected.
-Then come the lines 'file:', 'old:' and 'new:' of a must-fail edit, but a file's path begins with its crate. If that is a
-crate below the function's, the crates between are built with the change. With words, only the blocks are tried whose
-names or functions contain one of them.
+Then come the lines 'file:', 'old:' and 'new:' of a must-fail edit, in which the path of a file begins with its crate. If that
+crate is below the crate of the function, the crates between them are built with the change. With words, only those blocks are
+tried whose names or functions contain one of the words.
 
-First the functions are checked as they are, in the crates' own folders, over what an earlier `rt check` kept there. Each
-block is then tried over the work that this kept: only its function is checked, what that calls, and the lemmas that their
-proofs cite. N blocks are tried at once, by default as many as there are processors; each needs one to two gigabytes.
+First the unchanged functions are checked in the crates' own folders, with the results that an earlier `rt check` kept there. Each
+block is then tried with the results of this check: only its function is checked again, with the functions that it calls and the
+lemmas that their proofs cite. N blocks are tried at once (by default one for each processor). Each needs one to two gigabytes.
 
-For each block it prints a line, in the order of the file: its name, the function that was rejected, and which of its
-clauses have no proof; if a loop invariant is left without a proof, the loop's name, after the word 'loop'. The status is 0
-if each block was rejected. With --write, the rows of `tests/REFUSED.md` are then written: of the blocks that were tried,
-and with no words of all, so that a block which isn't there any more goes.
+For each block the script prints a line, in the order of the file: its name, the function that was rejected, and the clauses
+that have no proof. If a loop invariant has no proof, the line has the name of the loop after the word 'loop'. The status is 0 if
+each block was rejected. With --write, the rows of `tests/REFUSED.md` are then written for the blocks that were tried. Without
+words, the rows are written for all blocks, and rows whose block doesn't exist any more are removed.
 """
 import argparse
 import os

@@ -1,4 +1,4 @@
-//! The calls of libjcobs, of jcobs.c and of rivals.c. Each is safe to make: a slice is passed as a pointer and a length.
+//! Makes the calls of libjcobs, of jcobs.c and of rivals.c. Each call is safe: a slice is passed as a pointer and a length.
 
 use crate::calls::{SENTINEL, Work, chunk_of, through};
 

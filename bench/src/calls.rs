@@ -1,4 +1,4 @@
-//! The measured calls, each by whoever has it.
+//! Makes each call that is measured, with each implementation that has the call.
 
 use crate::workload::messages;
 use crate::{c, crates, simd};

@@ -1,4 +1,4 @@
-//! What each implementation makes of thousands of messages, against the plain definition of a frame.
+//! Compares the results of each implementation, for thousands of messages, with the plain definition of a frame.
 
 use crate::calls::{CALLS, SENTINEL, WHO, Work, once};
 use crate::workload::Dice;

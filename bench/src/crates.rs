@@ -1,5 +1,6 @@
-//! The calls of `jcobs`, the Rust crate of this repository, and of the crate `cobs` 0.5.1, by the same lines. Each loop is a
-//! function of its own, as it is in a program: with link-time optimization all loops in one function change one another.
+//! Makes the calls of `jcobs`, the Rust crate of this repository, and of the crate `cobs` 0.5.1, with the same code. Each loop is
+//! in a separate function, as in a program. If all loops were in one function, link-time optimization would make the speed of one
+//! loop depend on the other loops.
 
 use crate::calls::{SENTINEL, Work, chunk_of, through};
 use std::hint::black_box;

@@ -1,13 +1,13 @@
-//! Measures libjcobs and the Rust crate as a program links them, beside the crate `cobs` 0.5.1, C code that one would write
-//! instead, SIMD by hand and memcpy. `run.sh` builds and runs it.
+//! Measures libjcobs and the Rust crate as a program links them, and the alternatives: the crate `cobs` 0.5.1, plain C code, SIMD
+//! by hand, and memcpy. `run.sh` builds and runs this program.
 //!
-//!     driver check             compares what each made of thousands of messages
+//!     driver check             compares the results for thousands of messages
 //!     driver run [WHO..]       prints a line of figures for each call and workload
-//!     driver one CALL WORKLOAD TIMES       one call of libjcobs alone, for counting its instructions
-//!     driver c|rust FILE..     every figure that `run` printed, the best of several places in memory
-//!     driver pairs|shipped|readme|chart FILE..    what the documents have of them
-//!     driver before|beside OLD NEW    the times of two libraries: in few words, each row
-//!     driver call              how long a call and its return take
+//!     driver one CALL WORKLOAD TIMES       makes one call of libjcobs, so that its instructions can be counted
+//!     driver c|rust FILE..     prints every figure of `run`, the best of several places in memory
+//!     driver pairs|shipped|readme|chart FILE..    prints the tables and the chart of the documents
+//!     driver before|beside OLD NEW    compares the times of two libraries: in few words, or in a table of each row
+//!     driver call              prints how long a call and its return take
 
 mod c;
 mod calls;

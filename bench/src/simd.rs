@@ -1,6 +1,6 @@
-//! What a user would otherwise write by hand: an encoder and decoders by SSE2, 16 bytes at a time, with unchecked pointers.
+//! An encoder and decoders as a user would write them by hand: with SSE2, 16 bytes at a time, and with unchecked pointers.
 //!
-//! The decoders search for the end of the frame and know the length of their room; they trust the codes.
+//! The decoders search for the end of the frame, and know the length of their buffer. They don't check the codes.
 use crate::calls::{Work, chunk_of, through};
 use std::arch::x86_64::*;
 

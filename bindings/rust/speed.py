@@ -15,12 +15,16 @@ from pathlib import Path
 
 NAMES = {
     "encode": "`encode`", "encode sentinel": "`encode_with_sentinel`", "encoder feed": "`CobsEncoder::push` of 1 byte",
-    "encoder 8": "of 8 bytes", "encoder 64": "of 64 bytes", "decode": "`decode`", "decode sentinel": "`decode_with_sentinel`",
+    "encoder 8": "`CobsEncoder::push` of 8 bytes", "encoder 64": "`CobsEncoder::push` of 64 bytes",
+    "decode": "`decode`", "decode sentinel": "`decode_with_sentinel`",
     "in place": "`decode_in_place`", "feed": "`CobsDecoder::feed`", "push 1": "`CobsDecoder::push` of 1 byte",
-    "push 8": "of 8 bytes", "push 64": "of 64 bytes", "push whole": "of all frames",
-    "counted feed": "errors counted: `feed`", "method feed": "`feed` in a method, called for each byte", "counted push 1": "`push` of 1 byte",
-    "counted push 4": "of 4 bytes", "counted push 8": "of 8 bytes",
-    "tried encoder 1": "errors by `?`: `CobsEncoder::push` of 1 byte", "tried encoder 4": "of 4 bytes", "tried encoder 8": "of 8 bytes",
+    "push 8": "`CobsDecoder::push` of 8 bytes", "push 64": "`CobsDecoder::push` of 64 bytes",
+    "push whole": "`CobsDecoder::push` of all frames",
+    "counted feed": "errors counted: `feed`", "method feed": "errors counted: `feed` in a method, called for each byte",
+    "counted push 1": "errors counted: `push` of 1 byte", "counted push 4": "errors counted: `push` of 4 bytes",
+    "counted push 8": "errors counted: `push` of 8 bytes",
+    "tried encoder 1": "errors by `?`: `CobsEncoder::push` of 1 byte", "tried encoder 4": "errors by `?`: `CobsEncoder::push` of 4 bytes",
+    "tried encoder 8": "errors by `?`: `CobsEncoder::push` of 8 bytes",
     "encoder state": "`EncoderState::push`",
 }  # fmt: skip
 BENCH = Path(__file__).resolve().parents[2] / "bench"
@@ -57,15 +61,6 @@ def ratios(found, call, other):
     return f"{statistics.median(row[0] for row in rows):.1f}; {least:.2f} ({kind})"
 
 
-def full_names():
-    """Yields the calls with their names; each name contains its function."""
-    base = ""
-    for call, name in NAMES.items():
-        base = base if name.startswith("of ") else name.partition(" of ")[0]
-        full = f"{base} {name}" if name.startswith("of ") else name
-        yield call, f"errors counted: {full}" if call.startswith(("counted push", "method")) else full
-
-
 def ratios_of(file):
     """Returns the kinds of messages for each call, with the ratio to the crate `cobs` in this file of bench/results."""
     table = file.read_text().partition("| / the crate `cobs` |")[2].partition("\n\n")[0]
@@ -76,7 +71,7 @@ def ratios_of(file):
 def below():
     """Yields the rows of the table of ratios below LEAST, without and with link-time optimization."""
     tables = [ratios_of(BENCH / "results" / name) for name in ("rust.txt", "rust-lto.txt")]
-    for call, name in full_names():
+    for call, name in NAMES.items():
         cells = [[f"{kind} {ratio:.2f}" for kind, ratio in table[call] if ratio < LEAST] for table in tables]
         if any(cells):
             rows = " | ".join("; ".join(cell) or "-" for cell in cells)
@@ -86,7 +81,7 @@ def below():
 def slower(found):
     """Returns, for each call for which the crate `cobs` is faster, the kinds of messages, or their number if it is large."""
     parts = {}
-    for call, name in full_names():
+    for call, name in NAMES.items():
         kinds = [kind for (of, kind), speeds in found.items() if of == call and speeds[2] and speeds[1] < speeds[2]]
         if kinds:
             parts[name] = ", ".join(kinds) if len(kinds) < 4 else f"{len(kinds)} kinds"
@@ -106,7 +101,7 @@ def main():
         print(f"| {name} | {ratios(plain, call, 2)} | {ratios(linked, call, 2)} | {ratios(plain, call, 0)} |")
     parts = slower(plain), slower(linked)
     print("\n`cobs` is faster for these messages:\n\n| call | without LTO | with LTO |\n|---|---|---|")
-    for _, name in full_names():
+    for name in NAMES.values():
         if any(name in part for part in parts):
             print(f"| {name} | {parts[0].get(name, '-')} | {parts[1].get(name, '-')} |")
 

@@ -53,10 +53,8 @@ MORE_DERIVES = {
     "PushResult": DERIVES,
     "DecodeResult": DERIVES,
     "DecoderState": ("Clone", "PartialEq", "Eq", "Hash"),
-    "DecoderPhase": DERIVES,
     "UnbufferedDecoder": DERIVES,
     "EncoderState": ("Clone", "PartialEq", "Eq", "Hash"),
-    "EncoderProgress": DERIVES,
     "UnbufferedEncoder": DERIVES,
     "Recorded": ("Debug", "Clone"),
     "FrameReader": ("Debug", "Clone"),
@@ -95,14 +93,12 @@ BY_TARGET = {"cobs_bytes::has_vectors": {"true": "crate::simd::HAS_VECTORS"}}
 # Calls that are `const fn` in the crate `cobs`, or that such a call calls; and calls that make or copy plain values, so that
 # these values can be in a constant or a static.
 CONST = set(
-    "max_encoding_overhead max_encoding_length UnbufferedDecoder::new UnbufferedDecoder::from_phase UnbufferedDecoder::phase"
-    " UnbufferedDecoder::is_idle UnbufferedEncoder::new UnbufferedEncoder::from_progress UnbufferedEncoder::progress"
-    " DecodeReport::parsed_size DecodeReport::frame_size FrameReader::new FrameReader::decoder Recorded::new".split()
+    "max_encoding_overhead max_encoding_length UnbufferedDecoder::new UnbufferedDecoder::is_idle"
+    " UnbufferedEncoder::new DecodeReport::parsed_size DecodeReport::frame_size FrameReader::new FrameReader::decoder Recorded::new".split()
 )
 # Calls for one byte or a short frame, which rustc should inline into the caller's loop.
 INLINE = set(
-    "decode_with_sentinel UnbufferedDecoder::feed_piece DecoderState::feed EncoderState::push UnbufferedEncoder::progress"
-    " UnbufferedEncoder::from_progress".split()
+    "decode_with_sentinel UnbufferedDecoder::feed_piece DecoderState::feed EncoderState::push".split()
 )
 # Functions whose attributes for inlining differ from those of the proved source. The first two decode long frames. Here a call
 # for short frames is their only caller, and it saves fewer registers if they aren't inlined; in C a separate function calls
@@ -113,8 +109,7 @@ INTO_CALLER = {"cobs_bytes::copy_slice"}
 # Calls that have no effect except their result: a lint warns if the result isn't used.
 MUST_USE = set(
     "PieceEnd::reported DecodeReport::parsed_size DecodeReport::frame_size EncoderState::can_push EncoderState::finalize"
-    " UnbufferedDecoder::new UnbufferedDecoder::from_phase UnbufferedDecoder::phase UnbufferedDecoder::is_idle"
-    " UnbufferedEncoder::new UnbufferedEncoder::from_progress UnbufferedEncoder::progress".split()
+    " UnbufferedDecoder::new UnbufferedDecoder::is_idle UnbufferedEncoder::new".split()
 )
 # The feature that an item needs, if its code has this word.
 FEATURES = {"alloc": r"(?<!\w)(Vec\b|vec!)", "std": r"(?<!\w)std::|(?<![\w:])Read\b"}

@@ -34,9 +34,9 @@ LOCAL = re.compile(r"&(?:state|encoder|decoder)\b")
 GOAL = re.compile(r"^\[wp\] .*Goal typed_(?:cast_)?(?:ref_)?(\w+)(?! : Valid)\b(?!.* : Valid)", re.M)
 # The functions that take many bytes, whose goals need most of the time.
 LONG = [
-    "jcobs_decoder_take", "jcobs_decoder_push", "jcobs_decode_piece", "jcobs_decode", "frame_grows", "frame_goes_on",
-    "jcobs_extra_codes_fit", "jcobs_has_room", "jcobs_write_blocks", "jcobs_try_encode_each", "jcobs_write_frame", "jcobs_encode",
-    "jcobs_encode_terminated", "jcobs_encoder_append", "jcobs_encoder_try_append", "jcobs_encoder_push",
+    "jcobs_decoder_take_bytes", "jcobs_decoder_push", "jcobs_decode_piece", "jcobs_decode", "frame_grows", "frame_goes_on",
+    "jcobs_extra_codes_fit", "jcobs_has_room", "jcobs_write_blocks", "jcobs_write_frame", "jcobs_encode", "jcobs_encode_terminated",
+    "jcobs_encoder_append_bytes", "jcobs_encoder_try_append", "jcobs_encoder_push",
     "jcobs_decode_blocks", "jcobs_decode_in_place", "jcobs_write_in_place", "jcobs_encode_in_place", "jcobs_xor",
     "jcobs_encode_with_sentinel", "jcobs_encode_terminated_with_sentinel", "jcobs_decode_with_sentinel",
     "jcobs_decode_in_place_with_sentinel", "jcobs_decoder_push_with_sentinel", "jcobs_encoder_finish_with_sentinel",

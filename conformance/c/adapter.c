@@ -1,5 +1,5 @@
-/* Holds a COBS library with the two usual calls against the vectors that every library owes, which it reads from standard
- * input. For another library, change the include and the two calls in `result_of`. */
+/* Runs the cases that hold for every COBS library (level `owed`) with a library that has the two usual calls. The cases are read
+ * from standard input. To test another library, change the include and the two calls in `result_of`. */
 #include "plain.h"
 
 #include <stdio.h>
@@ -10,7 +10,8 @@ enum { MOST_BYTES = 131072, MOST_LINE = 8192, MOST_WORDS = 256 };
 
 static uint8_t given[MOST_BYTES], wanted[MOST_BYTES], made[2 * MOST_BYTES];
 
-/* Two digits are a byte. A star and a number: the bytes since the last plus stand there so often. */
+/* Converts a word to bytes. Two digits are a byte. After a star, a number says how often the bytes since the last plus are
+ * repeated. */
 static size_t bytes_of(const char *word, uint8_t *bytes)
 {
     size_t length = 0, part = 0;
@@ -38,8 +39,8 @@ static int is_made(const char *word, size_t length)
     return bytes_of(word, wanted) == length && memcmp(made, wanted, length) == 0;
 }
 
-/* Makes the call, and holds what it made against the words behind `->`: 1 where it is the same, 0 where not, -1 for a call
- * that this library lacks. */
+/* Makes the call, and compares its result with the words after `->`. Returns 1 if they are equal, 0 if they aren't, and -1 for a
+ * call that this library doesn't have. */
 static int result_of(const char *call, char **words)
 {
     size_t length = bytes_of(words[0], given);

@@ -1,4 +1,4 @@
-/* COBS as one writes it in C: two pointers, one loop. Written for adapter.c. */
+/* A plain COBS library in C: two pointers, one loop. Written for adapter.c. */
 #include "plain.h"
 
 size_t cobs_encode(const uint8_t *message, size_t length, uint8_t *frame)

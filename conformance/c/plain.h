@@ -1,4 +1,4 @@
-/* The two usual calls of a COBS library. */
+/* The two usual calls of a COBS library: one that encodes and one that decodes. */
 #ifndef PLAIN_H
 #define PLAIN_H
 

@@ -1,7 +1,7 @@
 #!/usr/bin/env python3
-"""Drives cobs_watch over pseudo-terminals, pipes and files, and compares what it writes with what Python makes of the frames.
+"""Runs cobs_watch over pseudo-terminals, pipes and files, and compares its output with the text that Python makes from the frames.
 
-    drive.py WATCH        WATCH is the built program. Needs socat for the parts over pseudo-terminals.
+    drive.py WATCH        WATCH is the built program. The parts over pseudo-terminals need socat.
 """
 
 import binascii

@@ -1,9 +1,9 @@
 #!/usr/bin/env python3
-"""Installs the programs into a folder, and tries their manuals there and the completions for bash and zsh.
+"""Installs the programs into a folder, and tests the installed manual pages and the completions for bash and zsh.
 
     installed.py WATCH        WATCH is the built program, whose help the completions are compared with.
 
-A shell or `man` that isn't there is skipped by name.
+If a shell or `man` is missing, the script names it and skips its part.
 """
 
 import fcntl

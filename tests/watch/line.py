@@ -1,5 +1,5 @@
 #!/usr/bin/env python3
-"""Drives cobs_watch over lines that it opens itself, that hang up, would block, or are closed.
+"""Runs cobs_watch with a path that it opens itself: lines that hang up, that would block, and that are closed.
 
     line.py WATCH        WATCH is the built program.
 """

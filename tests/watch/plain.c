@@ -1,8 +1,6 @@
-/*
- * The output of `cobs_watch show`, as lines, with --raw or with --json, by a plain program that copies runs of bytes at
- * once and writes digits by a table: what the speed of cobs_watch is compared with. It leaves hidden characters that
- * aren't ASCII as they are.
- */
+/* A plain program with the output of `cobs_watch show`: as lines, with --raw, or with --json. It copies runs of bytes at once, and
+ * writes digits with a table. The speed of cobs_watch is compared with the speed of this program. Hidden characters that aren't
+ * ASCII are written unchanged. */
 #include <stdio.h>
 #include <stdlib.h>
 #include <string.h>

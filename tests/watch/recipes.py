@@ -1,12 +1,12 @@
 #!/usr/bin/env python3
-"""Pastes the recipes of the documents into shells, over a pseudo-terminal in place of the serial port.
+"""Pastes the recipes of the documents into shells, with a pseudo-terminal in place of the serial port.
 
-    recipes.py WATCH        WATCH is the built program. A recipe is skipped by name if a tool of it isn't there.
+    recipes.py WATCH        WATCH is the built program. If a tool of a recipe is missing, the script names the recipe and skips it.
 
-Each recipe is pasted into an interactive bash and an interactive zsh without settings. The serial port is a pseudo-terminal as
-the system makes it: it echoes, and waits for lines. Of each text the first `stty` sets it for those recipes that have none. A
-recipe that shows gets a frame from the device, whose side then has to receive nothing; of one that sends it has to receive
-the frames.
+Each recipe is pasted into an interactive bash and an interactive zsh, both without settings. At first the pseudo-terminal has the
+system's settings: it echoes, and waits for whole lines. If a recipe has no `stty`, the first `stty` of its document sets the
+pseudo-terminal. If a recipe shows frames, the device sends a frame, and must receive nothing. If a recipe sends frames, the device
+must receive these frames.
 """
 
 import fcntl

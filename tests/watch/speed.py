@@ -1,10 +1,11 @@
 #!/usr/bin/env python3
-"""Measures cobs_watch over much data: its speed, beside a plain program's where that has the style, and its memory.
+"""Measures the speed and memory of cobs_watch with much data, and compares the speed with that of a plain program in C.
 
     speed.py WATCH PLAIN [MIB [RUNS]]
 
-PLAIN is the built plain.c. MIB of each of eight streams are read, 128 if not given, and of RUNS runs, 3 if not given, the
-fastest counts. At the end it prints the table of crates/cobs_watch/README.md, with the instructions that valgrind counts.
+PLAIN is the built plain.c, which has only some of the styles. MIB of each of eight streams are read (default 128), and the
+fastest of RUNS runs counts (default 3). At the end the script prints the table of crates/cobs_watch/README.md, with the
+instructions that valgrind counts.
 """
 
 import os

@@ -10,9 +10,9 @@ CORES = {
     "cortex-m1": "cortex-m0plus",
     "cortex-m3": "cortex-m0plus",
     "cortex-m23": "cortex-m0plus",
+    "cortex-m33": "cortex-m0plus",  # a Cortex-M33 may lack the DSP instructions that the archive for the Cortex-M4 has
     "cortex-m4": "cortex-m4",
     "cortex-m7": "cortex-m4",
-    "cortex-m33": "cortex-m4",
     "cortex-m55": "cortex-m4",
     "rv32imac": "riscv32imac",
 }

@@ -6,16 +6,16 @@
 #include <stdio.h>
 #include <string.h>
 
-#define LONGEST 65536
-#define ROOM JCOBS_MAX_LENGTH(LONGEST)
+#define MAX_LINE 65536
+#define MAX_FRAME JCOBS_MAX_LENGTH(MAX_LINE)
 
 /* The frame of the longest line, and the zero after it. */
-static unsigned char frame[ROOM + 1];
+static unsigned char frame[MAX_FRAME + 1];
 
 /* Ends the frame of a line and writes it. Returns 0 if the write failed. */
 static int send_frame(jcobs_encoder *encoder)
 {
-    size_t length = jcobs_encoder_finish(encoder, frame, ROOM).length;
+    size_t length = jcobs_encoder_finish(encoder, frame, MAX_FRAME).length;
 
     frame[length] = 0;
     return fwrite(frame, 1, length + 1, stdout) == length + 1 && fflush(stdout) == 0;
@@ -35,7 +35,7 @@ int main(void)
             unsigned char *newline = memchr(piece + at, '\n', n - at);
             size_t len = (newline != NULL ? (size_t)(newline - piece) : n) - at;
 
-            if (jcobs_encoder_push(&encoder, frame, ROOM, piece + at, len).status != JCOBS_OK) {
+            if (jcobs_encoder_push(&encoder, frame, MAX_FRAME, piece + at, len).status != JCOBS_OK) {
                 fputs("send_lines: a line is too long\n", stderr);
                 return 1;
             }

@@ -221,7 +221,7 @@ class Expressions(Kinds):
         if expected == BOOL:  # a Result without a value
             return Value("1" if name == "Ok" else "0", BOOL, literal=True)
         if expected == FRAME:
-            return Value(f"jcobs_make_frame({f'1, {self.value(tree).text}' if name == 'Ok' else '0, 0'})", FRAME)
+            return Value(f"jcobs_make_frame_length({f'1, {self.value(tree).text}' if name == 'Ok' else '0, 0'})", FRAME)
         if name == "Some" and tree[0] == "tuple":
             end, count = (self.value(it) for it in tree[1])
             if end.text.startswith("jcobs_make_end("):
@@ -246,7 +246,7 @@ class Expressions(Kinds):
             there.env["self"] = receiver
             return there.value(item[4][0][1], there.kind_of(item[3]))
         if start := there.resets(item):
-            return Value(f"{start}_start({receiver.text})", None)
+            return Value(f"{start}_init({receiver.text})", None)
         if (result := self.known_result(there, item, args)) is not None:
             return result
         name = self.out.function(found)
@@ -317,8 +317,9 @@ class Expressions(Kinds):
     def on_method(self, tree, expected):
         _, name, of, args = tree
         if name == "unwrap_or" and of[0] == "method" and of[1] == "checked_add":
-            words = [self.value(it).text for it in (of[2], of[3][0], args[0])]
-            return Value(f"jcobs_sum_or({', '.join(words)})", USIZE)
+            if args[0] != ("number", "0"):
+                raise Unknown(f"{self.name}: a sum or {args[0]}")
+            return Value(f"jcobs_sum_or_zero({self.value(of[2]).text}, {self.value(of[3][0]).text})", USIZE)
         value = self.value(of)
         if isinstance(value, Slice):
             if name == "len":

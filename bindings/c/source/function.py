@@ -52,10 +52,7 @@ class Function(Statements):
                 self.out.unused.add((*self.key, name))
                 params.remove(f"size_t {length}")
         lines = [it for line in self.with_pointers(text).split("\n") for it in wrapped(line)]
-        first = declarations(lines)
-        if 0 < first < len(lines):
-            lines.insert(first, "")
-        return "\n".join([self.comment(), *self.head(params), "{", *lines, "}"])
+        return "\n".join([self.comment(), *self.head(params), "{", *paragraphs(lines), "}"])
 
     def parameters(self):
         """Returns the parameters in C, and the meaning of each name of Rattle."""
@@ -122,7 +119,7 @@ class Function(Statements):
             if old in text:
                 self.out.replaced.add((self.name_here, old))
                 text = text.replace(old, new)
-        return re.sub(r"\[?`([^`]*)`\]?(\([^)]*\))?", lambda found: self.word_in_c(found[1]), text)
+        return re.sub(r"\[?`([^`]*)`\]?(\([^)]*\))?", lambda found: quoted(self.word_in_c(found[1])), text)
 
     def word_in_c(self, word):
         """Translates a text in quotes in a comment: the name of a parameter or a variable, a number, or another function."""
@@ -185,15 +182,23 @@ def wrapped(head):
     return lines
 
 
-def declarations(lines):
-    """Returns how many of a function's first lines declare variables."""
-    count = 0
+def quoted(word):
+    """Returns a name as a comment has it: in backticks, if it could be read as an ordinary word."""
+    return f"`{word}`" if re.fullmatch("[a-z]+", word) else word
+
+
+def paragraphs(lines):
+    """Returns the lines of a function, with an empty line before and after the declarations among its statements."""
+    out, was_declared = [], None
     for i, line in enumerate(lines):
-        is_continued = i > 0 and i == count and lines[i - 1].endswith(",")
-        if not is_continued and (not TYPED.match(line) or line.startswith("    return")):
-            break
-        count = i + 1
-    return count
+        if re.match(rf"{INDENT}[^\s}}]", line):  # a statement, and not a part of one
+            code = next(it for it in lines[i:] if re.match(rf"{INDENT}(?!/\*)[^\s}}]", it))  # without the comment before it
+            is_declared = bool(TYPED.match(code) and not code.startswith(f"{INDENT}return"))
+            if was_declared not in (None, is_declared):
+                out.append("")
+            was_declared = is_declared
+        out.append(line)
+    return out
 
 
 def is_slice(kind):

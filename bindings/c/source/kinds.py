@@ -2,7 +2,7 @@
 
 A struct becomes a struct of C. A slice becomes a pointer and a length. An enum without fields becomes the enum of jcobs.h with these
 variants. The end of a piece or a frame (an enum with fields, an Option or a Result) becomes a jcobs_end; with the number of consumed
-bytes it becomes a jcobs_piece. A Result of a length whose error has no value becomes a jcobs_frame. A Result without a value becomes
+bytes it becomes a jcobs_piece. A Result of a length whose error has no value becomes a jcobs_frame_length. A Result without a value becomes
 an int that says whether it is Ok.
 """
 
@@ -13,7 +13,7 @@ from rattle import Unknown
 SCALARS = {"usize": "size_t", "u8": "unsigned char", "u32": "unsigned int", "bool": "int"}
 NUMBERS = ("usize", "u8", "u32")
 USIZE, BYTE, BOOL = (("path", it, []) for it in ("usize", "u8", "bool"))
-END, PIECE, FRAME = ("end",), ("piece",), ("frame",)
+END, PIECE, FRAME = ("end",), ("piece",), ("frame_length",)
 
 
 def snake(name):

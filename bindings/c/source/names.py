@@ -3,10 +3,10 @@
 # Functions. Each other function keeps its name in Rattle, after jcobs_ or the name of its type.
 FUNCTIONS = {
     "UnbufferedDecoder::end": "jcobs_decoder_end_piece",
-    "UnbufferedDecoder::feed_each": "jcobs_decoder_take",
-    "UnbufferedEncoder::append_each": "jcobs_encoder_append",
-    "UnbufferedEncoder::append_one": "jcobs_encoder_append_and_measure",
+    "UnbufferedDecoder::feed_each": "jcobs_decoder_take_bytes",
+    "UnbufferedEncoder::append_each": "jcobs_encoder_append_bytes",
     "UnbufferedEncoder::finalize": "jcobs_encoder_close",
+    "UnbufferedEncoder::is_within": "jcobs_encoder_is_valid",
     "UnbufferedEncoder::push_each": "jcobs_encoder_try_append",
     "close_block": "jcobs_close_block",
     "decode_blocks_each": "jcobs_decode_blocks",
@@ -22,10 +22,16 @@ FUNCTIONS = {
     "max_encoding_overhead": "jcobs_max_overhead",
     "result_by": "jcobs_in_place_answer",
     "result_of": "jcobs_decoder_answer",
-    "take_one": "jcobs_decoder_take_and_measure",
     "through_piece": "jcobs_find_end",
     "too_small": "jcobs_too_small_answer",
     "write_each": "jcobs_write_blocks",
+}
+# The calls of jcobs.h with which a part of jcobs.c begins, and the heading of this part.
+SECTIONS = {
+    "jcobs_max_length": "Encoding a whole message",
+    "jcobs_decode": "Decoding a whole frame",
+    "jcobs_decoder_reset": "Decoding a stream",
+    "jcobs_encoder_reset": "Encoding a message that comes in pieces",
 }
 # Parameters and variables of each function; the names under "" apply to every function. The length of the slice `NAME` is
 # `NAME_len` if its bytes are there, and `NAME_size` if the slice is a buffer with room. A call of jcobs.h and the functions
@@ -35,10 +41,9 @@ VARIABLES = {
     "UnbufferedDecoder::end": {"len": "buffer_size", "ended": "before"},
     "UnbufferedDecoder::feed_each": {"dest": "buffer", "here": "state"},
     "UnbufferedDecoder::step": {"dest": "buffer"},
-    "UnbufferedDecoder::take_byte": {"dest": "buffer"},
+    "UnbufferedDecoder::take_byte": {"dest": "buffer", "room": "buffer_size"},
     "UnbufferedEncoder::append_byte": {"dest": "buffer"},
     "UnbufferedEncoder::append_each": {"dest": "buffer"},
-    "UnbufferedEncoder::append_one": {"dest": "buffer"},
     "UnbufferedEncoder::feed_len": {"dest": "buffer"},
     "UnbufferedEncoder::finalize": {"dest": "buffer", "len": "length"},
     "UnbufferedEncoder::is_within": {"len": "buffer_size"},
@@ -51,14 +56,13 @@ VARIABLES = {
     "encode_in_place": {"len": "message_len", "before": "start"},
     "ended": {"at": "consumed"},
     "finish_terminated": {"last": "room"},
-    "has_room": {"held": "taken", "len": "data_len"},
+    "has_room": {"held": "block_len", "len": "data_len"},
     "held": {"room": "buffer_size"},
     "jcobs_decode_in_place": {"end": "frame_len", "size": "decoded"},
     "jcobs_encode_terminated": {"last": "room"},
     "max_encoding_overhead": {"source_len": "message_len"},
     "result_by": {"room": "buffer_len", "size": "decoded"},
     "result_of": {"room": "buffer_size", "found": "piece"},
-    "take_one": {"room": "buffer_size"},
     "try_encode_each": {"source": "message", "dest": "frame"},
     "write_each": {"source": "message", "dest": "frame", "len": "part_len"},
 }
@@ -71,17 +75,6 @@ RARE = {"decode_zero"}
 WRITTEN_OUT = {"UnbufferedDecoder::is_idle"}
 # Numbers that have a name.
 NUMBERS = {"254": "FULL_BLOCK_BYTES"}
-# Structs that jcobs.h doesn't have: a comment for the struct, and a comment for each member.
-STRUCTS = {
-    "EncoderProgress": (
-        "How much of a frame is in the buffer.",
-        {
-            "index": "the index at which the code of the open block belongs",
-            "code": "the code of the open block so far: one more than the number of its bytes",
-            "is_full": "whether the last block is full: then no block is open, and the frame ends at index",
-        },
-    ),
-}
 # For each way in which a piece or a frame can end, the variants of Rattle that stand for it.
 ENDS = {
     "JCOBS_END_NONE": ("None", "EmptyFrame"),
@@ -90,7 +83,8 @@ ENDS = {
     "JCOBS_END_TOO_LONG": ("TooLong", "TargetBufTooSmall"),
 }
 # Comments: for each function, a text in its comments in Rattle, and the text that replaces it in C. The texts under "" apply to
-# every function. The words in backticks that are left are names in C.
+# every function. The words in backticks that are left are names of Rattle, which get their names in C. A name that could be read as
+# an ordinary word keeps its backticks.
 COMMENTS = {
     "": [(" (A choice of this library.)", "")],
     "UnbufferedDecoder::end": [("`len` is the buffer's length.", "It returns how the piece ended. The buffer has buffer_size bytes.")],
@@ -104,13 +98,7 @@ COMMENTS = {
         ", and writes its output to the buffer.",
         ", and writes its output to the buffer. It returns JCOBS_END_TOO_LONG at each byte of a piece that is too long.",
     )],
-    "UnbufferedEncoder::append_byte": [(", for which there is room.", ", for which there is room: the step of the loop that encodes in place.")],
-    "UnbufferedEncoder::append_one": [(
-        "Takes the next byte of the message, for which there is room, and returns the length of the frame so far.",
-        "Does what jcobs_encoder_append_byte does, and returns the length of the frame so far. In each case the frame ends after the"
-        " byte at index next. For a single byte compilers make fewer instructions of this form than of"
-        " jcobs_encoder_append_byte; for a loop they make more.",
-    )],
+    "UnbufferedEncoder::append_each": [(", one at a time.", ", one at a time. There is at least one byte.")],
     "UnbufferedEncoder::feed_len": [(
         "if the frame of all bytes so far fits the buffer.",
         "if the frame of all bytes so far fits the buffer. It is a separate function: as a part of jcobs_encoder_feed it would"
@@ -120,7 +108,7 @@ COMMENTS = {
         "Ends the message, and returns",
         "Ends the message, if the state is possible in a buffer of this size, and returns",
     )],
-    "UnbufferedEncoder::is_within": [("the encoder's progress is possible in a buffer of `len` bytes", "the state is possible in a buffer of this size")],
+    "UnbufferedEncoder::is_within": [("the encoder's state is possible in a buffer of `len` bytes", "the state is possible in a buffer of this size")],
     "UnbufferedEncoder::push_each": [(", one at a time.", ", if the frame of all bytes so far fits the buffer, and returns whether it does.")],
     "decode_blocks_each": [(
         " This function is small, and uses no SIMD vectors.",
@@ -136,16 +124,16 @@ COMMENTS = {
         " frame in bytes.",
     )],
     "end_of": [("the frame that an encoder has written so far", "the frame, if the message ends with the bytes that were taken")],
-    "ended": [(
-        "the result of `decode_piece` for a piece with `written` bytes of output, if `missing` bytes of its last block are missing and"
-        " `at` bytes of the source were consumed",
-        "how a piece ended that has this many bytes of output, and of whose last block this many bytes are missing, and how many"
-        " bytes were consumed",
-    )],
+    "ended": [("`decode_piece`", "jcobs_decode_piece")],
     "has_room": [(
         "The bytes are read only if their number doesn't decide whether the frame fits.",
         "The bytes are read only if their number doesn't decide whether the frame fits. data_len is the number of bytes of the message in"
         " the open block and the blocks after it, with these bytes.",
+    )],
+    "jcobs_decoder_reset": [("Makes the decoder idle, even if its state is corrupt.", "Resets the decoder to the initial state, from any state.")],
+    "jcobs_encoder_reset": [(
+        "Puts the encoder back to the start, even if its state is corrupt. After the reset, the encoder has taken no bytes.",
+        "Resets the encoder to the initial state, from any state.",
     )],
     "kind_by_blocks": [(
         ", as [`frame_kind`] does. This function goes from one code to the next, and doesn't search the bytes for a zero.",
@@ -165,20 +153,9 @@ COMMENTS = {
         " JCOBS_END_TOO_LONG and JCOBS_END_NONE don't occur: a message is shorter than its frame, and an empty buffer isn't"
         " decoded.",
     )],
-    "result_of": [(
-        "a call that decoded `len` bytes into a buffer of `room` bytes. If a piece has ended, `found` says how it ended, and how"
-        " many bytes there are through its end",
-        "a call that took the bytes through the end of this piece, if it has ended, or otherwise all `len` bytes. The buffer has"
-        " `room` bytes",
-    )],
-    "take_one": [(
-        "Takes a byte of a piece, writes its output to the buffer, and returns how many bytes of the open message the buffer then holds.",
-        "Does what jcobs_decoder_take_byte does, and returns how many bytes of the open message the buffer then holds. A byte"
-        " inside a block has a return of its own, with a length that needs no test.",
-    )],
     "write_each": [(
         "Does what [`encode`](crate::encode) does, one byte at a time.",
-        "Writes the frame of the message, and returns its length. The code of the open block belongs at index, and the next byte at"
-        " next. No part has more bytes than the open block has room for, so no byte needs a test whether the block is full.",
+        "Writes the frame of the message, and returns its length. The code of the open block belongs at `index`, and the next byte at"
+        " `next`. No part has more bytes than the open block has room for, so no byte needs a test whether the block is full.",
     )],
 }

@@ -1,4 +1,4 @@
-/* The calls from here on are written by hand. They call the functions above. */
+/* ---- Written by hand: the calls for other sentinels, the texts and the versions ---- */
 
 /* XORs each byte with the sentinel. This turns a frame for the sentinel 0 into a frame for this sentinel, or back. */
 static void jcobs_xor(void *bytes, size_t len, unsigned char sentinel)
@@ -90,8 +90,8 @@ jcobs_answer jcobs_decode_in_place_with_sentinel(void *buffer, size_t buffer_len
 jcobs_answer jcobs_decoder_push_with_sentinel(jcobs_decoder *decoder, void *buffer, size_t buffer_size,
                                               const void *bytes, size_t len, unsigned char sentinel)
 {
-    jcobs_piece piece = jcobs_decoder_take(decoder, (unsigned char *)buffer, buffer_size, (const unsigned char *)bytes,
-                                           len, sentinel);
+    jcobs_piece piece = jcobs_decoder_take_bytes(decoder, (unsigned char *)buffer, buffer_size,
+                                                 (const unsigned char *)bytes, len, sentinel);
 
     return jcobs_decoder_answer(decoder, piece, len, buffer_size);
 }

@@ -100,7 +100,7 @@ class Statements(Expressions):
         if isinstance(to, Slice):
             return self.shortened(to, right)
         if start := self.start(right):
-            self.put(f"{start}_start({to.text[1:] if to.text.startswith('*') else f'&{to.text}'});")
+            self.put(f"{start}_init({to.text[1:] if to.text.startswith('*') else f'&{to.text}'});")
             return None
         value = self.value(right, to.kind)
         if sign in ("+=", "-=") and value.text == "1":

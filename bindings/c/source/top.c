@@ -1,5 +1,7 @@
 /* jcobs.c: the calls of jcobs.h in one file of C, for any processor and compiler. Written by translate.py: don't edit it.
  *
+ * SPDX-License-Identifier: MIT OR Apache-2.0
+ *
  * Compile this file with your program, as C99 or later or as C++, with jcobs.h in the same folder or in the include path.
  * The file has no static variables except a constant table of the texts of jcobs_strerror. It allocates no memory, and
  * calls no function of a C library; a compiler may call memset or memcpy for some of its lines.
@@ -26,11 +28,14 @@
 typedef char jcobs_bytes_have_8_bits[CHAR_BIT == 8 ? 1 : -1];
 typedef char jcobs_size_t_is_no_shorter_than_int[sizeof(size_t) >= sizeof(unsigned int) ? 1 : -1];
 
-/* A function that a loop over bytes calls is inlined into the loop (JCOBS_INLINE). Some functions that contain such a
- * loop aren't inlined (JCOBS_APART), so that the loop can use all registers of a small processor. On x86-64 they may be
- * inlined: this processor has more registers, and a call takes as long as some bytes. A function for a byte that comes
- * once in a piece is inlined into the call that takes each byte, except on x86-64 (JCOBS_RARE): there gcc would give
- * all bytes one return, to which most would have to jump, and a call would take a fifth more time. */
+/* Which functions are inlined:
+ *
+ * - JCOBS_INLINE: always inlined, because a loop over bytes calls the function, or because it only makes a struct.
+ * - JCOBS_APART: not inlined, so that the loop of the function can use all registers of a small processor. On x86-64 it
+ *   may be inlined: this processor has more registers, and a call takes as long as some bytes.
+ * - JCOBS_RARE: handles a byte that comes once in a piece. It is inlined into the call that takes each byte, except on
+ *   x86-64: there gcc would compile a single return, to which most bytes would have to jump, and a call would take a
+ *   fifth more time. */
 #ifdef __GNUC__
 #define JCOBS_INLINE __inline__ __attribute__((always_inline))
 #ifdef __x86_64__
@@ -48,25 +53,28 @@ typedef char jcobs_size_t_is_no_shorter_than_int[sizeof(size_t) >= sizeof(unsign
 
 /* A frame is a sequence of blocks. A block is a code, from 1 to 255, followed by code - 1 bytes, none of which is 0. A
  * block with the code 255 is full. The message consists of the bytes of the blocks without their codes, with a zero
- * between two blocks unless the first of the two is full. The last block is open while more bytes may come.
- *
- * jcobs.h declares the states. Their members have these meanings:
+ * between two blocks unless the first of the two is full. The last block is open while more bytes may come. */
+/* the constants */
+
+/* jcobs.h declares the states. Their members have these meanings:
  *
  * - In a decoder, the first `written` bytes of the buffer are the open message so far, and the open block still needs
- *   `missing` bytes. joint is 1 after the code of a block that isn't full: if another block follows, the message has a
- *   zero between the two. joint is 0 at the start, and after the code of a full block. too_long is 1 if there was no room
- *   for a byte of the message: then the rest of the piece is skipped.
+ *   `missing` bytes. `joint` is 1 after the code of a block that isn't full: if another block follows, the message has a
+ *   zero between the two. `joint` is 0 at the start, and after the code of a full block. too_long is 1 if there was no
+ *   room for a byte of the message: then the rest of the piece is skipped.
  * - In an encoder, the code of the open block belongs at `index` of the buffer, and the `taken` bytes of this block
- *   follow it. full is 1 if the last byte made a block full: the frame ends with this block, unless another byte comes.
+ *   follow it. `full` is 1 if the last byte made a block full: the frame ends with this block, unless another byte comes.
  *
- * A member may also have any other value. In joint, too_long and full each value except 0 has the meaning of 1. */
+ * A member may also have any other value. In `joint`, too_long and `full` each value except 0 has the meaning of 1. */
+
+/* The functions jcobs_make_.. return a struct with these members. C++ has no compound literals. */
 
 /* How a piece of a stream ended. A piece is the bytes between two zeros: a frame, or a broken frame. */
 enum jcobs_end_kind {
-    JCOBS_END_MESSAGE,  /* the piece is the frame of a message; count is the message's length */
-    JCOBS_END_BROKEN,   /* the piece breaks off inside a block; count is the length of its output */
+    JCOBS_END_MESSAGE,  /* the piece is the frame of a message; `count` is the message's length */
+    JCOBS_END_BROKEN,   /* the piece breaks off inside a block; `count` is the length of its output */
     JCOBS_END_TOO_LONG, /* the output of the piece is longer than the buffer */
-    JCOBS_END_NONE      /* the piece hasn't ended, or there is no piece: count has no meaning */
+    JCOBS_END_NONE      /* the piece hasn't ended, or there is no piece: `count` has no meaning */
 };
 
 typedef struct jcobs_end {
@@ -101,18 +109,18 @@ static JCOBS_INLINE jcobs_piece jcobs_make_piece(enum jcobs_end_kind kind, size_
 }
 
 /* Whether an encoder's frame fits the buffer, and the frame's length if it fits. */
-typedef struct jcobs_frame {
+typedef struct jcobs_frame_length {
     int fits;
     size_t length;
-} jcobs_frame;
+} jcobs_frame_length;
 
-static JCOBS_INLINE jcobs_frame jcobs_make_frame(int fits, size_t length)
+static JCOBS_INLINE jcobs_frame_length jcobs_make_frame_length(int fits, size_t length)
 {
-    jcobs_frame frame;
+    jcobs_frame_length result;
 
-    frame.fits = fits;
-    frame.length = length;
-    return frame;
+    result.fits = fits;
+    result.length = length;
+    return result;
 }
 
 static JCOBS_INLINE jcobs_answer jcobs_make_answer(JCOBS_STATUS status, size_t consumed, size_t length)
@@ -130,8 +138,8 @@ static JCOBS_INLINE size_t jcobs_min(size_t a, size_t b)
     return a < b ? a : b;
 }
 
-/* Returns the sum of a and b, or the number `other` if the sum doesn't fit a size_t. */
-static size_t jcobs_sum_or(size_t a, size_t b, size_t other)
+/* Returns the sum of a and b, or 0 if the sum doesn't fit a size_t. */
+static size_t jcobs_sum_or_zero(size_t a, size_t b)
 {
-    return b > (size_t)-1 - a ? other : a + b;
+    return b > (size_t)-1 - a ? 0 : a + b;
 }

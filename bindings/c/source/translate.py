@@ -29,8 +29,8 @@ class Output:
     def __init__(self, crates, include):
         self.program, self.calls = Program(crates), header.calls(include)
         self.contracts = header.contracts(sorted((crates / "cobs_small/src").glob("*.rt")))
-        self.names, self.texts, self.constants = {}, [], {}
-        self.structs, self.starts, self.made, self.unused = {}, {}, set(), set()
+        self.names, self.texts, self.numbers = {}, [], {}
+        self.starts, self.unused = {}, set()
         self.reached, self.merged, self.replaced = set(), set(), set()  # functions, and the texts that were replaced in their comments
         self.enums = header.enums(include)
         # The structs of jcobs.h, by the names of their members.
@@ -121,7 +121,7 @@ class Output:
         """Returns a constant. Its comment is the first sentence of its comment in Rattle, up to a comma."""
         says = re.match(r"(.*?)(?:,|\.$|$)", " ".join(docs))[1]
         says = says[:1].lower() + says[1:]
-        if self.constants.setdefault(name, (value, says))[0] != value or value > 255:
+        if self.numbers.setdefault(name, (value, says))[0] != value or value > 255:
             raise Unknown(f"{name} has two values, or may not fit a size_t")
         return f"JCOBS_{name}"
 
@@ -140,15 +140,14 @@ class Output:
     def started(self, item, function):
         """Returns the name of the struct of jcobs.h for which there is an initial state with each member 0."""
         name = self.struct(item, function)
-        if name not in self.given.values():
-            return None
         self.starts.setdefault(name, [it for it, _ in item[2]])
         return name
 
     def struct(self, item, function):
-        """Returns the name of a struct: the name in jcobs.h of the struct with the same members, or a new name."""
-        name = self.given.get(tuple(field for field, _ in item[2])) or f"jcobs_{snake(item[1]).rsplit('_', 1)[-1]}"
-        self.structs.setdefault(name, (item, function))
+        """Returns the name in jcobs.h of the struct with the same members."""
+        name = self.given.get(tuple(field for field, _ in item[2]))
+        if not name:
+            raise Unknown(f"{item[1]}: jcobs.h has no struct with these members")
         return name
 
     def owner(self, item, function):
@@ -157,50 +156,37 @@ class Output:
 
     def constructor(self, item, function):
         """Returns the function that makes a struct from its members."""
-        name = f"jcobs_make_{self.struct(item, function).rsplit('_', 1)[-1]}"
-        self.made.add(name)
-        return name
+        return f"jcobs_make_{self.struct(item, function).rsplit('_', 1)[-1]}"
 
-    def types(self):
-        """Yields the text before the functions."""
-        lines = [(f"JCOBS_{name} = {value}", says) for name, (value, says) in sorted(self.constants.items())]
+    def constants(self):
+        """Returns the enum of the constants."""
+        lines = [(f"JCOBS_{name} = {value}", says) for name, (value, says) in sorted(self.numbers.items())]
         texts = [f"{text}," for text, _ in lines[:-1]] + [text for text, _ in lines[-1:]]
         width = max(map(len, texts), default=0)
         words = [f"    {text:{width}} /* {says} */\n" for text, (_, says) in zip(texts, lines)]
-        yield from ["enum {\n" + "".join(words) + "};"] if words else []
-        for name, (item, function) in list(self.structs.items()):
-            if name not in self.given.values():
-                yield from self.written_struct(name, item, function)
+        return "enum {\n" + "".join(words) + "};"
+
+    def types(self):
+        """Yields the functions that set a state to its initial value."""
         for name, fields in self.starts.items():
             of = name.rsplit("_", 1)[-1]
             body = "".join(f"    {of}->{it} = 0;\n" for it in fields)
-            yield f"/* Puts the {of} to the start, as {name.upper()}_INIT does. */\nstatic JCOBS_INLINE void {name}_start({name} *{of})\n{{\n{body}}}"
-
-    def written_struct(self, name, item, function):
-        fields = [function.declared(kind, field) for field, kind in item[2]]
-        if item[1] not in names.STRUCTS or names.STRUCTS[item[1]][1].keys() != {field for field, _ in item[2]}:
-            raise Unknown(f"{item[1]}: names.py doesn't say what its members are")
-        says, of = names.STRUCTS[item[1]]
-        width = max(map(len, fields)) + 1
-        members = "".join(f"    {f'{text};':{width}} /* {of[field]} */\n" for text, (field, _) in zip(fields, item[2]))
-        yield f"/* {says} */\ntypedef struct {name} {{\n{members}}} {name};"
-        short = name.rsplit("_", 1)[-1]
-        if f"jcobs_make_{short}" in self.made:
-            body = "".join(f"    {short}.{field} = {field};\n" for field, _ in item[2])
-            head = "\n".join(wrapped(f"static JCOBS_INLINE {name} jcobs_make_{short}({', '.join(fields)})"))
-            yield f"{head}\n{{\n    {name} {short};\n\n{body}    return {short};\n}}"
+            yield f"/* Sets the {of} to {name.upper()}_INIT. */\nstatic JCOBS_INLINE void {name}_init({name} *{of})\n{{\n{body}}}"
 
 
 def translated(crates):
     out = Output(crates, (HERE.parent / "include/jcobs.h").read_text())
-    for path, (items, _) in out.program.files.items():
-        for found in items.values():
-            if "cobs_small" in path.parts and found[2][0] == "fn" and any("no_mangle" in it for it in found[2][6]):
-                out.function(found)
-    rest = (HERE / "rest.c").read_text().rstrip()
+    places = [(path, found) for path, (items, _) in out.program.files.items() for found in items.values() if "cobs_small" in path.parts]
+    exported = {found[2][1]: found for _, found in places if found[2][0] == "fn" and any("no_mangle" in it for it in found[2][6])}
+    for name in out.calls:  # in the order of jcobs.h
+        if name in names.SECTIONS:
+            out.texts.append(f"/* ---- {names.SECTIONS[name]} ---- */")
+        if name in exported:
+            out.function(exported[name])
     if missing := set(out.contracts) - set(out.names.values()):
         raise Unknown(f"not written: {missing}")
-    parts = [(HERE / "top.c").read_text().rstrip(), *out.types(), *out.texts, rest]
+    top, after = (HERE / "top.c").read_text().rstrip().split("/* the constants */\n")
+    parts = [f"{top}{out.constants()}\n{after}", *out.types(), *out.texts, (HERE / "rest.c").read_text().rstrip()]
     return "\n\n".join(parts) + "\n", out
 
 

@@ -1,7 +1,9 @@
 #!/bin/sh
 # Compiles the examples of the documents, as C99 by cc and as C++17 by c++, with warnings as errors: examples.sh FILE..
 #
-# In a header, an example is the lines of a comment that are indented by four columns. In a README it is a block of ```c or ```cpp (```cpp is compiled only as C++). In a manual page it is the text between .nf and .fi after EXAMPLES. Each example is put into a function, together with definitions of the names that the example uses without defining them.
+# In a header, an example is the lines of a comment that are indented by four columns. In a README it is a block of ```c or ```cpp;
+# a block of ```cpp is compiled only as C++. In a manual page it is the text between .nf and .fi after EXAMPLES. Each example is
+# put into a function, together with definitions of the names that the example uses without defining them.
 set -eu
 c=$(cd "$(dirname "$0")/.." && pwd)
 work=$(mktemp -d)

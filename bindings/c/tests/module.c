@@ -1,6 +1,6 @@
-/* Compares jcobs.c with the proved module, which is compiled from cobs_small.ll: results, states and buffers must be
- * the same for all short strings of a few bytes with all small rooms, for states of all kinds, and for long random
- * messages. This test is for x86-64, where a result is returned through its address. */
+/* Compares jcobs.c with the proved module, which is compiled from cobs_small.ll. Results, states and buffers must be
+ * the same: for all short strings of a few byte values with buffers of all small lengths, for states of all kinds, and
+ * for long random messages. This test is for x86-64, where a result is returned through its address. */
 #include <jcobs.h>
 
 #include <stdio.h>

@@ -30,7 +30,7 @@ PAIRS = {
     "cobs_small/kind": "frame_kind=jcobs_frame_kind",
     "cobs_abi/answer": "ok_answer=done too_small_answer=too_small in_place_answer=result_by",
     "cobs_abi/decoding": """decoder_length=held decoder_answer=result_of decoder_push=decode_each decoder_feed=decode_byte
-        decoder_feed_zero=decode_zero decoder_take_and_measure=take_one""",
+        decoder_feed_zero=decode_zero""",
     "cobs_abi/encoding": """encoder_length=end_of encoder_push=encode_each encoder_feed_byte=encode_byte encoder_finish=finish
         encoder_finish_terminated=finish_terminated encode_in_place=encode_within""",
     "cobs_abi/message": "write_frame",
@@ -38,15 +38,16 @@ PAIRS = {
     "cobs/find": "leading_zeros length_to_zero=len_to_zero",
     "cobs/dec/each": "decode_blocks=decode_blocks_each find_end=through_piece ended_piece=ended decode_piece",
     "cobs/dec/kind": "kind_by_blocks",
-    "cobs/dec/step": "joint_after decoder_take_byte=take_byte decoder_end_piece=end decoder_step=step decoder_take=feed_each",
+    "cobs/dec/step": "joint_after decoder_take_byte=take_byte decoder_end_piece=end decoder_step=step decoder_take_bytes=feed_each",
     "cobs/dec/unbuffered": "decoder_is_idle=is_idle",
     "cobs/enc/blocks": "close_block",
     "cobs/enc/each": "write_blocks=write_each",
     "cobs/enc/in_place": "write_in_place=encode_in_place",
     "cobs/enc/room": "extra_codes_fit=fits_each covers_overhead has_room",
-    "cobs/enc/step": """encoder_append_byte=append_byte encoder_append_and_measure=append_one encoder_append=append_each
+    "cobs/enc/step": """encoder_append_byte=append_byte encoder_append_bytes=append_each
         encoder_try_append=push_each""",
-    "cobs/enc/unbuffered": "encoder_progress=progress encoder_is_within=is_within encoder_close=finalize",
+    "cobs/enc/unbuffered": "encoder_is_valid=is_within",
+    "cobs/enc/push": "encoder_close=finalize",
 }
 # Functions that only pass their parameters on, or pass one in another form. In C the function that they call replaces them.
 # Each is compared with this text, so that a change is noticed.
@@ -70,7 +71,7 @@ PASSED_ON = {
 # results.
 MERGED = {"write_frame": ("cobs/enc/each", "try_encode_each"), "encode_byte": ("cobs/enc/step", "feed_len")}
 # Parameters that are a slice of which C passes only the pointer, because the length isn't read.
-NO_LENGTH = {("append_byte", 1), ("append_one", 1), ("append_each", 1), ("write_each", 1), ("decode_blocks_each", 0)}
+NO_LENGTH = {("append_byte", 1), ("append_each", 1), ("write_each", 1), ("decode_blocks_each", 0)}
 # Parameters that are the same in each call, and constants in C.
 CONSTANTS = {"decode_each": {"sentinel": "0"}}
 # Words that aren't names of variables.
@@ -133,9 +134,7 @@ class Rattle:
         text = re.sub(r"\( ([^()]*) \) as (usize|u8)", r"\1", text)
         text = re.sub(r" as (usize|u8|u32)\b", "", text)
         text = re.sub(r"\bFrameKind :: (\w+)", lambda it: re.sub(r"(?<=[a-zA])(?=[A-Z])", "_", it[1]).upper(), text)
-        text = re.sub(r"= \* (self)\b", r"= \1", re.sub(r"\blet mut (\w+) = \1 ;", "", text))
-        taken_apart = "let EncoderProgress { index , code , .. } = progress ;"
-        text = text.replace(taken_apart, "index = progress . index ; code = progress . code ;")
+        text = re.sub(r"([=,]) [*&] (self|encoder)\b", r"\1 \2", re.sub(r"\blet mut (\w+) = \1 ;", "", text))
         for members in ("written", "missing", "joint", "too_long"), ("index", "taken", "full"):  # a copy of the whole state
             for other in "here", "encoder":
                 text = text.replace(" ".join(f"self . {it} = {other} . {it} ;" for it in members), f"self = {other} ;")
@@ -144,19 +143,18 @@ class Rattle:
         text = re.sub(r"PieceEnd :: reported \( (\w+(?: \. \w+)? \( (?:[^()]|\( [^()]*\))*\)) \)", r"\1", text)
         text = re.sub(r"\bFULL\b", "FULL_CODE", re.sub(r"\b254\b", "FULL_BLOCK_BYTES", text))
         # A constant on the left of a comparison is on the right in C, and 253 is called by the next number.
-        text = re.sub(r"(?<=if )253 < (\w+ \. \w+)(?= \|\|)", r"\1 >= FULL_BLOCK_BYTES", text)
+        text = re.sub(r"(?<=if )253 < (\w+(?: \. \w+)?)(?= \|\|)", r"\1 >= FULL_BLOCK_BYTES", text)
         text = re.sub(r"(?<=if )FULL_BLOCK_BYTES < (\w+)(?= \|\|)", r"\1 > FULL_BLOCK_BYTES", text)
         text = re.sub(r"(\w+) \. div_ceil \( (\w+) \)", r"\1 / \2 + ( \1 % \2 != 0 ? 1 : 0 )", text)
-        text = re.sub(r"(\w+) \. checked_add \( (.*?) \) \. unwrap_or \( 0 \)", r"sum_or ( \1 , \2 , 0 )", text)
-        text = re.sub(r"((?:self|encoder) \. \w+) \. wrapping_add \( 1 \)", r"\1 + 1", text)
-        return re.sub(r"\b(Answer|EncoderProgress) \{ ([^{}]*?),? \}", self.struct, re.sub(r"\b(true|false)\b", lambda it: "01"[it[0] == "true"], text))
+        text = re.sub(r"(\w+) \. checked_add \( (.*?) \) \. unwrap_or \( 0 \)", r"sum_or_zero ( \1 , \2 )", text)
+        text = re.sub(r"(\w+) \. wrapping_(add|sub) \( (\w+) \)", lambda it: f"{it[1]} {'+' if it[2] == 'add' else '-'} {it[3]}", text)
+        return re.sub(r"\bAnswer \{ ([^{}]*?),? \}", self.answer, re.sub(r"\b(true|false)\b", lambda it: "01"[it[0] == "true"], text))
 
-    def struct(self, found):
-        parts = [" ".join(part).split(" : ") for part in parted(found[2].split())]
-        names = {"Answer": ["status", "consumed", "length"], "EncoderProgress": ["index", "code", "is_full"]}[found[1]]
-        if [it[0].strip() for it in parts] != names:
+    def answer(self, found):
+        parts = [" ".join(part).split(" : ") for part in parted(found[1].split())]
+        if [it[0].strip() for it in parts] != ["status", "consumed", "length"]:
             raise ValueError(f"the members of {found[0]}")
-        return f"make_{'answer' if found[1] == 'Answer' else 'progress'} ( {' , '.join(it[-1].strip() for it in parts)} )"
+        return f"make_answer ( {' , '.join(it[-1].strip() for it in parts)} )"
 
     def with_slices(self, text):
         """Slices as pointers and lengths, methods as functions, and `min`."""
@@ -209,8 +207,8 @@ class Rattle:
         if self.result.startswith("Result < ( )"):
             return text.replace("Ok ( ( ) )", "1").replace("Err ( DestBufTooSmallError )", "0")
         is_frame = self.result.startswith("Result < usize , DestBufTooSmallError")
-        text = text.replace("Err ( DestBufTooSmallError )", "make_frame ( 0 , 0 )") if is_frame else text
-        return re.sub(rf"\bOk \( {GROUP}\)(?! =>)", rf"make_{'frame ( 1' if is_frame else 'end ( MESSAGE'} , \1)", text)
+        text = text.replace("Err ( DestBufTooSmallError )", "make_frame_length ( 0 , 0 )") if is_frame else text
+        return re.sub(rf"\bOk \( {GROUP}\)(?! =>)", rf"make_{'frame_length ( 1' if is_frame else 'end ( MESSAGE'} , \1)", text)
 
     def block(self, found, returns):
         """Returns the statements of a block. The value of the block is returned if the function has a result and ends with this block."""
@@ -369,12 +367,12 @@ def of_rattle(path):
     return functions
 
 
-TYPES = r"(?:const )?(?:size_t|unsigned char|int|jcobs_(?:decoder|encoder|end|piece|frame|progress|answer))(?: \*)?(?: const)?"
+TYPES = r"(?:const )?(?:size_t|unsigned char|int|jcobs_(?:decoder|encoder|end|piece|frame_length|answer))(?: \*)?(?: const)?"
 
 
 def of_c(text):
     """Returns the functions of jcobs.c up to those that are written by hand: the words of each function, and its parameters."""
-    text = text[: text.index("/* The calls from here on are written by hand")]
+    text = text[: text.index("/* ---- Written by hand: ")]
     heads = re.finditer(r"^(?!typedef|enum|#|/| )[\w *]*?\b(jcobs_\w+)\(([^{;]*)\)\n\{\n(.*?)^\}", text, re.S | re.M)
     return {it[1].removeprefix("jcobs_"): in_one_form(" ".join(words(it[3]))) for it in heads}
 
@@ -389,7 +387,7 @@ def in_one_form(text):
     text = re.sub(r"\bJCOBS_(?:END_)?", "", re.sub(r"\bJCOBS_\w+_INIT\b", "INIT", text))
     text = re.sub(r"(\w+) \+\+", r"\1 += 1", text)
     text = re.sub(r"(\w+(?: \. \w+)?) --", r"\1 -= 1", text)
-    text = re.sub(r"\bjcobs_(?:decoder|encoder)_start\b", "start", text)
+    text = re.sub(r"\bjcobs_(?:decoder|encoder)_init\b", "start", text)
     found, out, at = text.split(), [], 0
     while at < len(found):  # conditions, without their brackets
         out.append(found[at])
@@ -432,9 +430,9 @@ def merged(outer, inner):
     if not found or found[1].split().count("result") != 1:
         raise ValueError(f"it does more than to convert the result of {inner.name}")
     text = inner.written()
-    text = re.sub(r"\breturn make_frame \( 0 , 0 \) ;", f"return {found[2]} ;", text)
-    text = re.sub(r"\breturn make_frame \( 1 , ([^;]*) \) ;", lambda it: f"return {found[1].replace('result . length', it[1])} ;", text)
-    if "make_frame" in text:
+    text = re.sub(r"\breturn make_frame_length \( 0 , 0 \) ;", f"return {found[2]} ;", text)
+    text = re.sub(r"\breturn make_frame_length \( 1 , ([^;]*) \) ;", lambda it: f"return {found[1].replace('result . length', it[1])} ;", text)
+    if "make_frame_length" in text:
         raise ValueError(f"a result of {inner.name} isn't converted")
     return text.split()
 
@@ -455,7 +453,7 @@ def compared():
         if (found := crates[place][name].text) != " ".join(text.split()):
             yield f"{place}, {name}: it is '{found}'"
     names = {f"jcobs_{name}": rattle for name, (_, rattle) in pairs.items()} | {"jcobs_decoder_step": "feed"}
-    written = {name for name in functions if not re.match(r"make_|min$|sum_or$|\w+_start$", name)}
+    written = {name for name in functions if not re.match(r"make_|min$|sum_or_zero$|\w+coder_init$", name)}
     yield from (f"{name}: no function of Rattle is named" for name in sorted(written - set(pairs)))
     for name, (place, rattle) in pairs.items():
         if name not in functions:

@@ -9,7 +9,7 @@ use jcobs::CobsDecoderHeapless;
 /// A queue of bytes, from one interrupt handler to one main loop.
 struct Queue<const N: usize> {
     bytes: [AtomicU8; N],
-    /// How many bytes were put in, and how many were taken out. Both numbers only grow, and wrap around.
+    /// How many bytes were put in, and how many were taken out. Both numbers only grow, until they wrap around to 0.
     put: AtomicUsize,
     taken: AtomicUsize,
 }
@@ -25,7 +25,7 @@ impl<const N: usize> Queue<N> {
         }
     }
 
-    /// Puts in a byte. If the queue is full, the byte is dropped, and its frame arrives damaged.
+    /// Puts in a byte. If the queue is full, the byte is dropped, and its frame is damaged.
     fn put(&self, byte: u8) {
         let put = self.put.load(Ordering::Relaxed);
         if put.wrapping_sub(self.taken.load(Ordering::Acquire)) < N {

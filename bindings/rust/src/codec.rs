@@ -41,7 +41,7 @@ pub struct MessageCodec {
 }
 
 impl MessageCodec {
-    /// Makes a codec that receives messages of up to `max_len` bytes. It allocates that many bytes. Messages that the
+    /// Makes a codec that receives messages of up to `max_len` bytes, and allocates `max_len` bytes. Messages that the
     /// codec sends may be longer.
     #[must_use]
     pub fn new(max_len: usize) -> Self {
@@ -84,7 +84,7 @@ impl<M: AsRef<[u8]>> Encoder<M> for MessageCodec {
         let message = message.as_ref();
         let room = crate::max_encoding_length(message.len()) + 1;
         bytes.reserve(room);
-        // The frame is written into the spare room of `bytes`, which is split off, and then joined to `bytes` again.
+        // Splits off the spare room of `bytes`, writes the frame into it, and joins it to `bytes` again.
         let mut frame = bytes.split_off(bytes.len());
         frame.resize(room, 0);
         let len = crate::encode(message, &mut frame);

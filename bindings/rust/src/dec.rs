@@ -5,8 +5,8 @@ mod decoder;
 use crate::proved;
 
 pub use crate::proved::{
-    DecodeError, DecodeReport, DecodeResult, DecoderPhase, DecoderState, FrameDecoder, FrameKind,
-    PieceEnd, PushError, ReadFault, UnbufferedDecoder,
+    DecodeError, DecodeReport, DecodeResult, DecoderState, FrameDecoder, FrameKind, PieceEnd,
+    PushError, ReadFault, UnbufferedDecoder,
 };
 #[cfg(feature = "alloc")]
 pub use decoder::CobsDecoderOwned;
@@ -19,7 +19,7 @@ impl Default for UnbufferedDecoder {
     }
 }
 
-/// Keeps the error, and drops the number of bytes that were taken. So `?` works for a push to any of the decoders:
+/// Returns the error, without the number of bytes that were taken. So `?` works for a push to any of the decoders:
 ///
 /// ```
 /// use jcobs::{DecodeError, UnbufferedDecoder};
@@ -102,8 +102,8 @@ pub type DecodingResult = DecodeReport;
 /// # Errors
 ///
 /// - [`DecodeError::EmptyFrame`]: `source` is empty.
-/// - [`DecodeError::InvalidFrame`]: the frame breaks off inside a block, and its output, which has `decoded_bytes`
-///   bytes, is at the front of `dest`; or `source` has only zeros, and `decoded_bytes` is 0.
+/// - [`DecodeError::InvalidFrame`]: the frame breaks off inside a block. Its output, which has `decoded_bytes` bytes,
+///   is at the front of `dest`. If `source` has only zeros, this error is returned with `decoded_bytes` 0.
 /// - [`DecodeError::TargetBufTooSmall`]: the output of the frame, broken or not, is longer than `dest`. Then `dest`
 ///   holds the first bytes of the output.
 #[inline]
@@ -124,8 +124,8 @@ pub fn decode(source: &[u8], dest: &mut [u8]) -> Result<DecodeReport, DecodeErro
 /// # Errors
 ///
 /// - [`DecodeError::EmptyFrame`]: `buff` is empty.
-/// - [`DecodeError::InvalidFrame`]: the frame breaks off inside a block. Then `decoded_bytes` is the length of the
-///   output of the whole blocks before that block. This output is at the front of `buff`.
+/// - [`DecodeError::InvalidFrame`]: the frame breaks off inside a block. Then the output of the blocks before that
+///   block is at the front of `buff`, and `decoded_bytes` is the length of this output.
 #[inline]
 pub fn decode_in_place(buff: &mut [u8]) -> Result<usize, DecodeError> {
     Ok(decode_in_place_report(buff)?.frame_size())
@@ -143,7 +143,7 @@ pub fn decode_in_place(buff: &mut [u8]) -> Result<usize, DecodeError> {
 ///
 /// # Errors
 ///
-/// Those of [`decode_in_place`].
+/// The errors of [`decode_in_place`].
 #[inline]
 pub fn decode_in_place_report(buf: &mut [u8]) -> Result<DecodeReport, DecodeError> {
     proved::decode_in_place_report(buf)
@@ -165,10 +165,10 @@ pub fn decode_in_place_report(buf: &mut [u8]) -> Result<DecodeReport, DecodeErro
 /// # Errors
 ///
 /// - [`DecodeError::EmptyFrame`]: `source` is empty.
-/// - [`DecodeError::InvalidFrame`]: the frame breaks off inside a block. Then `decoded_bytes` is the length of the
-///   output of the whole blocks before that block. This output is at the front of `dest`.
-/// - [`DecodeError::TargetBufTooSmall`]: the message, or the output of the whole blocks, is longer than `dest`. Then
-///   `dest` holds the first bytes of the message or output.
+/// - [`DecodeError::InvalidFrame`]: the frame breaks off inside a block. Then the output of the blocks before that
+///   block is at the front of `dest`, and `decoded_bytes` is the length of this output.
+/// - [`DecodeError::TargetBufTooSmall`]: the output is longer than `dest`. The output is the message or, if the frame
+///   is broken, the output that `InvalidFrame` counts. Then `dest` holds the first bytes of the output.
 #[inline]
 pub fn decode_with_sentinel(
     source: &[u8],
@@ -190,7 +190,7 @@ pub fn decode_with_sentinel(
 ///
 /// # Errors
 ///
-/// Those of [`decode_in_place`].
+/// The errors of [`decode_in_place`].
 #[inline]
 pub fn decode_in_place_with_sentinel(buff: &mut [u8], sentinel: u8) -> Result<usize, DecodeError> {
     proved::decode_in_place_with_sentinel(buff, sentinel)

@@ -4,9 +4,7 @@ mod encoder;
 
 use crate::proved;
 
-pub use crate::proved::{
-    DestBufTooSmallError, EncoderProgress, EncoderState, PushResult, UnbufferedEncoder,
-};
+pub use crate::proved::{DestBufTooSmallError, EncoderState, PushResult, UnbufferedEncoder};
 pub use encoder::CobsEncoder;
 
 impl Default for UnbufferedEncoder {

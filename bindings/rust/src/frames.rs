@@ -11,11 +11,11 @@ use crate::{enc::encode, max_encoding_length, memory, memory::AllocError};
 #[cfg(feature = "alloc")]
 use alloc::vec::Vec;
 
-/// Returns an iterator over the frames of a recorded stream, in order and still encoded: the nonempty pieces that a
-/// zero ends, without that zero.
+/// Returns an iterator over the frames of a recorded stream, in order. Each item is a nonempty piece that a zero ends,
+/// still encoded, and without that zero.
 ///
-/// A piece may be damaged: [`decode`](crate::decode) returns an error if it isn't a frame. The crate `cobs` doesn't
-/// have this call.
+/// A piece may be damaged: if it isn't a frame, [`decode`](crate::decode) returns an error for it. The crate `cobs`
+/// doesn't have this call.
 ///
 /// ```
 /// use jcobs::frames;
@@ -48,15 +48,15 @@ pub struct Frames<'a> {
 }
 
 impl<'a> Frames<'a> {
-    /// Returns the bytes after the zero of the last frame that was returned. Once `next` has returned `None`, these are
-    /// the bytes after the last zero of the stream.
+    /// Returns the rest of the stream: the bytes after the zero that ends the last returned frame. Once `next` has
+    /// returned `None`, the result is the bytes after the last zero of the stream.
     #[inline]
     #[must_use]
     pub const fn remainder(&self) -> &'a [u8] {
         self.rest
     }
 
-    /// Returns the bytes before the next zero, which may be none. Returns `None` if there is no zero.
+    /// Returns the bytes before the next zero (no bytes if that zero comes first), or `None` if there is no zero.
     #[inline]
     fn next_piece(&mut self) -> Option<&'a [u8]> {
         let (piece, from_zero) = self.rest.split_at(first_zero(self.rest)?);
@@ -109,8 +109,8 @@ const fn most_frames(stream: &[u8]) -> (usize, Option<usize>) {
 ///
 /// # Errors
 ///
-/// An item is [`DecodeError::InvalidFrame`] if its piece breaks off inside a block. Its `decoded_bytes` is that of
-/// [`decode_in_place`](crate::decode_in_place).
+/// An item is [`DecodeError::InvalidFrame`] if its piece breaks off inside a block. Then `decoded_bytes` is the number
+/// that [`decode_in_place`](crate::decode_in_place) returns for this piece.
 #[inline]
 pub const fn decode_stream_in_place(stream: &mut [u8]) -> DecodeStreamInPlace<'_> {
     DecodeStreamInPlace { rest: stream }
@@ -124,15 +124,15 @@ pub struct DecodeStreamInPlace<'a> {
 }
 
 impl<'a> DecodeStreamInPlace<'a> {
-    /// Returns the bytes after the zero of the last piece that was returned. Once `next` has returned `None`, these are
-    /// the bytes after the last zero of the stream, unchanged.
+    /// Returns the rest of the stream: the bytes after the zero that ends the last decoded piece. Once `next` has
+    /// returned `None`, the result is the bytes after the last zero of the stream, unchanged.
     #[inline]
     #[must_use]
     pub fn into_remainder(self) -> &'a mut [u8] {
         self.rest
     }
 
-    /// Returns the bytes before the next zero, which may be none. Returns `None` if there is no zero.
+    /// Returns the bytes before the next zero (no bytes if that zero comes first), or `None` if there is no zero.
     #[inline]
     fn next_piece(&mut self) -> Option<&'a mut [u8]> {
         let len = first_zero(self.rest)?;
@@ -197,11 +197,11 @@ where
 #[cfg(feature = "alloc")]
 pub(crate) fn append_frame(stream: &mut Vec<u8>, message: &[u8]) -> Result<(), AllocError> {
     let room = max_encoding_length(message.len()) + 1;
-    // One of the zeros in `zeros` stays after the frame.
+    // The byte of `zeros` after the frame stays 0.
     memory::append(stream, room, |zeros| encode(message, zeros) + 1)
 }
 
-/// Returns the greatest length of the stream that [`encode_frames`] makes of messages as long as these: the sum, over
+/// Returns the greatest length of the stream that [`encode_frames`] makes of messages with these lengths: the sum, over
 /// all messages, of [`max_encoding_length`] plus 1. Returns `None` if this sum doesn't fit a `usize`.
 ///
 /// ```

@@ -3,8 +3,8 @@
 //!
 //! COBS encodes a message, which may be any bytes, as a frame that never contains a certain byte value: the sentinel.
 //! So the sentinel, usually 0, can mark the end of each frame on a serial line or in a file. The frame of a message of
-//! up to 254 bytes is 1 byte longer than the message. The frame of a longer message has at most 1 extra byte for each
-//! 254 bytes, or part of 254 bytes, of the message.
+//! up to 254 bytes is 1 byte longer than the message. The frame of a longer message has at most 1 extra byte per 254
+//! bytes of the message, rounded up.
 //!
 //! # Switching from `cobs`
 //!
@@ -60,20 +60,20 @@
 //! # Ok::<(), Box<dyn std::error::Error>>(())
 //! ```
 //!
-//! # Which call for what
+//! # Which call to use
 //!
 //! | a program has | it calls |
 //! |---|---|
-//! | a message | [`encode`] into a slice, [`try_encode`] if it may not fit, [`encode_vec`], [`encode_in_place`] in its own buffer; for any sentinel [`encode_with_sentinel`] |
-//! | a message in pieces | [`CobsEncoder`]; [`UnbufferedEncoder`], whose buffer is passed to each call; [`EncoderState`] for a container of its own |
-//! | a frame | [`decode`], [`decode_vec`], [`decode_in_place`]; for any sentinel [`decode_with_sentinel`]; [`frame_kind`] |
+//! | a message | [`encode`] into a slice, [`try_encode`] if the frame may not fit the slice, [`encode_vec`], [`encode_in_place`] in the message's own buffer; for any sentinel [`encode_with_sentinel`] |
+//! | a message in pieces | [`CobsEncoder`]; [`UnbufferedEncoder`], whose buffer is passed to each call; [`EncoderState`], if the program has a container of its own for the frame |
+//! | a frame | [`decode`], [`decode_vec`], [`decode_in_place`]; for any sentinel [`decode_with_sentinel`]; [`frame_kind`] to check the frame |
 //! | bytes from a line, an interrupt, a channel | [`CobsDecoder`] over a slice, [`CobsDecoderHeapless`] with its buffer inside, [`CobsDecoderOwned`]; [`UnbufferedDecoder`], whose buffer is passed to each call |
 //! | a [`Read`](std::io::Read) or [`Write`](std::io::Write) | [`MessageReader`], [`MessageWriter`] |
 //! | a stream or a sink of tokio | `MessageCodec`, with the feature `tokio-util` |
 //! | another source, without `std` | [`FrameReader`] over a [`FrameSource`] |
 //! | a recorded stream | [`frames`], [`decode_stream_in_place`], [`decode_stream`] |
 //! | messages to record as a stream | [`encode_frames`] |
-//! | a message that needs a buffer for its frame | [`max_encoding_length`] |
+//! | a message, and needs a buffer for the frame | [`max_encoding_length`] |
 //!
 //! The folder `bindings/rust/examples` of the repository has a program for a serial line with tokio, a receiver over
 //! embedded-io, and a receiver whose bytes arrive in an interrupt handler.
@@ -103,7 +103,7 @@
 //! # Targets
 //!
 //! If the target has SSE2, NEON or WebAssembly's SIMD, the calls search and copy many bytes at once. On every other
-//! target, and with the feature `small`, the calls process one byte at a time; then each call needs a few hundred bytes
+//! target, and with the feature `small`, the calls process one byte at a time. Each call then needs a few hundred bytes
 //! of flash.
 #![no_std]
 #![cfg_attr(feature = "small", forbid(unsafe_code))]
@@ -194,7 +194,7 @@ pub const fn max_encoding_overhead(source_len: usize) -> usize {
 ///
 /// # Panics
 ///
-/// Panics if the length doesn't fit a `usize`. No slice is so long that this happens.
+/// Panics if the length doesn't fit a `usize`. No slice is long enough to cause this panic.
 #[inline]
 #[must_use]
 pub const fn max_encoding_length(source_len: usize) -> usize {

@@ -62,7 +62,7 @@ pub struct MessageReader<R> {
 }
 
 impl<R: BufRead> MessageReader<R> {
-    /// Makes a reader of messages of up to `max_len` bytes. It allocates `max_len` bytes, and never more.
+    /// Makes a reader of messages of up to `max_len` bytes. The reader allocates `max_len` bytes, and never more.
     ///
     /// ```
     /// let stdin = std::io::stdin().lock();
@@ -101,10 +101,10 @@ impl<R: BufRead> MessageReader<R> {
     /// # Errors
     ///
     /// - [`ErrorKind::UnexpectedEof`]: the source has ended inside a frame.
-    /// - Each error of the source, such as [`ErrorKind::TimedOut`] and [`ErrorKind::WouldBlock`], except
-    ///   [`ErrorKind::Interrupted`], after which the source is read again.
+    /// - Each error of the source, such as [`ErrorKind::TimedOut`] and [`ErrorKind::WouldBlock`]. The only exception is
+    ///   [`ErrorKind::Interrupted`]: after this error the source is read again.
     ///
-    /// After an error the next call continues at the same byte.
+    /// After an error no byte is lost: the next call continues where this call stopped.
     pub fn read_message(&mut self) -> io::Result<Option<Result<&[u8], DecodeError>>> {
         let end = self.read_piece()?;
         Ok(end.map(|end| end.into_result().map(|len| &self.message[..len])))

@@ -39,8 +39,8 @@ use portable as way;
 use sse2 as way;
 
 /// Whether the calls use vectors and slices. The calls do so if the target has SSE2, NEON or WebAssembly's SIMD, and
-/// the feature `small` is off. Otherwise they process one byte at a time. `translate.py` makes this the result of
-/// `has_vectors`.
+/// the feature `small` is off. Otherwise they process one byte at a time. In the translated code, `has_vectors` returns
+/// this constant.
 pub const HAS_VECTORS: bool = !cfg!(feature = "small")
     && (way::HAS_VECTORS || cfg!(all(target_feature = "simd128", target_family = "wasm")));
 
@@ -53,7 +53,7 @@ pub struct Simd<T, const N: usize>([T; N]);
 #[allow(non_camel_case_types)]
 pub type u8x32 = Simd<u8, 32>;
 
-/// Which of `N` bytes have a property: `0xFF` for each byte that has the property, 0 for each other byte.
+/// Says which of `N` bytes have a property: `0xFF` for each byte that has the property, 0 for each other byte.
 #[derive(Clone, Copy)]
 #[repr(transparent)]
 pub struct Mask<const N: usize>([u8; N]);

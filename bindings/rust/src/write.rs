@@ -7,10 +7,10 @@ use crate::frames::append_frame;
 
 /// These bytes end a frame that was cut off, so that no decoder takes this frame for a message.
 ///
-/// A single zero isn't enough: a frame that was cut off between two blocks would be decoded as a shorter message. If k
-/// bytes of a block are missing (at most 254), the first k of these bytes complete the block. The next byte is a code
-/// of 255 with fewer than 254 bytes after it, so the frame is broken. If k is 0, the first byte, 1, is a block without
-/// bytes: so fewer than 254 bytes follow the code 255 in this case too.
+/// A single zero isn't enough: a frame that was cut off between two blocks would be decoded as a shorter message. If
+/// bytes of a block are missing (at most 254), the first bytes of `CLOSING` complete that block. The next byte is the
+/// code 255, with fewer than 254 bytes before the zero, so the frame is broken. If no byte of a block is missing, the
+/// first byte of `CLOSING`, 1, is the code of a block without bytes, and fewer than 254 bytes follow the code 255.
 const CLOSING: [u8; 256] = {
     let mut bytes = [255; 256];
     bytes[0] = 1;
@@ -42,7 +42,7 @@ pub struct MessageWriter<W> {
 }
 
 impl<W: Write> MessageWriter<W> {
-    /// Makes a writer. It allocates memory as the messages need it, and keeps this memory for the next messages.
+    /// Makes a writer. The writer allocates memory as the messages need it, and keeps this memory for later messages.
     #[must_use]
     pub const fn new(inner: W) -> Self {
         Self {
@@ -54,9 +54,9 @@ impl<W: Write> MessageWriter<W> {
 
     /// Writes the frame of `message` and a zero. The call doesn't flush.
     ///
-    /// If the last write failed, this call first writes 256 bytes. They end the part of the last frame that may have
-    /// been written, so that no decoder takes this part for a message: the receiver gets one frame that is broken, or
-    /// too long for its buffer.
+    /// If the last write failed, this call first writes 256 bytes. These bytes end the part of the last frame that may
+    /// have been written, so that no decoder takes this part for a message. The receiver gets one frame that is broken,
+    /// or too long for its buffer.
     ///
     /// # Errors
     ///
@@ -79,7 +79,7 @@ impl<W: Write> MessageWriter<W> {
     ///
     /// # Errors
     ///
-    /// Those of [`Write::flush`].
+    /// The errors of [`Write::flush`].
     pub fn flush(&mut self) -> io::Result<()> {
         self.inner.flush()
     }

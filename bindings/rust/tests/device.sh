@@ -3,7 +3,7 @@
 #
 # rustup's compiler has no library for these targets, so Debian's compiler builds `core` from Debian's source (packages
 # rustc-web and rust-web-src; RUST_SRC names another folder `library`). The Cortex-M4 runs the C tests of tests/device.sh of the
-# repository, over the crate, which exports the calls of `jcobs.h` (device/exports.rs). speeds.py measures the tables of the
+# repository with the crate, which exports the calls of `jcobs.h` (device/exports.rs). speeds.py measures the tables of the
 # README.
 #
 # Prints a line for each part; the last line counts them.

@@ -43,10 +43,7 @@ PERMITTED = [
 # A vector that a function makes, to which it adds items.
 VECTOR = r" let mut (\w+) = Vec :: new \( \) ;"
 # Functions that are `const` here.
-CONST = (
-    "decoder frame_size from_phase from_progress is_idle max_encoding_length max_encoding_overhead new new new new parsed_size"
-    " phase progress"
-).split()
+CONST = "decoder frame_size is_idle max_encoding_length max_encoding_overhead new new new new parsed_size".split()
 # The attributes that src/proved/ may have. Those of the sources are about proofs, derives and texts of errors.
 ATTRIBUTES = re.compile(
     r'# \[ (cold|inline( \( (always|never) \))?|must_use|repr \( C \)|derive \( [\w ,]+ \)|cfg \( feature = "(alloc|std)" \)'

@@ -8,9 +8,9 @@ use std::hash::Hash;
 
 use jcobs::{
     AllocError, CobsDecoder, CobsDecoderHeapless, CobsDecoderOwned, CobsEncoder, DecodeError,
-    DecodeReport, DecodeResult, DecoderPhase, DecoderState, DecodingResult, DestBufTooSmallError,
-    EncoderProgress, EncoderState, FrameKind, FrameOutcome, FrameReader, Next, PieceEnd, PushError,
-    PushResult, ReadFault, UnbufferedDecoder, UnbufferedEncoder,
+    DecodeReport, DecodeResult, DecoderState, DecodingResult, DestBufTooSmallError, EncoderState,
+    FrameKind, FrameOutcome, FrameReader, Next, PieceEnd, PushError, PushResult, ReadFault,
+    UnbufferedDecoder, UnbufferedEncoder,
 };
 
 const LENGTHS: [fn(usize) -> usize; 2] = [jcobs::max_encoding_overhead, jcobs::max_encoding_length];
@@ -95,9 +95,8 @@ fn constants() {
     static SENDER: Mutex<MessageWriter<Vec<u8>>> = Mutex::new(MessageWriter::new(Vec::new()));
     static READER: Mutex<FrameReader<CobsDecoderHeapless<8>>> =
         Mutex::new(FrameReader::new(CobsDecoderHeapless::new()));
-    const PHASE: DecoderPhase = UnbufferedDecoder::from_phase(DecoderPhase::TooLong).phase();
-    const PROGRESS: EncoderProgress =
-        UnbufferedEncoder::from_progress(UnbufferedEncoder::new().progress()).progress();
+    const DECODER: UnbufferedDecoder = UnbufferedDecoder::new();
+    const ENCODER: UnbufferedEncoder = UnbufferedEncoder::new();
     const FRAMES: Frames<'_> = frames(b"\x02x\0y");
     const fn encoder(dest: &mut [u8]) -> CobsEncoder<'_> {
         CobsEncoder::new(dest)
@@ -110,8 +109,8 @@ fn constants() {
         .unwrap()
         .next_frame(&mut Recorded::new(&b"\x02x\0"[..]));
     assert_eq!(next, Ok(Next::Message(1)));
-    assert_eq!(PHASE, DecoderPhase::TooLong);
-    assert_eq!((PROGRESS.index, PROGRESS.code), (0, 1));
+    assert!(DECODER.is_idle());
+    assert_eq!((ENCODER.index, ENCODER.taken, ENCODER.full), (0, 0, 0));
     assert_eq!(FRAMES.remainder(), b"\x02x\0y");
     assert_eq!(encoder(&mut [0]).finalize(), 1);
 }
@@ -127,7 +126,7 @@ fn traits() {
     error::<ReadFault>();
     copy::<(DestBufTooSmallError, DecodeError, ReadFault, DecodeReport)>();
     copy::<(PushResult, DecodeResult, FrameKind, PieceEnd, Next)>();
-    copy::<(PushError, DecoderPhase, EncoderProgress, AllocError)>();
+    copy::<(PushError, AllocError)>();
     copy::<(UnbufferedDecoder, UnbufferedEncoder)>();
     clone::<(CobsDecoderOwned, CobsDecoderHeapless<4>, FrameOutcome)>();
     clone::<FrameReader<CobsDecoderHeapless<4>>>();

@@ -16,10 +16,9 @@ bench/results/rust-targets.csv; --docs writes the tables of that file into READM
   (targets/speed.mjs).
 
 RUSTC names the compiler; without it Debian's /usr/bin/rustc is used. If the compiler has no library for a target, `core` is built
-from RUST_SRC, or from /usr/src/rustc-VERSION/library (Debian's rust-web-src). It is built only once, and stays in
-target/sysroot-VERSION. Linkers and emulators are
-Debian's gcc-arm-none-eabi, gcc-riscv64-unknown-elf, gcc-arm-linux-gnueabihf, gcc-i686-linux-gnu and gcc-aarch64-linux-gnu with
-their libc6-dev-*-cross, lld, qemu-user and nodejs.
+from RUST_SRC, or from /usr/src/rustc-VERSION/library (Debian's rust-web-src). `core` is built only once, and stays in
+target/sysroot-VERSION. The linkers and emulators are Debian's gcc-arm-none-eabi, gcc-riscv64-unknown-elf, gcc-arm-linux-gnueabihf,
+gcc-i686-linux-gnu and gcc-aarch64-linux-gnu with their libc6-dev-*-cross, lld, qemu-user and nodejs.
 """
 import mmap
 import os
@@ -80,7 +79,7 @@ SIZED = {
     "encoder": "`CobsEncoder`",
     "decode": "`decode`",
     "sentinel": "`decode_with_sentinel`",
-    "in place": "in place",
+    "in place": "`decode_in_place`",
     "encode": "`encode`",
 }
 # The order of CALLS in speed.rs, and of its messages.
@@ -272,14 +271,14 @@ def tables(lines):
     """Yields the tables of the README: flash, and the instructions of the crate `cobs` divided by those of this crate."""
     rows = [line.split(";") for line in lines]
     names = [name for name in TARGETS if any(row[0] == name for row in rows)]
-    yield f"| bytes of flash | of | {' | '.join(SIZED.values())} |"
+    yield f"| bytes of flash | code | {' | '.join(SIZED.values())} |"
     yield "|---|---|" + "--:|" * len(SIZED)
     for name in names:
         for place, title in enumerate(TARGETS[name].libraries.values()):
             sizes = [row[5 + place] for row in rows if row[:2] == [name, "bytes"]]
             yield f"| {name} | {title} | {' | '.join(sizes)} |"
     yield ""
-    yield f"| speed / that of `cobs` | of | {' | '.join(CALLS)} |"
+    yield f"| speed / that of `cobs` | code | {' | '.join(SIZED.get(call, call) for call in CALLS)} |"
     yield "|---|---|" + "---|" * len(CALLS)
     for name in names:
         for place, title in enumerate(list(TARGETS[name].libraries.values())[:-1]):

@@ -5,7 +5,7 @@
 const { Transform } = require("node:stream");
 const { FrameDecoder, encode, load } = require("./jcobs.cjs");
 
-/** Takes bytes, and returns outcomes: `{message}`, `{broken: n}` or `{tooLong: true}` for each piece that a sentinel ends. */
+/** Turns bytes into outcomes: `{message}`, `{broken: n}` or `{tooLong: true}` for each piece that a sentinel ends. */
 class FrameDecoderTransform extends Transform {
   #options;
   #decoder;
@@ -36,18 +36,18 @@ class FrameDecoderTransform extends Transform {
     done(error);
   }
 
-  /** Whether a frame has begun that no sentinel has ended yet. */
+  /** Whether a frame has begun, and no sentinel has ended it yet. */
   get unfinished() {
     return this.#decoder?.unfinished ?? false;
   }
 
-  /** How many bytes `skipFirst` has left out, the first sentinel among them. */
+  /** How many bytes `skipFirst` has skipped, including the first sentinel. */
   get skipped() {
     return this.#decoder?.skipped ?? 0;
   }
 }
 
-/** Takes messages, and returns their frames, each with a sentinel after it. */
+/** Turns messages into frames, each with a sentinel after it. */
 class FrameEncoderTransform extends Transform {
   #options;
 

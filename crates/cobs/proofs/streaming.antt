@@ -1,4 +1,4 @@
--- Bytes as they come: steps of the decoders, pushes, pieces, readers.
+-- Decoders that get their bytes one after another: their steps, pushes and pieces, and readers.
 pub mod LastPiece
 pub mod FeedLemmas
 pub mod PushLemmas

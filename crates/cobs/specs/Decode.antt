@@ -34,7 +34,8 @@ abbrev pub report_result : ℕ → Result ℕ DecodeError → Result DecodeRepor
 report_result parsed (Ok size) = Ok (record { parsed_size = parsed; frame_size = size })
 report_result parsed (Err error) = Err error
 
--- the result of `decode` for a source, in a buffer of n bytes: what its first piece decodes to, if there is one
+-- the result of `decode` for a source, in a buffer of n bytes: the result for the source's first piece, or an error if
+-- there is no piece
 abbrev pub result_of_decode : List ℕ → ℕ → Result DecodeReport DecodeError
 result_of_decode [] n = Err EmptyFrame
 result_of_decode (byte ∷ bytes) n =
@@ -57,15 +58,15 @@ output_of (Some p) = output p
 abbrev pub first_output : List ℕ → List ℕ
 first_output source = output_of (first_piece source)
 
--- the message of the bytes before the first zero of a list, or the reason why there is none
+-- the message of the bytes before the first zero of a list, or the reason why they have no message
 abbrev pub message_of_head : List ℕ → Result (List ℕ) DecodeError
 message_of_head [] = Ok []
 message_of_head (byte ∷ bytes) =
     let h = byte ∷ bytes in
     if is_whole h then Ok (output h) else Err (InvalidFrame (length (kept_output h)))
 
--- the result for the bytes before the first zero of a list: the length of their message, or otherwise of their kept
--- output
+-- the result for the bytes before the first zero of a list: the length of their message, or an error with the length of
+-- their kept output
 abbrev pub head_result : List ℕ → Result ℕ DecodeError
 head_result h = result_map_both length (λ error. error) (message_of_head h)
 
@@ -78,7 +79,8 @@ result_in_place (byte ∷ bytes) = head_result (head (byte ∷ bytes))
 abbrev pub in_place_report : List ℕ → Result DecodeReport DecodeError
 in_place_report buffer = report_result (length (head buffer)) (result_in_place buffer)
 
--- the buffer after the call: the message or the kept output, and after it the bytes as they were
+-- the buffer after `decode_in_place`: it begins with the message or the kept output, and its other bytes are as they
+-- were
 abbrev pub in_place : List ℕ → List ℕ
 in_place buffer = overwritten buffer (kept_output (head buffer))
 
@@ -91,23 +93,23 @@ abbrev pub result_of_sentinel_decode : List ℕ → ℕ → Result ℕ DecodeErr
 result_of_sentinel_decode [] n = Err EmptyFrame
 result_of_sentinel_decode (byte ∷ bytes) n = head_result_within (head (byte ∷ bytes)) n
 
--- the message of a piece, if there is a piece, or the reason why there is none
+-- the message of a piece, or the reason why there is no piece or no message
 abbrev pub message_of_piece : Option (List ℕ) → Result (List ℕ) DecodeError
 message_of_piece None = Err (InvalidFrame 0)
 message_of_piece (Some p) = if is_whole p then Ok (output p) else Err (InvalidFrame (length (output p)))
 
--- the message of a source, which is that of its first piece, or the reason why there is none
+-- the message of a source, which is that of its first piece, or the reason why the source has no message
 abbrev pub decoded : List ℕ → Result (List ℕ) DecodeError
 decoded [] = Err EmptyFrame
 decoded (byte ∷ bytes) = message_of_piece (first_piece (byte ∷ bytes))
 
--- the message of a source for the sentinel 0, which is that of the bytes before its first zero, or the reason why there
--- is none
+-- the message of a source for the sentinel 0, which is that of the bytes before its first zero, or the reason why the
+-- source has no message
 abbrev pub decoded_head : List ℕ → Result (List ℕ) DecodeError
 decoded_head [] = Err EmptyFrame
 decoded_head (byte ∷ bytes) = message_of_head (head (byte ∷ bytes))
 
--- an error of a call that returns a vector is the error of the source, or out of memory
+-- the error of a call that returns a vector is the error for the source, or says that memory ran out
 abbrev pub IsErrorFor : Result (List ℕ) DecodeError → DecodeVecError → Type 0
 IsErrorFor returned (Decode error) = returned ≡ Err error
 IsErrorFor returned (Memory error) = ⊤

@@ -46,8 +46,8 @@ pub record PhaseAfter (n : ℕ) (phase : Phase) (p : List ℕ) : Type 0 where
   pub piece : HasNoZero p
   pub phase_is : phase ≡ phase_after p n
 
--- the same, and the buffer begins with the output of p; if the output is longer than the buffer, the buffer has its
--- first bytes
+-- the phase shows this, and the buffer begins with the output of p; if the output is longer than the buffer, the buffer
+-- is filled with the first bytes of the output
 pub record DecoderAfter (buffer : List ℕ) (phase : Phase) (p : List ℕ) : Type 0 where
   pub phased : PhaseAfter (length buffer) phase p
   pub begins : take (length (output p)) buffer ≡ take (length buffer) (output p)

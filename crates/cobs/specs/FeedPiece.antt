@@ -19,7 +19,7 @@ AreAlike (Message m) TooLong = ⊥
 AreAlike (Broken count) other = Broken count ≡ other
 AreAlike TooLong other = TooLong ≡ other
 
--- there are as many outcomes, alike at the first place and equal after it
+-- both lists have the same length, their first outcomes are alike, and their other outcomes are equal
 abbrev pub AreAlikeAtFirst : List Outcome → List Outcome → Type 0
 AreAlikeAtFirst [] [] = Unit {0}
 AreAlikeAtFirst [] (y ∷ ys) = ⊥
@@ -53,7 +53,7 @@ outcome_at (ends.Message n) buffer = Message (take n buffer)
 outcome_at (ends.Broken count) buffer = Broken count
 outcome_at ends.TooLong buffer = TooLong
 
--- the end of a piece that the result for its zero means, or `None` if no piece has ended
+-- the end of a piece, given the result for the zero after the piece; `None` if no piece has ended
 abbrev pub end_reported : Result (Option ℕ) DecodeError → Option PieceEnd
 end_reported (Ok None) = None
 end_reported (Ok (Some n)) = Some (ends.Message n)
@@ -61,24 +61,24 @@ end_reported (Err EmptyFrame) = None
 end_reported (Err (InvalidFrame count)) = Some (ends.Broken count)
 end_reported (Err TargetBufTooSmall) = Some ends.TooLong
 
--- its message is within a buffer of this length
+-- a message that this end reports is within a buffer of this length
 abbrev pub IsWithin : ℕ → PieceEnd → Type 0
 IsWithin len (ends.Message n) = n ≤ len
 IsWithin len (ends.Broken count) = Unit {0}
 IsWithin len ends.TooLong = Unit {0}
 
--- the bytes that it counts are within a buffer of this length
+-- the bytes that this end counts are within a buffer of this length
 abbrev pub IsCountWithin : ℕ → PieceEnd → Type 0
 IsCountWithin len (ends.Message n) = n ≤ len
 IsCountWithin len (ends.Broken count) = count ≤ len
 IsCountWithin len ends.TooLong = Unit {0}
 
--- the bytes that were taken: those through the zero that ended a piece, or all
+-- the bytes that were taken: those up to and including the zero that ended a piece, or all bytes if no piece ended
 abbrev pub bytes_taken : List ℕ → Option (PieceEnd × ℕ) → List ℕ
 bytes_taken bytes None = bytes
 bytes_taken bytes (Some (end, count)) = take count bytes
 
--- the outcomes that were reported for them
+-- the outcomes that were reported for the bytes that were taken
 abbrev pub outcomes_taken : Option (PieceEnd × ℕ) → List ℕ → List Outcome
 outcomes_taken None buffer = []
 outcomes_taken (Some (end, count)) buffer = outcome_at end buffer ∷ []
@@ -89,7 +89,8 @@ pub record EndsPiece (n : ℕ) (phase : Phase) (bytes : List ℕ) (count : ℕ) 
   pub taken : take count bytes ≡ front ++ 0 ∷ []
   pub none_before : (p : List ℕ) → PhaseAfter n phase p → stream_outcomes (p ++ front) n ≡ []
 
--- a decoder takes the bytes through the first zero that ends a piece, or all of them, and has this result
+-- a decoder takes the bytes up to and including the first zero that ends a piece, or all bytes if no piece ends in
+-- them, and has this result
 pub record TakesPiece (buffer : List ℕ) (phase : Phase) (bytes : List ℕ) (result : Option (PieceEnd × ℕ)) (buffer' : List ℕ) (phase' : Phase) : Type 0 where
   pub takes : TakesBytes buffer phase (bytes_taken bytes result) (outcomes_taken result buffer') buffer' phase'
   pub ends : IfSome result (λ found. EndsPiece (length buffer) phase bytes found.1)

@@ -11,7 +11,8 @@ end_with (Message message) = ends.Message (length message)
 end_with (Broken count) = ends.Broken count
 end_with TooLong = ends.TooLong
 
--- the end of a source's first piece, given this piece, in a buffer of n bytes, and the number of bytes through it
+-- the end of a source's first piece in a buffer of n bytes, given this piece, and the number of bytes of the source up
+-- to the end of the piece, with the zero after it if there is one
 abbrev pub end_by_piece : List ℕ → Option (List ℕ) → ℕ → Option (PieceEnd × ℕ)
 end_by_piece source None n = None
 end_by_piece source (Some p) n = Some (end_with (outcome_of p n), len_through_piece source p)

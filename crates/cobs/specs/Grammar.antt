@@ -5,7 +5,7 @@ use Rattle.std.specs.List.{concat}
 -- no byte of the list is the sentinel
 pub use Rattle.cobs_bytes.specs.Bytes.{HasNoZero}
 
--- a block is a code, from 1 to 255, and nonzero bytes after it; the code counts them and itself
+-- a block is a code, from 1 to 255, and nonzero bytes after it; the code counts these bytes and itself
 abbrev pub IsBlock : List ℕ → Type 0
 IsBlock [] = ⊥
 IsBlock (code ∷ bytes) = (code ≡ length bytes + 1) × (code < 256) × HasNoZero bytes
@@ -31,12 +31,12 @@ IsFull block = IsTrue (is_full block)
 abbrev pub lone_block : List ℕ
 lone_block = 1 ∷ []
 
--- the bytes of the message that a block puts between its own bytes and those of the next block: a zero, unless it is
+-- the bytes of the message between the bytes of this block and those of the next block: a zero, unless this block is
 -- full
 abbrev pub joint : List ℕ → List ℕ
 joint block = if is_full block then [] else 0 ∷ []
 
--- the message that blocks stand for: their bytes, with the joint of the first between two neighbours
+-- the message that blocks stand for: the bytes of each block, and after each block except the last one its joint
 abbrev pub message_of : List (List ℕ) → List ℕ
 message_of [] = []
 message_of (block ∷ []) = bytes_of block
@@ -48,7 +48,7 @@ last_of [] = []
 last_of (xs ∷ []) = xs
 last_of (xs ∷ next ∷ more) = last_of (next ∷ more)
 
--- f is these blocks end to end, one or more
+-- f consists of these blocks, end to end, and there is at least one block
 pub record IsFrameOf (f : List ℕ) (blocks : List (List ℕ)) : Type 0 where
   pub some : blocks ≢ []
   pub each : All IsBlock blocks

@@ -1,4 +1,4 @@
--- The words of the headline: a decoder that gets all bytes of a list returns a message.
+-- The words of the headline of docs/PROMISES.md: a decoder that gets all bytes of a list returns a message.
 use Rattle.std.specs.Prelude.{◌≡◌, ◌≢◌, ℕ, List, [], length, take, Option, Result, IsOkAnd, IsSomeAnd, IfErr, ⊤}
 use Rattle.cobs.specs.Grammar.{HasNoZero}
 use Rattle.cobs.specs.Fields.Report.{frame_size_of}
@@ -20,11 +20,11 @@ BeginsWith buffer n m = (n ≡ length m) × (take n buffer ≡ m)
 abbrev pub ReturnsMessage : Result ℕ DecodeError → List ℕ → List ℕ → Type 0
 ReturnsMessage result buffer m = IsOkAnd result (λ n. BeginsWith buffer n m)
 
--- the same for a result that also has the number of bytes consumed
+-- `ReturnsMessage` for a result that also has the number of bytes consumed
 abbrev pub ReportsMessage : Result DecodeReport DecodeError → List ℕ → List ℕ → Type 0
 ReportsMessage result buffer m = IsOkAnd result (λ report. BeginsWith buffer (frame_size_of report) m)
 
--- the same for a push to a streaming decoder
+-- `ReturnsMessage` for a push to a streaming decoder
 abbrev pub PushesMessage : Result (Option DecodeReport) PushError → List ℕ → List ℕ → Type 0
 PushesMessage result buffer m = IsOkAnd result (λ found. IsSomeAnd found (λ report. BeginsWith buffer (frame_size_of report) m))
 

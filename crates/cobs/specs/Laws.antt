@@ -22,7 +22,7 @@ use Rattle.cobs.specs.declared.dec.frame_decoder.PieceEnd.TheVariants.{Message}
 abbrev pub IsFrameFor : List ℕ → List ℕ → Type 0
 IsFrameFor f m = IsEncodedFrame f m ⊎ (EndsInFullRun m × ((g : List ℕ) × IsEncodedFrame g m × (f ≡ g ++ lone_block)))
 
--- p is the first of these blocks end to end
+-- p consists of some of these blocks, from the first one on, end to end; it may have none or all of them
 abbrev pub EndsAtBlock : List ℕ → List (List ℕ) → Type 0
 EndsAtBlock p blocks = (first : List (List ℕ)) × (rest : List (List ℕ)) × (blocks ≡ first ++ rest) × (p ≡ concat first)
 

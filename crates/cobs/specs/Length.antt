@@ -2,13 +2,13 @@
 use Rattle.std.specs.Prelude.{◌≡◌, ◌<◌, ◌%◌, ℕ, ◌+◌, ◌-◌, ◌/◌, List, [], ◌∷◌, ◌++◌, length, map, max, replicate}
 use Rattle.cobs.specs.Stream.{stretches}
 
--- the lengths of a message's runs: of the nonzero bytes between two zeros, before the first and after the last, empty
--- runs included
+-- the lengths of a message's runs, empty runs included. A run is the nonzero bytes before the first zero, between two
+-- zeros, or after the last zero.
 abbrev pub runs : List ℕ → List ℕ
 runs m = map length (stretches m)
 
--- the number of blocks of a message's encoded frame beyond one for each run: L / 254 for a run of L bytes, and for the
--- last run, which needs no block after a last full one, (L - 1) / 254
+-- how many more blocks than runs a message's encoded frame has: L / 254 for a run of L bytes, but (L - 1) / 254 for the
+-- last run, because the frame may end with a full block
 abbrev pub full_blocks : List ℕ → ℕ
 full_blocks [] = 0
 full_blocks (run ∷ []) = (run - 1) / 254
@@ -18,8 +18,8 @@ full_blocks (run ∷ next ∷ more) = run / 254 + full_blocks (next ∷ more)
 abbrev pub encoded_len : List ℕ → ℕ
 encoded_len m = length m + 1 + full_blocks (runs m)
 
--- the same, counted from an open block with this code, if the block takes these bytes. Only the number of the bytes
--- that it has matters, since none of them is a zero: ones give the same length (`law_15: same`).
+-- the length of an encoded frame, counted from an open block with this code, if the block takes these bytes. The block
+-- already has code - 1 nonzero bytes. Only their number matters, so ones stand for them here (`law_15: same`).
 abbrev pub open_len : ℕ → List ℕ → ℕ
 open_len code bytes = encoded_len (replicate (code - 1) 1 ++ bytes)
 

@@ -8,13 +8,13 @@ use Rattle.cobs.specs.Stream.{Outcome, Message, Broken, TooLong}
 use Rattle.cobs.specs.declared.stream.FrameOutcome.{FrameOutcome}
 use Rattle.cobs.specs.declared.stream.FrameOutcome.TheVariants as frames
 
--- the outcome of a `FrameOutcome`: a message is the bytes of its vector
+-- the outcome that a `FrameOutcome` means: a message is the list of the bytes in its vector
 abbrev pub outcome_in : FrameOutcome → Outcome
 outcome_in (frames.Message message) = Message message.items
 outcome_in (frames.Broken count) = Broken count
 outcome_in frames.TooLong = TooLong
 
--- the outcomes of several of them, in order
+-- the outcomes that several `FrameOutcome`s mean, in order
 abbrev pub outcomes_in : List FrameOutcome → List Outcome
 outcomes_in found = map outcome_in found
 
@@ -22,13 +22,13 @@ outcomes_in found = map outcome_in found
 abbrev pub messages_in : List (Vec ℕ) → List (List ℕ)
 messages_in vectors = map (λ vector. vector.items) vectors
 
--- these bytes are, for each message in order, its encoded frame and the zero that ends it
+-- these bytes are, for each message in order, its encoded frame and the zero after the frame
 pub record AreFrames (messages : List (List ℕ)) (bytes : List ℕ) : Type 0 where
   pub frames : List (List ℕ)
   pub each : AllZip IsEncodedFrame frames messages
   pub joined : bytes ≡ flat_map (λ frame. frame ++ 0 ∷ []) frames
 
--- the number of bytes that have room for the frames of the messages and their zeros; it depends only on the messages'
--- lengths
+-- a number of bytes that is enough for the frames of the messages and a zero after each frame; it depends only on the
+-- messages' lengths
 abbrev pub room_for_frames : List (List ℕ) → ℕ
 room_for_frames messages = sum_by (λ message. max_encoded_len (length message) + 1) messages

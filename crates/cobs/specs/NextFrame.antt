@@ -28,7 +28,7 @@ GaveBytes read = bytes_given read ≢ []
 abbrev pub all_given : List Read → List ℕ
 all_given reads = flat_map bytes_given reads
 
--- the last of the reads was this one
+-- this read is the last of the reads
 abbrev pub EndsIn : List Read → Read → Type 0
 EndsIn reads last = (earlier : List Read) × (reads ≡ earlier ++ last ∷ [])
 
@@ -37,22 +37,22 @@ abbrev pub Runs : {S : Type 0} → (S → Read → S → Type 0) → S → List 
 Runs step from [] to = from ≡ to
 Runs {S} step from (read ∷ reads) to = (next : S) × step from read next × Runs step next reads to
 
--- a read from a reader that has these bytes left before it and after it, if they are known: it fails, or returns at
--- most 64 bytes, exactly those that the reader returned
+-- a read from a reader that has the bytes `before` left before the read, and the bytes `after` left after it, if they
+-- are known. The read fails, or returns at most 64 bytes, exactly those that the reader returned.
 abbrev pub IsReadOf : Option (List ℕ) → Read → Option (List ℕ) → Type 0
 IsReadOf before None after = Unit {0}
 IsReadOf before (Some bytes) after = (length bytes ≤ 64) × Consumes before after bytes
 
 -- WHEN ANOTHER READ IS MADE
 
--- after these reads another one is made: there are fewer than 65,536 of them, each returned bytes, and no piece has
--- ended in the stream of the front and their bytes
+-- after these reads another read is made: there are fewer than 65,536 reads, each of them returned bytes, and no piece
+-- has ended in the stream that consists of the front and the bytes of the reads
 pub record CallsForMore (front : List ℕ) (n : ℕ) (reads : List Read) : Type 0 where
   pub few : length reads < 65536
   pub gave : All GaveBytes reads
   pub none_ended : stream_outcomes (front ++ all_given reads) n ≡ []
 
--- each of the reads is made after those before it
+-- for each of these reads, the reads before it call for another read (`CallsForMore`)
 abbrev pub EachCalledFor : List ℕ → ℕ → List Read → Type 0
 EachCalledFor front n reads =
     (earlier later : List Read) (read : Read) → reads ≡ earlier ++ read ∷ later → CallsForMore front n earlier
@@ -78,14 +78,16 @@ pub record ReaderState : Type 0 where
 abbrev pub ReaderAfter : ReaderState → List ℕ → Type 0
 ReaderAfter reader p = DecoderAfter reader.buffer reader.phase p
 
--- the buffer has the output of this piece, which has this outcome: the output of a broken piece is at the front, and if
--- the piece is too long, the buffer has the first bytes of the output
+-- the output of this piece, which has this outcome, is in the buffer: the buffer begins with the output of a broken
+-- piece, and is filled with the first bytes of an output that is too long. The bytes of a message are part of the
+-- outcome.
 abbrev pub HasDecoded : Outcome → List ℕ → List ℕ → Type 0
 HasDecoded (Message message) buffer piece = Unit {0}
 HasDecoded (Broken count) buffer piece = (count ≤ length buffer) × (take count buffer ≡ output piece)
 HasDecoded TooLong buffer piece = buffer ≡ take (length buffer) (output piece)
 
--- a piece has ended in the stream t, and the reader is at its end: the decoder is idle, and the bytes after it are kept
+-- a piece has ended in the stream t, and the reader is at the piece's end: the decoder is idle, and the bytes after the
+-- piece are kept
 pub record AtPieceEnd (t : List ℕ) (outcome : Outcome) (reader : ReaderState) : Type 0 where
   pub first : EndsFirst t (length reader.buffer) outcome reader.kept
   pub decoded : HasDecoded outcome reader.buffer (unended first.front)
@@ -109,14 +111,14 @@ Reports (Err faults.Io) reads t reader = AtStreamEnd t reader × EndsIn reads No
 Reports (Err faults.TooManyReads) reads t reader =
     AtStreamEnd t reader × (length reads ≡ 65536) × All GaveBytes reads
 
--- the bytes that it counts are within a buffer of this length
+-- the bytes that the result counts are within a buffer of this length
 abbrev pub IsNextWithin : ℕ → Next → Type 0
 IsNextWithin len (nexts.Message n) = n ≤ len
 IsNextWithin len (nexts.Broken count) = count ≤ len
 IsNextWithin len nexts.TooLong = Unit {0}
 IsNextWithin len (nexts.End unfinished) = Unit {0}
 
--- a call that changes the source and the reader from the one state to the other, with this result
+-- a call with this result changes the source and the reader from the one state to the other
 pub record ReadsNext {S : Type 0} (step : S → Read → S → Type 0) (source source' : S)
     (reader : ReaderState) (result : Result Next ReadFault) (reader' : ReaderState) : Type 0 where
   -- the reads of this call

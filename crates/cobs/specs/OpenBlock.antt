@@ -18,8 +18,8 @@ EncoderAfter state m = (f : List ℕ) × IsOpenFrame f m state.index state.code
 abbrev pub AgreeOutside : ℕ → List ℕ → List ℕ → Type 0
 AgreeOutside i f g = (x : ℕ) × (g ≡ slice_set f i x)
 
--- the bytes of a caller that carried out each result for m: the open frame of m that ends in this block, except for the
--- byte at the block's index
+-- g is the output of a caller that carried out each result for m: the open frame of m that ends in this block, except
+-- that the byte at the block's index may differ
 abbrev pub IsOpenOutput : List ℕ → OpenBlock → List ℕ → Type 0
 IsOpenOutput g state m = (f : List ℕ) × IsOpenFrame f m state.index state.code × AgreeOutside state.index f g
 
@@ -30,7 +30,7 @@ push_result state byte =
     if byte == 0 then ModifyFromStartAndSkip (state.index, state.code)
     else (if state.code == 254 then ModifyFromStartAndPushAndSkip (state.index, 255, byte) else AddSingle byte)
 
--- the open block after that byte
+-- the open block after a byte
 abbrev pub next_open : OpenBlock → ℕ → OpenBlock
 next_open state byte =
     if byte == 0 then record { index = state.index + state.code; code = 1 }
@@ -42,13 +42,14 @@ applied g (AddSingle b) x = g ++ b ∷ []
 applied g (ModifyFromStartAndSkip (i, c)) x = slice_set g i c ++ x ∷ []
 applied g (ModifyFromStartAndPushAndSkip (i, c, b)) x = slice_set g i c ++ b ∷ x ∷ []
 
--- how much of a frame is in a slice: its open block, and whether the last block of the encoded frame is full, so that
--- the open one is a placeholder after it
+-- how much of a frame is in a slice: the frame's open block, and whether the encoded frame ends in a full block. If it
+-- does, the open block is only a placeholder after the full block.
 pub record Reached : Type 0 where
   pub block : OpenBlock
   pub full : Bool
 
--- the frame so far, with an open block at this index, with this code, after a full block or not
+-- a frame whose open block is at this index and has this code; `full` says whether the encoded frame ends in a full
+-- block
 abbrev pub place_at : ℕ → ℕ → Bool → Reached
 place_at index code full = record { block = record { index = index; code = code }; full = full }
 
@@ -60,27 +61,27 @@ next_of reached = reached.block.index + reached.block.code
 abbrev pub end_of : Reached → ℕ
 end_of reached = if reached.full then reached.block.index else next_of reached
 
--- the index at which the encoded frame ends if these bytes are taken too. No byte before the open block changes; from
--- there on it is as long as a frame of the block's bytes and these bytes.
+-- the index at which the encoded frame ends if these bytes are taken too. The blocks before the open block don't
+-- change. From the open block on, the frame is as long as a frame of the open block's bytes and these bytes.
 abbrev pub end_after : Reached → List ℕ → ℕ
 end_after reached [] = end_of reached
 end_after reached (byte ∷ bytes) = reached.block.index + open_len reached.block.code (byte ∷ bytes)
 
--- a frame can have this progress in a buffer of n bytes: its open block has a code and isn't full, and ends within the
+-- a frame can have this progress in a buffer of n bytes: its open block has a code, isn't full, and ends within the
 -- buffer
 pub record IsPlaceIn (n : ℕ) (reached : Reached) : Type 0 where
   pub some : 0 < reached.block.code
   pub not_full : reached.block.code < 255
   pub fits : end_of reached ≤ n
 
--- an encoder with this progress takes these bytes in a buffer of n bytes: a frame can have this progress there, and
--- with these bytes too it fits
+-- an encoder with this progress takes these bytes in a buffer of n bytes: a frame can have this progress in the buffer,
+-- and the frame with these bytes fits the buffer
 pub record HasRoomFor (n : ℕ) (reached : Reached) (bytes : List ℕ) : Type 0 where
   pub place : IsPlaceIn n reached
   pub fits : end_after reached bytes ≤ n
 
 -- A `CobsEncoder` with this progress over this slice has taken m: the slice begins with the encoded frame of m, except
--- for the byte at the open block's index, and it is noted whether that frame's last block is full.
+-- for the byte at the open block's index, and the progress says whether that frame ends in a full block.
 pub record CobsEncoderAfter (slice : List ℕ) (reached : Reached) (m : List ℕ) : Type 0 where
   pub frame : List ℕ
   pub encoded : IsEncodedFrame frame m

@@ -10,6 +10,6 @@ overwritten buffer bytes = take (length buffer) bytes ++ drop (length bytes) buf
 abbrev pub written_at : List ℕ → ℕ → List ℕ → List ℕ
 written_at buffer at bytes = take at buffer ++ bytes ++ drop (at + length bytes) buffer
 
--- the message of n bytes that is in a buffer after the room for the other bytes of its longest frame
+-- the message of n bytes in a buffer for `encode_in_place`: the message begins at index `max_overhead n`
 abbrev pub message_in : ℕ → List ℕ → List ℕ
 message_in n buffer = take n (drop (max_overhead n) buffer)

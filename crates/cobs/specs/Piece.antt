@@ -1,10 +1,10 @@
--- A piece is one or more nonzero bytes of a stream. It is read in parts, which are blocks; the last one may be cut
--- short.
+-- A piece is one or more nonzero bytes of a stream. It is read in parts, which are blocks; the last part may be a block
+-- that was cut short.
 use Rattle.std.specs.Prelude.{ℕ, zero, suc, ◌-◌, ◌==◌, Bool, false, List, [], ◌∷◌, length, take, if◌then◌else◌, IsTrue}
 use Rattle.cobs.specs.Grammar.{code_of, bytes_of, message_of, last_of}
 
 -- the parts of the bytes after the first n bytes. A part has as many bytes as its code says, or all remaining bytes if
--- these are fewer. The next part begins after it, so the bytes after its code are those to skip next.
+-- there are fewer. After a part's code, `code - 1` bytes are skipped, and then the next part begins.
 unfoldable pub parts_after : ℕ → List ℕ → List (List ℕ)
 parts_after n [] = []
 parts_after (suc n) (byte ∷ bytes) = parts_after n bytes
@@ -34,6 +34,6 @@ IsWhole p = IsTrue (is_whole p)
 unfoldable pub output : List ℕ → List ℕ
 output p = message_of (parts p)
 
--- the output without the bytes of a last part that is cut short; the zero before that part stays
+-- the output without the bytes of the last part if that part is cut short; the zero before that part stays
 unfoldable pub kept_output : List ℕ → List ℕ
 kept_output p = if is_whole p then output p else take (length (output p) - length (bytes_of (last_part p))) (output p)

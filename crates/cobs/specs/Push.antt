@@ -15,7 +15,7 @@ use Rattle.cobs.specs.declared.error.DecodeError.TheVariants.{EmptyFrame, Invali
 unfoldable pub last_piece : List ℕ → List ℕ
 last_piece t = last_of (filter is_nonempty (stretches t))
 
--- how many bytes a push consumed: the number in its result, or all
+-- how many bytes a push consumed: the number in its result, or all bytes if the result has no number
 abbrev pub consumed_size : List ℕ → Result (Option DecodeReport) PushError → ℕ
 consumed_size bytes (Ok None) = length bytes
 consumed_size bytes (Ok (Some report)) = parsed_size_of report
@@ -31,8 +31,8 @@ error_outcomes EmptyFrame = []
 error_outcomes (InvalidFrame count) = Broken count ∷ []
 error_outcomes TargetBufTooSmall = TooLong ∷ []
 
--- the outcomes that a push reports: the message at the front of the buffer; for an error the outcome of its piece, if
--- the last byte consumed is a zero
+-- the outcomes that a push reports: for a report, the message at the front of the buffer; for an error, the outcome of
+-- the piece that ended, if the last byte consumed is a zero
 abbrev pub pushed_outcomes : List ℕ → Result (Option DecodeReport) PushError → List ℕ → List Outcome
 pushed_outcomes bytes (Ok None) buffer = []
 pushed_outcomes bytes (Ok (Some report)) buffer = Message (take (frame_size_of report) buffer) ∷ []
@@ -75,7 +75,7 @@ pub record PushesBytes (buffer : List ℕ) (phase : Phase) (bytes : List ℕ)
       → stream_outcomes (p ++ consumed bytes result) (length buffer) ≡ pushed_outcomes bytes result buffer'
   -- in every phase, the push feeds the bytes that were consumed
   pub feeds : FeedsInTurn buffer phase (consumed bytes result) (last_result result) buffer' phase'
-  -- a result that isn't `Ok(None)` is that of a byte
+  -- if the result isn't `Ok(None)`, at least one byte was consumed
   pub some : last_result result ≢ Ok None → 0 < consumed_size bytes result
   pub within : consumed_size bytes result ≤ length bytes
   pub bound : IfOk result (λ found. IfSome found (λ report. frame_size_of report ≤ length buffer))

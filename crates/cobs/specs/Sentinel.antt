@@ -17,6 +17,6 @@ IsEncodedFrameFor s f m = IsEncodedFrame (xor_each s f) m
 abbrev pub IsDelimitedFrame : List ℕ → List ℕ → Type 0
 IsDelimitedFrame bytes m = (f : List ℕ) × IsEncodedFrame f m × (bytes ≡ 0 ∷ f ++ 0 ∷ [])
 
--- the bytes between the first byte of a list and its last
+-- the bytes of a list without its first byte and its last byte
 abbrev pub between_ends : List ℕ → List ℕ
 between_ends bytes = slice_range bytes 1 (length bytes - 1)

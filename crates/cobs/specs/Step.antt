@@ -1,12 +1,12 @@
--- A machine for your own decoder: the decoder's result and its next phase for one byte, in any phase. This machine
--- isn't a specification: no clause of `feed` depends on it. `law_17` connects the machine with `Feeds`, which gives the
--- meaning of a byte after the front of a piece.
-use Rattle.std.specs.Prelude.{ℕ, zero, suc, ◌+◌, ◌-◌, ◌==◌, nat_lt, nat_le, Bool, true, false, List, slice_set, Option, Some, None, Result, Ok, Err, if◌then◌else◌}
+-- A machine for your own decoder: the decoder's result and its next phase for one byte, in any phase. The clauses of
+-- `take_byte` cite this machine; no clause of `feed` depends on it. `law_17` connects the machine with `Feeds`, which
+-- gives the meaning of a byte after the front of a piece.
+use Rattle.std.specs.Prelude.{ℕ, zero, suc, ◌+◌, ◌-◌, ◌==◌, nat_lt, nat_le, min, Bool, true, false, List, slice_set, Option, Some, None, Result, Ok, Err, if◌then◌else◌}
 use Rattle.cobs.specs.Feed.{Phase, Idle, Within, Overlong}
 use Rattle.cobs.specs.declared.error.DecodeError.{DecodeError}
 use Rattle.cobs.specs.declared.error.DecodeError.TheVariants.{InvalidFrame, TargetBufTooSmall}
 
--- the buffer with one more byte in it, if there is room
+-- the phase after one more byte is written to a buffer of n bytes, or `Overlong` if the buffer has no room for it
 abbrev pub grows : ℕ → Bool → ℕ → ℕ → Phase
 grows n full left count = if nat_lt count n then Within full left (count + 1) else Overlong
 
@@ -42,3 +42,9 @@ end_result n (Within full zero count) = if nat_le count n then Ok (Some count) e
 -- the result for the byte
 abbrev pub next_result : ℕ → Phase → ℕ → Result (Option ℕ) DecodeError
 next_result n phase byte = if byte == 0 then end_result n phase else error_if_overlong (next_phase n phase byte)
+
+-- how many bytes of the open message are in a buffer of n bytes
+abbrev pub held : ℕ → Phase → ℕ
+held n Idle = 0
+held n (Within full left count) = min count n
+held n Overlong = n

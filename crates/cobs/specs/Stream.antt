@@ -4,7 +4,7 @@ use Rattle.std.specs.List.{slice_split}
 use Rattle.cobs.specs.Grammar.{last_of}
 use Rattle.cobs.specs.Piece.{output, is_whole}
 
--- the parts of a list between its zeros, before the first and after the last, empty ones included
+-- the parts of a list before its first zero, between two zeros, and after its last zero, empty parts included
 abbrev pub stretches : List ℕ → List (List ℕ)
 stretches t = slice_split (λ byte. byte == 0) t
 
@@ -27,7 +27,7 @@ first_of (xs ∷ more) = xs
 unfoldable pub ended_pieces : List ℕ → List (List ℕ)
 ended_pieces t = filter is_nonempty (but_last (stretches t))
 
--- the bytes after the last zero, or all of the stream
+-- the bytes after the last zero, or the whole stream if it has no zero
 unfoldable pub unended : List ℕ → List ℕ
 unended t = last_of (stretches t)
 
@@ -35,7 +35,7 @@ unended t = last_of (stretches t)
 unfoldable pub first_piece : List ℕ → Option (List ℕ)
 first_piece t = slice_get (filter is_nonempty (stretches t)) 0
 
--- the bytes before the first zero, or all of the stream
+-- the bytes before the first zero, or the whole stream if it has no zero
 unfoldable pub head : List ℕ → List ℕ
 head t = first_of (stretches t)
 

@@ -12,7 +12,7 @@ use Rattle.cobs.specs.declared.dec.state.DecodeResult.TheVariants.{NoData, DataS
 use Rattle.cobs.specs.declared.error.DecodeError.{DecodeError}
 use Rattle.cobs.specs.declared.error.DecodeError.TheVariants.{InvalidFrame, TargetBufTooSmall}
 
--- the state after a code: in a block, all of whose bytes are missing
+-- the state after a code: in a block of which only the code was taken
 abbrev pub opened_by : ℕ → DecoderState
 opened_by code = if code == 255 then GrabChain 254 else Grab (code - 1)
 
@@ -47,7 +47,8 @@ state_after (byte ∷ bytes) =
     let part = last_part (byte ∷ bytes) in
     if is_full part then GrabChain (missing part) else Grab (missing part)
 
--- the state has taken the front p of a piece, and its results so far had these bytes, which are the output of p
+-- the state has taken the front p of a piece, and `so_far` is the list of the bytes of the message in its results so
+-- far: the output of p
 pub record StateAfter (state : DecoderState) (p so_far : List ℕ) : Type 0 where
   pub piece : HasNoZero p
   pub bytes : All (λ byte. byte < 256) p

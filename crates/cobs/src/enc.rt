@@ -8,7 +8,7 @@ mod blocks;
 mod each;
 mod encoder;
 mod in_place;
-mod progress;
+mod push;
 mod room;
 mod sentinel;
 mod state;
@@ -25,8 +25,6 @@ pub use each::try_encode_each;
 use each::write_each;
 pub use encoder::CobsEncoder;
 pub use in_place::encode_in_place;
-pub use progress::EncoderProgress;
-use progress::START;
 use room::try_append;
 pub use sentinel::{
     encode_including_sentinels, encode_with_sentinel, try_encode_including_sentinels,
@@ -67,8 +65,8 @@ pub fn encode(source: &[u8], dest: &mut [u8]) -> usize
         return write_each(source, dest);
     }
     if 0 < source.len() && source.len() <= WINDOW {
-        let progress = append_short(source, dest, START, false);
-        return close(dest, progress);
+        let encoder = append_short(source, dest, UnbufferedEncoder::new(), false);
+        return close(dest, &encoder);
     }
     encode_long(source, dest)
 }
@@ -84,10 +82,10 @@ fn encode_long(source: &[u8], dest: &mut [u8]) -> usize
     ensures rest { drop result dest.new ≡ drop result dest.old }
 {
     if source.is_empty() {
-        return close(dest, START);
+        return close(dest, &UnbufferedEncoder::new());
     }
-    let progress = append(source, dest, START);
-    close(dest, progress)
+    let encoder = append(source, dest, UnbufferedEncoder::new());
+    close(dest, &encoder)
 }
 
 /// Does what [`encode`] does, if the frame fits `dest`.
@@ -135,11 +133,11 @@ fn try_encode_any(source: &[u8], dest: &mut [u8]) -> Result<usize, DestBufTooSma
     if source.len() < dest.len().min(FULL_CODE) {
         return Ok(encode(source, dest));
     }
-    let mut progress = START;
-    if dest.is_empty() || !try_append(source, dest, &mut progress) {
+    let mut encoder = UnbufferedEncoder::new();
+    if dest.is_empty() || !try_append(source, dest, &mut encoder) {
         return Err(DestBufTooSmallError);
     }
-    Ok(close(dest, progress))
+    Ok(close(dest, &encoder))
 }
 
 /// Encodes a message of up to 254 bytes for this sentinel. The caller ensures that the frame fits `dest`.
@@ -152,7 +150,8 @@ fn encode_block(source: &[u8], dest: &mut [u8], sentinel: u8) -> usize
     ensures len { result ≡ encoded_len source.now }
     ensures rest { drop result dest.new ≡ drop result dest.old }
 {
-    // The frame's length is computed from the message's length, which a compiler may know.
+    // The length that `encode` returns isn't used: the frame's length is computed from the message's length, which a
+    // compiler may know.
     let _len = encode(source, dest);
     let len = source.len() + 1;
     xor_bytes(&mut dest[..len], sentinel);

@@ -60,7 +60,7 @@ pub enum DecodeError {
 #[derive(Debug, Drop, PartialEq, Eq, Error)]
 #[error("{error}")]
 pub struct PushError {
-    /// The result for the last byte that was consumed.
+    /// The error that the last consumed byte raised.
     pub error: DecodeError,
 
     /// How many bytes were consumed, including the byte that raised the error.

@@ -96,7 +96,7 @@ pub(crate) fn zero_or_len(source: &[u8]) -> usize
     }
 }
 
-/// Returns the length of the source, without its last byte if that is the sentinel.
+/// Returns the length of the source. The last byte isn't counted if it is the sentinel.
 #[inline(always)]
 pub(crate) fn len_without_end(source: &[u8], sentinel: u8) -> usize
     requires some { 0 < length source.now }

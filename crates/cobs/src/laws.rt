@@ -247,8 +247,8 @@ pub fn law_8()
 
 /// A stream may be cut anywhere.
 ///
-/// The unended bytes of a stream are the bytes after its last zero. Cut a stream in two parts, and put the unended bytes of the
-/// first part before the second part. Then the pieces and the outcomes of the whole stream are those of the first part,
+/// The unended bytes of a stream are the bytes after its last zero. Cut a stream into two parts, and put the unended bytes of
+/// the first part before the second part. Then the pieces and the outcomes of the whole stream are those of the first part,
 /// followed by those of the extended second part. The unended bytes of the whole stream are those of the extended second part.
 /// A stream that ends in a zero has no unended bytes. In a stream without a zero all bytes are unended, and there is no
 /// outcome. One or more nonzero bytes with a zero after them are one piece.
@@ -289,9 +289,9 @@ pub fn law_9()
 
 /// Damage stays between its sentinels.
 ///
-/// If bytes between two sentinels are changed, lost or added, even other sentinels, the outcomes before the first sentinel and
-/// after the second sentinel are unchanged. If no other sentinel is between the two sentinels, they enclose one piece, with one
-/// outcome, or nothing if they are adjacent.
+/// If bytes between two sentinels are changed, lost or added, the outcomes before the first sentinel and after the second
+/// sentinel are unchanged, even if the damage adds sentinels. If no other sentinel is between the two sentinels, they enclose
+/// one piece, with one outcome, or nothing if they are adjacent.
 ///
 /// So a receiver on a noisy line, or a reader of a damaged file of records, loses only the messages that the damage touches.
 ///

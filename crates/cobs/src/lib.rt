@@ -39,12 +39,12 @@
 //! }
 //! ```
 //!
-//! # Which call for what
+//! # Which call to use
 //!
-//! - To encode a whole message, call [`encode`] if the slice has room for the frame, [`try_encode`] if the frame may
-//!   not fit, [`encode_vec`] for a new vector, or [`encode_in_place`] for a frame in the message's own buffer. The
-//!   forms `.._with_sentinel` use a sentinel other than 0, and the forms `.._including_sentinels` write a sentinel on
-//!   each side of the frame.
+//! - To encode a whole message, call [`encode`] to write to a slice that has room for the frame, [`try_encode`] if the
+//!   frame may not fit the slice, [`encode_vec`] for a new vector, or [`encode_in_place`] for a frame in the message's
+//!   own buffer. The forms `.._with_sentinel` use a sentinel other than 0, and the forms `.._including_sentinels` write
+//!   a sentinel on each side of the frame.
 //! - To encode a message that comes in pieces, use [`CobsEncoder`] over a slice, [`UnbufferedEncoder`] with a buffer
 //!   that you pass to each call, or [`EncoderState`] with a container of your own.
 //! - To decode a whole frame, call [`decode`] for a message in a slice, [`decode_vec`] for a new vector, or
@@ -74,15 +74,15 @@ pub mod laws;
 mod stream;
 
 pub use dec::{
-    CobsDecoder, CobsDecoderHeapless, CobsDecoderOwned, DecodeResult, DecoderPhase, DecoderState,
-    FrameDecoder, FrameKind, PieceEnd, UnbufferedDecoder, WriteBuffer, decode, decode_blocks_each,
+    CobsDecoder, CobsDecoderHeapless, CobsDecoderOwned, DecodeResult, DecoderState, FrameDecoder,
+    FrameKind, PieceEnd, UnbufferedDecoder, WriteBuffer, decode, decode_blocks_each,
     decode_in_place, decode_in_place_report, decode_in_place_with_sentinel, decode_piece,
     decode_short, decode_short_in_place, decode_vec, decode_vec_with_sentinel,
     decode_with_sentinel, frame_kind, kind_by_blocks,
 };
 pub use enc::{
-    CobsEncoder, EncoderProgress, EncoderState, PushResult, UnbufferedEncoder, encode,
-    encode_in_place, encode_including_sentinels, encode_vec, encode_vec_including_sentinels,
+    CobsEncoder, EncoderState, PushResult, UnbufferedEncoder, encode, encode_in_place,
+    encode_including_sentinels, encode_vec, encode_vec_including_sentinels,
     encode_vec_with_sentinel, encode_with_sentinel, try_encode, try_encode_each,
     try_encode_including_sentinels, try_encode_with_sentinel,
 };
@@ -93,8 +93,8 @@ pub use find::{leading_zeros, len_to_zero};
 pub use framed::{FrameReader, FrameSource, Next, ReadFault, Recorded};
 pub use stream::{FrameOutcome, decode_stream, encode_frames, encode_frames_room};
 
-/// Returns the greatest overhead of an encoded frame, for a message of `source_len` bytes: by how many bytes the frame
-/// may be longer than the message.
+/// Returns the greatest overhead of the encoded frame of a message of `source_len` bytes. The overhead is the number of
+/// bytes by which the frame is longer than the message.
 ///
 /// The greatest overhead is `source_len / 254` rounded up, and 1 for the empty message: each group of up to 254 nonzero
 /// bytes has a code of its own, and a frame has at least one code. A message without zeros reaches this overhead.
@@ -117,7 +117,7 @@ pub fn max_encoding_overhead(source_len: usize) -> usize
 /// Returns the length of the longest encoded frame of a message of `source_len` bytes, without sentinels: a buffer of
 /// this length has room for the frame of each message of `source_len` bytes.
 ///
-/// Precondition: this length fits a `usize`, which is so for each `source_len` up to `isize::MAX`.
+/// Precondition: this length fits a `usize`. This is so for each `source_len` up to `isize::MAX`.
 ///
 /// ```
 /// assert_eq!(rt; max_encoding_length(0), 1);

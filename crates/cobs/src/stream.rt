@@ -54,9 +54,8 @@ fn frame_outcome(alloc: Global, end: PieceEnd, buffer: &[u8]) -> Result<FrameOut
 /// decoder keeps its state. So a stream can be passed in parts, cut anywhere, and the joined results of the calls are
 /// those of the whole stream. Leading and repeated zeros make no piece.
 ///
-/// If the caller wrote to the decoder's buffer while a piece was open, the bytes of that piece's message are
-/// unspecified. The message of that piece is the first outcome. The length of this message and all later outcomes
-/// aren't affected.
+/// If the caller wrote to the decoder's buffer while a piece was open, only the first outcome is affected, and only if
+/// it is a message: the bytes of this message are unspecified, but its length isn't affected.
 ///
 /// # Errors
 /// `AllocError` if memory for an outcome runs out. Then the outcomes are lost, and the decoder is idle, so the next
@@ -77,8 +76,8 @@ pub fn decode_stream<D: FrameDecoder>(
     decoder: &mut D,
     bytes: &[u8],
 ) -> Result<Vec<FrameOutcome>, AllocError>
-    // If the decoder has taken the front p of a piece, the outcomes are those of the stream that consists of p and then
-    // the bytes.
+    // If the decoder has taken the front p of a piece, the outcomes are those of the stream that consists of p followed
+    // by `bytes`.
     ensures outcomes { (p : List ℕ) → DecoderAfter (D.bytes decoder.old) (D.phase decoder.old) p
         → IfOk result (λ found. outcomes_in found.items
         ≡ stream_outcomes (p ++ bytes.now) (length (D.bytes decoder.old))) }
@@ -89,8 +88,8 @@ pub fn decode_stream<D: FrameDecoder>(
         → PhaseAfter (length (D.bytes decoder.old)) (D.phase decoder.old) p
         → stream_outcomes (p ++ bytes.now) (length (D.bytes decoder.old)) ≡ [] → IsOk result }
 
-    // If the caller wrote to the buffer while the piece of p was open, the outcomes are the same, except for the bytes
-    // of the first message.
+    // If the caller wrote to the buffer after the decoder took p, the outcomes are the same, except that the bytes of
+    // the first message may differ.
     ensures alike { (p : List ℕ)
         → PhaseAfter (length (D.bytes decoder.old)) (D.phase decoder.old) p
         → IfOk result (λ found. AreAlikeAtFirst (outcomes_in found.items)
@@ -118,7 +117,7 @@ pub fn decode_stream<D: FrameDecoder>(
     Ok(outcomes)
 }
 
-/// Makes a stream of these messages: in order, the encoded frame of each message and a zero after the frame.
+/// Makes a stream of these messages: for each message, in order, its encoded frame and then a zero.
 ///
 /// An idle decoder whose buffer has room for each message decodes this stream to exactly these messages. If there are
 /// no messages, the stream is empty.

@@ -16,7 +16,7 @@ result_by consumed n (Err EmptyFrame) = record { status = EMPTY; consumed = cons
 result_by consumed n (Err (InvalidFrame count)) = record { status = BROKEN; consumed = consumed; length = count }
 result_by consumed n (Err TargetBufTooSmall) = record { status = TOO_SMALL; consumed = consumed; length = n }
 
--- the number of bytes of a source through its first zero, or of all bytes if there is no zero
+-- the number of bytes of a source up to and including its first zero, or the number of all bytes if there is no zero
 abbrev pub head_end : List ℕ → ℕ
 head_end source = min (length source) (length (head source) + 1)
 

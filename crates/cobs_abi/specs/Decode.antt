@@ -25,18 +25,18 @@ pub record DecodesFor (s : ℕ) (source message : List ℕ) (result : Answer) (m
   pub returned : let t = xor_each s source in result ≡ result_by (head_end t) (length message) (result_of_sentinel_decode t (length message))
   pub buffer : message' ≡ overwritten message (kept_output (head (xor_each s source)))
 
--- `jcobs_decode_in_place`
+-- `jcobs_decode_in_place`: the bytes before the first zero are decoded to the front of the same buffer
 pub record DecodesInPlace (source : List ℕ) (result : Answer) (source' : List ℕ) : Type 0 where
   pub returned : result ≡ result_by (head_end source) (length source) (result_in_place source)
   pub buffer : source' ≡ in_place source
 
--- `jcobs_decode_in_place_with_sentinel`: the bytes of the frame, before the first sentinel s, are XORed with it, and
--- then begin with the message. The sentinel and the bytes after it are as they were.
+-- `jcobs_decode_in_place_with_sentinel`: the bytes before the first sentinel s are XORed with s, and decoded to the
+-- front of the same buffer. The sentinel and the bytes after it are as they were.
 pub record DecodesInPlaceFor (s : ℕ) (source : List ℕ) (result : Answer) (source' : List ℕ) : Type 0 where
   pub returned : let t = xor_each s source in result ≡ result_by (head_end t) (length source) (result_in_place t)
   pub buffer : let frame = head (xor_each s source) in source' ≡ overwritten frame (kept_output frame) ++ drop (length frame) source
 
--- `jcobs_frame_kind`
+-- `jcobs_frame_kind`: the number for the kind of these bytes
 pub record IsKindOf (bytes : List ℕ) (result : ℕ) : Type 0 where
   pub not_a_frame : (result ≡ NOT_A_FRAME) ↔ ¬ IsFrame bytes
   pub canonical : (result ≡ CANONICAL) ↔ IsCanonical bytes

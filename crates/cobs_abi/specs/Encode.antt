@@ -6,29 +6,30 @@ use Rattle.cobs_abi.specs.Frames.{IsFrameOnWire, IsFrameOnWireFor, IsTerminatedF
 use Rattle.cobs_abi.specs.declared.answer.Answer.{Answer}
 use Rattle.cobs_abi.specs.declared.answer.TheConstants.{OK, TOO_SMALL}
 
--- If `size` bytes fit the buffer, it begins with that many bytes for which the fact holds, and the call has taken
--- `taken` bytes. Otherwise the call takes and changes nothing.
+-- If `size` bytes fit the buffer, the buffer begins with `size` bytes for which `IsWanted` holds, and the call has
+-- taken `taken` bytes. Otherwise the call takes and changes nothing.
 pub record Writes (size taken : ℕ) (IsWanted : List ℕ → Type 0) (buffer : List ℕ) (result : Answer) (buffer' : List ℕ) : Type 0 where
   pub fits : size ≤ length buffer → result ≡ record { status = OK; consumed = taken; length = size }
   pub wanted : size ≤ length buffer → IsWanted (take result.length buffer')
   pub too_small : length buffer < size → result ≡ record { status = TOO_SMALL; consumed = 0; length = 0 }
   pub rest : drop result.length buffer' ≡ drop result.length buffer
 
--- `jcobs_encode`
+-- `jcobs_encode`: the frame is written if it fits
 abbrev pub Encodes : List ℕ → List ℕ → Answer → List ℕ → Type 0
 Encodes message buffer result buffer' = Writes (encoded_len message) (length message) (λ f. IsFrameOnWire f message) buffer result buffer'
 
--- `jcobs_encode_with_sentinel`
+-- `jcobs_encode_with_sentinel`: the frame for the sentinel is written if it fits
 abbrev pub EncodesFor : ℕ → List ℕ → List ℕ → Answer → List ℕ → Type 0
 EncodesFor s message buffer result buffer' = Writes (encoded_len message) (length message) (λ f. IsFrameOnWireFor s f message) buffer result buffer'
 
--- `jcobs_encode_terminated`, for 0, and `jcobs_encode_terminated_with_sentinel`
+-- `jcobs_encode_terminated` for the sentinel 0, and `jcobs_encode_terminated_with_sentinel`: the frame, followed by the
+-- sentinel, is written if both fit
 abbrev pub EncodesTerminated : ℕ → List ℕ → List ℕ → Answer → List ℕ → Type 0
 EncodesTerminated s message buffer result buffer' =
     Writes (encoded_len message + 1) (length message) (λ f. IsTerminatedFrame s f message) buffer result buffer'
 
--- `jcobs_encode_in_place`, for a message of n bytes: if the longest frame fits the buffer, so that the message is
--- within it, the buffer begins with the frame. Otherwise the call takes and changes nothing.
+-- `jcobs_encode_in_place`, for a message of n bytes: if the longest frame of n bytes fits the buffer, the message is
+-- within the buffer, and after the call the buffer begins with the frame. Otherwise the call takes and changes nothing.
 pub record EncodesInPlace (n : ℕ) (buffer : List ℕ) (result : Answer) (buffer' : List ℕ) : Type 0 where
   pub fits : max_encoded_len n ≤ length buffer → result ≡ record { status = OK; consumed = n; length = encoded_len (message_in n buffer) }
   pub wanted : max_encoded_len n ≤ length buffer → IsFrameOnWire (take result.length buffer') (message_in n buffer)

@@ -1,5 +1,4 @@
 pub mod Answer
-pub mod State
 pub mod Text
 pub mod Frames
 pub mod Encode

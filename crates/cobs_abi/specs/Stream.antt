@@ -6,11 +6,11 @@ use Rattle.cobs.specs.Fields.Decoders.{phase_of}
 use Rattle.cobs.specs.Fields.Encoders.{reached_by}
 use Rattle.cobs.specs.Length.{encoded_len}
 use Rattle.cobs.specs.OpenBlock.{CobsEncoderAfter, end_of}
+use Rattle.cobs.specs.Step.{held}
 use Rattle.cobs.specs.declared.UnbufferedDecoder.{UnbufferedDecoder}
 use Rattle.cobs.specs.declared.UnbufferedEncoder.{UnbufferedEncoder}
 use Rattle.cobs_abi.specs.Answer.{piece_end_of}
 use Rattle.cobs_abi.specs.Encode.{Writes}
-use Rattle.cobs_abi.specs.State.{held}
 use Rattle.cobs_abi.specs.declared.answer.Answer.{Answer}
 use Rattle.cobs_abi.specs.declared.answer.TheConstants.{OK, MORE, TOO_SMALL, BROKEN}
 

@@ -19,7 +19,7 @@ pub const BROKEN: u32 = 3;
 /// There is no frame.
 pub const EMPTY: u32 = 4;
 
-/// The result of a call: its status, how many bytes it took, and how many bytes of its output are at the front of the
+/// The result of a call: its status, how many bytes the call took, and how many bytes of output are at the front of the
 /// buffer.
 #[repr(C)]
 #[derive(Clone, Copy)]

@@ -3,17 +3,13 @@ ghost use Rattle.std.specs.Prelude.{◌≡◌, ◌≢◌, ◌≤◌, ◌-◌, �
 ghost use Rattle.cobs.specs.FeedPiece.{TakesPiece};
 ghost use Rattle.cobs.specs.Fields.Decoders.{phase_of};
 ghost use Rattle.cobs.specs.Sentinel.{xor_each};
-ghost use Rattle.cobs.specs.Step.{next_phase, next_buffer};
+ghost use Rattle.cobs.specs.Step.{held};
 ghost use Rattle.cobs.specs.declared.UnbufferedDecoder.{UnbufferedDecoder};
-ghost use Rattle.cobs_abi.specs.State.{held};
 ghost use Rattle.cobs_abi.specs.Stream.{DecodesNext};
 
 use crate::answer::{Answer, BROKEN, MORE, TOO_SMALL, done};
 use cobs::laws::law_17;
 use cobs::{PieceEnd, UnbufferedDecoder};
-
-/// The code of a full block.
-const FULL_CODE: u8 = 255;
 
 /// Returns how many decoded bytes of the open piece are in a buffer of `room` bytes.
 #[inline(always)]
@@ -64,8 +60,8 @@ pub fn result_of(
     }
 }
 
-/// Takes bytes of a stream of frames for this sentinel: those through the sentinel that ends the first piece, or all
-/// bytes if no piece ends.
+/// Takes bytes of a stream of frames for this sentinel: those up to and including the sentinel that ends the first
+/// piece, or all bytes if no piece ends.
 #[inline(always)]
 pub fn decode_each(
     decoder: &mut UnbufferedDecoder,
@@ -78,47 +74,6 @@ pub fn decode_each(
 {
     let found = decoder.feed_each(buffer, bytes, sentinel);
     result_of(decoder, found, bytes.len(), buffer.len())
-}
-
-/// Takes a byte of a piece, writes its output to the buffer, and returns how many bytes of the open message the buffer then
-/// holds.
-// A byte inside a block has a return of its own, with a length that needs no test. So compilers generate fewer
-// instructions for a call with one byte than they would from the step of a loop.
-#[inline(always)]
-fn take_one(decoder: &mut UnbufferedDecoder, buffer: &mut [u8], byte: u8) -> usize
-    requires nonzero { byte ≢ 0 }
-    ensures buffer { buffer.new ≡ next_buffer buffer.old (phase_of decoder.old) byte }
-    ensures phase { phase_of decoder.new ≡ next_phase (length buffer.old) (phase_of decoder.old) byte }
-    ensures held { result ≡ held (length buffer.old) (phase_of decoder.new) }
-    ensures bound { result ≤ length buffer.old }
-{
-    let room = buffer.len();
-    if decoder.too_long != 0 {
-        return room;
-    }
-    let mut at = decoder.written;
-    if decoder.missing != 0 {
-        if at < room {
-            buffer[at] = byte;
-            decoder.written = at + 1;
-            decoder.missing -= 1;
-            return at + 1;
-        }
-        decoder.too_long = 1;
-        return room;
-    }
-    if decoder.joint != 0 {
-        if room <= at {
-            decoder.too_long = 1;
-            return room;
-        }
-        buffer[at] = 0;
-        at += 1;
-        decoder.written = at;
-    }
-    decoder.missing = byte - 1;
-    decoder.joint = if byte == FULL_CODE { 0 } else { 1 };
-    at.min(room)
 }
 
 /// Takes a zero of the stream, which ends a piece if one has begun.
@@ -150,6 +105,6 @@ pub fn decode_byte(decoder: &mut UnbufferedDecoder, buffer: &mut [u8], byte: u8)
     Answer {
         status: MORE,
         consumed: 1,
-        length: take_one(decoder, buffer, byte),
+        length: decoder.take_byte(buffer, byte),
     }
 }

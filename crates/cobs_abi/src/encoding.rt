@@ -17,11 +17,11 @@ pub fn end_of(encoder: &UnbufferedEncoder) -> usize
     requires { end_of (reached_by encoder.now) < 2 ^ 64 }
     ensures { result ≡ end_of (reached_by encoder.now) }
 {
-    let progress = encoder.progress();
-    if progress.is_full {
-        progress.index
+    let code = encoder.taken as usize + 1;
+    if encoder.full != 0 {
+        encoder.index
     } else {
-        progress.index + progress.code as usize
+        encoder.index + code
     }
 }
 

@@ -7,7 +7,7 @@ use cobs::try_encode_each;
 
 /// Writes the frame of the message to the front of the buffer, if it fits, and returns the frame's length in bytes.
 /// Otherwise it returns 0, and nothing is written.
-// It returns a number, because each call would need more code for a `Result`.
+// The function returns a number, because each call would need more code if the function returned a `Result`.
 #[inline(never)]
 pub fn write_frame(message: &[u8], buffer: &mut [u8]) -> usize
     ensures fits { encoded_len message.now ≤ length buffer.old → result ≡ encoded_len message.now }

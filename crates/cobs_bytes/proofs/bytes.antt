@@ -1,4 +1,4 @@
--- Bytes and windows, whatever they mean: masks of zeros, copies and moves in parts that overlap.
+-- Lemmas on bytes and windows: masks of zeros, and copies and moves of parts that overlap.
 pub mod ListLemmas
 pub mod MaskLemmas
 pub mod PartMasks

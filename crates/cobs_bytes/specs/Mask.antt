@@ -7,10 +7,10 @@ abbrev pub zero_mask : List ℕ → ℕ
 zero_mask [] = 0
 zero_mask (byte ∷ bytes) = (if byte == 0 then 1 else 0) + 2 * zero_mask bytes
 
--- the index of the first zero of a mask, or 64 if it has none
+-- the index of the first zero byte that a mask marks, that is, of the mask's lowest set bit, or 64 if no bit is set
 abbrev pub lowest : ℕ → ℕ
 lowest mask = count_trailing_zeros 64 mask
 
--- the mask without its first zero
+-- the mask without its lowest set bit
 abbrev pub without_lowest : ℕ → ℕ
 without_lowest mask = bit_and mask (mask - 1)

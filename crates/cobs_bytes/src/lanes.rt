@@ -4,7 +4,7 @@
 ghost use Rattle.std.specs.Prelude.{◌≡◌, ◌<◌, ◌≤◌, ◌+◌, ◌++◌, length, take, drop, IsTrue, false};
 ghost use Rattle.cobs_bytes.specs.Bytes.{HasNoZero, xor_each};
 
-use crate::window::{WIDE_WINDOW, WINDOW, by_width};
+use crate::window::{WIDE_WINDOW, by_width};
 use std::simd::prelude::*;
 
 /// Moves `len` bytes from index `from` to the front of the buffer, as two vectors that may overlap. `len` is from `N`
@@ -89,9 +89,9 @@ fn copy_slice(dest: &mut [u8], source: &[u8])
     dest.copy_from_slice(source);
 }
 
-/// Copies all bytes as one slice, and XORs each with the sentinel if that isn't 0.
+/// Copies all bytes, each XORed with the sentinel, to the front of `dest`.
 #[inline(always)]
-fn copy_xored_slice(source: &[u8], dest: &mut [u8], sentinel: u8)
+pub fn copy_xored(source: &[u8], dest: &mut [u8], sentinel: u8)
     requires { length source.now ≤ length dest.old }
     ensures { dest.new ≡ xor_each sentinel source.now ++ drop (length source.now) dest.old }
 {
@@ -99,20 +99,6 @@ fn copy_xored_slice(source: &[u8], dest: &mut [u8], sentinel: u8)
     copy_slice(copy, source);
     if sentinel != 0 {
         xor_bytes(copy, sentinel);
-    }
-}
-
-/// Copies all bytes, each XORed with the sentinel, to the front of `dest`. More than 32 bytes are copied as one slice.
-// For up to 32 bytes a call costs more than the copy. If one of these bytes is the sentinel, they are copied as a slice
-// too.
-#[inline(always)]
-pub fn copy_xored(source: &[u8], dest: &mut [u8], sentinel: u8)
-    requires { length source.now ≤ length dest.old }
-    ensures { dest.new ≡ xor_each sentinel source.now ++ drop (length source.now) dest.old }
-{
-    let is_short = !source.is_empty() && source.len() <= WINDOW;
-    if !is_short || !copy_xored_short(source, dest, sentinel) {
-        copy_xored_slice(source, dest, sentinel);
     }
 }
 

@@ -1,5 +1,6 @@
--- A broken frame that was decoded in its own place: what it decoded to is no longer than the frame (`broken-within`), and the
--- rest of the buffer is as it was (`behind-kept`). So a search after those bytes finds the frame's zero (`head-drop`).
+-- Lemmas on a broken frame that was decoded in place. The decoded bytes are no longer than the frame (`broken-within`),
+-- and the rest of the buffer is as it was (`behind-kept`). So a search after the decoded bytes finds the zero after the
+-- frame (`head-drop`).
 use Rattle.std.proofs.Common.{◌≡◌, ◌≤◌, ◌+◌, ◌++◌, ◌∙◌, ℕ, zero, suc, List, [], ◌∷◌, Err, length, drop, sym, ap, arith, take_all}
 use Rattle.std.proofs.lemmas.Bool.{cases_Bool, ne_eqb}
 use Rattle.std.proofs.lemmas.List.{length-take}
@@ -32,7 +33,7 @@ count-of : (n : ℕ) (h : List ℕ) (d : ℕ) → Err (InvalidFrame d) ≡ repor
 count-of n [] d e = absurd cc
 count-of n (x ∷ h) d e = grind (arith, cases_Bool)
 
--- a broken frame, whose whole blocks gave d bytes
+-- a broken frame, whose whole blocks decode to d bytes
 module _ (shorter : (p : List ℕ) → length (output p) ≤ length p) where
   kept-within : (p : List ℕ) → length (kept_output p) ≤ length p
   unfolding kept_output

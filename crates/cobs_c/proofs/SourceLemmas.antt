@@ -1,12 +1,12 @@
--- The first piece of a source, by where its leading zeros and the piece end (`first_none`, `first_some`), and the result of
--- `decode` for it (`result-some`). By clauses of `law_12`.
+-- Lemmas on the first piece of a source, given the ends of the leading zeros and of the piece (`first_none`,
+-- `first_some`), and on the result of `decode` for this piece (`result-some`). By clauses of `law_12`.
 use Rattle.std.proofs.Common.{◌≡◌, ◌<◌, ◌≤◌, ℕ, List, [], ◌∷◌, length, take, drop, get_or, Some, None, Result, Ok, Err, sym, subst, arith}
 use Rattle.cobs.specs.Grammar.{HasNoZero}
 use Rattle.cobs.specs.Decode.{leading_zeros, len_through_piece, result_of_decode, report_result, outcome_result}
 use Rattle.cobs.specs.Stream.{first_piece, outcome_of}
 use Rattle.cobs.specs.declared.DecodeError.{DecodeError}
 
--- the first piece by its end, in the bytes after the leading zeros of a source: by `none` and `found` of `law_12`
+-- the first piece, given its end in the bytes after the leading zeros of a source; by `none` and `found` of `law_12`
 module _ (source rest : List ℕ) (n : ℕ) (is : rest ≡ drop (leading_zeros source) source) (stop : n < length rest → get_or rest n 0 ≡ 0) where
   pub first_none : ((t : List ℕ) → let r = drop (leading_zeros t) t in (0 < length r → get_or r 0 0 ≡ 0) → first_piece t ≡ None) → n ≡ 0 → first_piece source ≡ None
   first_none law none = law source (subst (λ (r : List ℕ). 0 < length r → get_or r 0 0 ≡ 0) is (subst (λ (k : ℕ). k < length rest → get_or rest k 0 ≡ 0) none stop))

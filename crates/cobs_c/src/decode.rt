@@ -22,7 +22,8 @@ fn first_sentinel(bytes: &[u8], sentinel: u8) -> usize
     memchr(sentinel, bytes).unwrap_or(bytes.len())
 }
 
-/// Returns the number of bytes through the first sentinel, or of all bytes if there is no sentinel.
+/// Returns the number of bytes up to and including the first sentinel, or the number of all bytes if there is no
+/// sentinel.
 fn head_end(bytes: &[u8], sentinel: u8) -> usize
     ensures end { result ≡ head_end (xor_each sentinel bytes.now) }
 {
@@ -31,8 +32,8 @@ fn head_end(bytes: &[u8], sentinel: u8) -> usize
     if end < bytes.len() { end + 1 } else { end }
 }
 
-/// Returns the number of bytes of the source through the zero that ends its first piece, or of all bytes if no zero
-/// ends that piece. Returns `None` if the source has no piece.
+/// Returns the number of bytes of the source up to and including the zero that ends its first piece, or the number of
+/// all bytes if no zero ends that piece. Returns `None` if the source has no piece.
 fn first_piece_end(source: &[u8]) -> Option<usize>
     ensures none { result ≡ None → first_piece source.now ≡ None }
     ensures some { IfSome result
@@ -123,7 +124,8 @@ pub extern "C" fn jcobs_decode_with_sentinel(
     )
 }
 
-/// Returns the number of bytes through the zero at index `end`, or `len` if `end` is the end of all `len` bytes.
+/// Returns the number of bytes up to and including the zero at index `end`, or `len` if `end` equals `len`, because
+/// there is no zero then.
 fn with_zero(end: usize, len: usize) -> usize
     ensures { result ≡ min len (end + 1) }
 {

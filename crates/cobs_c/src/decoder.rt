@@ -22,9 +22,9 @@ pub extern "C" fn jcobs_decoder_is_idle(decoder: &UnbufferedDecoder) -> u32
     if decoder.is_idle() { 1 } else { 0 }
 }
 
-/// Takes bytes of the stream: those through the zero that ends the first piece, or all bytes if no piece ends. Even if
-/// the state is corrupt, the buffer keeps its length, `consumed` is at most the number of bytes, and `length` is at
-/// most the buffer's length.
+/// Takes bytes of the stream: those up to and including the zero that ends the first piece, or all bytes if no piece
+/// ends. Even if the state is corrupt, the buffer keeps its length, `consumed` is at most the number of bytes, and
+/// `length` is at most the buffer's length.
 #[unsafe(no_mangle)]
 pub extern "C" fn jcobs_decoder_push(
     decoder: &mut UnbufferedDecoder,

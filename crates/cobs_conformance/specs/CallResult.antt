@@ -1,4 +1,4 @@
--- The word by which contracts describe a result: its words.
+-- The text words of a result, by which contracts describe it.
 use Rattle.std.specs.Prelude.{ℕ, List, [], ◌∷◌, map, codes, string_bytes}
 use Rattle.hex.specs.Hex.{encode_lower}
 use Rattle.cobs_conformance.specs.declared.call_result.CallResult.{CallResult}

@@ -7,7 +7,7 @@ use crate::fault::CaseFault;
 use hex::FromHexError;
 use std::alloc::Global;
 
-/// The most bytes that a word may have, so that each call has room for the frame.
+/// The most bytes that a word may stand for. With this limit, the length of each frame fits a `usize`.
 pub const MAX_BYTES: usize = 131_072;
 
 /// The most hexadecimal digits that a word may have.

@@ -7,8 +7,8 @@ use std::alloc::Global;
 /// Makes the call with this name, and returns its result.
 ///
 /// # Errors
-/// `Malformed` if no call has the name, or the arguments aren't those of the call; `NotCallable` if they break its
-/// precondition; `OutOfMemory` if memory ran out.
+/// `Malformed` if no call has the name, or the arguments aren't those of the call; `NotCallable` if the arguments break
+/// the call's precondition; `OutOfMemory` if memory ran out.
 pub fn result_of_call(
     alloc: Global,
     call: &str,

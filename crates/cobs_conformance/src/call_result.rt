@@ -124,7 +124,7 @@ impl CallResult {
         }
     }
 
-    /// Adds `ok` and the message's length, or the error and its count.
+    /// Adds `ok` and the message's length, or the error and its number of decoded bytes.
     pub fn say_decoded(&mut self, decoded: &Result<usize, DecodeError>) -> Result<(), AllocError> {
         match decoded {
             Ok(len) => {
@@ -138,7 +138,7 @@ impl CallResult {
         }
     }
 
-    /// Adds `ok`, the bytes consumed and the message's length, or the error and its count.
+    /// Adds `ok`, the number of consumed bytes and the message's length, or the error and its number of decoded bytes.
     pub fn say_report(
         &mut self,
         report: &Result<DecodeReport, DecodeError>,
@@ -165,7 +165,7 @@ impl CallResult {
         }
     }
 
-    /// Adds the outcome of a piece: its kind, and its message or count.
+    /// Adds the outcome of a piece: its kind, and its message or its number of decoded bytes.
     pub fn say_outcome(&mut self, outcome: &FrameOutcome) -> Result<(), AllocError> {
         match outcome {
             FrameOutcome::Message(message) => {

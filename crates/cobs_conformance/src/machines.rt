@@ -59,7 +59,8 @@ fn write_code(frame: &mut Vec<u8>, index: usize, code: u8) {
     }
 }
 
-/// Adds the result of a push: its name, the index, the code and the byte, with `-` for each that it doesn't have.
+/// Adds the result of a push: its name, the index, the code and the byte, with `-` in place of each value that the
+/// result doesn't have.
 fn say_pushed(returned: &mut CallResult, pushed: &PushResult) -> Result<(), CaseFault> {
     match pushed {
         PushResult::AddSingle(byte) => {

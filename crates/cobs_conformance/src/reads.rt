@@ -11,7 +11,7 @@ enum Reading {
     Gives(Vec<u8>),
 }
 
-/// The reads, one after another. After the last one each read returns 0 bytes.
+/// The reads, one after another. After the last of these reads, each read returns 0 bytes.
 #[derive(Debug, Drop)]
 pub struct Reads {
     reads: Vec<Reading>,

@@ -160,7 +160,7 @@ macro_rules! of_length {
     };
 }
 
-/// Runs a decoder whose buffer is part of it. Each length in the cases has to be in the list here.
+/// Runs a decoder whose buffer is part of the decoder. Each buffer length in the cases has to be in the list here.
 fn heapless(
     alloc: Global,
     buffer: &[u8],
@@ -174,7 +174,7 @@ fn heapless(
     )
 }
 
-/// Runs a decoder whose buffer is part of it, of this length.
+/// Runs a decoder whose buffer, of `N` bytes, is part of the decoder.
 fn in_itself<const N: usize>(
     alloc: Global,
     buffer: &[u8],
@@ -301,8 +301,8 @@ fn feed_pieces<D: Streaming>(
     Ok(())
 }
 
-/// Adds a result for a byte, unless it is "nothing yet": the number of bytes taken, the kind, and the front of the
-/// buffer.
+/// Adds the result for a byte, unless the result is "nothing yet": the number of bytes taken, the kind of the result,
+/// and the front of the buffer.
 fn say_event(
     events: &mut CallResult,
     taken: usize,

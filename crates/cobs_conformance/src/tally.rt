@@ -23,7 +23,7 @@ impl Tally {
         }
     }
 
-    /// Counts a case. Past `u64::MAX` cases the counts stay where they are.
+    /// Counts a case. After `u64::MAX` cases the counts don't change any more.
     pub fn count(&mut self, agrees: bool)
         ensures cases { self.old.cases < u64.MAX → self.new.cases ≡ self.old.cases + 1 }
         ensures differing { self.old.differing < u64.MAX

@@ -6,8 +6,8 @@
 
 use arrayvec::ArrayVec;
 use cobs::{
-    CobsDecoder, CobsDecoderHeapless, CobsDecoderOwned, DecodeError, DecoderPhase, FrameDecoder,
-    PieceEnd, UnbufferedDecoder, WriteBuffer,
+    CobsDecoder, CobsDecoderHeapless, CobsDecoderOwned, DecodeError, FrameDecoder, PieceEnd,
+    UnbufferedDecoder, WriteBuffer,
 };
 use std::test::Fail;
 
@@ -270,6 +270,17 @@ fn cobs_decoder_heapless_default_example(rt: HostRuntime) {
 }
 
 #[test]
+fn unbuffered_decoder_take_byte_example(rt: HostRuntime) {
+    let mut buffer = [0; 4];
+    let mut decoder = UnbufferedDecoder::new();
+    assert_eq!(rt; decoder.take_byte(&mut buffer, 3), 0);
+    assert_eq!(rt; decoder.take_byte(&mut buffer, 7), 1);
+    assert_eq!(rt; decoder.take_byte(&mut buffer, 8), 2);
+    assert_eq!(rt; decoder.feed(&mut buffer, 0), Ok(Some(2)));
+    assert!(rt; buffer.starts_with(&[7, 8]));
+}
+
+#[test]
 fn unbuffered_decoder_feed_each_example(rt: HostRuntime) {
     let mut decoder = UnbufferedDecoder::new();
     let mut buffer = [0; 4];
@@ -278,15 +289,6 @@ fn unbuffered_decoder_feed_each_example(rt: HostRuntime) {
     let end = decoder.feed_each(&mut buffer, &frame[3..], 10);
     assert_eq!(rt; end, Some((PieceEnd::Message(2), 1)));
     assert!(rt; buffer.starts_with(&[7, 0]));
-}
-
-#[test]
-fn decoder_phase_example(rt: HostRuntime) {
-    let mut buffer = [0; 8];
-    let mut decoder = UnbufferedDecoder::new();
-    assert_eq!(rt; decoder.phase(), DecoderPhase::Idle);
-    assert_eq!(rt; decoder.push(&mut buffer, &[4, 7, 8]), Ok(None));
-    assert!(rt; matches!(decoder.phase(), DecoderPhase::Within { missing: 1, .. }));
 }
 
 #[test]
@@ -308,22 +310,6 @@ fn unbuffered_decoder_new_example(rt: HostRuntime) -> Result<(), Fail> {
 }
 
 #[test]
-fn unbuffered_decoder_from_phase_example(rt: HostRuntime) {
-    let mut buffer = [0; 8];
-    let mut first = UnbufferedDecoder::new();
-    assert_eq!(rt; first.push(&mut buffer, &[4, 7, 8]), Ok(None));
-    let mut second = UnbufferedDecoder::from_phase(first.phase());
-    assert_eq!(rt; second.feed(&mut buffer, 9), Ok(None));
-    assert_eq!(rt; second.feed(&mut buffer, 0), Ok(Some(3)));
-    assert!(rt; buffer.starts_with(&[7, 8, 9]));
-}
-
-#[test]
-fn unbuffered_decoder_phase_example(rt: HostRuntime) {
-    assert_eq!(rt; UnbufferedDecoder::new().phase(), DecoderPhase::Idle);
-}
-
-#[test]
 fn unbuffered_decoder_is_idle_example(rt: HostRuntime) {
     let mut decoder = UnbufferedDecoder::new();
     assert!(rt; decoder.is_idle());
@@ -336,7 +322,7 @@ fn unbuffered_decoder_reset_example(rt: HostRuntime) {
     let mut decoder = UnbufferedDecoder::new();
     assert_eq!(rt; decoder.push(&mut [0; 4], &[9, 9]), Ok(None));
     decoder.reset();
-    assert_eq!(rt; decoder.phase(), DecoderPhase::Idle);
+    assert!(rt; decoder.is_idle());
 }
 
 #[test]

@@ -128,16 +128,20 @@ fn encode_in_place_example(rt: HostRuntime) {
 }
 
 #[test]
-fn encoder_progress_example(rt: HostRuntime) -> Result<(), Fail> {
-    let mut buffer = [0; 64];
+fn unbuffered_encoder_push_example(rt: HostRuntime) {
+    let mut buffer = [170; 3];
     let mut encoder = UnbufferedEncoder::new();
-    encoder.push(&mut buffer, b"hello")?;
-    let progress = encoder.progress();
-    assert_eq!(rt;
-        (progress.index, progress.code, progress.is_full),
-        (0, 6, false)
-    );
-    Ok(())
+    let rejected = encoder.push(&mut buffer, &[7, 8, 9]);
+    assert_eq!(rt; rejected, Err(DestBufTooSmallError));
+    assert_eq!(rt; encoder.push(&mut buffer, &[7, 8]), Ok(()));
+    assert_eq!(rt; encoder.finalize(&mut buffer), Ok(3));
+    assert_eq!(rt; buffer, [3, 7, 8]);
+}
+
+#[test]
+fn unbuffered_encoder_finalize_example(rt: HostRuntime) {
+    let rejected = UnbufferedEncoder::new().finalize(&mut []);
+    assert_eq!(rt; rejected, Err(DestBufTooSmallError));
 }
 
 #[test]
@@ -275,6 +279,7 @@ fn unbuffered_encoder_example(rt: HostRuntime) -> Result<(), Fail> {
     let mut buffer = [0; 64];
     encoder.push(&mut buffer, b"hel")?;
     encoder.push(&mut buffer, b"lo")?;
+    assert_eq!(rt; (encoder.index, encoder.taken, encoder.full), (0, 5, 0));
     assert_eq!(rt; encoder.finalize(&mut buffer), Ok(6));
     assert!(rt; buffer.starts_with(b"\x06hello"));
     Ok(())
@@ -288,24 +293,6 @@ fn unbuffered_encoder_new_example(rt: HostRuntime) {
 }
 
 #[test]
-fn unbuffered_encoder_from_progress_example(rt: HostRuntime) -> Result<(), Fail> {
-    let mut buffer = [0; 64];
-    let mut first = UnbufferedEncoder::new();
-    first.push(&mut buffer, b"hel")?;
-    let mut second = UnbufferedEncoder::from_progress(first.progress());
-    second.push(&mut buffer, b"lo")?;
-    assert_eq!(rt; second.finalize(&mut buffer), Ok(6));
-    assert!(rt; buffer.starts_with(b"\x06hello"));
-    Ok(())
-}
-
-#[test]
-fn unbuffered_encoder_progress_example(rt: HostRuntime) {
-    let progress = UnbufferedEncoder::new().progress();
-    assert_eq!(rt; (progress.index, progress.code), (0, 1));
-}
-
-#[test]
 fn unbuffered_encoder_reset_example(rt: HostRuntime) -> Result<(), Fail> {
     let mut buffer = [170; 2];
     let mut encoder = UnbufferedEncoder::new();
@@ -314,23 +301,6 @@ fn unbuffered_encoder_reset_example(rt: HostRuntime) -> Result<(), Fail> {
     assert_eq!(rt; encoder.finalize(&mut buffer), Ok(1));
     assert_eq!(rt; buffer, [1, 7]);
     Ok(())
-}
-
-#[test]
-fn unbuffered_encoder_push_example(rt: HostRuntime) {
-    let mut buffer = [170; 3];
-    let mut encoder = UnbufferedEncoder::new();
-    let rejected = encoder.push(&mut buffer, &[7, 8, 9]);
-    assert_eq!(rt; rejected, Err(DestBufTooSmallError));
-    assert_eq!(rt; encoder.push(&mut buffer, &[7, 8]), Ok(()));
-    assert_eq!(rt; encoder.finalize(&mut buffer), Ok(3));
-    assert_eq!(rt; buffer, [3, 7, 8]);
-}
-
-#[test]
-fn unbuffered_encoder_finalize_example(rt: HostRuntime) {
-    let rejected = UnbufferedEncoder::new().finalize(&mut []);
-    assert_eq!(rt; rejected, Err(DestBufTooSmallError));
 }
 
 #[test]

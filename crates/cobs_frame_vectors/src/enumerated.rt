@@ -8,7 +8,8 @@ use std::alloc::{AllocError, Global};
 use std::process::Abort;
 use std::test::Fail;
 
-/// Returns `room` bytes of 170, the first of them overwritten with the output, as far as it fits.
+/// Returns a buffer of `room` bytes of 170, whose first bytes are overwritten with the output, as far as the output
+/// fits.
 fn written(alloc: Global, output: &[u8], room: usize) -> Result<Vec<u8>, AllocError> {
     let mut filled = output.to_vec(alloc)?;
     filled.resize(filled.len().max(room), 170)?;
@@ -184,8 +185,8 @@ fn a_frame_of_two_thousand_bytes_decodes_as_the_reference_says(
     check_list(&rt, rt.alloc(), &frame, &[1000, 2000, 2001])
 }
 
-/// Checks the frame of a message, in a buffer that is a byte too short, in one that fits, and as vectors in both
-/// directions.
+/// Checks the frame of a message in three ways: in a buffer that is a byte too short, in a buffer that the frame fits,
+/// and as vectors, encoded and decoded.
 fn check_message(rt: &impl Abort, alloc: Global, message: &[u8], frame: &[u8]) -> Result<(), Fail> {
     let room = frame.len().saturating_sub(1);
     let mut short = repeated(alloc, 170, room)?;

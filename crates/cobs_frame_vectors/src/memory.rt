@@ -14,7 +14,7 @@ use cobs_vectors::bytes::repeated;
 use std::alloc::{AllocError, Global};
 use std::process::Abort;
 
-/// Whether a growth (an allocation) of each test fails: false here, and true in the copy that `tests/fail-alloc.sh`
+/// Whether one growth (allocation) of each test fails: false here, and true in the copies that `tests/fail-alloc.sh`
 /// runs.
 const ONE_GROWTH_FAILS: bool = false;
 

@@ -45,7 +45,7 @@ pub enum CallResult {
     TooSmall,
 }
 
-/// Returns the error of a decoder as a [`CallResult`].
+/// Converts the error of a decoder to a [`CallResult`].
 pub fn rejected(error: &DecodeError) -> CallResult {
     match error {
         DecodeError::EmptyFrame => CallResult::EmptyFrame,
@@ -54,7 +54,7 @@ pub fn rejected(error: &DecodeError) -> CallResult {
     }
 }
 
-/// Returns the result of a decoder that counts bytes.
+/// Converts the result of a decoder that returns a number of bytes.
 fn counted(returned: Result<usize, DecodeError>) -> CallResult {
     match returned {
         Ok(count) => CallResult::Length(count),
@@ -62,7 +62,7 @@ fn counted(returned: Result<usize, DecodeError>) -> CallResult {
     }
 }
 
-/// Returns the result of a decoder that reports sizes.
+/// Converts the result of a decoder that returns a report.
 fn reported(returned: Result<DecodeReport, DecodeError>) -> CallResult {
     match returned {
         Ok(report) => CallResult::Sizes(report.frame_size(), report.parsed_size()),

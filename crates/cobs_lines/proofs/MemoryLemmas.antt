@@ -10,7 +10,7 @@ use Rattle.cobs.specs.NextFrame.{Read, bytes_given, GaveBytes, all_given, Runs}
 use Rattle.cobs_lines.specs.Memory.{TakesChunk, bytes_left}
 use Rattle.cobs_lines.specs.declared.memory.InMemory.{InMemory}
 
--- the first n bytes, where n is 64 or all that there are
+-- the first n bytes, if n is 64 or, if there are fewer bytes, their number
 take_least : (xs : List ℕ) (n : ℕ) → n ≡ min (length xs) 64 → take n xs ≡ take 64 xs
 take_least xs n e = elim (cases_lt (length xs) 64) [
   | inl short ↦ take_all n xs (omega arith) ∙ sym (take_all 64 xs (omega arith))
@@ -64,7 +64,7 @@ pub never_fails : (from : InMemory) (earlier : List Read) (to : InMemory) → Ru
 never_fails from [] to (next, step, more) = let given = step.gives in cc
 never_fails from (read ∷ earlier) to (next, step, more) = never_fails next earlier to more
 
--- after a read that returned no bytes none are left
+-- after a read that returned no bytes, no byte is left
 pub bytes_left-at_end : (from : InMemory) (earlier : List Read) (to : InMemory) → Runs MemoryStep from (earlier ++ Some [] ∷ []) to → bytes_left to ≡ []
 bytes_left-at_end from [] to (next, step, more) =
     let none : length (take 64 (bytes_left from)) ≡ 0 = ap length (sym (ap bytes_given step.gives)) in

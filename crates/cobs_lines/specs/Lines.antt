@@ -4,7 +4,7 @@ use Rattle.std.specs.Fmt.{decimal}
 use Rattle.hex.specs.Hex.{encode_lower}
 use Rattle.cobs.specs.Stream.{Outcome, Message, Broken, TooLong}
 
--- a space and a message's digits, or nothing for the empty message
+-- a space and a message's bytes as hexadecimal digits, or nothing for the empty message
 abbrev pub spaced_digits : List ℕ → List ℕ
 spaced_digits [] = []
 spaced_digits (byte ∷ bytes) = codes " " ++ encode_lower (byte ∷ bytes)

@@ -16,7 +16,7 @@ const MANY: usize = 8;
 /// The hexadecimal digits.
 const DIGITS: [u8; 16] = *b"0123456789abcdef";
 
-/// Writes the line of a message of N bytes, and a newline. The line is `message N HEX`, in which HEX is the bytes as
+/// Writes the line of a message of N bytes, and a newline. The line is `message N HEX`; HEX stands for the bytes as
 /// lower-case hexadecimal digits. For the empty message the line is `message 0`. Nothing is allocated, however long the
 /// message is.
 ///
@@ -68,7 +68,8 @@ pub fn fill_digits(room: &mut [u8], bytes: &[u8])
     }
 }
 
-/// Fills `room` with the digits of the bytes, and looks up each digit. This is faster for a few bytes.
+/// Fills `room` with the digits of the bytes, and looks up each digit. For fewer than [`MANY`] bytes this is faster
+/// than computing the digits.
 #[inline(always)]
 fn look_up_digits(room: &mut [u8], bytes: &[u8])
     requires room { length room.old ≡ 2 * length bytes.now }
@@ -80,7 +81,8 @@ fn look_up_digits(room: &mut [u8], bytes: &[u8])
     }
 }
 
-/// Fills `room` with the digits of the bytes, and computes each digit. This is faster for many bytes.
+/// Fills `room` with the digits of the bytes, and computes each digit. For [`MANY`] or more bytes this is faster than
+/// looking up the digits.
 #[inline(always)]
 fn compute_digits(room: &mut [u8], bytes: &[u8])
     requires room { length room.old ≡ 2 * length bytes.now }

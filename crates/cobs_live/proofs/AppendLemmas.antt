@@ -4,7 +4,7 @@ use Rattle.std.specs.Prelude.{OnOk}
 use Rattle.std.specs.Io.KnownBytes.{Appends}
 use Rattle.std.proofs.KnownBytes.{Appends-trans}
 
--- a text, and more after it if that was written
+-- a text, followed by another text if that one was written too
 pub behind : {A E : Type 0} (r : Result A E) (a b c : Option (List ℕ)) (x y : List ℕ) → Appends a b x → OnOk r (Appends b c y) → OnOk r (Appends a c (x ++ y))
 behind (Ok v) a b c x y first more = Appends-trans a b c x y first more
 behind (Err e) a b c x y first more = tt

@@ -11,6 +11,6 @@ pub upto-more : (f : ℕ → List ℕ) (n : ℕ) → upto f (n + 1) ≡ upto f n
 unfolding upto
 upto-more f n = rw add-one refl
 
--- the bytes of a row, as a slice has them
+-- the bytes of a row are a part of the slice
 pub row_of : (bytes : List ℕ) (start end : ℕ) → end ≡ min (length bytes) (start + 16) → take (end - start) (drop start bytes) ≡ take 16 (drop start bytes)
 row_of bytes start end e = grind (arith, cases_lt, take_all, length-drop)

@@ -38,13 +38,13 @@ run_escaped (b ∷ run) rest u all =
     let later = IsUtf8-past_char (b ∷ (run ++ rest)) (run ++ rest) b u first in
     char_escaped (b ∷ (run ++ rest)) (run ++ rest) b u first ∙ ap (λ (l : List ℕ). l ++ text_escaped (run ++ rest)) (plain_escaped b plain) ∙ ap (λ (l : List ℕ). b ∷ l) (run_escaped run rest later (All-tail (λ byte. IsTrue (is_plain_byte byte)) b run all))
 
--- a text without a run at its front
+-- a text, of which a run at its front is written
 pub front_run : (text : List ℕ) (run : ℕ) → IsUtf8 text → All (λ byte. IsTrue (is_plain_byte byte)) (take run text) → text_escaped text ≡ take run text ++ text_escaped (drop run text)
 front_run text run u all =
     let whole : take run text ++ drop run text ≡ text = take-append-drop run text in
     ap text_escaped (sym whole) ∙ run_escaped (take run text) (drop run text) (subst IsUtf8 (sym whole) u) all
 
--- a run, and a run after it
+-- a run, and another run after it
 run_more : (text : List ℕ) (run more : ℕ) → text_escaped text ≡ take run text ++ text_escaped (drop run text) → text_escaped (drop run text) ≡ take more (drop run text) ++ text_escaped (drop more (drop run text))
     → text_escaped text ≡ take (run + more) text ++ text_escaped (drop (run + more) text)
 run_more text run more first second = grind (arith, append_assoc, take-add, drop-drop)
@@ -58,7 +58,7 @@ run_past text rest run more u b is all same = grind (arith, run_more, front_run,
 char_run : (text rest : List ℕ) (c : ℕ) → IsUtf8 text → text ≡ encode_utf8 c ++ rest → escaped c ≡ encode_utf8 c → text_escaped text ≡ take (len_utf8 c) text ++ text_escaped (drop (len_utf8 c) text)
 char_run text rest c u split same = grind (arith, drop_at, length-encode, take-append_seam, char_escaped)
 
--- after a run and such a character
+-- a run, and a character after it that needs no escape
 pub past_char : (text rest : List ℕ) (run c n : ℕ) → IsUtf8 text → IsCharBoundary text run → drop run text ≡ encode_utf8 c ++ rest → n ≡ len_utf8 c → IsCharBoundary text (run + n)
 past_char text rest run c n u b split is = subst (λ (k : ℕ). IsCharBoundary text (run + k)) (sym is) (IsCharBoundary-past_char text rest run c b.0 (IsUtf8-drop text run u b) split)
 

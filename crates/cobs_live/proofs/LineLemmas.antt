@@ -1,4 +1,4 @@
--- Lemmas on lines that hang up one after another: the bytes and the text of one line more.
+-- Lemmas on lines that hang up one after another: how one more line changes the bytes and the text.
 use Rattle.std.proofs.Common.{◌≡◌, ◌≤◌, ◌+◌, ℕ, Bool, true, List, [], ◌∷◌, ◌++◌, length, map, refl, sym, ap, ◌∙◌, arith, append_assoc, append-nil, length-append, Some, None}
 use Rattle.std.proofs.lemmas.List.{map-append}
 use Rattle.std.proofs.lemmas.List.Folds.{concat-append}
@@ -39,7 +39,7 @@ count_bytes-gone gone bytes = grind (arith, concat-append, append-nil, length-ap
 
 -- THE TEXT OF THE LINES
 
--- the text with one line more
+-- the text with one more line
 pub shown_gone-gone : (view : View) (times : ℕ → Moment) (n index : ℕ) (ts : List (List ℕ)) (t : List ℕ) → shown_gone view times n index (ts ++ t ∷ [])
     ≡ shown_gone view times n index ts ++ (shown_from view times (index + length (outcomes_of ts n)) (all_ended t n) ++ shown_hang_up view (is_nonempty (unended t)))
 shown_gone-gone view times n index [] t = grind (arith, append-nil)
@@ -54,7 +54,7 @@ shown_gone-gone view times n index (u ∷ ts) t =
     ∙ ap (λ (l : List ℕ). pieces ++ l) (sym (append_assoc hang_up (shown_gone view times n next ts) (last (index + length (outcomes_of (u ∷ ts) n)))))
     ∙ sym (append_assoc pieces (hang_up ++ shown_gone view times n next ts) (last (index + length (outcomes_of (u ∷ ts) n))))
 
--- with later times for later pieces
+-- the text doesn't change if only the times of later pieces change
 pub shown_gone-extended : (times : ℕ → Moment) (known : ℕ) (now : Moment) (view : View) (n index : ℕ) (ts : List (List ℕ)) → index + length (outcomes_of ts n) ≤ known
     → shown_gone view (extended times known now) n index ts ≡ shown_gone view times n index ts
 shown_gone-extended times known now view n index [] h = refl

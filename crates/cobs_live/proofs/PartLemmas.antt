@@ -74,7 +74,7 @@ seen-held checksum true q buffer buffer' (ends.Message k) holds same seen is = g
 seen-held checksum true q buffer buffer' (ends.Broken count) holds same seen is = grind (arith, broken-fits, held-broken)
 seen-held checksum true q buffer buffer' ends.TooLong holds same seen is = grind (arith, held-too_long, too_long-exceeds)
 
--- the piece whose end a decoder has taken, and how it is seen
+-- the last piece that ended in a stream is shown as `seen`
 pub record IsLastPiece (checksum : Option Checksum) (partial : Bool) (stream : List ℕ) (n : ℕ) (seen : Seen) : Type 0 where
   pub piece : Ended
   pub ended : all_ended stream n ≡ piece ∷ []

@@ -1,10 +1,10 @@
--- Lemmas on the reads of a run, each of which has the output as an argument: a run that is live is still live after one
--- read more.
+-- Lemmas on the reads of a run, each of which has the output as an argument. A run that is live is still live after one
+-- more read.
 use Rattle.std.proofs.Common.{◌≡◌, ℕ, List, [], ◌∷◌, ◌++◌, refl, sym, ap, ◌∙◌, subst, append-nil, append_assoc, Option}
 use Rattle.std.proofs.lemmas.List.{map-append}
 use Rattle.cobs_live.specs.Reads.{HeldWhileNothing, Read, IsLive, IsLiveAfter, ReadsOnce, Runs, came, joined}
 
--- reads after others
+-- reads that follow other reads
 pub Runs-append : {S A : Type 0} (step : S → Read A → S → Type 0) (a b c : S) (xs ys : List (Read A)) → Runs step a xs b → Runs step b ys c → Runs step a (xs ++ ys) c
 Runs-append step a b c [] ys r s = subst (λ from. Runs step from ys c) (sym r) s
 Runs-append step a b c (x ∷ xs) ys r s = (r.0, r.1, Runs-append step r.0 b c xs ys r.2 s)
@@ -13,7 +13,7 @@ pub live-append : {A : Type 0} (IsRight : List (List A) → Option (List ℕ) �
 live-append {A} IsRight gone [] ys l m = subst (λ (g : List (List A)). IsLiveAfter IsRight g ys) (append-nil gone) m
 live-append {A} IsRight gone (x ∷ xs) ys l m = (l.0, l.1, live-append IsRight (gone ++ x.came ∷ []) xs ys l.2 (subst (λ (g : List (List A)). IsLiveAfter IsRight g ys) (sym (append_assoc gone (x.came ∷ []) (came xs))) m))
 
--- a text that is right with some bytes is right after others
+-- reads that are live by themselves are live after other reads
 pub live-behind : {A : Type 0} (P Q : List (List A) → Option (List ℕ) → Type 0) (front gone : List (List A)) (reads : List (Read A))
     → ((given : List (List A)) (held : Option (List ℕ)) → P given held → Q (front ++ given) held) → IsLiveAfter P gone reads → IsLiveAfter Q (front ++ gone) reads
 live-behind P Q front gone [] h l = tt
@@ -23,12 +23,12 @@ pub joined-append : {A : Type 0} (xs ys : List (List A)) → joined (xs ++ ys) �
 joined-append [] ys = refl
 joined-append {A} (x ∷ xs) ys = ap (λ (l : List A). x ++ l) (joined-append xs ys) ∙ sym (append_assoc x (joined xs) (joined ys))
 
--- the bytes that came
+-- the bytes that all reads returned
 pub came-more : {S A : Type 0} {step : S → Read A → S → Type 0} {mid source' : S} {written : Option (List ℕ)} {bytes : List A} (a : List (Read A)) (b : ReadsOnce step mid source' written bytes) → joined (came (a ++ b.live.reads)) ≡ joined (came a) ++ bytes
 came-more {A = A} a b = ap joined (map-append (λ (r : Read A). r.came) a b.live.reads) ∙ joined-append (came a) (came b.live.reads) ∙ ap (λ (x : List A). joined (came a) ++ x) b.given
 
 module _ {S A : Type 0} {step : S → Read A → S → Type 0} {source mid source' : S} {written : Option (List ℕ)} {bytes : List A} where
-  -- the same after reads of a run
+  -- the run with more reads is live
   abbrev pub live-more : {P : List (List A) → Option (List ℕ) → Type 0} (a : IsLive step source mid P) → ReadsOnce step mid source' written bytes
       → ((nothing : List (List A)) → joined nothing ≡ [] → P (came a.reads ++ nothing) written) → IsLive step source source' P
   live-more {P} a b right = record {
@@ -39,14 +39,14 @@ module _ {S A : Type 0} {step : S → Read A → S → Type 0} {source mid sourc
         (live-behind (HeldWhileNothing written) P (came a.reads) [] b.live.reads (λ gone held h. subst (P (came a.reads ++ gone)) (sym h.1) (right gone h.0)) b.live.live));
   }
 
--- no read yet
+-- a run without a read is live
 abbrev pub live-none : {S A : Type 0} (step : S → Read A → S → Type 0) (source : S) (P : List (List A) → Option (List ℕ) → Type 0) → IsLive step source source P
 live-none step source P = record { reads = []; runs = refl; live = tt }
 
 pub once-none : {S A : Type 0} (step : S → Read A → S → Type 0) (source : S) (written : Option (List ℕ)) → ReadsOnce step source source written []
 once-none step source written = record { live = live-none step source (HeldWhileNothing written); given = refl }
 
--- one read more, if no read has returned bytes
+-- one more read, if no earlier read has returned bytes
 pub once-more : {S A : Type 0} {step : S → Read A → S → Type 0} {source mid source' : S} {written : Option (List ℕ)} (read : Read A)
     → ReadsOnce step source mid written [] → step mid read source' → read.back ≡ [] → read.written ≡ written → ReadsOnce step source source' written read.came
 once-more {A = A} {step = step} {source = source} {mid = mid} {source' = source'} {written = written} read a s back same = record {
@@ -58,7 +58,7 @@ once-more {A = A} {step = step} {source = source} {mid = mid} {source' = source'
   given = ap joined (map-append (λ (r : Read A). r.came) a.live.reads (read ∷ [])) ∙ joined-append (came a.live.reads) (read.came ∷ []) ∙ ap (λ (x : List A). x ++ (read.came ++ [])) a.given ∙ append-nil read.came;
 }
 
--- one read of a run
+-- a run with one more read is live
 abbrev pub live-push : {S A : Type 0} {step : S → Read A → S → Type 0} {source mid source' : S} {P : List (List A) → Option (List ℕ) → Type 0} (read : Read A)
     → (a : IsLive step source mid P) → step mid read source' → read.back ≡ [] → P (came a.reads) read.written → IsLive step source source' P
 live-push {step = step} {source = source} {mid = mid} {source' = source'} {P = P} read a s back right = record {

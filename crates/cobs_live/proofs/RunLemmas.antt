@@ -1,5 +1,6 @@
--- Lemmas on a run of `show`: each read keeps the facts of `HasShownSoFar` for one read more (`more-..`), and keeps the
--- run live (`live-..`); the end and each fault have the text that `HasShown` says (`shown-..`).
+-- Lemmas on a run of `show`. After each read the facts of `HasShownSoFar` still hold (`more-..`), and the run is still
+-- live (`live-..`). At the end of the input and after each fault, the text is the one that `HasShown` describes
+-- (`shown-..`).
 use Rattle.std.proofs.Common.{◌≡◌, ◌≢◌, ◌≤◌, ◌+◌, ◌↔◌, ℕ, Bool, true, false, List, [], ◌∷◌, ◌++◌, length, map, take, drop, refl, sym, ap, ◌∙◌, subst, arith, append-nil, append_assoc, length-append, Option, Some, None, Result, Ok, Err}
 use Rattle.std.specs.Prelude.{IfSome, IsErrAnd}
 use Rattle.std.proofs.Math.Seq.{take-append_seam}
@@ -73,7 +74,7 @@ HasShownSoFar-start law settings from before watch idle none first len same skip
       skips = skips ∙ sym (skips_on-none settings.skip_first);
     }
 
--- the text of what had ended, as far as bytes had come
+-- the text of the pieces that ended in the bytes so far
 pub HoldsText-so_far : {settings : Settings} {from to before after : Option (List ℕ)} {watch : Watch} (s : HasShownSoFar settings from to before after watch) (came : List (List (Option ℕ))) → joined came ≡ letters_of s.ended.gone s.ended.bytes → HoldsText settings before came after
 HoldsText-so_far s came e = record { gone = s.ended.gone; bytes = s.ended.bytes; lines = e; times = s.ended.times; timeline = s.ended.timeline; written = s.ended.written }
 
@@ -105,17 +106,17 @@ module _ {S : Type 0} {step : S → Read (Option ℕ) → S → Type 0} {source 
   pub given-next : (s : IsLiveSoFar step source mid settings from to before after watch) (r : ReadsOnce step mid source' after letters) → joined (came (live-next s r).reads) ≡ letters_of s.so_far.ended.gone s.so_far.ended.bytes ++ letters
   given-next s r = came-more s.live.reads r ∙ ap (λ (x : List (Option ℕ)). x ++ letters) s.given
 
--- a tally is one for equal settings
+-- a tally for some settings is a tally for equal settings
 pub same-tallied : (a b : Settings) (tally : Tally) (outcomes : List Outcome) (read : ℕ) → a ≡ b → IsTallyOf a.view.checksum tally outcomes read → IsTallyOf b.view.checksum tally outcomes read
 same-tallied a b tally outcomes read same t = grind arith
 
--- a writer that holds nothing back, before and after
+-- a writer whose buffer is empty, before and after the call
 pub flushed-Appends : (inner inner' : Option (List ℕ)) (held held' text : List ℕ) → held ≡ [] → held' ≡ [] → Appends (append_known inner held) (append_known inner' held') text → Appends inner inner' text
 flushed-Appends None inner' held held' text none none' w = tt
 flushed-Appends (Some xs) None held held' text none none' w = absurd w
 flushed-Appends (Some xs) (Some ys) held held' text none none' w = grind (arith, append-nil)
 
--- an input that hangs up is one of whose bytes nothing is known
+-- if an input hangs up, nothing is known about its bytes
 pub unknown-alone : (from to : Option (List ℕ)) (bytes : List ℕ) (P : Type 0) → to ≡ None → Consumes from to bytes → IfSome from (λ _. P)
 unknown-alone None to bytes P none c = tt
 unknown-alone (Some xs) to bytes P none c = grind arith
@@ -139,7 +140,7 @@ module _ (law : StreamLaw) {settings : Settings} {from to before after : Option 
   abbrev pub opened : List ℕ
   opened = open_stream settings s.ended.gone s.ended.bytes
 
-  -- the stream with more bytes, after those before them
+  -- the part of the stream that more bytes add
   abbrev pub newly : List ℕ → List ℕ
   newly more = begun watch.skipping (xor_each watch.settings.now.sentinel more)
 
@@ -180,7 +181,7 @@ module _ (law : StreamLaw) {settings : Settings} {from to before after : Option 
   abbrev pub known : ℕ
   known = length (all_outcomes settings s.ended.gone s.ended.bytes)
 
-  -- the times of all pieces, if the next ones are read now
+  -- the times of all pieces, if the next pieces are read now
   abbrev pub more-times : Moment → ℕ → Moment
   more-times now = extended s.ended.times known now
 
@@ -192,7 +193,7 @@ module _ (law : StreamLaw) {settings : Settings} {from to before after : Option 
       → clock.last ≡ more-times now (length (all_outcomes settings s.ended.gone (s.ended.bytes ++ more)))
   more-timed clock now more r = grind (arith, more-outcomes)
 
-  -- the text of the pieces that end in more bytes, after that of all others
+  -- the text of the pieces that end in more bytes
   abbrev pub new_text : View → Moment → List ℕ → List ℕ
   new_text view now more = shown_from view (more-times now) known (all_ended (unended opened ++ newly more) (length watch.message.items))
 
@@ -214,7 +215,7 @@ module _ (law : StreamLaw) {settings : Settings} {from to before after : Option 
         (Appends-trans before after after' _ _ s.ended.written (subst (λ (w : Settings). Appends after after' (new_text w.view now more)) s.same written));
   }
 
-  -- nothing follows: whether a piece has begun is shown
+  -- no byte follows, and the text says whether a piece has begun
   pub shown-ended : {to' after' : Option (List ℕ)} → Consumes to to' [] → ShowsEnd (phase_of watch.decoder) watch.settings.now.view after after' → HasWritten (shown_ended settings) from to' before after'
   shown-ended {to' = to'} {after' = after'} r end =
       let is : end.begun ≡ is_nonempty (unended opened) = begun-after (unended opened) (length watch.message.items) (phase_of watch.decoder) end.begun s.taken.phased.phase_is end.idle in
@@ -228,7 +229,7 @@ module _ (law : StreamLaw) {settings : Settings} {from to before after : Option 
         written = Appends-trans before after after' _ _ s.ended.written (rw (s.same, is) at end.written);
       }
 
-  -- a read that failed took nothing
+  -- a read that failed removed no byte from the input
   pub nothing-read : (to' : Option (List ℕ)) → Keeps to to' → Consumes to to' []
   nothing-read to' kept = Consumes-kept to to to' [] (Consumes-nil to) kept
 
@@ -243,7 +244,7 @@ module _ (law : StreamLaw) {settings : Settings} {from to before after : Option 
 
   -- THE LINE HUNG UP
 
-  -- no byte of the next one has come
+  -- no byte of the next line was read
   pub not_begun : (b : Bool) → stream_of settings b [] ≡ []
   not_begun b = begun-none b
 
@@ -282,11 +283,11 @@ module _ (law : StreamLaw) {settings : Settings} {from to before after : Option 
         skips = anew.awaited ∙ sym (skips_on-none (skips_behind settings.skip_first (s.ended.gone ++ s.ended.bytes ∷ [])) ∙ skips_behind-gone settings.skip_first s.ended.gone s.ended.bytes);
       }
 
--- a vector whose items were written as a slice
+-- the contents of a vector that was written as a slice
 pub whole-message : (message items : List ℕ) (len : ℕ) → len ≡ length items → length message ≡ length items → take len (message ++ drop (length message) items) ≡ message
 whole-message message items len is same = grind (arith, take-append_seam)
 
--- a read that gave bytes, or a hang-up
+-- a read that returned bytes, or a hang-up
 pub takes-bytes : (from to : Option (List ℕ)) (gave : Came) (n : ℕ) (chunk : List ℕ) → gave ≡ Bytes n → Takes from to gave chunk → Takes from to (Bytes n) chunk
 takes-bytes from to gave n chunk is h = grind arith
 

@@ -1,4 +1,4 @@
--- Lemmas on a run of `send`: the lines that were read and sent so far, and one line more.
+-- Lemmas on a run of `send`: the lines that were read and sent so far, and one more line.
 use Rattle.std.proofs.Common.{◌≡◌, ◌≢◌, ◌↔◌, ◌==◌, ℕ, Bool, true, false, IsTrue, All, List, [], ◌∷◌, ◌++◌, refl, ap, ◌∙◌, append-nil, sym, subst, append_assoc, ⊎_elim, Option, Some, None, IfSome, Result, Ok, Err}
 use Rattle.std.proofs.lemmas.Bool.{cases_Bool}
 use Rattle.std.specs.Prelude.{IsErrAnd}
@@ -16,14 +16,14 @@ use Rattle.cobs_live.specs.declared.send.Settings.{Settings}
 use Rattle.cobs_live.specs.declared.fault.WatchFault.{WatchFault}
 use Rattle.cobs_live.specs.declared.fault.WatchFault.TheVariants.{ReadFailed, WriteFailed, OutputClosed, OutOfMemory}
 
--- places of two lists, and one more
+-- a relation between the elements of two lists, and between one more element of each
 pub zip_push : {A B : Type 0} (R : A → B → Type 0) (xs : List A) (ys : List B) (x : A) (y : B) → AllZip R xs ys → R x y → AllZip R (xs ++ x ∷ []) (ys ++ y ∷ [])
 zip_push R [] [] x y z r = (r, tt)
 zip_push R [] (b ∷ ys) x y z r = absurd z
 zip_push R (a ∷ xs) [] x y z r = absurd z
 zip_push R (a ∷ xs) (b ∷ ys) x y z r = (z.0, zip_push R xs ys x y z.1 r)
 
--- the first line of some bytes, and the others
+-- the first line of some bytes, and the lines of the other bytes
 lines_of-first : (bytes : List ℕ) → bytes ≢ [] → lines_of bytes ≡ take_through 10 bytes ∷ lines_of (drop_through 10 bytes)
 unfolding lines_of
 lines_of-first [] some = absurd (some refl)
@@ -36,7 +36,7 @@ lines_of-first (b ∷ c ∷ bytes) some = ⊎_elim
     (λ (goes_on : (b == 10) ≡ false). rw goes_on (ap (in_front b) (lines_of-first (c ∷ bytes) (λ none. absurd cc))))
     (cases_Bool (b == 10))
 
--- the lines of a reader's bytes are those that were read, and those of the bytes that it has left
+-- the lines of a reader's bytes are the lines that were read, and then the lines of the bytes that are left
 abbrev pub AreFirst : (from to : Option (List ℕ)) → List (List ℕ) → Type 0
 AreFirst from to lines = IfSome from (λ xs. IfSome to (λ ys. lines_of xs ≡ lines ++ lines_of ys))
 
@@ -64,7 +64,7 @@ all-lines None to lines read r first end = tt
 all-lines (Some xs) None lines read r first end = absurd r
 all-lines (Some xs) (Some ys) lines read r first end = sym (first ∙ ap (λ (l : List ℕ). lines ++ lines_of l) end ∙ append-nil lines)
 
--- a reader that is at its end, and has given nothing more, is at its end
+-- a reader that was at its end, and then returned no byte, is still at its end
 still-at_end : (from to to' : Option (List ℕ)) (read : List ℕ) → Consumes from to read → IsAtEnd to → Consumes to to' [] → IfSome from (λ bytes. IsAtEnd to')
 still-at_end None to to' read r end none = tt
 still-at_end (Some xs) None to' read r end none = absurd r
@@ -75,11 +75,11 @@ still-at_end (Some xs) (Some ys) (Some zs) read r end none = sym none ∙ end
 pub flag_kept : (P : List ℕ → Type 0) (xs : List (List ℕ)) (x : List ℕ) (flag : Bool) → (IsTrue flag ↔ All P xs) → P x → (IsTrue flag ↔ All P (xs ++ x ∷ []))
 flag_kept P xs x flag h p = (λ e. All-push P xs x (h.0 e) p, λ all. h.1 (All-pop P (xs ++ x ∷ []) xs (Some x) refl all).0)
 
--- and one more that hasn't it
+-- a flag that says whether each element has a property, and one more element that doesn't have it
 pub flag_lost : (P : List ℕ → Type 0) (xs : List (List ℕ)) (x : List ℕ) → (P x → ⊥) → (IsTrue false ↔ All P (xs ++ x ∷ []))
 flag_lost P xs x missing = (λ e. absurd cc, λ all. absurd (missing (All-pop P (xs ++ x ∷ []) xs (Some x) refl all).1))
 
--- the lines that were sent so far, and a flag that says whether each could be
+-- the lines that were read so far, and a flag that says whether each could be sent
 pub record SentSoFar (settings : Settings) (all_sent : Bool) (from to before after : Option (List ℕ)) : Type 0 where
   pub lines : List (List ℕ)
   pub first : AreFirst from to lines
@@ -90,7 +90,7 @@ pub record SentSoFar (settings : Settings) (all_sent : Bool) (from to before aft
   pub written : Appends before after (concat sent)
   pub flag : IsTrue all_sent ↔ All (λ line. IsSendable settings (text_of line)) lines
 
--- no line yet
+-- before the first line
 abbrev pub SentSoFar-start : (settings : Settings) (from before : Option (List ℕ)) → SentSoFar settings true from from before before
 SentSoFar-start settings from before = record {
   lines = [];
@@ -126,13 +126,13 @@ module _ {settings : Settings} {all_sent : Bool} {from to to' before after after
   abbrev pub SentSoFar-skipped : (flag : Bool) → flag ≡ false → (IsSendable settings (text_of line) → ⊥) → SentSoFar settings flag from to' before after'
   SentSoFar-skipped flag none missing = SentSoFar-with flag (rw none (flag_lost (λ l. IsSendable settings (text_of l)) s.lines line missing))
 
--- a run so far that is live, whose reads gave the lines that were sent
+-- a run so far that is live, and whose reads returned the lines that were sent
 pub record IsLiveSoFar {S : Type 0} (step : S → Read ℕ → S → Type 0) (source source' : S) (settings : Settings) (all_sent : Bool) (from to before after : Option (List ℕ)) : Type 0 where
   pub so_far : SentSoFar settings all_sent from to before after
   pub live : IsLive step source source' (HoldsFrames settings before)
   pub same : came live.reads ≡ so_far.lines
 
--- the next read of it
+-- such a run is live at its next read
 abbrev pub live-read : {S : Type 0} {step : S → Read ℕ → S → Type 0} {source mid source' : S} {settings : Settings} {all_sent : Bool} {from to before after : Option (List ℕ)} (read : Read ℕ)
     → IsLiveSoFar step source mid settings all_sent from to before after → step mid read source' → read.back ≡ [] → read.written ≡ after → IsLive step source source' (HoldsFrames settings before)
 live-read {settings = settings} {before = before} read s r back same = live-push read s.live r back
@@ -165,7 +165,7 @@ send_failed to' after' line (Err WriteFailed) e s stops r = tt
 send_failed to' after' line (Err OutputClosed) e s stops r = tt
 send_failed to' after' line (Ok sent) e s stops r = absurd e
 
--- the last read gave nothing, at the end of the input
+-- the last read returned no byte, at the end of the input
 pub sent_all : {settings : Settings} {all_sent : Bool} {from to before after : Option (List ℕ)} (to' : Option (List ℕ)) (given : List ℕ) → SentSoFar settings all_sent from to before after
     → Consumes to to' given → given ≡ [] → IsAtEnd to → HasSentAll settings all_sent from to' before after
 sent_all {from = from} {to} to' given s r none end =

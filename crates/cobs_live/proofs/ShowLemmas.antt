@@ -19,7 +19,7 @@ use Rattle.cobs_live.specs.declared.composed.Composed.{Composed}
 use Rattle.cobs_live.specs.declared.shown.View.{View}
 use Rattle.cobs_live.specs.declared.tally.Tally.{Tally}
 
--- the text of outcomes, and of others after them
+-- the text of outcomes that follow other outcomes
 pub shown_from-append : (view : View) (times : ℕ → Moment) (index : ℕ) (xs ys : List Ended) → shown_from view times index (xs ++ ys) ≡ shown_from view times index xs ++ shown_from view times (index + length xs) ys
 unfolding shown_from
 shown_from-append view times index [] ys = grind arith
@@ -33,7 +33,7 @@ pub shown_from-one : (view : View) (times : ℕ → Moment) (index : ℕ) (piece
 unfolding shown_from
 shown_from-one view times index piece = grind (arith, append-nil)
 
--- the text of a piece, given the tally that counts it too, and the clock before it
+-- the text of a piece, given the tally that counts this piece too, and the clock before the piece
 pub shown_now : (view : View) (times : ℕ → Moment) {tally : Tally} {clock : Times} (gone : List Outcome) (outcome : Outcome) {read : ℕ} (before after : Option (List ℕ)) {seen : Seen} (piece : Ended) → seen ≡ seen_piece view.checksum view.partial piece
     → IsTallyOf view.checksum tally (gone ++ outcome ∷ []) read → IsReadAt times (length gone) clock
     → Appends before after (in_view view tally.pieces clock seen) → Appends before after (shown view times (length gone) piece)
@@ -44,7 +44,7 @@ pub with_text-empty : (held : Option (List ℕ)) (text : Composed) → text.len 
 with_text-empty None text none = refl
 with_text-empty (Some xs) text none = grind (arith, append-nil)
 
--- what was still to be written has been written
+-- a text that was composed before has been written
 append_through : (before a b : Option (List ℕ)) (t w : List ℕ) → Appends before (append_known a t) w → Appends a b t → Appends before b w
 append_through None a b t w p q = tt
 append_through (Some x) None b t w p q = absurd p
@@ -70,7 +70,7 @@ module _ (law : StreamLaw) {view : View} {times : ℕ → Moment} {n : ℕ} {p b
   pieces-on : all_ended (p ++ (bytes ++ rest)) n ≡ all_ended (p ++ bytes) n ++ all_ended (unended (p ++ bytes) ++ rest) n
   pieces-on = grind (arith, append_assoc, all_ended-append)
 
-  -- the bytes through the end of one more piece
+  -- the bytes up to and including the zero that ends one more piece
   pub ShowsBytes-piece : {buffer' : List ℕ} {phase' : Phase} {after' : Option (List ℕ)} {tally' : Tally} {clock' : Times} (outcome : Outcome) (piece : Ended) → length buffer' ≡ length buffer → DecoderAfter buffer' phase' (unended (unended (p ++ bytes) ++ rest))
       → outcome ∷ [] ≡ stream_outcomes (unended (p ++ bytes) ++ rest) (length buffer)
       → all_ended (unended (p ++ bytes) ++ rest) (length buffer) ≡ piece ∷ []
@@ -100,14 +100,14 @@ module _ (law : StreamLaw) {view : View} {times : ℕ → Moment} {n : ℕ} {p b
       → ShowsBytes view times n p (bytes ++ rest) gone read buffer' phase' before after tally clock
   ShowsBytes-rest len taken reported = grind (arith, outcomes-on, append-nil, pieces-on, all_ended-none, left-on)
 
--- the bytes after some of them, as a slice has them
+-- the bytes from an index on, as the slice of these bytes
 rest-of : (at : ℕ) (bytes : List ℕ) → take (length bytes - at) (drop at bytes) ≡ drop at bytes
 rest-of at bytes = grind (arith, take_all, length-drop)
 
--- the first bytes of a part of those after some
+-- the first bytes of a part of the bytes from an index on
 pub take-part : (at count : ℕ) (bytes part : List ℕ) → part ≡ take (length part) (take (length bytes - at) (drop at bytes)) → count ≤ length part → take (at + count) bytes ≡ take at bytes ++ take count part
 take-part at count bytes part is within = grind (arith, rest-of, take-add, take-take)
 
--- and all of them
+-- all bytes of a part of the bytes from an index on
 pub take-whole_part : (at : ℕ) (bytes part : List ℕ) → part ≡ take (length part) (take (length bytes - at) (drop at bytes)) → take (at + length part) bytes ≡ take at bytes ++ part
 take-whole_part at bytes part is = grind (arith, take-part, take_all)

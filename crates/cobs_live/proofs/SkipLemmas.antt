@@ -2,7 +2,7 @@
 use Rattle.std.proofs.Common.{◌≡◌, ◌==◌, ℕ, Bool, true, false, cond, List, [], ◌∷◌, ◌++◌, refl}
 use Rattle.cobs_live.specs.Watched.{begun, skips_on}
 
--- the bytes that aren't skipped, of some bytes and of others after them
+-- the bytes that aren't skipped, of bytes in two parts
 pub begun-append : (skipping : Bool) (t u : List ℕ) → begun skipping (t ++ u) ≡ begun skipping t ++ begun (skips_on skipping t) u
 begun-append false t u = refl
 begun-append true [] u = refl

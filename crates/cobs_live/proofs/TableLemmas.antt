@@ -1,5 +1,5 @@
--- Lemmas on a check that is computed with a table. Steps of the XOR of two registers are the XOR of their steps. So the
--- high byte and the low bits of a register can be stepped apart.
+-- Lemmas on a check that is computed with a table. The steps of the XOR of two registers are the XOR of the steps of
+-- each. So the steps of the high byte and of the low bits of a register can be computed separately.
 use Rattle.std.proofs.Common.{◌≡◌, ◌<◌, ◌+◌, ◌-◌, ◌*◌, ◌/◌, ◌%◌, ℕ, zero, suc, refl, sym, ap, ◌∙◌, arith, subst}
 use Rattle.std.specs.Prelude.{◌^◌}
 use Rattle.std.specs.Int.Bits.{bit_xor, xor_assoc, xor_shifted, xor_zero_r}
@@ -8,7 +8,7 @@ use Rattle.std.proofs.lemmas.Grind.{common_steps}
 use Rattle.std.proofs.Math.Nat.{mul_assoc, pow-suc}
 use Rattle.cobs_live.specs.Crc.{after_bits, shifted}
 
--- a step, by the bit that falls out
+-- a step, given the bit that is shifted out
 stepped : (poly q r : ℕ) → q < 2 → r < 2 ^ 31 → shifted poly (q * 2 ^ 31 + r) ≡ bit_xor (r * 2) (q * poly)
 stepped poly zero r _ h = grind (arith, common_steps)
 stepped poly (suc zero) r _ h = grind (arith, common_steps)
@@ -60,7 +60,7 @@ after_bits-xor poly (suc n) a b hp ha hb = grind (arith, shifted-xor, after_bits
 low_step : (poly r : ℕ) → r * 2 < 2 ^ 32 → shifted poly r ≡ r * 2
 low_step poly r h = grind (arith, common_steps)
 
--- nothing falls out of a register whose high bits are empty
+-- if the high bits of a register are zeros, no one is shifted out
 after_bits-low : (poly n r : ℕ) → r * 2 ^ n < 2 ^ 32 → after_bits poly n r ≡ r * 2 ^ n
 unfolding after_bits
 after_bits-low poly zero r h = omega arith

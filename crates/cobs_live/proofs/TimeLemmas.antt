@@ -11,7 +11,7 @@ use Rattle.cobs_live.specs.declared.clock.Moment.{Moment}
 use Rattle.cobs_live.specs.declared.clock.Times.{Times}
 use Rattle.cobs_live.specs.declared.shown.View.{View}
 
--- the times through this number, and one time from then on
+-- the times up to this number, and the same time for all later numbers
 abbrev pub extended : (ℕ → Moment) → ℕ → Moment → ℕ → Moment
 extended times known now number = if nat_le number known then times number else now
 
@@ -36,6 +36,6 @@ module _ (times : ℕ → Moment) (known : ℕ) (now : Moment) where
   shown_from-extended view index [] h = refl
   shown_from-extended view index (piece ∷ pieces) h = grind (arith, early, (shown_from-extended view (index + 1) pieces (omega arith)))
 
--- with one piece more that is read now
+-- the clock after one more piece that is read now
 pub IsReadAt-next : (times : ℕ → Moment) (gone : List Outcome) (outcome : Outcome) (clock clock' : Times) → IsReadAt times (length gone) clock → clock'.last ≡ clock.next → clock'.next ≡ clock.next → IsReadAt times (length (gone ++ outcome ∷ [])) clock'
 IsReadAt-next times gone outcome clock clock' r last now = grind (arith, length-append)

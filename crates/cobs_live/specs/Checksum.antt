@@ -5,7 +5,7 @@ use Rattle.std.specs.List.{ends_with}
 use Rattle.cobs_live.specs.Crc.{crc}
 use Rattle.cobs_live.specs.declared.checksum.Checksum.{Checksum}
 
--- the bytes of a checksum, in its order
+-- the bytes of a checksum, in the checksum's byte order; the argument has the lowest byte first
 abbrev pub in_order : Checksum → List ℕ → List ℕ
 in_order c bytes = if c.little then bytes else reverse bytes
 
@@ -13,15 +13,15 @@ in_order c bytes = if c.little then bytes else reverse bytes
 abbrev pub sum_of : Checksum → List ℕ → List ℕ
 sum_of c message = in_order c (take c.params.size (to_le_bytes w32 (crc c.params message)))
 
--- a message with its checksum after it, if it should have one
+-- a message with its checksum after it, or without one if there should be no checksum
 abbrev pub with_sum : Option Checksum → List ℕ → List ℕ
 with_sum None message = message
 with_sum (Some c) message = message ++ sum_of c message
 
--- the bytes before a checksum
+-- the bytes without the checksum at their end
 abbrev pub body_of : Checksum → List ℕ → List ℕ
 body_of c bytes = take (length bytes - c.params.size) bytes
 
--- whether the bytes end with the checksum of the bytes before it
+-- whether the bytes end with the checksum of their other bytes
 abbrev pub is_checked : Checksum → List ℕ → Bool
 is_checked c bytes = ends_with (λ a b. a == b) bytes (sum_of c (body_of c bytes))

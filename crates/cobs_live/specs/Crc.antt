@@ -23,7 +23,7 @@ params_of Crc32 = record { size = 4; poly = 0x04C11DB7; init = 0xFFFFFFFF; refle
 abbrev pub shifted : ℕ → ℕ → ℕ
 shifted poly r = if nat_lt r (2 ^ 31) then 2 * r else bit_xor (2 * r - 2 ^ 32) poly
 
--- n steps
+-- the register after n such steps
 unfoldable pub after_bits : ℕ → ℕ → ℕ → ℕ
 after_bits poly zero r = r
 after_bits poly (suc n) r = shifted poly (after_bits poly n r)
@@ -40,10 +40,10 @@ register p bytes = fold (after_byte p) p.init bytes
 abbrev pub crc : Params → List ℕ → ℕ
 crc p bytes = bit_xor (if p.reflected then reverse_bits w32 (register p bytes) else register p bytes / 2 ^ (32 - 8 * p.size)) p.xorout
 
--- the result of 8 steps for a register that has a byte in its high bits and zeros below
+-- the result of 8 steps for a register whose highest 8 bits are a byte, and whose other bits are zeros
 abbrev pub word_of : ℕ → ℕ → ℕ
 word_of poly byte = after_bits poly 8 (2 ^ 24 * byte)
 
--- a table of these results, one for each byte
+-- the table of the results of 8 steps, one result for each byte
 abbrev pub IsTable : ℕ → List ℕ → Type 0
 IsTable poly words = (byte : ℕ) → byte < 256 → get_or words byte 0 ≡ word_of poly byte

@@ -4,7 +4,7 @@ use Rattle.std.specs.Prelude.{ℕ, zero, suc, ◌+◌, ◌*◌, ◌/◌, ◌^◌
 use Rattle.std.specs.Fmt.{digits, padded_integral, format_spec}
 use Rattle.hex.specs.Hex.{encode_lower}
 
--- the texts of 0 to n - 1, one after the other
+-- the texts of the numbers 0 to n - 1, one after the other
 unfoldable pub upto : (ℕ → List ℕ) → ℕ → List ℕ
 upto f zero = []
 upto f (suc n) = upto f n ++ f n
@@ -24,7 +24,7 @@ character byte = if nat_le 32 byte && nat_le byte 126 then byte else 46
 abbrev pub dump_row : ℕ → List ℕ → List ℕ
 dump_row offset row = offset_text offset ++ codes "  " ++ upto (λ i. cell row (0 + i)) 8 ++ codes " " ++ upto (λ i. cell row (8 + i)) 8 ++ codes " |" ++ map character row ++ codes "|\n"
 
--- the row of this number
+-- the row with this number, counted from 0
 abbrev pub numbered_row : List ℕ → ℕ → List ℕ
 numbered_row bytes number = dump_row (16 * number) (take 16 (drop (16 * number) bytes))
 

@@ -11,20 +11,21 @@ use Rattle.cobs_live.specs.declared.clock.Times.{Times}
 use Rattle.cobs_live.specs.declared.seen.Kind.{Kind}
 use Rattle.cobs_live.specs.declared.seen.Kind.TheVariants.{Message, Broken, TooLong, BadCrc}
 
--- the text of a message, if it is UTF-8
+-- the member with the text of a message, or nothing if the message isn't UTF-8
 abbrev pub json_text : List ℕ → List ℕ
 json_text bytes = if utf8_valid_len bytes == length bytes then codes ",\"text\":\"" ++ text_escaped bytes ++ codes "\"" else []
 
--- the length and the bytes of a message
+-- the members with the length, the bytes and the text of a message
 abbrev pub json_message : ℕ → List ℕ → List ℕ
 json_message len bytes = codes ",\"length\":" ++ decimal len ++ codes ",\"hex\":\"" ++ encode_lower bytes ++ codes "\"" ++ json_text bytes
 
--- the bytes of a piece that is no message, if they are shown
+-- the member with the bytes of a piece that is no message, or nothing if they aren't shown
 abbrev pub json_partial : List ℕ → List ℕ
 json_partial [] = []
 json_partial (byte ∷ bytes) = codes ",\"hex\":\"" ++ encode_lower (byte ∷ bytes) ++ codes "\""
 
--- a kind, and the number of bytes that the piece decodes to
+-- the value of the member `kind`, and then the members with the length of the piece, unless it is too long, and with
+-- its bytes
 abbrev pub json_kind : Kind → ℕ → List ℕ → List ℕ
 json_kind Message len bytes = codes "\"message\"" ++ json_message len bytes
 json_kind Broken len bytes = codes "\"broken\",\"length\":" ++ decimal len ++ json_partial bytes

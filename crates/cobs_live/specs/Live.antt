@@ -19,8 +19,8 @@ use Rattle.cobs_live.specs.declared.shown.Settings.{Settings}
 use Rattle.cobs_live.specs.declared.shown.View.{View}
 use Rattle.cobs_live.specs.declared.tally.Tally.{Tally}
 
--- a run so far: the text of every piece that ended in the bytes that were read has been written, and the decoder has
--- taken these bytes
+-- a run so far: the text of each piece that ended in the bytes read so far has been written, and the decoder has taken
+-- all these bytes
 pub record HasShownSoFar (settings : Settings) (from to before after : Option (List ℕ)) (watch : Watch) : Type 0 where
   pub ended : HasWritten (shown_lines settings) from to before after
   pub taken : DecoderAfter watch.message.items (phase_of watch.decoder) (unended (open_stream settings ended.gone ended.bytes))
@@ -28,7 +28,7 @@ pub record HasShownSoFar (settings : Settings) (from to before after : Option (L
   pub len : length watch.message.items ≡ settings.length
   pub timed : watch.clock.last ≡ ended.times (length (all_outcomes settings ended.gone ended.bytes))
   pub same : watch.settings.now ≡ settings
-  -- whether bytes are still skipped, up to the first sentinel
+  -- whether the run is still skipping bytes, up to the first sentinel
   pub skips : watch.skipping ≡ skips_on (skips_behind settings.skip_first ended.gone) (xor_each settings.sentinel ended.bytes)
 
 -- the text that was written is that of all pieces and hang-ups in the results of the reads
@@ -40,7 +40,7 @@ pub record HoldsText (settings : Settings) (before : Option (List ℕ)) (came : 
   pub timeline : IsTimeline times
   pub written : Appends before after (shown_lines settings times gone bytes)
 
--- a run so far that is live; its reads returned the bytes that are shown
+-- a run so far that is live; the bytes that are shown are those that its reads returned
 pub record IsLiveSoFar {S : Type 0} (step : S → Read (Option ℕ) → S → Type 0) (source source' : S) (settings : Settings) (from to before after : Option (List ℕ)) (watch : Watch) : Type 0 where
   pub so_far : HasShownSoFar settings from to before after watch
   pub live : IsLive step source source' (HoldsText settings before)
@@ -52,8 +52,8 @@ ShowsNext settings (Ok true) from to before after watch = HasShownSoFar settings
 ShowsNext settings (Ok false) from to before after watch = HasShown settings (Ok watch.tally) from to before after
 ShowsNext settings (Err fault) from to before after watch = HasShown settings (Err fault) from to before after
 
--- a decoder over n bytes that had taken the front p of a piece has taken these bytes too. The pieces that ended in them
--- are shown and counted; the outcomes `gone` were those of the pieces before them.
+-- A decoder over n bytes had taken the front p of a piece, and has now taken these bytes too. The pieces that ended in
+-- these bytes are shown and counted. `gone` has the outcomes of the earlier pieces.
 pub record ShowsBytes (view : View) (times : ℕ → Moment) (n : ℕ) (p bytes : List ℕ) (gone : List Outcome) (read : ℕ) (buffer : List ℕ) (phase : Phase) (before after : Option (List ℕ)) (tally : Tally) (clock : Times) : Type 0 where
   pub written : Appends before after (shown_from view times (length gone) (all_ended (p ++ bytes) n))
   pub taken : DecoderAfter buffer phase (unended (p ++ bytes))
@@ -61,13 +61,13 @@ pub record ShowsBytes (view : View) (times : ℕ → Moment) (n : ℕ) (p bytes 
   pub timed : IsReadAt times (length (gone ++ stream_outcomes (p ++ bytes) n)) clock
   pub len : length buffer ≡ n
 
--- the input has ended: it is shown whether a piece had begun
+-- the input has ended, and the text that says whether a piece had begun is written
 pub record ShowsEnd (phase : Phase) (view : View) (before after : Option (List ℕ)) : Type 0 where
   pub begun : Bool
   pub idle : (begun ≡ false) ↔ (phase ≡ Idle)
   pub written : Appends before after (shown_end view begun)
 
--- a line hung up: it is shown whether a piece had begun, and then that the line hung up
+-- a line hung up, and two texts are written: whether a piece had begun, and that the line hung up
 pub record ShowsHangUp (phase : Phase) (view : View) (before after : Option (List ℕ)) : Type 0 where
   pub begun : Bool
   pub idle : (begun ≡ false) ↔ (phase ≡ Idle)

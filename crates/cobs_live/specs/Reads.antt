@@ -5,9 +5,9 @@ use Rattle.cobs_live.specs.declared.input.AnyInput.{AnyInput}
 use Rattle.cobs_live.specs.declared.input.Came.{Came}
 use Rattle.cobs_live.specs.declared.input.Came.TheVariants.{Bytes, HungUp}
 
--- a read: the bytes in the output's buffer when it began, the bytes that had been written to the output, if they are
--- known, and the result. If the line may hang up, the result has a byte as `Some` and a hang-up as `None`. A failed
--- read has no result.
+-- a read: the bytes in the output's buffer when the read began, the bytes that had been written to the output by then,
+-- if they are known, and the result. If the line may hang up, the result has a byte as `Some` and a hang-up as `None`.
+-- The result of a failed read is empty.
 pub record Read (A : Type 0) : Type 0 where
   pub back : List ℕ
   pub written : Option (List ℕ)
@@ -19,17 +19,18 @@ given (Ok (Bytes n)) chunk = map Some (take n chunk)
 given (Ok HungUp) chunk = None ∷ []
 given (Err error) chunk = []
 
--- the effect of a read on the bytes that an input has left, if they are known: the returned bytes are taken from them.
--- A read returns no bytes only at the end, or if there is no room. An input whose bytes are known doesn't hang up.
+-- the effect of a read on the bytes that an input has left, if they are known: the returned bytes are the first of
+-- them, and are removed. A read returns no bytes only at the end of the input, or if `chunk` is empty. An input whose
+-- bytes are known doesn't hang up.
 abbrev pub Takes : (from to : Option (List ℕ)) → Came → List ℕ → Type 0
 Takes from to (Bytes n) chunk = (n ≤ length chunk) × Consumes from to (take n chunk) × (n ≡ 0 → 0 < length chunk → IsAtEnd to)
 Takes from to HungUp chunk = (from ≡ None) × (to ≡ None)
 
--- the same, given the result of the call; a read that failed takes nothing
+-- `Takes` for the result of the call; a read that failed removes nothing
 abbrev pub ReadTakes : {E : Type 0} → (from to : Option (List ℕ)) → Result Came E → List ℕ → Type 0
 ReadTakes from to result chunk = MatchResult result (λ came. Takes from to came chunk) (λ _. Keeps from to)
 
--- the result is bytes, which an input had left if they are known
+-- the result is bytes, and if the input's bytes are known, they are the first bytes that it had left
 pub record GivesBytes (from to : Option (List ℕ)) (came : List (Option ℕ)) : Type 0 where
   pub bytes : List ℕ
   pub are : came ≡ map Some bytes
@@ -49,14 +50,14 @@ abbrev pub Runs : {S A : Type 0} → (S → Read A → S → Type 0) → S → L
 Runs step from [] to = from ≡ to
 Runs {S} step from (read ∷ reads) to = (next : S) × step from read next × Runs step next reads to
 
--- reads after those with the results `gone`: at each of them the output's buffer is empty, and the text that was
--- written is right for the results of the reads before it
+-- these reads follow reads with the results `gone`. At each of these reads the output's buffer is empty, and the text
+-- written so far is right for the results of all earlier reads.
 abbrev pub IsLiveAfter : {A : Type 0} → (List (List A) → Option (List ℕ) → Type 0) → List (List A) → List (Read A) → Type 0
 IsLiveAfter IsRight gone [] = Unit {0}
 IsLiveAfter IsRight gone (read ∷ reads) = (read.back ≡ []) × IsRight gone read.written × IsLiveAfter IsRight (gone ++ read.came ∷ []) reads
 
--- LIVE: a run made reads that changed the input from the one state to the other. At each of them the output's buffer
--- was empty, and the text that was written was right for the results of the earlier reads.
+-- LIVE: a run made reads that changed the input from the one state to the other. At each read the output's buffer was
+-- empty, and the text written so far was right for the results of the earlier reads.
 pub record IsLive {S A : Type 0} (step : S → Read A → S → Type 0) (source source' : S) (IsRight : List (List A) → Option (List ℕ) → Type 0) : Type 0 where
   pub reads : List (Read A)
   pub runs : Runs step source reads source'
@@ -66,12 +67,12 @@ pub record IsLive {S A : Type 0} (step : S → Read A → S → Type 0) (source 
 abbrev pub HeldWhileNothing : {A : Type 0} → Option (List ℕ) → List (List A) → Option (List ℕ) → Type 0
 HeldWhileNothing written gone held = (joined gone ≡ []) × (held ≡ written)
 
--- reads with these results together, none of which was made after one that had a result; at each read the output was as
--- it is now
+-- `all` has the results of all reads. No read was made after a read that had a result, and at each read the output was
+-- as it is now.
 pub record ReadsOnce {S A : Type 0} (step : S → Read A → S → Type 0) (source source' : S) (written : Option (List ℕ)) (all : List A) : Type 0 where
   pub live : IsLive step source source' (HeldWhileNothing written)
   pub given : joined (came live.reads) ≡ all
 
--- the word by which contracts describe an `AnyInput`: its reader
+-- the reader of an `AnyInput`
 abbrev pub reader_of : {R : Type 0} → AnyInput R → R
 reader_of input = input.reader

@@ -10,7 +10,7 @@ use Rattle.cobs_live.specs.declared.seen.Kind.{Kind}
 use Rattle.cobs_live.specs.declared.seen.Kind.TheVariants.{Message, Broken, TooLong, BadCrc}
 use Rattle.cobs_live.specs.declared.seen.Sight.{Sight}
 
--- the kind of a piece, how many bytes it decodes to, and those bytes that can be shown
+-- the kind of a piece, how many bytes the piece decodes to, and the bytes that can be shown
 pub record Seen : Type 0 where
   pub kind : Kind
   pub len : ℕ
@@ -20,7 +20,7 @@ pub record Seen : Type 0 where
 abbrev pub seen_in : Sight → Seen
 seen_in sight = record { kind = sight.kind; len = sight.len; bytes = sight.bytes.now }
 
--- the kind of a piece, and the number of bytes that it decodes to
+-- the text for the kind of a piece, and the number of bytes that the piece decodes to
 abbrev pub title : Kind → ℕ → List ℕ
 title Message len = codes "message " ++ decimal len
 title Broken len = codes "broken " ++ decimal len
@@ -37,7 +37,7 @@ color_of BadCrc = codes "\u{1b}[31m"
 abbrev pub color_end : List ℕ
 color_end = codes "\u{1b}[0m"
 
--- the same title, in the colour of its kind if colours are on
+-- the title, in the colour of its kind if colours are on
 abbrev pub titled : (color : Bool) → Kind → ℕ → List ℕ
 titled false kind len = title kind len
 titled true kind len = color_of kind ++ title kind len ++ color_end
@@ -46,8 +46,8 @@ titled true kind len = color_of kind ++ title kind len ++ color_end
 abbrev pub whole : Kind → List ℕ → Seen
 whole kind bytes = record { kind = kind; len = length bytes; bytes = bytes }
 
--- the piece for a message: if messages should end with a checksum, and it is right, the message has no checksum any
--- more
+-- the piece for a message. If messages should end with a checksum, a right checksum is removed from the message, and a
+-- wrong one makes the kind `BadCrc`.
 abbrev pub seen_message : Option Checksum → List ℕ → Seen
 seen_message None message = whole Message message
 seen_message (Some checksum) message = if is_checked checksum message then whole Message (body_of checksum message) else whole BadCrc message
@@ -70,14 +70,14 @@ ended_in n piece = record { outcome = outcome_of piece n; decoded = take n (outp
 unfoldable pub all_ended : List ℕ → ℕ → List Ended
 all_ended t n = map (ended_in n) (ended_pieces t)
 
--- the message of a piece of this kind, or otherwise the decoded bytes
+-- the bytes to show for a piece of this kind: the message if the piece has one, otherwise the decoded bytes
 abbrev pub part_of : Kind → List ℕ → List ℕ → List ℕ
 part_of Message message decoded = message
 part_of Broken message decoded = decoded
 part_of TooLong message decoded = decoded
 part_of BadCrc message decoded = message
 
--- with `partial`, the bytes of a piece that is no message are its decoded bytes
+-- the piece, in which, with `partial`, the bytes of a piece that is no message are its decoded bytes
 abbrev pub with_part : Bool → Seen → List ℕ → Seen
 with_part false seen decoded = seen
 with_part true seen decoded = record { kind = seen.kind; len = seen.len; bytes = part_of seen.kind seen.bytes decoded }
@@ -86,14 +86,14 @@ with_part true seen decoded = record { kind = seen.kind; len = seen.len; bytes =
 abbrev pub seen_piece : Option Checksum → Bool → Ended → Seen
 seen_piece checksum partial ended = with_part partial (seen_of checksum ended.outcome) ended.decoded
 
--- the bytes in a buffer for a piece of this kind that decodes to this many bytes
+-- the part of a buffer that a piece of this kind fills if it decodes to `len` bytes
 abbrev pub held : Kind → ℕ → List ℕ → List ℕ
 held Message len buffer = buffer
 held Broken len buffer = take (min len (length buffer)) buffer
 held TooLong len buffer = buffer
 held BadCrc len buffer = buffer
 
--- the word before bytes that are no message, if there are any
+-- the word before bytes that are no message, or nothing if there are no bytes
 abbrev pub mark_if_any : List ℕ → List ℕ
 mark_if_any [] = []
 mark_if_any (byte ∷ bytes) = codes " partial"

@@ -20,20 +20,21 @@ pub record IsSent (sentinel : ℕ) (message bytes : List ℕ) : Type 0 where
   pub encoded : IsEncodedFrameFor sentinel frame message
   pub ended : bytes ≡ frame ++ sentinel ∷ []
 
--- the bytes that are written for a message: its frame or, if there is a checksum, the frame of the message with its
--- checksum after it
+-- the bytes that are written for a message: the frame of the message, or of the message followed by its checksum if the
+-- settings have a checksum, and then the sentinel
 abbrev pub SendsMessage : Settings → List ℕ → List ℕ → Type 0
 SendsMessage settings message bytes = IsSent settings.sentinel (with_sum settings.checksum message) bytes
 
--- the digits of a line, without blanks and tabs, and without the carriage return of another system's lines
+-- whether a byte of a line counts as a digit: it isn't a space, a tab, or the carriage return that other systems write
+-- before a newline
 abbrev pub is_digit : ℕ → Bool
 is_digit byte = not ((byte == 32) || ((byte == 9) || (byte == 13)))
 
 abbrev pub digits_of : List ℕ → List ℕ
 digits_of text = filter is_digit text
 
--- the bytes that are written for a line's text: for the text as a message, or for the message whose digits it has;
--- nothing if it isn't digits
+-- the bytes that are written for the text of a line. Without `hex`, the text is the message. With `hex`, the text is
+-- the digits of the message, and nothing is written if it isn't digits.
 abbrev pub SendsAs : (hex : Bool) → Settings → List ℕ → List ℕ → Type 0
 SendsAs false settings text bytes = SendsMessage settings text bytes
 SendsAs true settings text bytes = MatchResult (decode_of (digits_of text)) (λ message. SendsMessage settings message bytes) (λ error. bytes ≡ [])
@@ -41,22 +42,22 @@ SendsAs true settings text bytes = MatchResult (decode_of (digits_of text)) (λ 
 abbrev pub SendsText : Settings → List ℕ → List ℕ → Type 0
 SendsText settings text bytes = SendsAs settings.hex settings text bytes
 
--- a line's text has a message: if it should be digits, it is
+-- the text of a line can be sent: if it should be digits, it is
 abbrev pub IsSendable : Settings → List ℕ → Type 0
 IsSendable settings text = IsTrue settings.hex → IsOk (decode_of (digits_of text))
 
--- a byte before the first of some lines
+-- these lines, with a byte put before the first line
 abbrev pub in_front : ℕ → List (List ℕ) → List (List ℕ)
 in_front byte [] = (byte ∷ []) ∷ []
 in_front byte (line ∷ lines) = (byte ∷ line) ∷ lines
 
--- the lines of some bytes, each with the newline that ends it; the last one may have none
+-- the lines of some bytes, each with the newline that ends it; the last line may have no newline
 unfoldable pub lines_of : List ℕ → List (List ℕ)
 lines_of [] = []
 lines_of (byte ∷ bytes) = if byte == 10 then (byte ∷ []) ∷ lines_of bytes else in_front byte (lines_of bytes)
 
--- the lines that were read, which are the first lines of the reader, and the bytes that were written for each. `rest`
--- was read after them and not sent: a failed read cut it off, or memory ran out for its frame.
+-- `lines` were read, the first lines of the reader, and `sent` has the bytes that were written for each line. `rest`
+-- was read after these lines and not sent: a failed read cut it off, or memory ran out for its frame.
 pub record HasSentLines (settings : Settings) (rest : List ℕ) (from to before after : Option (List ℕ)) : Type 0 where
   pub lines : List (List ℕ)
   pub first : IfSome from (λ bytes. (more : List (List ℕ)) × (lines_of bytes ≡ lines ++ more))
@@ -67,7 +68,7 @@ pub record HasSentLines (settings : Settings) (rest : List ℕ) (from to before 
   pub read : Consumes from to (concat lines ++ rest)
   pub written : Appends before after (concat sent)
 
--- all lines of the reader, and a flag that says whether each could be sent
+-- all lines of the reader were read, and `all_sent` says whether each could be sent
 pub record HasSentAll (settings : Settings) (all_sent : Bool) (from to before after : Option (List ℕ)) : Type 0 where
   pub so_far : HasSentLines settings [] from to before after
   pub all : IfSome from (λ bytes. so_far.lines ≡ lines_of bytes)
@@ -80,7 +81,8 @@ pub record HoldsFrames (settings : Settings) (before : Option (List ℕ)) (came 
   pub each : AllZip (λ line bytes. SendsText settings (text_of line) bytes) came sent
   pub written : Appends before after (concat sent)
 
--- a run of `send`, with its result. After a failed write nothing is claimed: part of a frame may have been written.
+-- the effects of a run of `send` with this result. After a failed write nothing is claimed: part of a frame may have
+-- been written.
 abbrev pub HasSent : Settings → Result Bool WatchFault → (from to before after : Option (List ℕ)) → Type 0
 HasSent settings (Ok all_sent) from to before after = HasSentAll settings all_sent from to before after
 HasSent settings (Err ReadFailed) from to before after = (rest : List ℕ) × HasSentLines settings rest from to before after

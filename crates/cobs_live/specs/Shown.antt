@@ -33,7 +33,8 @@ abbrev pub spaced : List ℕ → List ℕ
 spaced [] = []
 spaced (byte ∷ bytes) = codes " " ++ (byte ∷ bytes)
 
--- the line of a piece, with its bytes as digits, as text, or sixteen per line below it; its kind may have a colour
+-- the line of a piece: with the piece's bytes as digits, as text (`text_line`), or sixteen per line below the line
+-- (`dump_lines`). With `color`, the kind has a colour.
 abbrev pub hex_line : (color : Bool) → Seen → List ℕ
 hex_line color seen = heading color seen ++ spaced_digits seen.bytes ++ codes "\n"
 
@@ -43,8 +44,8 @@ text_line color seen = heading color seen ++ (if is_plain seen.bytes then spaced
 abbrev pub dump_lines : (color : Bool) → Seen → List ℕ
 dump_lines color seen = heading color seen ++ codes "\n" ++ dump seen.bytes
 
--- the bytes for a message in a style that shows only messages: its bytes, with a newline after them, or a record of a
--- capture
+-- the bytes that are written for a message in a style that shows only messages: its bytes, its bytes and a newline, or
+-- a record of a capture
 abbrev pub alone : Style → ℕ → List ℕ → List ℕ
 alone Hex time bytes = bytes
 alone Text time bytes = bytes
@@ -54,7 +55,7 @@ alone Json time bytes = bytes
 alone Bytes time bytes = bytes
 alone Pcap time bytes = record_head time (length bytes) ++ bytes
 
--- such a style shows nothing of other pieces
+-- the text of a piece in a style that shows only messages: nothing if the piece is no message
 abbrev pub of_message : Kind → List ℕ → List ℕ
 of_message Message text = text
 of_message Broken text = []
@@ -71,7 +72,8 @@ styled Json color number stamp times seen = json number stamp times seen
 styled Bytes color number stamp times seen = of_message seen.kind (alone Bytes times.next.millis seen.bytes)
 styled Pcap color number stamp times seen = of_message seen.kind (alone Pcap times.next.millis seen.bytes)
 
--- the time of a piece before its line; a JSON object has it inside, and raw bytes have none
+-- the time before the line of a piece. A JSON object contains the time itself, and a style that shows only messages has
+-- none here.
 abbrev pub in_front : Style → Stamp → Times → List ℕ
 in_front Hex stamp times = stamped stamp times
 in_front Text stamp times = stamped stamp times
@@ -101,16 +103,16 @@ passes filter seen = has_kind filter seen.kind && (nat_le filter.min seen.len &&
 abbrev pub in_view : View → ℕ → Times → Seen → List ℕ
 in_view view number times seen = if passes view.filter seen then in_front view.style view.stamp times ++ numbered view.number number ++ styled view.style view.color number view.stamp times seen else []
 
--- THE TEXT OF A PIECE after this many other pieces: pieces are numbered from 1 on, and each has a time
+-- THE TEXT OF A PIECE that follows `index` other pieces. Pieces are numbered from 1 on, and each piece has a time.
 abbrev pub shown : View → (ℕ → Moment) → ℕ → Ended → List ℕ
 shown view times index piece = in_view view (counted (index + 1)) (record { last = times index; next = times (index + 1) }) (seen_piece view.checksum view.partial piece)
 
--- the text of pieces after this many other pieces
+-- the text of pieces that follow `index` other pieces
 unfoldable pub shown_from : View → (ℕ → Moment) → ℕ → List Ended → List ℕ
 shown_from view times index [] = []
 shown_from view times index (piece ∷ pieces) = shown view times index piece ++ shown_from view times (index + 1) pieces
 
--- the text that a piece has begun, by style
+-- the text that says that a piece has begun, for each style
 abbrev pub unfinished_in : Style → List ℕ
 unfinished_in Hex = codes "unfinished\n"
 unfinished_in Text = codes "unfinished\n"
@@ -120,11 +122,11 @@ unfinished_in Json = codes "{\"kind\":\"unfinished\"}\n"
 unfinished_in Bytes = []
 unfinished_in Pcap = []
 
--- the text after a stream that has ended: it says whether a piece has begun that no zero ended
+-- the text after a stream that has ended. The text says that a piece has begun, if one has, and is empty otherwise.
 abbrev pub shown_end : View → Bool → List ℕ
 shown_end view begun = if begun && view.filter.unfinished then unfinished_in view.style else []
 
--- the text that a line hung up, by style
+-- the text that says that a line hung up, for each style
 abbrev pub hung_up_in : Style → List ℕ
 hung_up_in Hex = codes "hung up\n"
 hung_up_in Text = codes "hung up\n"
@@ -134,8 +136,8 @@ hung_up_in Json = codes "{\"kind\":\"hung-up\"}\n"
 hung_up_in Bytes = []
 hung_up_in Pcap = []
 
--- the text after the stream of a line that hung up: whether a piece has begun, which the hang-up doesn't end, and that
--- the line hung up
+-- the text after the stream of a line that hung up. The text says whether a piece has begun, which the hang-up doesn't
+-- end, and then that the line hung up.
 abbrev pub shown_hang_up : View → Bool → List ℕ
 shown_hang_up view begun = shown_end view begun ++ (if view.filter.unfinished then hung_up_in view.style else [])
 
@@ -144,12 +146,12 @@ abbrev pub outcomes_of : List (List ℕ) → ℕ → List Outcome
 outcomes_of [] n = []
 outcomes_of (t ∷ ts) n = stream_outcomes t n ++ outcomes_of ts n
 
--- the text of the streams of lines that hung up, after this many other pieces
+-- the text of the streams of lines that hung up; these streams follow `index` other pieces
 abbrev pub shown_gone : View → (ℕ → Moment) → (n index : ℕ) → List (List ℕ) → List ℕ
 shown_gone view times n index [] = []
 shown_gone view times n index (t ∷ ts) = shown_from view times index (all_ended t n) ++ (shown_hang_up view (is_nonempty (unended t)) ++ shown_gone view times n (index + length (stream_outcomes t n)) ts)
 
--- the text of the counts; if messages should end with checksums, it also says how many were wrong
+-- the text of the counts; if messages should end with checksums, the text also says how many checksums were wrong
 abbrev pub tally_text : Tally → List ℕ
 tally_text tally =
     codes "messages " ++ decimal tally.messages ++ codes ", broken " ++ decimal tally.broken ++ codes ", too long " ++ decimal tally.too_long ++ (if tally.checked then codes ", bad crc " ++ decimal tally.bad_crc else []) ++ codes ", bytes " ++ decimal tally.bytes

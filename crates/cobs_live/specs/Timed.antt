@@ -9,18 +9,19 @@ use Rattle.cobs_live.specs.declared.clock.Stamp.{Stamp}
 use Rattle.cobs_live.specs.declared.clock.Stamp.TheVariants.{Untimed, Start, Last, Date}
 use Rattle.cobs_live.specs.declared.clock.Times.{Times}
 
--- the time of each piece, by its number. It never decreases, and before the first piece it is 0: the start, or 1970 for
--- `Date`.
+-- `times` has the time of each piece, by the piece's number. The times never decrease. The time with number 0, before
+-- the first piece, is 0 milliseconds: the start of the run, or of 1970 for `Date`.
 pub record IsTimeline (times : ℕ → Moment) : Type 0 where
   pub start : (times 0).millis ≡ 0
   pub rises : (number : ℕ) → (times number).millis ≤ (times (number + 1)).millis
 
--- the piece with this number was read last, and all later pieces are read now
+-- the piece with this number was the last one so far, at the time `clock.last`, and all later pieces have the time
+-- `clock.next`
 pub record IsReadAt (times : ℕ → Moment) (number : ℕ) (clock : Times) : Type 0 where
   pub last : clock.last ≡ times number
   pub now : (later : ℕ) → number < later → times later ≡ clock.next
 
--- a number with zeros before it, up to a width
+-- a number with as many zeros before it as the width needs
 abbrev pub padded : ℕ → ℕ → List ℕ
 padded width n = padded_integral (format_spec 32 0 4 width (2 ^ 64 - 1)) false [] (digits 10 false n)
 
@@ -35,7 +36,8 @@ zone_text offset = if int_eq offset.seconds (pos 0) then codes "Z" else offset_t
 abbrev pub date_time : Moment → List ℕ
 date_time moment = datetime_text false 84 (Some 3) moment.civil ++ zone_text moment.offset
 
--- the time of a piece, given by its stamp, from the times at which it and the piece before it were read
+-- the time that is shown for a piece. It depends on the stamp, and on the times at which the piece and the preceding
+-- piece were read.
 abbrev pub time_text : Stamp → Times → List ℕ
 time_text Untimed times = []
 time_text Start times = seconds times.next.millis

@@ -17,7 +17,7 @@ use Rattle.cobs_live.specs.declared.fault.WatchFault.TheVariants.{ReadFailed, Wr
 use Rattle.cobs_live.specs.declared.shown.Settings.{Settings}
 use Rattle.cobs_live.specs.declared.tally.Tally.{Tally}
 
--- the bytes after the first zero, if the bytes up to it are skipped, or otherwise all bytes
+-- the bytes after the first zero if the flag says that the bytes up to the first zero are skipped, otherwise all bytes
 abbrev pub begun : Bool → List ℕ → List ℕ
 begun false t = t
 begun true [] = []
@@ -29,12 +29,13 @@ skips_on false t = false
 skips_on true [] = true
 skips_on true (byte ∷ bytes) = if byte == 0 then false else skips_on true bytes
 
--- the stream of frames for the sentinel 0 in a line's bytes; if the beginning of the line is skipped, it begins after
--- the first sentinel
+-- the bytes of a line as a stream of frames for the sentinel 0. If the beginning of the line is skipped, the stream
+-- begins after the first sentinel.
 abbrev pub stream_of : Settings → (skip : Bool) → List ℕ → List ℕ
 stream_of settings skip bytes = begun skip (xor_each settings.sentinel bytes)
 
--- whether the beginning of the line after these lines is skipped, each of which hung up; after a hang-up it always is
+-- whether the beginning of the line that follows these lines is skipped. Each of these lines hung up, and after a
+-- hang-up the beginning of the next line is always skipped.
 abbrev pub skips_behind : (skip : Bool) → List (List ℕ) → Bool
 skips_behind skip [] = skip
 skips_behind skip (line ∷ gone) = skips_behind true gone
@@ -48,21 +49,22 @@ streams_of settings skip (line ∷ gone) = stream_of settings skip line ∷ stre
 abbrev pub gone_streams : Settings → List (List ℕ) → List (List ℕ)
 gone_streams settings gone = streams_of settings settings.skip_first gone
 
--- the stream of the line that is open after them. It begins after the first sentinel if `skip_first` is set, or if
--- another line hung up before.
+-- the stream of the line that is open after the lines that hung up. The stream begins after the first sentinel if
+-- `skip_first` is set, or if another line hung up before.
 abbrev pub open_stream : Settings → List (List ℕ) → List ℕ → List ℕ
 open_stream settings gone bytes = stream_of settings (skips_behind settings.skip_first gone) bytes
 
--- the results of reading lines: the bytes and the hang-up of each that hung up, and the bytes of the one that is open
+-- the results of reading lines: the bytes and the hang-up of each line that hung up, and then the bytes of the open
+-- line
 abbrev pub letters_of : List (List ℕ) → List ℕ → List (Option ℕ)
 letters_of [] bytes = map Some bytes
 letters_of (line ∷ gone) bytes = map Some line ++ None ∷ letters_of gone bytes
 
--- how many bytes there are
+-- how many bytes the lines that hung up and the open line have together
 abbrev pub count_bytes : List (List ℕ) → List ℕ → ℕ
 count_bytes gone bytes = length (concat gone) + length bytes
 
--- the outcomes of all pieces
+-- the outcomes of all pieces that have ended in these lines
 abbrev pub all_outcomes : Settings → List (List ℕ) → List ℕ → List Outcome
 all_outcomes settings gone bytes = outcomes_of (gone_streams settings gone) settings.length ++ stream_outcomes (open_stream settings gone bytes) settings.length
 
@@ -73,13 +75,13 @@ shown_lines settings times gone bytes =
     shown_gone settings.view times settings.length 0 (gone_streams settings gone)
     ++ shown_from settings.view times (length (outcomes_of (gone_streams settings gone) settings.length)) (all_ended (open_stream settings gone bytes) settings.length)
 
--- the same for lines whose last one has ended
+-- the text of lines, if the input of the last line has ended
 abbrev pub shown_ended : Settings → (ℕ → Moment) → List (List ℕ) → List ℕ → List ℕ
 shown_ended settings times gone bytes = shown_lines settings times gone bytes ++ shown_end settings.view (is_nonempty (unended (open_stream settings gone bytes)))
 
--- lines were read, all of which hung up except the last one, with the pieces at these times, and a writer's contents
--- grew by this text, from `before` to `after`. If it is known that the reader had `from` left and has `to` left, only
--- the last line was read.
+-- Lines were read, and their pieces were read at `times`. All lines except the last one hung up. A writer's contents
+-- grew by the text of these lines, from `before` to `after`. If it is known that the reader had `from` left and has
+-- `to` left, only one line was read, which didn't hang up.
 pub record HasWritten (text : (ℕ → Moment) → List (List ℕ) → List ℕ → List ℕ) (from to before after : Option (List ℕ)) : Type 0 where
   pub gone : List (List ℕ)
   pub bytes : List ℕ
@@ -89,14 +91,15 @@ pub record HasWritten (text : (ℕ → Moment) → List (List ℕ) → List ℕ 
   pub read : Consumes from to bytes
   pub written : Appends before after (text times gone bytes)
 
--- the text of everything that was read is written, and the tally is that of its pieces and bytes
+-- the text of everything that was read is written, and the tally counts its pieces and bytes
 pub record HasShownAll (settings : Settings) (tally : Tally) (from to before after : Option (List ℕ)) : Type 0 where
   pub all : HasWritten (shown_ended settings) from to before after
   pub tallied : IsTallyOf settings.view.checksum tally (all_outcomes settings all.gone all.bytes) (count_bytes all.gone all.bytes)
   pub end : IsAtEnd to
 
--- a run of `show`, with its result: all that was read is shown, and whether a piece has begun, also if the next read
--- failed. After a failed write nothing is claimed: part of the text may have been written.
+-- the effects of a run of `show` with this result. At the end of the input, and also if a read failed, all that was
+-- read is shown, and whether a piece has begun. After a failed write nothing is claimed: part of the text may have been
+-- written.
 abbrev pub HasShown : Settings → Result Tally WatchFault → (from to before after : Option (List ℕ)) → Type 0
 HasShown settings (Ok tally) from to before after = HasShownAll settings tally from to before after
 HasShown settings (Err ReadFailed) from to before after = HasWritten (shown_ended settings) from to before after
@@ -112,6 +115,7 @@ IsFlushed (Err OutOfMemory) held = held ≡ []
 IsFlushed (Err WriteFailed) held = Unit {0}
 IsFlushed (Err OutputClosed) held = Unit {0}
 
--- the fault for a write that failed: if its pipe was closed, nobody reads the output any more
+-- the fault for a write that failed: `OutputClosed` if the pipe was closed, because nobody reads the output any more,
+-- otherwise `WriteFailed`
 abbrev pub IsWriteFault : Error → WatchFault → Type 0
 IsWriteFault error fault = ((error_kind error ≡ BrokenPipe) × (fault ≡ OutputClosed)) ⊎ ((error_kind error ≢ BrokenPipe) × (fault ≡ WriteFailed))

@@ -327,8 +327,8 @@ impl Composed {
         Ok(())
     }
 
-    /// Adds a decimal number. The number needs at most 40 bytes of room. A number below 10 has a path of its own, which
-    /// is faster.
+    /// Adds a decimal number. The caller makes sure that there are 40 bytes of room, more than any number needs. A
+    /// number below 10 is added in a faster way of its own.
     #[inline(always)]
     fn append_decimal(&mut self, number: u64)
         requires room { self.old.len + 40 ≤ 2048 }

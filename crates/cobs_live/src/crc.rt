@@ -80,8 +80,8 @@ impl Crc {
 /// The highest bit of a register.
 const HIGH: u32 = 0x8000_0000;
 
-/// Returns a table with an entry for each byte: the register after eight steps of [`shifted`], if it starts with this
-/// byte in its high bits and zeros below.
+/// Returns a table with an entry for each byte: the result of eight steps of [`shifted`] for a register that has this
+/// byte in its highest 8 bits and zeros in its other bits.
 pub(crate) fn table_of(poly: u32) -> [u32; 256]
     ensures table { IsTable poly result }
 {
@@ -92,7 +92,8 @@ pub(crate) fn table_of(poly: u32) -> [u32; 256]
     words
 }
 
-/// Returns the register after eight steps of [`shifted`], if it starts with this byte in its high bits and zeros below.
+/// Returns the result of eight steps of [`shifted`] for a register that has this byte in its highest 8 bits and zeros
+/// in its other bits.
 fn word_of(poly: u32, byte: u32) -> u32
     requires byte { byte < 256 }
     ensures word { result ≡ word_of poly byte }

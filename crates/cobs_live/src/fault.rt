@@ -14,7 +14,8 @@ pub enum WatchFault {
     #[error("read failed")]
     ReadFailed,
 
-    /// A write failed for a reason other than an interruption. Some of the bytes may have been written.
+    /// A write failed, but neither because it was interrupted nor because nobody reads the output any more. Some of the
+    /// bytes may have been written.
     #[error("write failed")]
     WriteFailed,
 
@@ -22,8 +23,8 @@ pub enum WatchFault {
     #[error("output closed")]
     OutputClosed,
 
-    /// Memory ran out. In `show`, memory runs out only at the start, before anything is read or written. In `send`,
-    /// memory runs out while the frame of a line is made.
+    /// Memory ran out. In `show`, this happens only at the start, before anything is read or written. In `send`, this
+    /// happens only while the message or the frame of a line is made.
     #[error("out of memory")]
     OutOfMemory,
 }

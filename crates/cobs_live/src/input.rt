@@ -52,7 +52,7 @@ pub trait LiveLines<W: Write + Drop> {
     /// Whether this read may change the input from the first state to the second.
     ghost step: { Self → ReadEvent ℕ → Self → Type 0 };
 
-    /// Reads through the next newline, or to the end of the input, and appends the bytes to `line`, as
+    /// Reads up to and including the next newline, or to the end of the input, and appends the bytes to `line`, as
     /// `BufRead::read_until` does.
     fn read_line_beside(&mut self, output: &BufWriter<W>, line: &mut Vec<u8>) -> io::Result<usize>
         ensures ok { IfOk result (λ n. vec_len line.new ≡ vec_len line.old + n) }

@@ -1,5 +1,6 @@
-//! Readers and writers with one more duty: they try a call again if it would block and record why a call failed, or
-//! they open a line again, or they also write to a log.
+//! Readers and writers that add a task to another reader or writer. [`Port`] tries a call again if the call would
+//! block, and records why a call failed. [`Reopened`] opens a line again after a hang-up. [`Logged`] also writes to a
+//! log.
 
 use crate::input::{Came, LiveInput};
 use std::cell::Cell;

@@ -19,7 +19,7 @@ use std::io::{BufWriter, Write};
 /// How lines are sent.
 #[derive(Debug, PartialEq, Eq, Drop)]
 pub struct Settings {
-    /// Whether each line has the hexadecimal digits of a message instead of the message itself.
+    /// Whether each line contains a message as hexadecimal digits. Otherwise the line itself is the message.
     pub hex: bool,
 
     /// The checksum that follows each message in its frame, if any.
@@ -40,7 +40,7 @@ pub struct Settings {
 /// - `ReadFailed`: a read failed, or memory ran out while a line was read. All earlier lines were sent.
 /// - `WriteFailed`: a write or a flush failed. Part of a frame may have been written.
 /// - `OutputClosed`: a write or a flush failed because nobody reads the output any more.
-/// - `OutOfMemory`: memory ran out while the frame of a line was made. All earlier lines were sent.
+/// - `OutOfMemory`: memory ran out while the message or the frame of a line was made. All earlier lines were sent.
 pub fn run_send<S: LiveLines<W>, W: Write + Drop, E: Write>(
     alloc: Global,
     settings: &Settings,
@@ -131,7 +131,7 @@ fn digits_of(alloc: Global, text: &[u8]) -> Result<Vec<u8>, AllocError>
     Ok(digits)
 }
 
-/// Returns whether a byte of a line should be a digit, because it isn't a blank, tab or carriage return.
+/// Returns whether a byte of a line should be a digit: whether it isn't a blank, a tab or a carriage return.
 fn is_digit(byte: u8) -> bool
     ensures digit { result ≡ is_digit byte }
 {

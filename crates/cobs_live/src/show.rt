@@ -3,7 +3,7 @@ ghost use Rattle.std.specs.Prelude.{◌≡◌, ◌≢◌, ◌<◌, ◌≤◌, �
 ghost use Rattle.std.specs.Io.KnownBytes.{Appends, Keeps};
 ghost use Rattle.std.specs.Io.Buffered.{writer_buffer, writer_inner};
 ghost use Rattle.cobs.specs.Feed.{DecoderAfter, Idle};
-ghost use Rattle.cobs.specs.Fields.Decoders.{phase_at, phase_of};
+ghost use Rattle.cobs.specs.Fields.Decoders.{phase_of};
 ghost use Rattle.cobs.specs.Sentinel.{xor_each};
 ghost use Rattle.cobs.specs.Stream.{Outcome};
 ghost use Rattle.cobs_live.specs.Composed.{with_text};
@@ -24,8 +24,8 @@ use crate::input::{Came, LiveInput};
 use crate::seen::Sight;
 use crate::shown::{Settings, View, show_end, show_hang_up, show_piece, sight_of, with_part};
 use crate::tally::{Counting, Tally};
+use cobs::UnbufferedDecoder;
 use cobs::laws::{law_6, law_9, law_12};
-use cobs::{DecoderPhase, UnbufferedDecoder};
 use cobs_bytes::lanes::xor_bytes;
 use cobs_bytes::window::first_zero;
 use std::alloc::{AllocError, Global};
@@ -47,16 +47,16 @@ pub const CHUNK_LEN: usize = 65_536;
 /// piece has begun. A hang-up of the line doesn't end a piece. At a hang-up, shows `unfinished` if a piece has begun,
 /// and then `hung up`. After a hang-up, all bytes up to the next sentinel are skipped.
 ///
-/// It calls [`Watch::show_next`] repeatedly. Each call reads once, shows the pieces that ended, and flushes the output.
-/// So all pieces that have ended so far have been written before the program waits for more bytes. Memory is allocated
-/// only before the first read: for a message of the greatest length, and for a chunk of the input.
+/// `run_show` calls [`Watch::show_next`] repeatedly. Each call reads once, shows the pieces that ended, and flushes the
+/// output. So all pieces that have ended so far have been written before the program waits for more bytes. Memory is
+/// allocated only before the first read: for a message of the greatest length, and for a chunk of the input.
 ///
 /// If `counting.at_end` is set, the counts are written to `errors` at the end, even after a fault. With
 /// `counting.every`, the counts so far are also written when bytes arrive, if at least that many milliseconds have
 /// passed since the start, or since the counts were last written. A failure to write the counts isn't a fault.
 ///
-/// - `ReadFailed`: a read failed, for example because the line hung up. All pieces that had ended have been shown, and
-///   then `unfinished` if another one had begun.
+/// - `ReadFailed`: a read failed, for example because a serial line was unplugged. All pieces that had ended have been
+///   shown, and then `unfinished` if another piece had begun.
 /// - `WriteFailed`: a write or a flush failed. Part of the text may have been written.
 /// - `OutputClosed`: a write or a flush failed because nobody reads the output any more.
 /// - `OutOfMemory`: memory ran out. Nothing was read, and nothing was written.
@@ -224,7 +224,7 @@ impl<'a> Watch<'a> {
         ensures fault { IfErr result
             (λ fault. (fault ≢ WatchFault.ReadFailed) × (fault ≢ WatchFault.OutOfMemory)) }
     {
-        let unfinished = has_begun(self.decoder.phase());
+        let unfinished = has_begun(&self.decoder);
         show_end(output, &self.settings.view, unfinished)?;
         output.flush()?;
         Ok(())
@@ -241,7 +241,7 @@ impl<'a> Watch<'a> {
         ensures fault { IfErr result
             (λ fault. (fault ≢ WatchFault.ReadFailed) × (fault ≢ WatchFault.OutOfMemory)) }
     {
-        let unfinished = has_begun(self.decoder.phase());
+        let unfinished = has_begun(&self.decoder);
         show_hang_up(output, &self.settings.view, unfinished)?;
         output.flush()?;
         self.decoder.reset();
@@ -279,19 +279,10 @@ fn read_chunk<S: LiveInput<W>, W: Write + Drop>(
 }
 
 /// Returns whether a piece has begun.
-fn has_begun(phase: DecoderPhase) -> bool
-    ensures idle { (result ≡ false) ↔ (phase_at phase ≡ Idle) }
+fn has_begun(decoder: &UnbufferedDecoder) -> bool
+    ensures idle { (result ≡ false) ↔ (phase_of decoder.now ≡ Idle) }
 {
-    match phase {
-        DecoderPhase::Idle => false,
-        // A full block, with nothing missing and nothing written, is the state of an idle decoder.
-        DecoderPhase::Within {
-            is_full,
-            missing,
-            written,
-        } => !is_full || missing != 0 || written != 0,
-        DecoderPhase::TooLong => true,
-    }
+    !decoder.is_idle()
 }
 
 /// XORs each byte with the sentinel, so that frames for that sentinel become frames for 0. If the sentinel is 0, the
@@ -363,9 +354,9 @@ fn show_bytes<W: Write>(
     Ok(())
 }
 
-/// Returns the bytes to pass to the decoder in one call: those through the first zero if it is among the first [`NEAR`]
-/// bytes, and otherwise all bytes. So the decoder gets a short frame without the bytes after it, and chooses the path
-/// for that length.
+/// Returns the bytes to pass to the decoder in one call: the bytes up to and including the first zero if this zero is
+/// among the first [`NEAR`] bytes, and otherwise all bytes. So the decoder gets a short frame without the bytes after
+/// it, and decodes it in the way that is fastest for a short frame.
 #[inline(always)]
 fn front(bytes: &[u8]) -> &[u8]
     requires some { 0 < length bytes.now }

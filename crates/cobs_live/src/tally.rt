@@ -38,7 +38,8 @@ pub struct Counting {
 impl Counting {
     ghost use Rattle.std.specs.Prelude.{◌≡◌, ◌≤◌, ◌↔◌, IfSome, IsTrue, None, false};
 
-    /// Returns whether the tally should be written, given the milliseconds since it was last written.
+    /// Returns whether the tally should be written, given the milliseconds since it was last written, or since the
+    /// start.
     pub fn is_due(&self, passed: u64) -> bool
         ensures unasked { self.now.every ≡ None → result ≡ false }
         ensures due { IfSome self.now.every (λ every. IsTrue result ↔ every ≤ passed) }

@@ -1,5 +1,5 @@
-//! Tests of facts that no contract says: that calls succeed, and the results if readers and writers fail or pass on few
-//! bytes.
+//! Tests of facts that no contract states: that calls succeed, and the results if readers and writers fail or pass on
+//! few bytes.
 
 mod faults;
 mod live;
@@ -59,7 +59,7 @@ const SHOWN: [(Style, &[u8]); 7] = [
     ),
 ];
 
-/// The text of [`SHOWN`] in colours, by style.
+/// The text of [`SHOWN`] in colours, by style. Only titles have colours, and only these three styles have titles.
 const COLORED: [(Style, &[u8]); 3] = [
     (
         Style::Hex,
@@ -330,8 +330,8 @@ fn each_kind_has_its_colour(rt: HostRuntime) -> Result<(), Fail> {
 fn counts_are_written_after_each_interval(rt: HostRuntime) -> Result<(), Fail> {
     let alloc = rt.alloc();
     let settings = settings(alloc, Style::Hex, Stamp::Untimed);
-    // Each read returns one byte, 250 ms after the read before it. So a second ends with the fourth read, and another
-    // with the eighth.
+    // Each read returns one byte, 250 ms after the preceding read. So the first second ends with the fourth read, and
+    // the next second with the eighth.
     let mut input = AnyInput::new(reader(
         b"\x02a\x00\x03b\x00\x02c\x00",
         usize::MAX,
@@ -414,8 +414,8 @@ fn a_right_checksum_is_stripped_and_a_wrong_one_named(rt: HostRuntime) -> Result
     let alloc = rt.alloc();
     let mut how = settings(alloc, Style::Hex, Stamp::Untimed);
     how.view.checksum = Some(Checksum::new(Crc::Crc8.params(), false));
-    // Three frames: the digits 1 to 3 with their checksum, the same digits with a wrong one, and a message that is too
-    // short to have one.
+    // Three frames: the digits 1 to 3 with their checksum, the same digits with a wrong checksum, and a message that is
+    // too short for a checksum.
     let mut input = AnyInput::new(b"\x05123\xC0\x00\x05123\xC1\x00\x01\x00".as_slice());
     let mut output = BufWriter::new(alloc, Vec::new(alloc))?;
     let tally = run_show(

@@ -58,7 +58,7 @@ module _ (is_found : (t : List ℕ) (n : ℕ) → let rest = drop (leading_zeros
             omega (arith, ap length same, length-take-le f.n rest f.within, f.within, length-drop (leading_zeros t) t)
       ]
 
-  -- the source's output is longer than the buffer
+  -- the output of the source's first piece is longer than the buffer
   module _ (source message message' : List ℕ) (consumed : ℕ) (written : message' ≡ overwritten message (first_output source)) (less : (p : List ℕ) → length (output p) ≤ length p) where
     abbrev Is : Type 0
     Is = Decodes source message (record { status = TOO_SMALL; consumed = consumed; length = length message }) message'

@@ -29,8 +29,8 @@ pub fn encode_in_pieces(
     Ok(encode_pieces(rt, &pieces, slice))
 }
 
-/// Checks that the message has this frame if it comes in two pieces, with an empty piece between them and another one
-/// after them. The slice has the frame's length, or one byte more, which stays as it was.
+/// Checks that the message has this frame if it comes in two pieces, with an empty piece between them and another empty
+/// piece after them. The slice has the frame's length, or one byte more, which stays as it was.
 fn check_two_pieces<'a>(
     rt: &impl Abort,
     alloc: Global,

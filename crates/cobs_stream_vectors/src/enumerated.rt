@@ -7,7 +7,7 @@ use std::alloc::{AllocError, Global};
 use std::process::Abort;
 use std::test::Fail;
 
-/// Bytes that are fed to a streaming decoder over `room` bytes.
+/// Bytes that are fed to a streaming decoder with a buffer of `room` bytes.
 #[derive(Drop)]
 struct Fed<'a> {
     list: &'a [u8],
@@ -60,7 +60,7 @@ impl Check for Fed<'_> {
     }
 }
 
-/// Bytes and a zero, as a stream for a decoder over `room` bytes.
+/// Bytes and a zero, as a stream for a decoder with a buffer of `room` bytes.
 #[derive(Drop)]
 struct Streamed<'a> {
     list: &'a [u8],

@@ -46,7 +46,7 @@ fn give<D: StreamingDecoder>(decoder: &mut D, bytes: &[u8], is_pushed: bool) {
     }
 }
 
-/// Checks that the decoder is idle, so that it decodes the next frame.
+/// Checks that the decoder is idle: it decodes the next frame.
 fn check_idle<D: StreamingDecoder>(rt: &impl Abort, decoder: &mut D) {
     assert_eq!(rt; feed_all(rt, decoder, &[2, 5, 0]), CallResult::Length(1));
     assert!(rt; decoder.whole_buffer().starts_with(&[5]));

@@ -153,7 +153,7 @@ const READERS: [&[ReaderRow]; 12] = [
         ),
         (Given::Bytes(&[7, 0], 64), &[Found::Message(&[1, 7])], 1),
     ],
-    // bytes that were read are kept with another reader too
+    // bytes that were read from one reader are used before another reader is read
     &[
         (
             Given::Bytes(&[1, 0, 1, 0, 2, 5, 0], 64),
@@ -182,7 +182,7 @@ const READERS: [&[ReaderRow]; 12] = [
         &[Found::Io, Found::Message(&[5]), END],
         5,
     )],
-    // each call ends after the most reads that it makes, if zeros never end
+    // if zeros never end, each call ends after 65,536 reads
     &[(Given::Zeros(u64::MAX, &[]), &[Found::TooManyReads], 65_536)],
     &[(
         Given::Zeros(u64::MAX, &[]),

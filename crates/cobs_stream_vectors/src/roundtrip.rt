@@ -96,7 +96,8 @@ impl Check for Pieces<'_> {
 #[test]
 fn pieces_of_any_size_give_the_message_or_overflow(rt: HostRuntime) -> Result<(), Fail> {
     let mut frame = joined(rt.alloc(), LONG_FRAME)?;
-    // The message has 2,001 bytes, so it fits the first buffer, and the second is too short by one. The frame has 2,008.
+    // The message has 2,001 bytes, so it fits the first buffer, and the second buffer is a byte too short. The frame
+    // has 2,008 bytes.
     for (room, returned) in [
         (2001, CallResult::Length(2001)),
         (2000, CallResult::TooSmall),
@@ -114,7 +115,7 @@ fn pieces_of_any_size_give_the_message_or_overflow(rt: HostRuntime) -> Result<()
             )?;
         }
     }
-    // The frame's last byte is the one that overflows.
+    // The frame's last byte is the byte that doesn't fit the buffer.
     let mut decoder = CobsDecoderOwned::new(rt.alloc(), 2000)?;
     frame.push(0)?;
     let found = pushed(decoder.push(&frame), frame.len());

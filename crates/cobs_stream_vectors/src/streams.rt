@@ -6,7 +6,8 @@ use std::alloc::{AllocError, Global};
 use std::process::Abort;
 use std::test::Fail;
 
-/// An expected outcome.
+/// An expected outcome: a `FrameOutcome` with a slice in place of the vector, so that it can be a constant. `Broken`
+/// has the number of bytes to which the piece decodes.
 #[derive(Clone, Copy, Debug)]
 enum Wanted {
     Message(&'static [u8]),
@@ -231,8 +232,8 @@ impl Check for Damage<'_> {
     }
 }
 
-/// For each nonzero byte of the damaged stream: its place, the number of its piece, and whether it is neither the first
-/// nor the last byte of that piece.
+/// For each nonzero byte of the damaged stream: its index in the stream, the number of its piece, and whether it is
+/// neither the first nor the last byte of that piece.
 const PLACES: [(usize, usize, bool); 13] = [
     (1, 0, false),
     (2, 0, true),
@@ -249,8 +250,8 @@ const PLACES: [(usize, usize, bool); 13] = [
     (16, 3, false),
 ];
 
-/// Checks a stream that differs from the damaged stream in one piece. It has the outcomes of the other pieces and, in
-/// place of that piece's outcome, this many others.
+/// Checks a stream that differs from the damaged stream in one piece. The stream must have the outcomes of the other
+/// pieces and, in place of the outcome of that piece, `own` other outcomes.
 fn check_damage(
     rt: &impl Abort,
     alloc: Global,

@@ -1,4 +1,4 @@
--- Lemmas on the bytes of its input that a call has read.
+-- Lemmas on the bytes that a call has read from its input.
 use Rattle.std.proofs.Common.{◌≡◌, ◌+◌, ◌<◌, ◌≤◌, ℕ, List, ◌++◌, length, Option, Some, None, Result, Ok, Err, ap, sym, ◌∙◌, append_assoc, arith, refl}
 use Rattle.std.specs.Prelude.{IsErrAnd}
 use Rattle.std.specs.Io.KnownBytes.{Consumes}

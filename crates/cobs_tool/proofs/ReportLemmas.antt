@@ -28,16 +28,16 @@ pushed_line (Err v) old new line line' e pushed = tt
 
 -- PIECE BY PIECE
 
--- the report has one line after another
+-- the report is the line of each outcome, one after another, and the line for an unfinished piece
 report_is : (stream : List ℕ) (n : ℕ) → n ≡ longest_message → report stream ≡ flat_map outcome_line (stream_outcomes stream n) ++ unfinished_line stream
 report_is stream n e = ap (λ k. flat_map outcome_line (stream_outcomes stream k) ++ unfinished_line stream) (sym e)
 
--- the bytes of a stream that no zero has ended are those after its last zero
+-- the unended bytes of a stream are the unended bytes of the bytes after a zero
 unended-behind : (law : StreamLaw) (front behind : List ℕ) → unended (front ++ 0 ∷ behind) ≡ unended behind
 unended-behind law front behind =
     ap unended (sym (append_assoc front (0 ∷ []) behind)) ∙ law.left (front ++ 0 ∷ []) behind ∙ ap (λ l. unended (l ++ behind)) (law.ended front)
 
--- the bytes after the first piece that ends in the stream t, and then more, decide the rest of the report
+-- the rest of the report depends only on the bytes after the first piece that ends in the stream
 report-first : (law : StreamLaw) (t behind more : List ℕ) (n : ℕ) (outcome : Outcome) → n ≡ longest_message → EndsFirst t n outcome behind
     → report (t ++ more) ≡ outcome_line outcome ++ report (behind ++ more)
 report-first law t behind more n outcome e first =
@@ -111,7 +111,7 @@ pub too_long_reported : (law : StreamLaw) (reader : ReaderState) (source : InMem
 too_long_reported law reader source reader' source' next idle len =
     PieceReported-from law reader source reader' source' next.reads _ len next.runs (next.result_says [] idle)
 
--- the last line, or none
+-- the line for an unfinished piece, or nothing
 abbrev pub unfinished_text : Bool → List ℕ
 unfinished_text unfinished = if unfinished then codes "unfinished\n" else []
 
@@ -140,7 +140,7 @@ no_fault reader source reader' source' faults.TooManyReads next idle few =
     let count = stated.1 in
     omega (arith, length-append reader.kept (bytes_left source))
 
--- the text so far, with one more line
+-- the text with one more line, and the report of the remaining bytes
 pub text_more : (text text' line rest rest' whole : List ℕ) → text ++ rest ≡ whole → rest ≡ line ++ rest' → text' ≡ text ++ line → text' ++ rest' ≡ whole
 text_more text text' line rest rest' whole before first pushed =
     ap (λ l. l ++ rest') pushed ∙ append_assoc text line rest' ∙ ap (λ l. text ++ l) (sym first) ∙ before
@@ -149,7 +149,7 @@ text_more text text' line rest rest' whole before first pushed =
 pub report-start : (text kept left stream : List ℕ) → text ≡ [] → kept ≡ [] → left ≡ stream → text ++ report (kept ++ left) ≡ report stream
 report-start text kept left stream none nothing all = ap (λ l. l ++ report (kept ++ left)) none ∙ ap (λ l. report (l ++ left)) nothing ∙ ap report all
 
--- the text with its last line
+-- the text with its last line is the whole report
 pub text_all : (text text' line rest whole : List ℕ) → text ++ rest ≡ whole → rest ≡ line → text' ≡ text ++ line → text' ≡ whole
 text_all text text' line rest whole before last pushed = pushed ∙ ap (λ l. text ++ l) (sym last) ∙ before
 

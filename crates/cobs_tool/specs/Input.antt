@@ -9,15 +9,15 @@ use Rattle.cobs_tool.specs.declared.input.TheConstants.{READ_LEN}
 abbrev pub max_input : ℕ
 max_input = 1048576
 
--- a call that returns `result` has read these bytes from a reader; the reader had the bytes `old` left before the call,
--- and has the bytes `new` left, if they are known
+-- a call that returns `result` has read these bytes from a reader; if they are known, the reader had the bytes `old`
+-- left before the call, and has the bytes `new` left after it
 pub record HasRead {A : Type 0} (old new : Option (List ℕ)) (result : Result A ToolFault) : Type 0 where
   pub bytes : List ℕ
   pub consumed : Consumes old new bytes
-  -- they are more than the limit exactly if the result is that the input is too long, and then the last read went past
-  -- it
+  -- more bytes than the limit were read exactly if the result says that the input is too long; the last read then went
+  -- past the limit
   pub too_long : (result ≡ Err InputTooLong) ↔ (max_input < length bytes)
   pub stopped : length bytes ≤ max_input + READ_LEN
-  -- they are all bytes of the input if the call succeeds or has begun to write
+  -- these bytes are the whole input if the call succeeds or has begun to write
   pub whole : OnOk result (IsAtEnd new)
   pub whole_at_write : result ≡ Err WriteFailed → IsAtEnd new

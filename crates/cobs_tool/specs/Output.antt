@@ -7,7 +7,7 @@ use Rattle.cobs_tool.specs.Text.{hex_line}
 use Rattle.cobs_tool.specs.declared.mode.Mode.{Mode}
 use Rattle.cobs_tool.specs.declared.mode.Mode.TheVariants.{Show, Encode, Decode}
 
--- a writer whose contents are known has some more bytes, for which P holds
+-- if the contents of a writer are known, they have grown by some bytes, for which P holds
 abbrev pub WritesSome : (List ℕ → Type 0) → Option (List ℕ) → Option (List ℕ) → Type 0
 WritesSome P old new = (bytes : List ℕ) × P bytes × Appends old new bytes
 

@@ -8,10 +8,10 @@ use Rattle.cobs.specs.Stream.{is_nonempty, stream_outcomes, unended}
 abbrev pub longest_message : ℕ
 longest_message = 65536
 
--- the last line, if a piece has begun after the last zero
+-- the line for an unfinished piece, or nothing if no piece has begun after the last zero
 abbrev pub unfinished_line : List ℕ → List ℕ
 unfinished_line stream = if is_nonempty (unended stream) then codes "unfinished\n" else []
 
--- a line for each piece that has ended in the stream, in order, and then that last line
+-- a line for each piece that has ended in the stream, in order, and then the line for an unfinished piece
 abbrev pub report : List ℕ → List ℕ
 report stream = flat_map outcome_line (stream_outcomes stream longest_message) ++ unfinished_line stream

@@ -16,6 +16,6 @@ fault_text InputTooLong = codes "cobs_tool: input too long"
 abbrev pub hex_of : ℕ → List ℕ
 hex_of byte = encode_lower (byte ∷ [])
 
--- 32 is the space: each byte's digits with one space between, then a newline
+-- the digits of each byte, with a space (32) between two bytes, and then a newline
 abbrev pub hex_line : List ℕ → List ℕ
 hex_line bytes = join_with_byte 32 (map hex_of bytes) ++ codes "\n"

@@ -9,7 +9,7 @@ use std::io::Read;
 /// The most bytes of input that the program reads, 1 MiB.
 pub const MAX_INPUT: usize = 1_048_576;
 
-/// The most bytes of one read, 8 KiB. So at most this many bytes are read after the first [`MAX_INPUT`].
+/// The most bytes of one read, 8 KiB. So at most this many bytes are read after the first [`MAX_INPUT`] bytes.
 pub const READ_LEN: usize = 8_192;
 
 /// Reads to the end of the input, that is, to the first read that returns 0 bytes.

@@ -1,4 +1,4 @@
-//! Frames on the command line.
+//! Encodes and decodes frames on the command line.
 //!
 //! `cobs_tool` reads standard input to its end, at most [`input::MAX_INPUT`] bytes, and then writes to standard output:
 //!

@@ -1,4 +1,4 @@
-//! Tests of facts that no contract says: that calls succeed; the result if a reader or a writer fails; and the text
+//! Tests of facts that no contract states: that calls succeed; the result if a reader or a writer fails; and the text
 //! that is printed for known values.
 
 use crate::fault::ToolFault;
@@ -162,8 +162,8 @@ fn rows_are_written(rt: HostRuntime) {
     check_rows(&rt, rt.alloc(), &ROWS);
 }
 
-/// Runs the row's mode, in which the read with the number `failing` fails with this fault, if there is such a read. A
-/// mode makes one read for each byte, and one more for the end.
+/// Runs the row's mode with an input whose read with the number `failing` fails with this fault, if there is such a
+/// read. A mode makes one read for each byte, and one more for the end.
 fn check_read(rt: &impl Abort, alloc: Global, row: &Row, fault: ErrorKind, failing: usize) {
     let (mode, bytes, written) = row;
     let mut input = ByteReader {
@@ -208,7 +208,7 @@ fn each_read_may_fail(rt: HostRuntime) {
     check_reads(&rt, rt.alloc(), &ROWS);
 }
 
-/// Runs the row's mode, in which the write with the number `failing` fails, if there is such a write. If
+/// Runs the row's mode with an output whose write with the number `failing` fails, if there is such a write. If
 /// `fails_to_flush` is set, each flush fails too.
 fn check_write(rt: &impl Abort, alloc: Global, row: &Row, failing: usize, fails_to_flush: bool) {
     let (mode, bytes, written) = row;

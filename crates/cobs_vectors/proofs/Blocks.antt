@@ -32,17 +32,17 @@ module _ (list : List ℕ) (read : ℕ) (nonzero : HasNoZero list) (within : rea
       let some = code_some in
       (omega arith, below, All-take (λ b. b ≢ 0) (code - 1) more (All-drop (λ b. b ≢ 0) (read + 1) list nonzero))
 
-  -- it and the bytes after it
+  -- the bytes from the index on are the block and the bytes after it
   pub split : drop read list ≡ block_at list read ++ drop (read + get_or list read 0) list
   split =
       let some = code_some in
       let next : drop (code - 1) more ≡ drop (read + code) list = drop-drop (code - 1) (read + 1) list ∙ ap (λ (n : ℕ). drop n list) (omega arith) in
       cons ∙ ap (λ (x : List ℕ). code ∷ x) (sym (take-append-drop (code - 1) more)) ∙ ap (λ (x : List ℕ). block_at list read ++ x) next
 
-  -- bytes are after it
+  -- there are bytes after the block
   pub more_some : get_or list read 0 < length list - read → drop (read + get_or list read 0) list ≢ []
   more_some far none = let l = length-drop (read + code) list in let e = ap length none in omega arith
 
-  -- nothing is after it
+  -- there is no byte after the block
   pub last : length list - read ≡ get_or list read 0 → drop read list ≡ block_at list read
   last end = grind (arith, drop_all, split, append-nil)

@@ -76,7 +76,7 @@ pub fn decode_either_in_place(buffer: &mut [u8]) -> Result<DecodeReport, DecodeE
     }
 }
 
-/// Decodes a frame that is known to be short. Returns whether [`decode_short`] decoded it, as it always does.
+/// Decodes a frame that is known to be short. Returns true, because [`decode_short`] always decodes such a frame.
 pub fn decode_known_short(frame: &[u8], dest: &mut [u8]) -> bool
     requires nonzero { HasNoZero frame.now }
     requires few { (2 ≤ length frame.now) × (length frame.now ≤ 65) }
@@ -87,8 +87,8 @@ pub fn decode_known_short(frame: &[u8], dest: &mut [u8]) -> bool
     decode_short(frame, dest).is_some()
 }
 
-/// Decodes in place a frame that is known to be short, and whose blocks are all whole. Returns whether
-/// [`decode_short_in_place`] decoded it, as it always does.
+/// Decodes in place a frame that is known to be short, and whose blocks are all whole. Returns true, because
+/// [`decode_short_in_place`] always decodes such a frame.
 pub fn decode_known_short_in_place(frame: &mut [u8]) -> bool
     requires nonzero { HasNoZero frame.old }
     requires few { (2 ≤ length frame.old) × (length frame.old ≤ 65) }
@@ -130,7 +130,7 @@ pub fn skip_zeros<'a>(source: &'a [u8]) -> &'a [u8]
     &source[leading_zeros(source)..]
 }
 
-/// Encodes the message, and returns whether the result is a canonical frame, as it always is.
+/// Encodes the message, and returns whether the result is a canonical frame. It always is.
 pub fn encode_canonically(message: &[u8], dest: &mut [u8]) -> bool
     requires { encoded_len message.now ≤ length dest.old }
     ensures { IsTrue result }
@@ -189,7 +189,7 @@ pub fn try_write_between<'a>(
     Ok(&written[1..len - 1])
 }
 
-/// Returns the bytes between the two zeros of a vector, which has no other zero.
+/// Encodes the message between two zeros, and returns the bytes between these zeros, which contain no zero.
 pub fn frame_between(alloc: Global, message: &[u8]) -> Result<Vec<u8>, AllocError>
     requires { max_encoded_len (length message.now) + 2 < 2 ^ 64 }
     ensures { IfOk result (λ frame. HasNoZero frame.items) }
@@ -198,7 +198,7 @@ pub fn frame_between(alloc: Global, message: &[u8]) -> Result<Vec<u8>, AllocErro
     Vec::from_slice(alloc, &delimited[1..delimited.len() - 1])
 }
 
-/// Returns the frame of the message and a zero after it, which is the only zero.
+/// Returns the frame of the message, followed by a zero. There is no other zero.
 pub fn ended_frame(alloc: Global, message: &[u8]) -> Result<Vec<u8>, AllocError>
     requires { max_encoded_len (length message.now) < 2 ^ 64 }
     ensures { IfOk result (λ ended. (f : List ℕ) × HasNoZero f × (ended.items ≡ f ++ 0 ∷ [])) }
@@ -208,7 +208,7 @@ pub fn ended_frame(alloc: Global, message: &[u8]) -> Result<Vec<u8>, AllocError>
     Ok(frame)
 }
 
-/// Returns the frame of the message for the sentinel and the sentinel after it, which is the only one.
+/// Returns the frame of the message for the sentinel, followed by the sentinel. There is no other sentinel.
 pub fn ended_frame_for(alloc: Global, sentinel: u8, message: &[u8]) -> Result<Vec<u8>, AllocError>
     requires { max_encoded_len (length message.now) < 2 ^ 64 }
     ensures { IfOk result (λ ended. (f : List ℕ) × IsFreeOf sentinel f
@@ -219,7 +219,7 @@ pub fn ended_frame_for(alloc: Global, sentinel: u8, message: &[u8]) -> Result<Ve
     Ok(frame)
 }
 
-/// Returns the frames of the messages, or `None` if they are too many for a vector.
+/// Returns the frames of the messages, each followed by a zero, or `None` if they could be too long for a vector.
 pub fn frames_of(alloc: Global, messages: &[Vec<u8>]) -> Result<Option<Vec<u8>>, AllocError>
     ensures { IfOk result (λ found. IfSome found (λ bytes. AreFrames (messages_in messages.now) bytes.items)) }
 {
@@ -255,7 +255,7 @@ fn came_to(returned: Result<Option<DecodeReport>, PushError>, buffer: &[u8], mes
     }
 }
 
-/// Returns whether a push of the piece and its zero reads the message. It does if the message fits the slice.
+/// Pushes the piece and its zero. Returns whether the piece reads as the message and the message fits the slice.
 pub fn push_reads(decoder: &mut CobsDecoder<'_>, ended: &[u8], piece: &[u8], message: &[u8]) -> bool
     requires idle { borrowed_phase decoder.old ≡ Idle }
     requires piece { IsPiece piece.now }
@@ -339,8 +339,8 @@ pub fn decode_by_state(alloc: Global, frame: &[u8]) -> Result<Option<Vec<u8>>, A
     }
 }
 
-/// Feeds a byte to a decoder, and to a state machine with an equal state. Their states are equal again, unless the
-/// decoder's buffer is now too short.
+/// Feeds a byte to a decoder, and to a state machine with an equal state. The two states are equal again after the
+/// byte, unless the output is now too long for the decoder's buffer.
 pub fn feed_both(decoder: &mut CobsDecoderOwned, state: &mut DecoderState, byte: u8)
     requires { state_in (owned_phase decoder.old) ≡ Some state.old }
     ensures { owned_phase decoder.new ≢ Overlong → state_in (owned_phase decoder.new) ≡ Some state.new }
@@ -349,7 +349,7 @@ pub fn feed_both(decoder: &mut CobsDecoderOwned, state: &mut DecoderState, byte:
     let _row = state.feed(byte);
 }
 
-/// Writes a byte to the front of a decoder's buffer: the decoder's phase is unchanged.
+/// Writes a byte to the front of a decoder's buffer. The decoder's phase stays the same.
 pub fn write_first<D: WriteBuffer>(decoder: &mut D, byte: u8)
     requires { 0 < length (D.bytes decoder.old) }
     ensures bytes { D.bytes decoder.new ≡ slice_set (D.bytes decoder.old) 0 byte }
@@ -359,7 +359,8 @@ pub fn write_first<D: WriteBuffer>(decoder: &mut D, byte: u8)
     decoder.dest_mut()[0] = byte;
 }
 
-/// Writes to the slice that a decoder borrows, inside a piece: the front of the piece that it has taken stays the same.
+/// Writes to the slice that a decoder borrows. If the decoder has taken the front p of a piece (`PhaseAfter`), this is
+/// still true after the write.
 pub fn write_borrowed(decoder: &mut CobsDecoder<'_>, at: usize, source: &[u8])
     requires { at + length source.now ≤ length (borrowed_buffer decoder.old) }
     ensures bytes { borrowed_buffer decoder.new ≡ written_at (borrowed_buffer decoder.old) at source.now }
@@ -369,7 +370,7 @@ pub fn write_borrowed(decoder: &mut CobsDecoder<'_>, at: usize, source: &[u8])
     decoder.write_dest(at, source);
 }
 
-/// Returns the length of a buffer that is part of its decoder, whatever calls the decoder has had before.
+/// Returns the length of a buffer that is part of its decoder. No call changes this length.
 pub fn buffer_len<const N: usize>(decoder: &CobsDecoderHeapless<N>) -> usize
     ensures { result ≡ N }
 {
@@ -397,8 +398,8 @@ pub fn copy_of(report: &DecodeReport) -> DecodeReport
     }
 }
 
-/// Returns whether two reports are equal. They are if their message lengths are equal, and the numbers of consumed
-/// bytes too.
+/// Returns whether two reports are equal. They are equal exactly if their messages have the same length and they count
+/// the same number of consumed bytes.
 pub fn are_same_reports(first: &DecodeReport, second: &DecodeReport) -> bool
     ensures { IsTrue result ↔ ((parsed_size_of first.now ≡ parsed_size_of second.now)
         × (frame_size_of first.now ≡ frame_size_of second.now)) }
@@ -406,7 +407,8 @@ pub fn are_same_reports(first: &DecodeReport, second: &DecodeReport) -> bool
     first == second
 }
 
-/// Returns whether two errors are equal. They are if they are the same variant, with the same number of bytes.
+/// Returns whether two errors are equal. They are equal exactly if they are the same variant with the same number of
+/// bytes.
 pub fn are_same_errors(first: &DecodeError, second: &DecodeError) -> bool
     ensures { IsTrue result ↔ (first.now ≡ second.now) }
 {

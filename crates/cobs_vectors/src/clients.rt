@@ -28,7 +28,7 @@ use std::alloc::{AllocError, Global};
 use std::mem;
 
 /// Handles a byte in an interrupt. Returns the length of the message that the byte ended, or 0 if it ended none. The
-/// message is sliced out of the buffer.
+/// message is sliced out of the buffer, because this needs a proof that it is within the buffer.
 pub fn on_byte<const N: usize>(decoder: &mut CobsDecoderHeapless<N>, byte: u8) -> usize
     ensures { result ≤ N }
 {
@@ -42,7 +42,7 @@ pub fn on_byte<const N: usize>(decoder: &mut CobsDecoderHeapless<N>, byte: u8) -
 }
 
 /// Counts the messages that end in some bytes, and continues after each error. If the decoder has taken the front p of
-/// a piece, these are the messages among the outcomes of p followed by the bytes.
+/// a piece, the result is the number of messages among the outcomes of p followed by the bytes.
 pub fn count_messages(decoder: &mut CobsDecoderOwned, bytes: &[u8]) -> usize
     ensures counted { (p : List ℕ) → DecoderAfter (owned_buffer decoder.old) (owned_phase decoder.old) p
         → let n = length (owned_buffer decoder.old) in
@@ -101,7 +101,7 @@ pub fn resync<D: FrameDecoder>(decoder: &mut D)
     let _ended = decoder.feed_byte(0);
 }
 
-/// Does what [`resync`] does, by `feed_piece`.
+/// Does what [`resync`] does, with `feed_piece`.
 pub fn resync_by_piece<D: FrameDecoder>(decoder: &mut D)
     ensures idle { D.phase decoder.new ≡ Idle }
     ensures unchanged { D.bytes decoder.new ≡ D.bytes decoder.old }
@@ -159,7 +159,8 @@ pub fn total<D: FrameDecoder, S: FrameSource>(
     total
 }
 
-/// Reads through the end of the next piece. Returns a copy of the piece's decoded bytes if the piece is broken.
+/// Reads up to and including the zero that ends the next piece. If the piece is broken, returns a copy of its decoded
+/// bytes.
 pub fn next_broken<D: FrameDecoder, S: FrameSource>(
     alloc: Global,
     reader: &mut FrameReader<D>,
@@ -227,7 +228,7 @@ pub fn there_and_back(message: &[u8], frame: &mut [u8], buffer: &mut [u8]) -> bo
     }
 }
 
-/// Encodes a message and decodes its frame. The result is no other message.
+/// Encodes a message and decodes its frame. If the decoder returns a message, it is this message.
 pub fn no_other(message: &[u8], frame: &mut [u8], buffer: &mut [u8]) -> Option<usize>
     requires { encoded_len message.now ≤ length frame.old }
     ensures { (m : List ℕ) → IsSomeAnd result (λ n. BeginsWith buffer.new n m) → m ≡ message.now }
@@ -242,7 +243,7 @@ pub fn no_other(message: &[u8], frame: &mut [u8], buffer: &mut [u8]) -> Option<u
     }
 }
 
-/// Encodes a message of two pieces: the bytes after its frame are as they were.
+/// Encodes a message of two pieces. The bytes after its frame are as they were.
 pub fn encode_two(
     first: &[u8],
     second: &[u8],
@@ -278,8 +279,8 @@ pub fn frame_next(
     encoder.finalize(buffer)
 }
 
-/// Writes the frames of two messages to the front of one buffer by one encoder, one after the other. At the end the
-/// buffer has the second frame.
+/// Writes the frame of a first message to the front of a buffer, and then, with the same encoder, the frame of a second
+/// message. At the end the buffer begins with the second frame.
 pub fn frame_two(
     first: &[u8],
     second: &[u8],
@@ -296,7 +297,8 @@ pub fn frame_two(
 }
 
 /// Appends the frame of a message and a zero to a log that is empty or ends in a zero. The outcomes of the log stay,
-/// whatever they are, and the message follows them.
+/// whatever they are, and the message follows them. The length of the message's longest possible frame must fit a
+/// `usize`, because `encode_vec` allocates that many bytes.
 pub fn append_to_log(alloc: Global, log: &[u8], message: &[u8]) -> Result<Vec<u8>, AllocError>
     requires at_sentinel { IsAtSentinel log.now }
     requires fits { max_encoded_len (length message.now) < 2 ^ 64 }
@@ -316,7 +318,7 @@ pub fn append_to_log(alloc: Global, log: &[u8], message: &[u8]) -> Result<Vec<u8
     Ok(longer)
 }
 
-/// Appends the frame of a message that was decoded into this buffer. For any other end of a piece it appends nothing.
+/// Appends the frame of a message that was decoded into this buffer. If the piece wasn't a message, appends nothing.
 fn relayed(alloc: Global, log: Vec<u8>, end: PieceEnd, buffer: &[u8]) -> Result<Vec<u8>, AllocError>
     requires at_sentinel { IsAtSentinel log.items }
     requires within { IsWithin (length buffer.now) end }
@@ -333,7 +335,9 @@ fn relayed(alloc: Global, log: Vec<u8>, end: PieceEnd, buffer: &[u8]) -> Result<
     }
 }
 
-/// Decodes each piece of a stream and encodes its message again; other pieces are dropped.
+/// Decodes each piece of a stream, and encodes each message again; pieces without a message are dropped. The length of
+/// the longest frame of a message as long as the buffer must fit a `usize`, because `append_to_log` requires this for
+/// each message.
 pub fn relay<D: FrameDecoder>(
     alloc: Global,
     decoder: &mut D,
@@ -366,7 +370,8 @@ pub fn log_of_two(alloc: Global, first: &[u8], second: &[u8]) -> Result<Vec<u8>,
     append_to_log(alloc, &log, second)
 }
 
-/// Collects the pieces that end in a chunk of a stream, undecoded. `begun` has the bytes that no zero has ended yet.
+/// Collects the pieces that end in a chunk of a stream, without decoding them. `begun` has the bytes that no zero has
+/// ended yet.
 pub fn pieces_in(
     alloc: Global,
     begun: &mut Vec<u8>,

@@ -1,6 +1,6 @@
 //! Coders that a user could write, whose contracts are proved only from the laws, and an encoder whose state another
 //! program kept.
-ghost use Rattle.std.specs.Prelude.{◌≡◌, ◌≤◌, ◌<◌, ◌^◌, ◌↔◌, List, ℕ, length, take, IfOk, IsOk, IsTrue};
+ghost use Rattle.std.specs.Prelude.{◌≡◌, ◌≢◌, ◌≤◌, ◌<◌, ◌^◌, ◌↔◌, [], ◌∷◌, List, ℕ, length, take, IfOk, IsOk, IsTrue, None};
 ghost use Rattle.cobs.specs.Feed.{Feeds};
 ghost use Rattle.cobs.specs.FeedPiece.{TakesPiece};
 ghost use Rattle.cobs.specs.Fields.Decoders.{phase_of};
@@ -11,6 +11,7 @@ ghost use Rattle.cobs.specs.Length.{encoded_len, max_encoded_len};
 ghost use Rattle.cobs.specs.OpenBlock.{HasRoomFor};
 ghost use Rattle.cobs.specs.Piece.{is_whole, kept_output};
 ghost use Rattle.cobs.specs.Sentinel.{IsEncodedFrameFor, IsFreeOf, xor_each};
+ghost use Rattle.cobs.specs.Step.{held};
 
 use cobs::laws::{law_1, law_4, law_6, law_15, law_16, law_17, law_19, law_20};
 use cobs::{
@@ -118,7 +119,8 @@ pub fn encode_by_byte(message: &[u8], dest: &mut [u8]) -> usize
     index + code as usize
 }
 
-/// Takes bytes one by one, through the zero that ends the first piece or to the end, as `feed_piece` does.
+/// Takes bytes one by one, up to and including the zero that ends the first piece, or all bytes if no piece ends, as
+/// `feed_piece` does.
 pub fn feed_each(
     decoder: &mut UnbufferedDecoder,
     buffer: &mut [u8],
@@ -139,8 +141,26 @@ pub fn feed_each(
     None
 }
 
-/// Handles a byte, and skips the zeros between two frames, for which an idle decoder would only return that no piece
-/// has ended.
+/// Takes a byte of a piece, and returns whether the bytes of the open message that the buffer then holds are `expected`.
+pub fn take_and_compare(
+    decoder: &mut UnbufferedDecoder,
+    buffer: &mut [u8],
+    byte: u8,
+    expected: &[u8],
+) -> bool
+    requires { byte ≢ 0 }
+    ensures takes { TakesPiece buffer.old (phase_of decoder.old) (byte ∷ []) None
+        buffer.new (phase_of decoder.new) }
+    ensures same { IsTrue result
+        ↔ (take (held (length buffer.old) (phase_of decoder.new)) buffer.new ≡ expected.now) }
+{
+    law_17(); // A decoder of your own, byte by byte
+    let count = decoder.take_byte(buffer, byte);
+    &buffer[..count] == expected
+}
+
+/// Handles a byte, but skips the zeros between two frames: for these zeros an idle decoder would only return that no
+/// piece has ended.
 pub fn feed_between(
     decoder: &mut UnbufferedDecoder,
     buffer: &mut [u8],

@@ -31,8 +31,8 @@ pub fn end_piece<D: FrameDecoder>(decoder: &mut D) -> Option<usize>
     }
 }
 
-/// Reads a piece and its zero by any idle decoder. It returns a message exactly if the piece reads as that message, and
-/// the buffer has room for the message.
+/// Reads a piece and its zero with any idle decoder. The function returns the length of a message exactly if the piece
+/// reads as that message, and the buffer has room for the message.
 pub fn read_piece<D: FrameDecoder>(decoder: &mut D, ended: &[u8], piece: &[u8]) -> Option<usize>
     requires idle { D.phase decoder.old ≡ Idle }
     requires piece { IsPiece piece.now }
@@ -81,7 +81,7 @@ pub fn salvage<D: FrameDecoder>(decoder: &mut D, received: &[u8]) -> Option<(Pie
     decoder.feed_piece(received)
 }
 
-/// Reads a piece and its zero by one push of a decoder whose buffer is passed to each call.
+/// Reads a piece and its zero with one push of a decoder whose buffer is passed to each call.
 pub fn push_reads_unbuffered(ended: &[u8], piece: &[u8], dest: &mut [u8]) -> Option<usize>
     requires piece { IsPiece piece.now }
     requires ended { ended.now ≡ piece.now ++ 0 ∷ [] }
@@ -128,7 +128,7 @@ pub fn message_for(
     }
 }
 
-/// Decodes a piece in place. Its message is then at the front.
+/// Decodes a piece in place. If the piece is a frame, its message is then at the front.
 pub fn message_in_place(piece: &mut [u8]) -> Option<usize>
     requires { IsPiece piece.old }
     ensures { (m : List ℕ) → (IsSomeAnd result (λ n. BeginsWith piece.new n m) ↔ Reads piece.old m) }
@@ -139,7 +139,7 @@ pub fn message_in_place(piece: &mut [u8]) -> Option<usize>
     }
 }
 
-/// Decodes a piece in place, by the form that also returns where the piece ended.
+/// Decodes a piece in place, with the call that also returns where the piece ended.
 pub fn report_in_place(piece: &mut [u8]) -> Option<usize>
     requires { IsPiece piece.old }
     ensures { (m : List ℕ) → (IsSomeAnd result (λ n. BeginsWith piece.new n m) ↔ Reads piece.old m) }
@@ -150,7 +150,7 @@ pub fn report_in_place(piece: &mut [u8]) -> Option<usize>
     }
 }
 
-/// Decodes the bytes between two sentinels in place. Their message is then at the front.
+/// Decodes the bytes between two sentinels in place. If they are a frame, its message is then at the front.
 pub fn message_in_place_for(between: &mut [u8], sentinel: u8) -> Option<usize>
     requires some { between.old ≢ [] }
     requires free { IsFreeOf sentinel between.old }

@@ -1,9 +1,9 @@
 //! A plain implementation of the format, with which tests compare the library.
 use std::alloc::{AllocError, Global};
 
-/// Returns the encoded frame of a message. Each run of nonzero bytes is cut into blocks of up to 254 bytes. The first
-/// block that is shorter implies the zero after the run. No zero follows the last run, so this run needs no shorter
-/// block after a full block.
+/// Returns the encoded frame of a message. Each run of nonzero bytes is cut into blocks of up to 254 bytes. A block
+/// with fewer bytes ends the run, and implies the zero after it. No zero follows the last run, so the frame may end
+/// with a full block.
 pub fn frame_of(alloc: Global, message: &[u8]) -> Result<Vec<u8>, AllocError> {
     let mut frame = Vec::new(alloc);
     let mut block = Vec::new(alloc);

@@ -77,7 +77,7 @@ pub fn write_first_borrowed(decoder: &mut CobsDecoder<'_>, byte: u8)
     write_first(decoder, byte);
 }
 
-/// Encodes messages as a stream of frames, and decodes this stream by any idle decoder whose buffer has room for each
+/// Encodes messages as a stream of frames, and decodes this stream with any idle decoder whose buffer has room for each
 /// message. The outcomes are the messages.
 pub fn send_and_receive<D: FrameDecoder>(
     alloc: Global,

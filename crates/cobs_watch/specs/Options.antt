@@ -3,12 +3,13 @@ use Rattle.std.specs.Prelude.{ℕ, ◌≡◌, ◌≤◌, List, Option, option_ma
 use Rattle.cobs_watch.specs.declared.options.Task.{Task}
 use Rattle.cobs_watch.specs.declared.options.Task.TheVariants.{Show, Send}
 
--- a task for which the command line can ask: the longest message has at most 16 MiB
+-- a task for which the command line can ask: to show messages of up to at most 16 MiB, or to send
 abbrev pub IsOffered : Task → Type 0
 IsOffered (Show show) = show.settings.length ≤ 16777216
 IsOffered (Send settings) = Unit {0}
 
--- a stream is shown from this path, and its output also goes to this log, if they are given
+-- the paths of a task that shows a stream: the stream comes from `path`, and the output also goes to `log`, if these
+-- are given
 abbrev pub HasPaths : (path log : Option (List ℕ)) → Task → Type 0
 HasPaths path log (Show show) = (option_map (λ text. text.now) show.path ≡ path) × (option_map (λ text. text.now) show.log ≡ log)
 HasPaths path log (Send settings) = Unit {0}

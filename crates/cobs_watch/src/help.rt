@@ -56,7 +56,7 @@ fn of_pieces(name: &str) -> &'static str {
     }
 }
 
-/// The examples of `show`, which the help has below the options.
+/// The examples of `show`, which the help shows below the options.
 pub(crate) const SHOW_EXAMPLES: &str = "Examples:
   cobs_watch --time local --number /dev/ttyUSB0
   cobs_watch --json --only message /dev/ttyUSB0 > log.json
@@ -70,7 +70,7 @@ Checksums: crc-8, crc-16-ccitt-false, crc-16-modbus, crc-16-xmodem,
   crc-16-kermit, crc-16-arc, crc-32, crc-32c; or poly=0x1021,init=0xffff,
   and as needed width=32, xorout=N and reflected, with commas between them";
 
-/// The examples of `send`, which the help has below the options.
+/// The examples of `send`, which the help shows below the options.
 pub(crate) const SEND_EXAMPLES: &str = "Examples:
   printf 'ping\\n' | cobs_watch send > /dev/ttyUSB0
   cobs_watch send --crc crc-16-modbus < lines.txt > /dev/ttyUSB0

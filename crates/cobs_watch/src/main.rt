@@ -1,10 +1,10 @@
 //! Shows the frames of a live line.
 //!
 //! `cobs_watch` shows each piece of a stream of frames as soon as its sentinel arrives: `message N` with the N bytes as
-//! hexadecimal digits, `broken N` for a piece that breaks off inside a block, or `too long` for one that decodes to
-//! more bytes than the buffer holds. It reads the device, FIFO or file at a path, or standard input, as long as bytes
-//! arrive. Options change the output; `cobs_watch --help` lists them. `cobs_watch send` reads lines, and sends each one
-//! as a frame and its sentinel.
+//! hexadecimal digits, `broken N` for a piece that breaks off inside a block, or `too long` for a piece that decodes to
+//! more bytes than the buffer holds. The program reads the device, FIFO or file at a path, or standard input, as long
+//! as bytes arrive. Options change the output; `cobs_watch --help` lists them. `cobs_watch send` reads lines, and sends
+//! each one as a frame and its sentinel.
 //!
 //! At the end of the input, `unfinished` is printed if a piece has begun and no sentinel has ended it. The status is
 //! then 0. It is 1, with a line on standard error, if a read or a write failed or memory ran out, and 2, with the
@@ -37,7 +37,8 @@ use std::io::{self, BufReader, BufWriter, ErrorKind, IsTerminal, Read, Write};
 use std::process::ExitCode;
 use values::wrong;
 
-/// How many bytes of output are held before they are written, 128 KiB: as many as the digits of a chunk of input.
+/// How many bytes of output are collected before they are written, 128 KiB: as many as a chunk of input has hexadecimal
+/// digits.
 const OUTPUT_LEN: usize = 131_072;
 
 /// The system's error number of the last read or write that failed, if there is one.
@@ -108,8 +109,8 @@ fn no_task(rt: &HostRuntime, error: &clap::Error) -> ExitCode {
 }
 
 /// Returns whether lines have colours if the arguments don't say so. They have colours if standard output is a
-/// terminal, the variable `TERM` is set and not `dumb`, and `NO_COLOR` is unset or empty. A value that isn't UTF-8 is
-/// set, and not empty.
+/// terminal, the variable `TERM` is set and not `dumb`, and `NO_COLOR` is unset or empty. A value that isn't UTF-8
+/// counts as set and as not empty.
 fn auto_color(rt: &HostRuntime) -> bool {
     let no_color = match env::var(rt, "NO_COLOR") {
         Ok(value) => !value.is_empty(),
@@ -122,8 +123,8 @@ fn auto_color(rt: &HostRuntime) -> bool {
     !no_color && !dumb && rt.stdout().is_terminal()
 }
 
-/// Shows a stream with dates in the system's time zone, or in UTC if that zone can't be read. Each date has its offset
-/// from UTC.
+/// Shows a stream with dates in the system's time zone, or in UTC if that zone can't be read. Each date is shown with
+/// its offset from UTC.
 fn show_local(rt: &HostRuntime, task: &ShowTask<'_>) -> anyhow::Result<ExitCode> {
     let Ok(system) = SystemTimeZone::read(rt) else {
         report_utc(rt);
@@ -300,7 +301,7 @@ fn send(rt: &HostRuntime, settings: &send::Settings) -> anyhow::Result<ExitCode>
         Ok(true) => Ok(ExitCode::SUCCESS),
         Ok(false) => Ok(ExitCode::FAILURE),
         // If the read failed in the system, `reason` has the error number. If memory ran out for a line, `reason` has
-        // none.
+        // no number.
         Err(WatchFault::ReadFailed) if reason.get().is_none() => {
             Ok(faulted(rt, WatchFault::OutOfMemory, None))
         }

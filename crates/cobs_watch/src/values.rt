@@ -56,7 +56,7 @@ pub(crate) fn sentinel_of(alloc: Global, matches: &ArgMatches<'_>) -> Result<u8,
 /// Returns the checksum that was asked for, if any.
 ///
 /// # Errors
-/// An error if the text is neither the name of a check nor a list of the parameters of one. If a part of the text isn't
+/// An error if the text is neither the name of a check nor a list of a check's parameters. If a part of the text isn't
 /// a parameter, the error names that part.
 pub(crate) fn checksum_of(
     alloc: Global,
@@ -103,7 +103,8 @@ struct Written {
 }
 
 impl Written {
-    /// Reads a parameter such as `poly=0x1021`. Returns whether it is a parameter that wasn't given before.
+    /// Reads a part of the text, such as `poly=0x1021`. Returns whether the part is a parameter that wasn't given
+    /// before.
     fn take(&mut self, part: &str) -> bool {
         if part == "reflected" {
             let first = !self.reflected;
@@ -191,8 +192,8 @@ fn sized(written: &Written) -> Option<Params>
 /// Returns the filter that was asked for.
 ///
 /// # Errors
-/// An error that names the prefix if it isn't hexadecimal digits; one if `--min` is above `--max`; and one if memory
-/// runs out.
+/// An error that names the option `--prefix` if its value isn't hexadecimal digits, and an error if `--min` is above
+/// `--max` or if memory runs out.
 pub(crate) fn filter_of(alloc: Global, matches: &ArgMatches<'_>) -> Result<Filter, Error> {
     let kinds = matches.get_strs("only").unwrap_or(&[]);
     let prefix = matches.get_str("prefix").unwrap_or("");

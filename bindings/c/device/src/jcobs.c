@@ -1,5 +1,7 @@
 /* jcobs.c: the calls of jcobs.h in one file of C, for any processor and compiler. Written by translate.py: don't edit it.
  *
+ * SPDX-License-Identifier: MIT OR Apache-2.0
+ *
  * Compile this file with your program, as C99 or later or as C++, with jcobs.h in the same folder or in the include path.
  * The file has no static variables except a constant table of the texts of jcobs_strerror. It allocates no memory, and
  * calls no function of a C library; a compiler may call memset or memcpy for some of its lines.
@@ -26,11 +28,14 @@
 typedef char jcobs_bytes_have_8_bits[CHAR_BIT == 8 ? 1 : -1];
 typedef char jcobs_size_t_is_no_shorter_than_int[sizeof(size_t) >= sizeof(unsigned int) ? 1 : -1];
 
-/* A function that a loop over bytes calls is inlined into the loop (JCOBS_INLINE). Some functions that contain such a
- * loop aren't inlined (JCOBS_APART), so that the loop can use all registers of a small processor. On x86-64 they may be
- * inlined: this processor has more registers, and a call takes as long as some bytes. A function for a byte that comes
- * once in a piece is inlined into the call that takes each byte, except on x86-64 (JCOBS_RARE): there gcc would give
- * all bytes one return, to which most would have to jump, and a call would take a fifth more time. */
+/* Which functions are inlined:
+ *
+ * - JCOBS_INLINE: always inlined, because a loop over bytes calls the function, or because it only makes a struct.
+ * - JCOBS_APART: not inlined, so that the loop of the function can use all registers of a small processor. On x86-64 it
+ *   may be inlined: this processor has more registers, and a call takes as long as some bytes.
+ * - JCOBS_RARE: handles a byte that comes once in a piece. It is inlined into the call that takes each byte, except on
+ *   x86-64: there gcc would compile a single return, to which most bytes would have to jump, and a call would take a
+ *   fifth more time. */
 #ifdef __GNUC__
 #define JCOBS_INLINE __inline__ __attribute__((always_inline))
 #ifdef __x86_64__
@@ -48,25 +53,31 @@ typedef char jcobs_size_t_is_no_shorter_than_int[sizeof(size_t) >= sizeof(unsign
 
 /* A frame is a sequence of blocks. A block is a code, from 1 to 255, followed by code - 1 bytes, none of which is 0. A
  * block with the code 255 is full. The message consists of the bytes of the blocks without their codes, with a zero
- * between two blocks unless the first of the two is full. The last block is open while more bytes may come.
- *
- * jcobs.h declares the states. Their members have these meanings:
+ * between two blocks unless the first of the two is full. The last block is open while more bytes may come. */
+enum {
+    JCOBS_FULL_BLOCK_BYTES = 254, /* the number of bytes that a full block has after its code */
+    JCOBS_FULL_CODE = 255         /* the code of a full block */
+};
+
+/* jcobs.h declares the states. Their members have these meanings:
  *
  * - In a decoder, the first `written` bytes of the buffer are the open message so far, and the open block still needs
- *   `missing` bytes. joint is 1 after the code of a block that isn't full: if another block follows, the message has a
- *   zero between the two. joint is 0 at the start, and after the code of a full block. too_long is 1 if there was no room
- *   for a byte of the message: then the rest of the piece is skipped.
+ *   `missing` bytes. `joint` is 1 after the code of a block that isn't full: if another block follows, the message has a
+ *   zero between the two. `joint` is 0 at the start, and after the code of a full block. too_long is 1 if there was no
+ *   room for a byte of the message: then the rest of the piece is skipped.
  * - In an encoder, the code of the open block belongs at `index` of the buffer, and the `taken` bytes of this block
- *   follow it. full is 1 if the last byte made a block full: the frame ends with this block, unless another byte comes.
+ *   follow it. `full` is 1 if the last byte made a block full: the frame ends with this block, unless another byte comes.
  *
- * A member may also have any other value. In joint, too_long and full each value except 0 has the meaning of 1. */
+ * A member may also have any other value. In `joint`, too_long and `full` each value except 0 has the meaning of 1. */
+
+/* The functions jcobs_make_.. return a struct with these members. C++ has no compound literals. */
 
 /* How a piece of a stream ended. A piece is the bytes between two zeros: a frame, or a broken frame. */
 enum jcobs_end_kind {
-    JCOBS_END_MESSAGE,  /* the piece is the frame of a message; count is the message's length */
-    JCOBS_END_BROKEN,   /* the piece breaks off inside a block; count is the length of its output */
+    JCOBS_END_MESSAGE,  /* the piece is the frame of a message; `count` is the message's length */
+    JCOBS_END_BROKEN,   /* the piece breaks off inside a block; `count` is the length of its output */
     JCOBS_END_TOO_LONG, /* the output of the piece is longer than the buffer */
-    JCOBS_END_NONE      /* the piece hasn't ended, or there is no piece: count has no meaning */
+    JCOBS_END_NONE      /* the piece hasn't ended, or there is no piece: `count` has no meaning */
 };
 
 typedef struct jcobs_end {
@@ -101,18 +112,18 @@ static JCOBS_INLINE jcobs_piece jcobs_make_piece(enum jcobs_end_kind kind, size_
 }
 
 /* Whether an encoder's frame fits the buffer, and the frame's length if it fits. */
-typedef struct jcobs_frame {
+typedef struct jcobs_frame_length {
     int fits;
     size_t length;
-} jcobs_frame;
+} jcobs_frame_length;
 
-static JCOBS_INLINE jcobs_frame jcobs_make_frame(int fits, size_t length)
+static JCOBS_INLINE jcobs_frame_length jcobs_make_frame_length(int fits, size_t length)
 {
-    jcobs_frame frame;
+    jcobs_frame_length result;
 
-    frame.fits = fits;
-    frame.length = length;
-    return frame;
+    result.fits = fits;
+    result.length = length;
+    return result;
 }
 
 static JCOBS_INLINE jcobs_answer jcobs_make_answer(JCOBS_STATUS status, size_t consumed, size_t length)
@@ -130,36 +141,22 @@ static JCOBS_INLINE size_t jcobs_min(size_t a, size_t b)
     return a < b ? a : b;
 }
 
-/* Returns the sum of a and b, or the number `other` if the sum doesn't fit a size_t. */
-static size_t jcobs_sum_or(size_t a, size_t b, size_t other)
+/* Returns the sum of a and b, or 0 if the sum doesn't fit a size_t. */
+static size_t jcobs_sum_or_zero(size_t a, size_t b)
 {
-    return b > (size_t)-1 - a ? other : a + b;
+    return b > (size_t)-1 - a ? 0 : a + b;
 }
 
-enum {
-    JCOBS_FULL_BLOCK_BYTES = 254, /* the number of bytes that a full block has after its code */
-    JCOBS_FULL_CODE = 255         /* the code of a full block */
-};
-
-/* How much of a frame is in the buffer. */
-typedef struct jcobs_progress {
-    size_t index;       /* the index at which the code of the open block belongs */
-    unsigned char code; /* the code of the open block so far: one more than the number of its bytes */
-    int is_full;        /* whether the last block is full: then no block is open, and the frame ends at index */
-} jcobs_progress;
-
-static JCOBS_INLINE jcobs_progress jcobs_make_progress(size_t index, unsigned char code, int is_full)
+/* Sets the encoder to JCOBS_ENCODER_INIT. */
+static JCOBS_INLINE void jcobs_encoder_init(jcobs_encoder *encoder)
 {
-    jcobs_progress progress;
-
-    progress.index = index;
-    progress.code = code;
-    progress.is_full = is_full;
-    return progress;
+    encoder->index = 0;
+    encoder->taken = 0;
+    encoder->full = 0;
 }
 
-/* Puts the decoder to the start, as JCOBS_DECODER_INIT does. */
-static JCOBS_INLINE void jcobs_decoder_start(jcobs_decoder *decoder)
+/* Sets the decoder to JCOBS_DECODER_INIT. */
+static JCOBS_INLINE void jcobs_decoder_init(jcobs_decoder *decoder)
 {
     decoder->written = 0;
     decoder->missing = 0;
@@ -167,353 +164,10 @@ static JCOBS_INLINE void jcobs_decoder_start(jcobs_decoder *decoder)
     decoder->too_long = 0;
 }
 
-/* Puts the encoder to the start, as JCOBS_ENCODER_INIT does. */
-static JCOBS_INLINE void jcobs_encoder_start(jcobs_encoder *encoder)
-{
-    encoder->index = 0;
-    encoder->taken = 0;
-    encoder->full = 0;
-}
+/* ---- Encoding a whole message ---- */
 
-/* Returns how many zeros the source begins with. */
-static size_t jcobs_leading_zeros(const unsigned char *source, size_t source_len)
-{
-    for (size_t i = 0; i < source_len; i++) {
-        if (source[i] != 0) {
-            return i;
-        }
-    }
-    return source_len;
-}
-
-/* Skips the first at bytes of the source. Returns the index after the next zero, or the source's length if no zero
- * follows. */
-static JCOBS_APART size_t jcobs_find_end(const unsigned char *source, size_t source_len, size_t at)
-{
-    size_t end = at;
-
-    while (end < source_len) {
-        end++;
-        if (source[end - 1] == 0) {
-            break;
-        }
-    }
-    return end;
-}
-
-/* Returns how a piece ended that has this many bytes of output, and of whose last block this many bytes are
- * missing, and how many bytes were consumed. */
-static JCOBS_INLINE jcobs_piece jcobs_ended_piece(size_t written, size_t missing, size_t consumed)
-{
-    if (missing == 0) {
-        return jcobs_make_piece(JCOBS_END_MESSAGE, written, consumed);
-    }
-    return jcobs_make_piece(JCOBS_END_BROKEN, written, consumed);
-}
-
-/* Decodes the first piece of the source into message, one byte after another. Returns how the piece ended, and how
- * many bytes were consumed: the leading zeros, the piece, and the zero after the piece if there is one. It returns
- * JCOBS_END_NONE if there is no piece. */
-static JCOBS_INLINE jcobs_piece jcobs_decode_piece(const unsigned char *source, size_t source_len,
-                                                   unsigned char *message, size_t message_size)
-{
-    size_t start = jcobs_leading_zeros(source, source_len);
-
-    if (start == source_len) {
-        return jcobs_make_piece(JCOBS_END_NONE, 0, 0);
-    }
-    size_t at = start + 1;
-    size_t written = 0;
-    unsigned char code = source[start];
-    size_t missing = (size_t)code - 1;
-    while (at < source_len) {
-        unsigned char byte = source[at];
-        at++;
-        if (byte == 0) {
-            break;
-        }
-        if (missing != 0) {
-            if (written == message_size) {
-                return jcobs_make_piece(JCOBS_END_TOO_LONG, 0, jcobs_find_end(source, source_len, at));
-            }
-            message[written] = byte;
-            written++;
-            missing--;
-        } else {
-            if (code != JCOBS_FULL_CODE) {
-                if (written == message_size) {
-                    return jcobs_make_piece(JCOBS_END_TOO_LONG, 0, jcobs_find_end(source, source_len, at));
-                }
-                message[written] = 0;
-                written++;
-            }
-            code = byte;
-            missing = (size_t)code - 1;
-        }
-    }
-    return jcobs_ended_piece(written, missing, at);
-}
-
-/* Returns the result of a call that succeeded. It took consumed bytes, and length bytes of output are at the front
- * of the buffer. */
-static jcobs_answer jcobs_ok_answer(size_t consumed, size_t length)
-{
-    return jcobs_make_answer(JCOBS_OK, consumed, length);
-}
-
-/* Decodes the first frame of the source to the front of message.
- * Proved, by the contract in decode.rt: the result and the written bytes are those that the definition of COBS
- * gives for the source and message_size, and all other bytes of the buffer are as they were. A buffer as long as
- * the source is never too small. */
-jcobs_answer jcobs_decode(const void *source, size_t source_len, void *message, size_t message_size)
-{
-    jcobs_piece piece = jcobs_decode_piece((const unsigned char *)source, source_len, (unsigned char *)message,
-                                           message_size);
-
-    switch (piece.kind) {
-    case JCOBS_END_MESSAGE:
-        return jcobs_ok_answer(piece.consumed, piece.count);
-    case JCOBS_END_BROKEN:
-        return jcobs_make_answer(JCOBS_BROKEN, piece.consumed, piece.count);
-    case JCOBS_END_TOO_LONG:
-        return jcobs_make_answer(JCOBS_TOO_SMALL, piece.consumed, message_size);
-    case JCOBS_END_NONE:
-        break;
-    }
-    return jcobs_make_answer(JCOBS_EMPTY, source_len, 0);
-}
-
-/* Makes the decoder idle, even if its state is corrupt.
- * Proved, by the contract in decoder.rt: after the call the decoder has taken no byte, whatever its state was. */
-void jcobs_decoder_reset(jcobs_decoder *decoder)
-{
-    jcobs_decoder_start(decoder);
-}
-
-/* Returns 1 if no piece is open, and 0 otherwise.
- * Proved, by the contract in decoder.rt: the result is 1 exactly if no piece is open. */
-unsigned int jcobs_decoder_is_idle(const jcobs_decoder *decoder)
-{
-    return decoder->written == 0 && decoder->missing == 0 && decoder->joint == 0 && decoder->too_long == 0;
-}
-
-/* Returns the value of joint after a block with this code. */
-static JCOBS_INLINE unsigned char jcobs_joint_after(unsigned char code)
-{
-    return code == JCOBS_FULL_CODE ? 0 : 1;
-}
-
-/* Takes a byte of a piece, and writes its output to the buffer. */
-static JCOBS_INLINE void jcobs_decoder_take_byte(jcobs_decoder *decoder, unsigned char *buffer, size_t buffer_size,
-                                                 unsigned char byte)
-{
-    if (decoder->too_long != 0) {
-        return;
-    }
-    /* written is read once here, because compilers would read it again after each write to the buffer. Each case
-     * has a write of its own: that is faster than choosing a byte first and writing it in one place. */
-    size_t at = decoder->written;
-    if (decoder->missing != 0) {
-        if (buffer_size <= at) {
-            decoder->too_long = 1;
-            return;
-        }
-        buffer[at] = byte;
-        decoder->written = at + 1;
-        decoder->missing--;
-        return;
-    }
-    if (decoder->joint != 0) {
-        if (buffer_size <= at) {
-            decoder->too_long = 1;
-            return;
-        }
-        buffer[at] = 0;
-        decoder->written = at + 1;
-    }
-    decoder->missing = (unsigned char)(byte - 1);
-    decoder->joint = jcobs_joint_after(byte);
-}
-
-/* Takes a zero, which ends a piece if one has begun. It returns how the piece ended. The buffer has buffer_size
- * bytes. */
-static JCOBS_INLINE jcobs_end jcobs_decoder_end_piece(jcobs_decoder *decoder, size_t buffer_size)
-{
-    jcobs_decoder before = *decoder;
-
-    jcobs_decoder_start(decoder);
-    if (before.too_long != 0) {
-        return jcobs_make_end(JCOBS_END_TOO_LONG, 0);
-    }
-    if (before.missing != 0) {
-        return jcobs_make_end(JCOBS_END_BROKEN, before.written);
-    }
-    /* This happens only if the caller now passes a shorter buffer, or has set the state's numbers itself:
-     * written counts only bytes that fitted. */
-    if (buffer_size < before.written) {
-        return jcobs_make_end(JCOBS_END_TOO_LONG, 0);
-    }
-    if (before.written == 0 && before.joint == 0) {
-        return jcobs_make_end(JCOBS_END_NONE, 0);
-    }
-    return jcobs_make_end(JCOBS_END_MESSAGE, before.written);
-}
-
-/* Takes bytes of a stream of frames for this sentinel, one step for each byte. The function stops after the
- * sentinel that ends the first piece, or takes all bytes if no piece ends. */
-static JCOBS_INLINE jcobs_piece jcobs_decoder_take(jcobs_decoder *decoder, unsigned char *buffer, size_t buffer_size,
-                                                   const unsigned char *bytes, size_t len, unsigned char sentinel)
-{
-    /* state is a copy of the decoder, so that it stays in registers: otherwise compilers read the fields again
-     * after each byte that is written. */
-    jcobs_decoder state = *decoder;
-    size_t taken = 0;
-    if (state.too_long == 0) {
-        while (taken < len) {
-            unsigned char byte = (unsigned char)(bytes[taken] ^ sentinel);
-            taken++;
-            if (byte != 0) {
-                jcobs_decoder_take_byte(&state, buffer, buffer_size, byte);
-                if (state.too_long != 0) {
-                    break;
-                }
-            } else {
-                jcobs_end end = jcobs_decoder_end_piece(&state, buffer_size);
-                if (end.kind != JCOBS_END_NONE) {
-                    jcobs_decoder_start(decoder);
-                    return jcobs_make_piece(end.kind, end.count, taken);
-                }
-            }
-        }
-    }
-    /* If the piece is too long, only the sentinel that ends it matters. */
-    while (taken < len) {
-        unsigned char byte = (unsigned char)(bytes[taken] ^ sentinel);
-        taken++;
-        if (byte == 0) {
-            jcobs_decoder_start(decoder);
-            return jcobs_make_piece(JCOBS_END_TOO_LONG, 0, taken);
-        }
-    }
-    *decoder = state;
-    return jcobs_make_piece(JCOBS_END_NONE, 0, 0);
-}
-
-/* Returns how many decoded bytes of the open piece are in a buffer of buffer_size bytes. */
-static JCOBS_INLINE size_t jcobs_decoder_length(const jcobs_decoder *decoder, size_t buffer_size)
-{
-    if (decoder->too_long != 0) {
-        return buffer_size;
-    }
-    return jcobs_min(decoder->written, buffer_size);
-}
-
-/* Returns the result of a call that took the bytes through the end of this piece, if it has ended, or otherwise
- * all len bytes. The buffer has buffer_size bytes. */
-static JCOBS_INLINE jcobs_answer jcobs_decoder_answer(const jcobs_decoder *decoder, jcobs_piece piece, size_t len,
-                                                      size_t buffer_size)
-{
-    switch (piece.kind) {
-    case JCOBS_END_MESSAGE:
-        return jcobs_ok_answer(piece.consumed, piece.count);
-    case JCOBS_END_BROKEN:
-        /* The count is at most buffer_size, unless the state is corrupt. */
-        return jcobs_make_answer(JCOBS_BROKEN, piece.consumed, jcobs_min(piece.count, buffer_size));
-    case JCOBS_END_TOO_LONG:
-        return jcobs_make_answer(JCOBS_TOO_SMALL, piece.consumed, buffer_size);
-    case JCOBS_END_NONE:
-        break;
-    }
-    return jcobs_make_answer(JCOBS_MORE, len, jcobs_decoder_length(decoder, buffer_size));
-}
-
-/* Takes bytes of the stream: those through the zero that ends the first piece, or all bytes if no piece ends. Even
- * if the state is corrupt, nothing outside the buffers is accessed.
- * Proved, by the contract in decoder.rt: the result, the state and the buffer are those that the definition of the
- * stream gives after these bytes, however the stream is cut into calls. In every state consumed is at most the
- * number of bytes passed, and length is at most buffer_size. */
-jcobs_answer jcobs_decoder_push(jcobs_decoder *decoder, void *buffer, size_t buffer_size, const void *bytes, size_t len)
-{
-    jcobs_piece piece = jcobs_decoder_take(decoder, (unsigned char *)buffer, buffer_size, (const unsigned char *)bytes,
-                                           len, 0);
-
-    return jcobs_decoder_answer(decoder, piece, len, buffer_size);
-}
-
-/* Takes the next byte of the stream, and writes its output to the buffer. It returns JCOBS_END_TOO_LONG at each
- * byte of a piece that is too long. */
-static JCOBS_INLINE jcobs_end jcobs_decoder_step(jcobs_decoder *decoder, unsigned char *buffer, size_t buffer_size,
-                                                 unsigned char byte)
-{
-    if (byte == 0) {
-        return jcobs_decoder_end_piece(decoder, buffer_size);
-    }
-    jcobs_decoder_take_byte(decoder, buffer, buffer_size, byte);
-    if (decoder->too_long != 0) {
-        return jcobs_make_end(JCOBS_END_TOO_LONG, 0);
-    }
-    return jcobs_make_end(JCOBS_END_NONE, 0);
-}
-
-/* Takes a zero of the stream, which ends a piece if one has begun. */
-static JCOBS_RARE jcobs_answer jcobs_decoder_feed_zero(jcobs_decoder *decoder, unsigned char *buffer,
-                                                       size_t buffer_size)
-{
-    jcobs_end end = jcobs_decoder_step(decoder, buffer, buffer_size, 0);
-    jcobs_piece piece = jcobs_make_piece(end.kind, end.count, 1);
-
-    return jcobs_decoder_answer(decoder, piece, 1, buffer_size);
-}
-
-/* Does what jcobs_decoder_take_byte does, and returns how many bytes of the open message the buffer then holds. A
- * byte inside a block has a return of its own, with a length that needs no test. */
-static JCOBS_INLINE size_t jcobs_decoder_take_and_measure(jcobs_decoder *decoder, unsigned char *buffer,
-                                                          size_t buffer_size, unsigned char byte)
-{
-    if (decoder->too_long != 0) {
-        return buffer_size;
-    }
-    size_t at = decoder->written;
-    if (decoder->missing != 0) {
-        if (at < buffer_size) {
-            buffer[at] = byte;
-            decoder->written = at + 1;
-            decoder->missing--;
-            return at + 1;
-        }
-        decoder->too_long = 1;
-        return buffer_size;
-    }
-    if (decoder->joint != 0) {
-        if (buffer_size <= at) {
-            decoder->too_long = 1;
-            return buffer_size;
-        }
-        buffer[at] = 0;
-        at++;
-        decoder->written = at;
-    }
-    decoder->missing = (unsigned char)(byte - 1);
-    decoder->joint = byte == JCOBS_FULL_CODE ? 0 : 1;
-    return jcobs_min(at, buffer_size);
-}
-
-/* Takes the next byte of the stream, as jcobs_decoder_push does.
- * Proved, by the contract in decoder.rt: the result, the state and the buffer are those that the definition of the
- * stream gives after these bytes, however the stream is cut into calls. In every state consumed is at most the
- * number of bytes passed, and length is at most buffer_size. */
-jcobs_answer jcobs_decoder_feed(jcobs_decoder *decoder, void *buffer, size_t buffer_size, unsigned char byte)
-{
-    unsigned char *const buffer_bytes = (unsigned char *)buffer;
-
-    if (byte == 0) {
-        return jcobs_decoder_feed_zero(decoder, buffer_bytes, buffer_size);
-    }
-    return jcobs_make_answer(JCOBS_MORE, 1, jcobs_decoder_take_and_measure(decoder, buffer_bytes, buffer_size, byte));
-}
-
-/* Returns the greatest overhead of an encoded frame, for a message of message_len bytes: by how many bytes the
- * frame may be longer than the message. */
+/* Returns the greatest overhead of the encoded frame of a message of message_len bytes. The overhead is the number
+ * of bytes by which the frame is longer than the message. */
 static size_t jcobs_max_overhead(size_t message_len)
 {
     if (message_len == 0) {
@@ -527,25 +181,24 @@ static size_t jcobs_max_overhead(size_t message_len)
  * Proved, by the contract in encode.rt: the result is this length if it is below 2 to the 64th, and 0 otherwise. */
 size_t jcobs_max_length(size_t message_len)
 {
-    return jcobs_sum_or(message_len, jcobs_max_overhead(message_len), 0);
+    return jcobs_sum_or_zero(message_len, jcobs_max_overhead(message_len));
 }
 
-/* Returns whether spare bytes cover the overhead of every message of len bytes: whether len is at most 254 times
- * spare. The formula halves both sides of this comparison, so that half of len, rounded up, is compared with 127
- * times spare, and then adds spare to both sides. So no sum overflows, and the function divides only by powers of
- * two: small processors have no instruction for other divisions. */
+/* Returns whether `spare` bytes cover the overhead of every message of `len` bytes, that is, whether `len` is at
+ * most 254 times `spare`. The function compares half of `len`, rounded up, with 127 times `spare`, after adding
+ * `spare` to both sides. So it divides only by 2 and by 128, because small processors have no instruction for
+ * other divisions, and nothing overflows. */
 static JCOBS_INLINE int jcobs_covers_overhead(size_t len, size_t spare)
 {
     return (len - len / 2 + spare - 1) / 128 < spare;
 }
 
-/* Counts the blocks that become full and are followed by another byte, if the open block has this code and takes
- * these bytes. Returns whether there are fewer than spare such blocks. Each of these blocks makes the frame one
- * byte longer, because the next block needs a code. */
-static int jcobs_extra_codes_fit(unsigned char code, const unsigned char *bytes, size_t len, size_t spare)
+/* Counts the blocks that become full and are followed by another byte, if the open block, which has `taken` bytes,
+ * takes these bytes too. Returns whether there are fewer than `spare` such blocks. Each of these blocks makes the
+ * frame one byte longer, because the next block needs a code. */
+static int jcobs_extra_codes_fit(unsigned char taken, const unsigned char *bytes, size_t len, size_t spare)
 {
     size_t left = spare;
-    unsigned char taken = (unsigned char)(code - 1);
 
     for (size_t i = 0; i < len; i++) {
         if (taken == JCOBS_FULL_BLOCK_BYTES) {
@@ -560,24 +213,27 @@ static int jcobs_extra_codes_fit(unsigned char code, const unsigned char *bytes,
     return 1;
 }
 
-/* Returns whether room bytes, counted from the code of an open block, are enough for the frame if the block takes
- * these bytes. The bytes are read only if their number doesn't decide whether the frame fits. data_len is the
- * number of bytes of the message in the open block and the blocks after it, with these bytes. */
-static JCOBS_INLINE int jcobs_has_room(unsigned char code, const unsigned char *bytes, size_t len, size_t room)
+/* Returns whether `room` bytes, counted from the code of an open block that has `taken` bytes, are enough for the
+ * frame if the block takes these bytes too. The bytes are read only if their number doesn't decide whether the
+ * frame fits. data_len is the number of bytes of the message in the open block and the blocks after it, with these
+ * bytes. */
+static JCOBS_INLINE int jcobs_has_room(unsigned char taken, const unsigned char *bytes, size_t len, size_t room)
 {
-    size_t taken = (size_t)code - 1;
+    size_t block_len = taken;
 
-    if (room <= taken || room - taken <= len) {
+    if (room <= block_len || room - block_len <= len) {
         return 0;
     }
-    size_t data_len = taken + len;
+
+    size_t data_len = block_len + len;
     size_t spare = room - data_len;
-    return jcobs_covers_overhead(data_len, spare) || jcobs_extra_codes_fit(code, bytes, len, spare);
+
+    return jcobs_covers_overhead(data_len, spare) || jcobs_extra_codes_fit(taken, bytes, len, spare);
 }
 
-/* Writes the frame of the message, and returns its length. The code of the open block belongs at index, and the
- * next byte at next. No part has more bytes than the open block has room for, so no byte needs a test whether the
- * block is full. */
+/* Writes the frame of the message, and returns its length. The code of the open block belongs at `index`, and the
+ * next byte at `next`. No part has more bytes than the open block has room for, so no byte needs a test whether
+ * the block is full. */
 static size_t jcobs_write_blocks(const unsigned char *message, size_t message_len, unsigned char *frame)
 {
     size_t index = 0;
@@ -614,7 +270,7 @@ static size_t jcobs_write_blocks(const unsigned char *message, size_t message_le
 static JCOBS_APART size_t jcobs_write_frame(const unsigned char *message, size_t message_len, unsigned char *frame,
                                             size_t frame_size)
 {
-    if (!jcobs_has_room(1, message, message_len, frame_size)) {
+    if (!jcobs_has_room(0, message, message_len, frame_size)) {
         return 0;
     }
     return jcobs_write_blocks(message, message_len, frame);
@@ -626,7 +282,14 @@ static jcobs_answer jcobs_too_small_answer(void)
     return jcobs_make_answer(JCOBS_TOO_SMALL, 0, 0);
 }
 
-/* Writes the frame of the message to the front of the buffer frame, if it fits. Otherwise nothing is written.
+/* Returns the result of a call that succeeded. It took `consumed` bytes, and `length` bytes of output are at the
+ * front of the buffer. */
+static jcobs_answer jcobs_ok_answer(size_t consumed, size_t length)
+{
+    return jcobs_make_answer(JCOBS_OK, consumed, length);
+}
+
+/* Writes the frame of the message to the front of the buffer `frame`, if it fits. Otherwise nothing is written.
  * Proved, by the contract in encode.rt: if the frame of the message fits, the buffer begins with it, and the bytes
  * after it are as they were. Otherwise the status is TOO_SMALL, and the buffer is as it was. */
 jcobs_answer jcobs_encode(const void *message, size_t message_len, void *frame, size_t frame_size)
@@ -639,8 +302,8 @@ jcobs_answer jcobs_encode(const void *message, size_t message_len, void *frame, 
     return jcobs_ok_answer(message_len, length);
 }
 
-/* Writes the frame of the message, followed by a zero, to the front of the buffer frame, if the frame and the zero
- * fit. Otherwise nothing is written.
+/* Writes the frame of the message, followed by a zero, to the front of the buffer `frame`, if the frame and the
+ * zero fit. Otherwise nothing is written.
  * Proved, by the contract in encode.rt: if the frame of the message and the zero fit, the buffer begins with them,
  * and the bytes after them are as they were. Otherwise the status is TOO_SMALL, and the buffer is as it was. */
 jcobs_answer jcobs_encode_terminated(const void *message, size_t message_len, void *frame, size_t frame_size)
@@ -650,9 +313,11 @@ jcobs_answer jcobs_encode_terminated(const void *message, size_t message_len, vo
     if (frame_size == 0) {
         return jcobs_too_small_answer();
     }
+
     /* The zero needs one byte. */
     size_t room = frame_size - 1;
     size_t length = jcobs_write_frame((const unsigned char *)message, message_len, frame_bytes, room);
+
     if (length == 0) {
         return jcobs_too_small_answer();
     }
@@ -660,168 +325,9 @@ jcobs_answer jcobs_encode_terminated(const void *message, size_t message_len, vo
     return jcobs_ok_answer(message_len, length + 1);
 }
 
-/* Takes the next byte of the message, for which there is room: the step of the loop that encodes in place. */
-static JCOBS_INLINE void jcobs_encoder_append_byte(jcobs_encoder *encoder, unsigned char *buffer, unsigned char byte)
-{
-    unsigned char code = (unsigned char)(encoder->taken + 1);
-    size_t next = encoder->index + code;
-
-    if (byte == 0) {
-        buffer[encoder->index] = code;
-        encoder->index = next;
-        encoder->taken = 0;
-        encoder->full = 0;
-        return;
-    }
-    buffer[next] = byte;
-    if (code == JCOBS_FULL_BLOCK_BYTES) {
-        buffer[encoder->index] = JCOBS_FULL_CODE;
-        encoder->index = next + 1;
-        encoder->taken = 0;
-        encoder->full = 1;
-    } else {
-        encoder->taken = code;
-        encoder->full = 0;
-    }
-}
-
-/* Writes the code of the open block, unless the frame ends with a full block, and returns the frame's length.
- * Before the call, the byte in the code's place may have any value. */
-static JCOBS_INLINE size_t jcobs_close_block(unsigned char *buffer, size_t buffer_size, jcobs_progress progress)
-{
-    size_t index = progress.index;
-    unsigned char code = progress.code;
-
-    if (index < buffer_size && !progress.is_full) {
-        buffer[index] = code;
-        return index + code;
-    }
-    return index;
-}
-
-/* Returns the encoder's progress: how much of the frame is in the buffer. */
-static jcobs_progress jcobs_encoder_progress(const jcobs_encoder *encoder)
-{
-    return jcobs_make_progress(encoder->index, (unsigned char)(encoder->taken + 1), encoder->full != 0);
-}
-
-/* Encodes a message in its own buffer, in which the message begins at index JCOBS_MAX_OVERHEAD(message_len).
- * Returns the length of the frame in bytes. */
-static size_t jcobs_write_in_place(unsigned char *buffer, size_t buffer_size, size_t message_len)
-{
-    size_t start = jcobs_max_overhead(message_len);
-    jcobs_encoder encoder = JCOBS_ENCODER_INIT;
-
-    for (size_t taken = 0; taken < message_len; taken++) {
-        unsigned char byte = buffer[start + taken];
-        jcobs_encoder_append_byte(&encoder, buffer, byte);
-    }
-    return jcobs_close_block(buffer, buffer_size, jcobs_encoder_progress(&encoder));
-}
-
-/* Encodes a message of message_len bytes in its own buffer, if the longest frame of such a message fits. Otherwise
- * nothing is written. The message begins in the buffer at the index JCOBS_MAX_OVERHEAD(message_len), and its frame
- * is written to the front of the buffer.
- * Proved, by the contract in encode.rt: if the longest frame fits, the buffer begins with the frame of the
- * message, and the bytes after this frame are as they were. Otherwise the status is TOO_SMALL, and the buffer is
- * as it was. */
-jcobs_answer jcobs_encode_in_place(void *buffer, size_t buffer_size, size_t message_len)
-{
-    if (buffer_size < message_len || buffer_size - message_len < jcobs_max_overhead(message_len)) {
-        return jcobs_too_small_answer();
-    }
-    size_t length = jcobs_write_in_place((unsigned char *)buffer, buffer_size, message_len);
-    return jcobs_ok_answer(message_len, length);
-}
-
-/* Puts the encoder back to the start, even if its state is corrupt. After the reset, the encoder has taken no
- * bytes.
- * Proved, by the contract in encoder.rt: after the call the encoder has taken no byte, whatever its state was. */
-void jcobs_encoder_reset(jcobs_encoder *encoder)
-{
-    jcobs_encoder_start(encoder);
-}
-
-/* Returns whether the state is possible in a buffer of this size. */
-static JCOBS_INLINE int jcobs_encoder_is_within(const jcobs_encoder *encoder, size_t buffer_size)
-{
-    /* An open block has at most 253 bytes: other numbers don't come from these calls. */
-    if (encoder->taken >= JCOBS_FULL_BLOCK_BYTES || buffer_size < encoder->index) {
-        return 0;
-    }
-    return encoder->full != 0 || encoder->taken < buffer_size - encoder->index;
-}
-
-/* Takes the next bytes of the message, for which there is room, one at a time. */
-static JCOBS_INLINE void jcobs_encoder_append(jcobs_encoder *encoder, unsigned char *buffer, const unsigned char *bytes,
-                                              size_t len)
-{
-    size_t index = encoder->index;
-    size_t next = index + encoder->taken + 1;
-
-    for (size_t i = 0; i < len; i++) {
-        unsigned char byte = bytes[i];
-        if (byte != 0) {
-            buffer[next] = byte;
-            next++;
-        }
-        /* A zero ends the block, and so does its 254th byte. */
-        if (byte == 0 || next - index == JCOBS_FULL_CODE) {
-            buffer[index] = (unsigned char)(next - index);
-            index = next;
-            next++;
-        }
-    }
-    size_t code = next - index;
-    encoder->index = index;
-    encoder->taken = (unsigned char)(code - 1);
-    encoder->full = code == 1 && bytes[len - 1] != 0 ? 1 : 0;
-}
-
-/* Takes the next bytes of the message, if the frame of all bytes so far fits the buffer, and returns whether it
- * does. */
-static int jcobs_encoder_try_append(jcobs_encoder *encoder, unsigned char *buffer, size_t buffer_size,
-                                    const unsigned char *bytes, size_t len)
-{
-    if (!jcobs_encoder_is_within(encoder, buffer_size)) {
-        return 0;
-    }
-    if (len == 0) {
-        return 1;
-    }
-    if (!jcobs_has_room((unsigned char)(encoder->taken + 1), bytes, len, buffer_size - encoder->index)) {
-        return 0;
-    }
-    jcobs_encoder_append(encoder, buffer, bytes, len);
-    return 1;
-}
-
-/* Returns the length of the frame, if the message ends with the bytes that were taken. */
-static JCOBS_INLINE size_t jcobs_encoder_length(const jcobs_encoder *encoder)
-{
-    jcobs_progress progress = jcobs_encoder_progress(encoder);
-
-    return progress.is_full ? progress.index : progress.index + progress.code;
-}
-
-/* Takes the next bytes of a message, if the frame of all bytes so far fits the buffer. Even if the state is
- * corrupt, nothing outside the buffers is accessed.
- * Proved, by the contract in encoder.rt: the status is OK exactly if the frame of the message so far, with these
- * bytes, fits. If it isn't OK, the state and the buffer are as they were. In every state consumed is at most the
- * number of bytes passed, and length is at most buffer_size. */
-jcobs_answer jcobs_encoder_push(jcobs_encoder *encoder, void *buffer, size_t buffer_size, const void *bytes, size_t len)
-{
-    if (!jcobs_encoder_try_append(encoder, (unsigned char *)buffer, buffer_size, (const unsigned char *)bytes, len)) {
-        return jcobs_too_small_answer();
-    }
-    return jcobs_ok_answer(len, jcobs_encoder_length(encoder));
-}
-
-/* Does what jcobs_encoder_append_byte does, and returns the length of the frame so far. In each case the frame
- * ends after the byte at index next. For a single byte compilers make fewer instructions of this form than of
- * jcobs_encoder_append_byte; for a loop they make more. */
-static JCOBS_INLINE size_t jcobs_encoder_append_and_measure(jcobs_encoder *encoder, unsigned char *buffer,
-                                                            unsigned char byte)
+/* Takes the next byte of the message, for which there is room, and returns the length that the frame has if the
+ * message ends with this byte. */
+static JCOBS_INLINE size_t jcobs_encoder_append_byte(jcobs_encoder *encoder, unsigned char *buffer, unsigned char byte)
 {
     size_t index = encoder->index;
     size_t code = (size_t)encoder->taken + 1;
@@ -845,78 +351,154 @@ static JCOBS_INLINE size_t jcobs_encoder_append_and_measure(jcobs_encoder *encod
     return next + 1;
 }
 
-/* Takes the next byte of a message, if the frame of all bytes so far fits the buffer. It is a separate function:
- * as a part of jcobs_encoder_feed it would take a tenth more time in avr-gcc's code. */
-static jcobs_answer jcobs_encoder_feed_byte(jcobs_encoder *encoder, unsigned char *buffer, size_t buffer_size,
-                                            unsigned char byte)
+/* Writes the code of the open block, unless the frame ends with a full block, and returns the frame's length.
+ * Before the call, the byte in the code's place may have any value. */
+static JCOBS_INLINE size_t jcobs_close_block(unsigned char *buffer, size_t buffer_size, const jcobs_encoder *encoder)
 {
-    size_t code = (size_t)encoder->taken + 1;
+    size_t index = encoder->index;
+    unsigned char code = (unsigned char)(encoder->taken + 1);
 
-    if (code > JCOBS_FULL_BLOCK_BYTES || buffer_size < encoder->index || buffer_size - encoder->index <= code) {
+    if (index < buffer_size && encoder->full == 0) {
+        buffer[index] = code;
+        return index + code;
+    }
+    return index;
+}
+
+/* Encodes a message in its own buffer, in which the message begins at index JCOBS_MAX_OVERHEAD(message_len).
+ * Returns the length of the frame in bytes. */
+static size_t jcobs_write_in_place(unsigned char *buffer, size_t buffer_size, size_t message_len)
+{
+    size_t start = jcobs_max_overhead(message_len);
+    jcobs_encoder encoder = JCOBS_ENCODER_INIT;
+
+    for (size_t taken = 0; taken < message_len; taken++) {
+        unsigned char byte = buffer[start + taken];
+        jcobs_encoder_append_byte(&encoder, buffer, byte);
+    }
+    return jcobs_close_block(buffer, buffer_size, &encoder);
+}
+
+/* Encodes a message of message_len bytes in its own buffer, if the longest frame of such a message fits. Otherwise
+ * nothing is written. The message begins in the buffer at the index JCOBS_MAX_OVERHEAD(message_len), and its frame
+ * is written to the front of the buffer.
+ * Proved, by the contract in encode.rt: if the longest frame fits, the buffer begins with the frame of the
+ * message, and the bytes after this frame are as they were. Otherwise the status is TOO_SMALL, and the buffer is
+ * as it was. */
+jcobs_answer jcobs_encode_in_place(void *buffer, size_t buffer_size, size_t message_len)
+{
+    if (buffer_size < message_len || buffer_size - message_len < jcobs_max_overhead(message_len)) {
         return jcobs_too_small_answer();
     }
-    return jcobs_ok_answer(1, jcobs_encoder_append_and_measure(encoder, buffer, byte));
+
+    size_t length = jcobs_write_in_place((unsigned char *)buffer, buffer_size, message_len);
+
+    return jcobs_ok_answer(message_len, length);
 }
 
-/* Takes the next byte of a message, as jcobs_encoder_push does.
- * Proved, by the contract in encoder.rt: the status is OK exactly if the frame of the message so far, with these
- * bytes, fits. If it isn't OK, the state and the buffer are as they were. In every state consumed is at most the
- * number of bytes passed, and length is at most buffer_size. */
-jcobs_answer jcobs_encoder_feed(jcobs_encoder *encoder, void *buffer, size_t buffer_size, unsigned char byte)
+/* ---- Decoding a whole frame ---- */
+
+/* Returns how many zeros the source begins with. */
+static size_t jcobs_leading_zeros(const unsigned char *source, size_t source_len)
 {
-    return jcobs_encoder_feed_byte(encoder, (unsigned char *)buffer, buffer_size, byte);
+    for (size_t i = 0; i < source_len; i++) {
+        if (source[i] != 0) {
+            return i;
+        }
+    }
+    return source_len;
 }
 
-/* Ends the message, if the state is possible in a buffer of this size, and returns the length of its encoded frame
- * in bytes. The buffer begins with that frame, and the encoder is ready for the next message. Every byte after the
- * frame is as it was before this call. */
-static jcobs_frame jcobs_encoder_close(jcobs_encoder *encoder, unsigned char *buffer, size_t buffer_size)
+/* Skips the first `at` bytes of the source. Returns the index after the next zero, or the source's length if no
+ * zero follows. */
+static JCOBS_APART size_t jcobs_find_end(const unsigned char *source, size_t source_len, size_t at)
 {
-    if (!jcobs_encoder_is_within(encoder, buffer_size)) {
-        return jcobs_make_frame(0, 0);
+    size_t end = at;
+
+    while (end < source_len) {
+        end++;
+        if (source[end - 1] == 0) {
+            break;
+        }
     }
-    size_t length = jcobs_close_block(buffer, buffer_size, jcobs_encoder_progress(encoder));
-    jcobs_encoder_start(encoder);
-    return jcobs_make_frame(1, length);
+    return end;
 }
 
-/* Ends the message, if its frame fits the buffer. Even if the state is corrupt, nothing outside the buffers is
- * accessed, and the returned length is at most the buffer's.
- * Proved, by the contract in encoder.rt: if the frame of all bytes that were taken fits, the buffer begins with
- * it, and the encoder is in its initial state. Otherwise the status is TOO_SMALL, and the state and the buffer are
- * as they were. */
-jcobs_answer jcobs_encoder_finish(jcobs_encoder *encoder, void *buffer, size_t buffer_size)
+/* Returns the result of jcobs_decode_piece for a piece with `written` bytes of output, if `missing` bytes of its
+ * last block are missing and `consumed` bytes of the source were consumed. */
+static JCOBS_INLINE jcobs_piece jcobs_ended_piece(size_t written, size_t missing, size_t consumed)
 {
-    if (buffer_size == 0) {
-        return jcobs_too_small_answer();
+    if (missing == 0) {
+        return jcobs_make_piece(JCOBS_END_MESSAGE, written, consumed);
     }
-    jcobs_frame result = jcobs_encoder_close(encoder, (unsigned char *)buffer, buffer_size);
-    if (result.fits) {
-        return jcobs_ok_answer(0, result.length);
-    }
-    return jcobs_too_small_answer();
+    return jcobs_make_piece(JCOBS_END_BROKEN, written, consumed);
 }
 
-/* Ends the message, as jcobs_encoder_finish does, and writes a zero after its frame, if the frame and the zero
- * fit.
- * Proved, by the contract in encoder.rt: if the frame of all bytes that were taken and the zero fit, the buffer
- * begins with them, and the encoder is in its initial state. Otherwise the status is TOO_SMALL, and the state and
- * the buffer are as they were. */
-jcobs_answer jcobs_encoder_finish_terminated(jcobs_encoder *encoder, void *buffer, size_t buffer_size)
+/* Decodes the first piece of the source into `message`, one byte after another. Returns how the piece ended, and
+ * how many bytes were consumed: the leading zeros, the piece, and the zero after the piece if there is one. It
+ * returns JCOBS_END_NONE if there is no piece. */
+static JCOBS_INLINE jcobs_piece jcobs_decode_piece(const unsigned char *source, size_t source_len,
+                                                   unsigned char *message, size_t message_size)
 {
-    unsigned char *const buffer_bytes = (unsigned char *)buffer;
+    size_t start = jcobs_leading_zeros(source, source_len);
 
-    if (buffer_size < 2) {
-        return jcobs_too_small_answer();
+    if (start == source_len) {
+        return jcobs_make_piece(JCOBS_END_NONE, 0, 0);
     }
-    /* The zero needs one byte. */
-    size_t room = buffer_size - 1;
-    jcobs_frame result = jcobs_encoder_close(encoder, buffer_bytes, room);
-    if (result.fits) {
-        buffer_bytes[result.length] = 0;
-        return jcobs_ok_answer(0, result.length + 1);
+
+    size_t at = start + 1;
+    size_t written = 0;
+    unsigned char code = source[start];
+    size_t missing = (size_t)code - 1;
+
+    while (at < source_len) {
+        unsigned char byte = source[at];
+        at++;
+        if (byte == 0) {
+            break;
+        }
+        if (missing != 0) {
+            if (written == message_size) {
+                return jcobs_make_piece(JCOBS_END_TOO_LONG, 0, jcobs_find_end(source, source_len, at));
+            }
+            message[written] = byte;
+            written++;
+            missing--;
+        } else {
+            if (code != JCOBS_FULL_CODE) {
+                if (written == message_size) {
+                    return jcobs_make_piece(JCOBS_END_TOO_LONG, 0, jcobs_find_end(source, source_len, at));
+                }
+                message[written] = 0;
+                written++;
+            }
+            code = byte;
+            missing = (size_t)code - 1;
+        }
     }
-    return jcobs_too_small_answer();
+    return jcobs_ended_piece(written, missing, at);
+}
+
+/* Decodes the first frame of the source to the front of `message`.
+ * Proved, by the contract in decode.rt: the result and the written bytes are those that the definition of COBS
+ * gives for the source and message_size, and all other bytes of the buffer are as they were. A buffer as long as
+ * the source is never too small. */
+jcobs_answer jcobs_decode(const void *source, size_t source_len, void *message, size_t message_size)
+{
+    jcobs_piece piece = jcobs_decode_piece((const unsigned char *)source, source_len, (unsigned char *)message,
+                                           message_size);
+
+    switch (piece.kind) {
+    case JCOBS_END_MESSAGE:
+        return jcobs_ok_answer(piece.consumed, piece.count);
+    case JCOBS_END_BROKEN:
+        return jcobs_make_answer(JCOBS_BROKEN, piece.consumed, piece.count);
+    case JCOBS_END_TOO_LONG:
+        return jcobs_make_answer(JCOBS_TOO_SMALL, piece.consumed, message_size);
+    case JCOBS_END_NONE:
+        break;
+    }
+    return jcobs_make_answer(JCOBS_EMPTY, source_len, 0);
 }
 
 /* Returns how many bytes come before the first zero, or the number of all bytes if there is no zero. The loop
@@ -973,9 +555,9 @@ static JCOBS_APART jcobs_end jcobs_decode_blocks(unsigned char *buffer, size_t f
     return jcobs_make_end(JCOBS_END_MESSAGE, written);
 }
 
-/* Returns the result of a call that decodes in place, and took consumed bytes of the buffer_len bytes of a buffer.
- * decoded says how the frame ended. JCOBS_END_TOO_LONG and JCOBS_END_NONE don't occur: a message is shorter than
- * its frame, and an empty buffer isn't decoded. */
+/* Returns the result of a call that decodes in place, and took `consumed` bytes of the buffer_len bytes of a
+ * buffer. `decoded` says how the frame ended. JCOBS_END_TOO_LONG and JCOBS_END_NONE don't occur: a message is
+ * shorter than its frame, and an empty buffer isn't decoded. */
 static jcobs_answer jcobs_in_place_answer(size_t consumed, size_t buffer_len, jcobs_end decoded)
 {
     switch (decoded.kind) {
@@ -1001,8 +583,10 @@ jcobs_answer jcobs_decode_in_place(void *buffer, size_t buffer_len)
     if (buffer_len == 0) {
         return jcobs_make_answer(JCOBS_EMPTY, 0, 0);
     }
+
     size_t frame_len = jcobs_length_to_zero(buffer_bytes, buffer_len);
     jcobs_end decoded = jcobs_decode_blocks(buffer_bytes, frame_len);
+
     return jcobs_in_place_answer(jcobs_min(buffer_len, frame_len + 1), buffer_len, decoded);
 }
 
@@ -1040,7 +624,388 @@ unsigned int jcobs_frame_kind(const void *bytes, size_t len)
     return jcobs_kind_by_blocks(data, len);
 }
 
-/* The calls from here on are written by hand. They call the functions above. */
+/* ---- Decoding a stream ---- */
+
+/* Resets the decoder to the initial state, from any state.
+ * Proved, by the contract in decoder.rt: after the call the decoder has taken no byte, whatever its state was. */
+void jcobs_decoder_reset(jcobs_decoder *decoder)
+{
+    jcobs_decoder_init(decoder);
+}
+
+/* Returns the value that `joint` has while a block with this code is open: 0 for a full block, otherwise 1. */
+static JCOBS_INLINE unsigned char jcobs_joint_after(unsigned char code)
+{
+    return code == JCOBS_FULL_CODE ? 0 : 1;
+}
+
+/* Takes a byte of a piece, writes its output to the buffer, and returns how many bytes of the open message the
+ * buffer then holds. If the output is too long for the buffer, this is the buffer's length. */
+static JCOBS_INLINE size_t jcobs_decoder_take_byte(jcobs_decoder *decoder, unsigned char *buffer, size_t buffer_size,
+                                                   unsigned char byte)
+{
+    if (decoder->too_long != 0) {
+        return buffer_size;
+    }
+
+    /* `written` is read once here, because compilers would read it again after each write to the buffer. Each
+     * case has a write of its own: that is faster than choosing a byte first and writing it in one place. */
+    size_t at = decoder->written;
+
+    if (decoder->missing != 0) {
+        if (at < buffer_size) {
+            buffer[at] = byte;
+            decoder->written = at + 1;
+            decoder->missing--;
+            return at + 1;
+        }
+        decoder->too_long = 1;
+        return buffer_size;
+    }
+    if (decoder->joint != 0) {
+        if (buffer_size <= at) {
+            decoder->too_long = 1;
+            return buffer_size;
+        }
+        buffer[at] = 0;
+        at++;
+        decoder->written = at;
+    }
+    decoder->missing = (unsigned char)(byte - 1);
+    decoder->joint = jcobs_joint_after(byte);
+    return jcobs_min(at, buffer_size);
+}
+
+/* Takes a zero, which ends a piece if one has begun. It returns how the piece ended. The buffer has buffer_size
+ * bytes. */
+static JCOBS_INLINE jcobs_end jcobs_decoder_end_piece(jcobs_decoder *decoder, size_t buffer_size)
+{
+    jcobs_decoder before = *decoder;
+
+    jcobs_decoder_init(decoder);
+    if (before.too_long != 0) {
+        return jcobs_make_end(JCOBS_END_TOO_LONG, 0);
+    }
+    if (before.missing != 0) {
+        return jcobs_make_end(JCOBS_END_BROKEN, before.written);
+    }
+    /* This happens only if the caller now passes a shorter buffer, or has set the state's numbers itself:
+     * `written` counts only bytes that fitted. */
+    if (buffer_size < before.written) {
+        return jcobs_make_end(JCOBS_END_TOO_LONG, 0);
+    }
+    if (before.written == 0 && before.joint == 0) {
+        return jcobs_make_end(JCOBS_END_NONE, 0);
+    }
+    return jcobs_make_end(JCOBS_END_MESSAGE, before.written);
+}
+
+/* Takes bytes of a stream of frames for this sentinel, one step for each byte. The function stops after the
+ * sentinel that ends the first piece, or takes all bytes if no piece ends. */
+static JCOBS_INLINE jcobs_piece jcobs_decoder_take_bytes(jcobs_decoder *decoder, unsigned char *buffer,
+                                                         size_t buffer_size, const unsigned char *bytes, size_t len,
+                                                         unsigned char sentinel)
+{
+    /* `state` is a copy of the decoder, so that it stays in registers: otherwise compilers read the fields again
+     * after each byte that is written. */
+    jcobs_decoder state = *decoder;
+    size_t taken = 0;
+
+    if (state.too_long == 0) {
+        while (taken < len) {
+            unsigned char byte = (unsigned char)(bytes[taken] ^ sentinel);
+            taken++;
+            if (byte != 0) {
+                jcobs_decoder_take_byte(&state, buffer, buffer_size, byte);
+                if (state.too_long != 0) {
+                    break;
+                }
+            } else {
+                jcobs_end end = jcobs_decoder_end_piece(&state, buffer_size);
+                if (end.kind != JCOBS_END_NONE) {
+                    jcobs_decoder_init(decoder);
+                    return jcobs_make_piece(end.kind, end.count, taken);
+                }
+            }
+        }
+    }
+    /* If the piece is too long, only the sentinel that ends it matters. */
+    while (taken < len) {
+        unsigned char byte = (unsigned char)(bytes[taken] ^ sentinel);
+        taken++;
+        if (byte == 0) {
+            jcobs_decoder_init(decoder);
+            return jcobs_make_piece(JCOBS_END_TOO_LONG, 0, taken);
+        }
+    }
+    *decoder = state;
+    return jcobs_make_piece(JCOBS_END_NONE, 0, 0);
+}
+
+/* Returns how many decoded bytes of the open piece are in a buffer of buffer_size bytes. */
+static JCOBS_INLINE size_t jcobs_decoder_length(const jcobs_decoder *decoder, size_t buffer_size)
+{
+    if (decoder->too_long != 0) {
+        return buffer_size;
+    }
+    return jcobs_min(decoder->written, buffer_size);
+}
+
+/* Returns the result of a call that decoded `len` bytes into a buffer of buffer_size bytes. If a piece has ended,
+ * `piece` says how it ended, and how many bytes there are through its end. */
+static JCOBS_INLINE jcobs_answer jcobs_decoder_answer(const jcobs_decoder *decoder, jcobs_piece piece, size_t len,
+                                                      size_t buffer_size)
+{
+    switch (piece.kind) {
+    case JCOBS_END_MESSAGE:
+        return jcobs_ok_answer(piece.consumed, piece.count);
+    case JCOBS_END_BROKEN:
+        /* The count is at most buffer_size, unless the state is corrupt. */
+        return jcobs_make_answer(JCOBS_BROKEN, piece.consumed, jcobs_min(piece.count, buffer_size));
+    case JCOBS_END_TOO_LONG:
+        return jcobs_make_answer(JCOBS_TOO_SMALL, piece.consumed, buffer_size);
+    case JCOBS_END_NONE:
+        break;
+    }
+    return jcobs_make_answer(JCOBS_MORE, len, jcobs_decoder_length(decoder, buffer_size));
+}
+
+/* Takes bytes of the stream: those up to and including the zero that ends the first piece, or all bytes if no
+ * piece ends. Even if the state is corrupt, nothing outside the buffers is accessed.
+ * Proved, by the contract in decoder.rt: the result, the state and the buffer are those that the definition of the
+ * stream gives after these bytes, however the stream is cut into calls. In every state consumed is at most the
+ * number of bytes passed, and length is at most buffer_size. */
+jcobs_answer jcobs_decoder_push(jcobs_decoder *decoder, void *buffer, size_t buffer_size, const void *bytes, size_t len)
+{
+    jcobs_piece piece = jcobs_decoder_take_bytes(decoder, (unsigned char *)buffer, buffer_size,
+                                                 (const unsigned char *)bytes, len, 0);
+
+    return jcobs_decoder_answer(decoder, piece, len, buffer_size);
+}
+
+/* Takes the next byte of the stream, and writes its output to the buffer. It returns JCOBS_END_TOO_LONG at each
+ * byte of a piece that is too long. */
+static JCOBS_INLINE jcobs_end jcobs_decoder_step(jcobs_decoder *decoder, unsigned char *buffer, size_t buffer_size,
+                                                 unsigned char byte)
+{
+    if (byte == 0) {
+        return jcobs_decoder_end_piece(decoder, buffer_size);
+    }
+    jcobs_decoder_take_byte(decoder, buffer, buffer_size, byte);
+    if (decoder->too_long != 0) {
+        return jcobs_make_end(JCOBS_END_TOO_LONG, 0);
+    }
+    return jcobs_make_end(JCOBS_END_NONE, 0);
+}
+
+/* Takes a zero of the stream, which ends a piece if one has begun. */
+static JCOBS_RARE jcobs_answer jcobs_decoder_feed_zero(jcobs_decoder *decoder, unsigned char *buffer,
+                                                       size_t buffer_size)
+{
+    jcobs_end end = jcobs_decoder_step(decoder, buffer, buffer_size, 0);
+    jcobs_piece piece = jcobs_make_piece(end.kind, end.count, 1);
+
+    return jcobs_decoder_answer(decoder, piece, 1, buffer_size);
+}
+
+/* Takes the next byte of the stream, as jcobs_decoder_push does.
+ * Proved, by the contract in decoder.rt: the result, the state and the buffer are those that the definition of the
+ * stream gives after these bytes, however the stream is cut into calls. In every state consumed is at most the
+ * number of bytes passed, and length is at most buffer_size. */
+jcobs_answer jcobs_decoder_feed(jcobs_decoder *decoder, void *buffer, size_t buffer_size, unsigned char byte)
+{
+    unsigned char *const buffer_bytes = (unsigned char *)buffer;
+
+    if (byte == 0) {
+        return jcobs_decoder_feed_zero(decoder, buffer_bytes, buffer_size);
+    }
+    return jcobs_make_answer(JCOBS_MORE, 1, jcobs_decoder_take_byte(decoder, buffer_bytes, buffer_size, byte));
+}
+
+/* Returns 1 if no piece is open, and 0 otherwise.
+ * Proved, by the contract in decoder.rt: the result is 1 exactly if no piece is open. */
+unsigned int jcobs_decoder_is_idle(const jcobs_decoder *decoder)
+{
+    return decoder->written == 0 && decoder->missing == 0 && decoder->joint == 0 && decoder->too_long == 0;
+}
+
+/* ---- Encoding a message that comes in pieces ---- */
+
+/* Resets the encoder to the initial state, from any state.
+ * Proved, by the contract in encoder.rt: after the call the encoder has taken no byte, whatever its state was. */
+void jcobs_encoder_reset(jcobs_encoder *encoder)
+{
+    jcobs_encoder_init(encoder);
+}
+
+/* Returns whether the state is possible in a buffer of this size. */
+static JCOBS_INLINE int jcobs_encoder_is_valid(const jcobs_encoder *encoder, size_t buffer_size)
+{
+    /* An open block has at most 253 bytes: other numbers don't come from these calls. */
+    if (encoder->taken >= JCOBS_FULL_BLOCK_BYTES || buffer_size < encoder->index) {
+        return 0;
+    }
+    return encoder->full != 0 || encoder->taken < buffer_size - encoder->index;
+}
+
+/* Takes the next bytes of the message, for which there is room, one at a time. There is at least one byte. */
+static JCOBS_INLINE void jcobs_encoder_append_bytes(jcobs_encoder *encoder, unsigned char *buffer,
+                                                    const unsigned char *bytes, size_t len)
+{
+    size_t index = encoder->index;
+    size_t next = index + encoder->taken + 1;
+    /* The index after the open block's 254th byte. If the sum wraps, no index is equal to it. */
+    size_t limit = index + JCOBS_FULL_CODE;
+
+    for (size_t i = 0; i < len; i++) {
+        unsigned char byte = bytes[i];
+        if (byte != 0) {
+            buffer[next] = byte;
+            next++;
+        }
+        /* A zero ends the block, and so does its 254th byte. */
+        if (byte == 0 || next == limit) {
+            buffer[index] = (unsigned char)(next - index);
+            index = next;
+            limit = index + JCOBS_FULL_CODE;
+            next++;
+        }
+    }
+
+    size_t code = next - index;
+
+    encoder->index = index;
+    encoder->taken = (unsigned char)(code - 1);
+    encoder->full = code == 1 && bytes[len - 1] != 0 ? 1 : 0;
+}
+
+/* Takes the next bytes of the message, if the frame of all bytes so far fits the buffer, and returns whether it
+ * does. */
+static int jcobs_encoder_try_append(jcobs_encoder *encoder, unsigned char *buffer, size_t buffer_size,
+                                    const unsigned char *bytes, size_t len)
+{
+    if (!jcobs_encoder_is_valid(encoder, buffer_size)) {
+        return 0;
+    }
+    if (len == 0) {
+        return 1;
+    }
+    if (!jcobs_has_room(encoder->taken, bytes, len, buffer_size - encoder->index)) {
+        return 0;
+    }
+    jcobs_encoder_append_bytes(encoder, buffer, bytes, len);
+    return 1;
+}
+
+/* Returns the length of the frame, if the message ends with the bytes that were taken. */
+static JCOBS_INLINE size_t jcobs_encoder_length(const jcobs_encoder *encoder)
+{
+    size_t code = (size_t)encoder->taken + 1;
+
+    return encoder->full != 0 ? encoder->index : encoder->index + code;
+}
+
+/* Takes the next bytes of a message, if the frame of all bytes so far fits the buffer. Even if the state is
+ * corrupt, nothing outside the buffers is accessed.
+ * Proved, by the contract in encoder.rt: the status is OK exactly if the frame of the message so far, with these
+ * bytes, fits. If it isn't OK, the state and the buffer are as they were. In every state consumed is at most the
+ * number of bytes passed, and length is at most buffer_size. */
+jcobs_answer jcobs_encoder_push(jcobs_encoder *encoder, void *buffer, size_t buffer_size, const void *bytes, size_t len)
+{
+    if (!jcobs_encoder_try_append(encoder, (unsigned char *)buffer, buffer_size, (const unsigned char *)bytes, len)) {
+        return jcobs_too_small_answer();
+    }
+    return jcobs_ok_answer(len, jcobs_encoder_length(encoder));
+}
+
+/* Takes the next byte of a message, if the frame of all bytes so far fits the buffer. It is a separate function:
+ * as a part of jcobs_encoder_feed it would take a tenth more time in avr-gcc's code. */
+static jcobs_answer jcobs_encoder_feed_byte(jcobs_encoder *encoder, unsigned char *buffer, size_t buffer_size,
+                                            unsigned char byte)
+{
+    size_t code = (size_t)encoder->taken + 1;
+
+    /* A block with a greater code isn't open: such a number doesn't come from these calls. The tests read the
+     * field, and not a copy of it: so rustc sees that no index of the step is out of bounds. */
+    if (code > JCOBS_FULL_BLOCK_BYTES || buffer_size < encoder->index || buffer_size - encoder->index <= code) {
+        return jcobs_too_small_answer();
+    }
+    return jcobs_ok_answer(1, jcobs_encoder_append_byte(encoder, buffer, byte));
+}
+
+/* Takes the next byte of a message, as jcobs_encoder_push does.
+ * Proved, by the contract in encoder.rt: the status is OK exactly if the frame of the message so far, with these
+ * bytes, fits. If it isn't OK, the state and the buffer are as they were. In every state consumed is at most the
+ * number of bytes passed, and length is at most buffer_size. */
+jcobs_answer jcobs_encoder_feed(jcobs_encoder *encoder, void *buffer, size_t buffer_size, unsigned char byte)
+{
+    return jcobs_encoder_feed_byte(encoder, (unsigned char *)buffer, buffer_size, byte);
+}
+
+/* Ends the message, if the state is possible in a buffer of this size, and returns the length of its encoded frame
+ * in bytes. The buffer begins with that frame, and the encoder is ready for the next message. Every byte after the
+ * frame is as it was before this call. */
+static jcobs_frame_length jcobs_encoder_close(jcobs_encoder *encoder, unsigned char *buffer, size_t buffer_size)
+{
+    if (!jcobs_encoder_is_valid(encoder, buffer_size)) {
+        return jcobs_make_frame_length(0, 0);
+    }
+
+    size_t length = encoder->index;
+
+    if (encoder->full == 0) {
+        unsigned char code = (unsigned char)(encoder->taken + 1);
+        buffer[length] = code;
+        length += (size_t)code;
+    }
+    jcobs_encoder_init(encoder);
+    return jcobs_make_frame_length(1, length);
+}
+
+/* Ends the message, if its frame fits the buffer. Even if the state is corrupt, nothing outside the buffers is
+ * accessed, and the returned length is at most the buffer's.
+ * Proved, by the contract in encoder.rt: if the frame of all bytes that were taken fits, the buffer begins with
+ * it, and the encoder is in its initial state. Otherwise the status is TOO_SMALL, and the state and the buffer are
+ * as they were. */
+jcobs_answer jcobs_encoder_finish(jcobs_encoder *encoder, void *buffer, size_t buffer_size)
+{
+    if (buffer_size == 0) {
+        return jcobs_too_small_answer();
+    }
+
+    jcobs_frame_length result = jcobs_encoder_close(encoder, (unsigned char *)buffer, buffer_size);
+
+    if (result.fits) {
+        return jcobs_ok_answer(0, result.length);
+    }
+    return jcobs_too_small_answer();
+}
+
+/* Ends the message, as jcobs_encoder_finish does, and writes a zero after its frame, if the frame and the zero
+ * fit.
+ * Proved, by the contract in encoder.rt: if the frame of all bytes that were taken and the zero fit, the buffer
+ * begins with them, and the encoder is in its initial state. Otherwise the status is TOO_SMALL, and the state and
+ * the buffer are as they were. */
+jcobs_answer jcobs_encoder_finish_terminated(jcobs_encoder *encoder, void *buffer, size_t buffer_size)
+{
+    unsigned char *const buffer_bytes = (unsigned char *)buffer;
+
+    if (buffer_size < 2) {
+        return jcobs_too_small_answer();
+    }
+
+    /* The zero needs one byte. */
+    size_t room = buffer_size - 1;
+    jcobs_frame_length result = jcobs_encoder_close(encoder, buffer_bytes, room);
+
+    if (result.fits) {
+        buffer_bytes[result.length] = 0;
+        return jcobs_ok_answer(0, result.length + 1);
+    }
+    return jcobs_too_small_answer();
+}
+
+/* ---- Written by hand: the calls for other sentinels, the texts and the versions ---- */
 
 /* XORs each byte with the sentinel. This turns a frame for the sentinel 0 into a frame for this sentinel, or back. */
 static void jcobs_xor(void *bytes, size_t len, unsigned char sentinel)
@@ -1132,8 +1097,8 @@ jcobs_answer jcobs_decode_in_place_with_sentinel(void *buffer, size_t buffer_len
 jcobs_answer jcobs_decoder_push_with_sentinel(jcobs_decoder *decoder, void *buffer, size_t buffer_size,
                                               const void *bytes, size_t len, unsigned char sentinel)
 {
-    jcobs_piece piece = jcobs_decoder_take(decoder, (unsigned char *)buffer, buffer_size, (const unsigned char *)bytes,
-                                           len, sentinel);
+    jcobs_piece piece = jcobs_decoder_take_bytes(decoder, (unsigned char *)buffer, buffer_size,
+                                                 (const unsigned char *)bytes, len, sentinel);
 
     return jcobs_decoder_answer(decoder, piece, len, buffer_size);
 }

@@ -1,9 +1,11 @@
 /* jcobs.h: Consistent Overhead Byte Stuffing (COBS).
  *
+ * SPDX-License-Identifier: MIT OR Apache-2.0
+ *
  * COBS encodes a message, which may be any bytes, as a frame that never contains a certain byte value: the sentinel. So
  * the sentinel can mark the end of each frame on a serial line or in a file. The sentinel is 0, except in the calls
  * that have a parameter `sentinel`. The frame of a message of up to 254 bytes is 1 byte longer than the message. The
- * frame of a longer message has at most 1 extra byte for each 254 bytes, or part of 254 bytes, of the message.
+ * frame of a longer message has at most 1 extra byte per 254 bytes of the message, rounded up.
  *
  * To receive, in reads of any size:
  *
@@ -61,38 +63,42 @@
  * Preconditions
  *
  * Each pointer to bytes comes with a number of bytes. A parameter named len, or with a name that ends in _len, is the
- * number of bytes of input. A parameter with a name that ends in _size is the number of bytes for which a buffer has
- * room. The pointer must be valid for reads of that many bytes, and also for writes if it doesn't point to const. If
- * the number is 0, the pointer isn't used and may be NULL. The number must be at most PTRDIFF_MAX. The buffers of a
- * call must not overlap each other or the state. To encode or decode within one buffer, use jcobs_encode_in_place or
- * jcobs_decode_in_place.
+ * number of bytes of input. A parameter with a name that ends in _size is the size of a buffer in bytes. The pointer
+ * must be valid for reads of that many bytes, and also for writes if it doesn't point to const. If the number is 0, the
+ * pointer isn't used and may be NULL. The number must be at most PTRDIFF_MAX. The buffers of a call must not overlap
+ * each other or the state. To encode or decode within one buffer, use jcobs_encode_in_place or jcobs_decode_in_place.
  *
  * A pointer to a state must be valid. The state may have any contents. Even if the state is corrupt, the call returns
- * and accesses no memory outside its buffers; consumed is at most the number of bytes passed, and length is at most the
- * buffer's length.
+ * and accesses no memory outside its buffers. In the result, consumed is then at most the number of bytes passed, and
+ * length is at most the buffer's length.
  *
  * While a call runs, nothing else may change its buffers or its state: no other thread or process, no interrupt or
  * signal handler, no DMA transfer. A call may read a byte twice. If the byte changes between the two reads, the call
  * may access memory outside its buffers or never return. Pass only bytes whose transfer has finished, or a copy of the
  * bytes.
  *
- * No function allocates memory, locks, or keeps a pointer or anything else from one call to the next: a call depends
- * only on its arguments. So calls on different buffers and states may run at the same time, also in signal handlers.
+ * No function allocates memory or uses a lock. No function keeps a pointer or anything else from one call to the next:
+ * a call depends only on its arguments. So calls on different buffers and states may run at the same time, also in
+ * signal handlers.
  *
  * Results
  *
- * The comment below a prototype lists each status that the call can return, with the values of consumed and length:
+ * The comment below a prototype lists each status that the call can return, without JCOBS_, and for each status the
+ * values of the members consumed and length:
  *
  * - consumed is the number of bytes that the call has taken from the message, the source or the pushed bytes;
- * - length is the number of bytes at the front of the buffer that belong to the result. The bytes after them are as
- *   they were before the call. After a call of a streaming coder, the bytes after the result are as they were before
- *   the frame or the message began; but if an encoder returns TOO_SMALL, the whole buffer is as it was before the call.
- *   The only exception is jcobs_decode_in_place_with_sentinel, which changes bytes after the result.
+ * - length is the number of bytes at the front of the buffer that belong to the result.
+ *
+ * A call doesn't change the bytes of the buffer after the result. The only exception is
+ * jcobs_decode_in_place_with_sentinel. If several calls with a jcobs_decoder decode one frame, or several calls with a
+ * jcobs_encoder encode one message, the bytes after the result are as they were before the first of these calls. But if
+ * a call with a jcobs_encoder returns TOO_SMALL, the whole buffer is as it was before this call.
  *
  * A frame is a sequence of blocks. A block is a code, from 1 to 255, followed by code - 1 nonzero bytes. A block with
- * the code 255 is full. A broken frame ends inside its last block; the blocks before that block are whole. The output
- * of the whole blocks includes the zero after the last whole block, unless that block is full. For example, the output
- * of the whole blocks of 02 41 05 42 is 41 00.
+ * the code 255 is full. The output of a frame or of blocks is the bytes that they decode to. A broken frame is cut off
+ * inside its last block. The output of the blocks before the last block ends with a zero, unless the block just before
+ * the last one is full. For example, the broken frame 02 41 05 42 is cut off inside the block 05 42. The frame's output
+ * is 41 00 without this block, and 41 00 42 including this block.
  *
  * jcobs_decode, jcobs_decode_in_place and their forms with a sentinel don't need a sentinel after the frame. Without a
  * sentinel the frame ends at the end of the source, and consumed is the source's length. So a frame that was cut off
@@ -103,9 +109,9 @@
  *
  * The built library, libjcobs.a, needs x86-64-v2 on x86-64 (SSE4.2 and POPCNT: Intel processors since 2009, AMD
  * processors since 2011), and ARMv8-A on aarch64. The library has call frame information for debuggers, but no unwind
- * tables, and no call throws or unwinds. Each call begins with a landing pad, so a program that is hardened by IBT,
- * SHSTK or BTI stays hardened. The library calls only memcpy and memmove. This paragraph doesn't apply to jcobs.c,
- * which your compiler builds.
+ * tables, and no call throws or unwinds. Each call begins with a landing pad (endbr64 or bti c), so a program that is
+ * hardened by IBT, SHSTK or BTI stays hardened. The library calls only memcpy and memmove. This paragraph doesn't apply
+ * to jcobs.c, which your compiler builds.
  */
 #ifndef JCOBS_H
 #define JCOBS_H
@@ -165,7 +171,7 @@ typedef struct jcobs_answer {
 enum jcobs_kind {
     JCOBS_NOT_A_FRAME = 0, /* there are no bytes, a byte is 0, or the bytes break off inside a block */
     JCOBS_CANONICAL = 1,   /* the frame that encoders write for its message */
-    JCOBS_LONGER = 2       /* the frame that encoders write, and a 1 after it: it decodes to the same message */
+    JCOBS_LONGER = 2       /* the frame that encoders write, followed by a 1, which doesn't change the message */
 };
 
 /* The state of a streaming decoder. Only the library uses the members. */
@@ -216,35 +222,37 @@ typedef struct jcobs_encoder {
 #endif
 
 /* Returns the length of the longest frame of a message of message_len bytes, without a sentinel. This length is
- * message_len plus 1 for each 254 bytes, or part of 254 bytes, of the message. For the empty message the length is 1.
+ * message_len plus message_len / 254, rounded up. For the empty message the length is 1.
  *
- * The macro has the same value. If its argument is constant, the macro is a constant expression, so an array can have
- * this length. If the value doesn't fit a size_t, the macro wraps around, and the function returns 0. The macro's type
- * is size_t if the argument's type is unsigned and not wider than size_t. The macro evaluates its argument more than
- * once, and can't be used in #if. */
+ * The macro JCOBS_MAX_LENGTH has the value that the function returns. If its argument is constant, the macro is a
+ * constant expression, so an array can have this length. If the value doesn't fit a size_t, the macro wraps around, and
+ * the function returns 0. The macro's type is size_t if the argument's type is unsigned and not wider than size_t. The
+ * macro evaluates its argument more than once, and can't be used in #if. */
 #define JCOBS_MAX_LENGTH(message_len)                                                                                  \
     (sizeof(char) * (message_len) + sizeof(char) * (message_len) / 254 +                                               \
      (sizeof(char) * (message_len) % 254 != 0 || (message_len) == 0 ? 1 : 0))
 JCOBS_API size_t jcobs_max_length(size_t message_len) JCOBS_CHECKED;
-/* returns: this length, or 0 if it doesn't fit a size_t */
+/* returns: the length of the longest frame, or 0 if this length doesn't fit a size_t */
 
 /* Writes the frame of the message, without a sentinel, to the front of the buffer `frame`. A buffer of
  * jcobs_max_length(message_len) bytes is always long enough. */
 JCOBS_API jcobs_answer jcobs_encode(const void *message, size_t message_len, void *frame, size_t frame_size)
     JCOBS_READS(1, 2) JCOBS_WRITES(3, 4) JCOBS_CHECKED;
-/* returns: status OK, consumed message_len, length of the frame
- *          status TOO_SMALL, consumed 0, length 0, exactly if the frame doesn't fit: the buffer is as it was */
+/* returns:
+ * - OK: consumed is message_len, and length is the length of the frame;
+ * - TOO_SMALL, exactly if the frame doesn't fit: consumed and length are 0, and the buffer is as it was. */
 
 /* Writes the frame of the message, and a zero after the frame, to the front of the buffer `frame`. A buffer of
  * jcobs_max_length(message_len) + 1 bytes is always long enough. */
 JCOBS_API jcobs_answer jcobs_encode_terminated(const void *message, size_t message_len, void *frame, size_t frame_size)
     JCOBS_READS(1, 2) JCOBS_WRITES(3, 4) JCOBS_CHECKED;
-/* returns: status OK, consumed message_len, length of the frame and its zero
- *          status TOO_SMALL, consumed 0, length 0, exactly if the frame with its zero doesn't fit: the buffer is as it
- *              was */
+/* returns:
+ * - OK: consumed is message_len, and length is the length of the frame and its zero;
+ * - TOO_SMALL, exactly if the frame with its zero doesn't fit: consumed and length are 0, and the buffer is as it was.
+ *   */
 
 /* Do what jcobs_encode and jcobs_encode_terminated do, for another sentinel. Each byte of the frame is XORed with the
- * sentinel, and the byte after the frame is the sentinel. */
+ * sentinel. The second call writes the sentinel after the frame. */
 JCOBS_API jcobs_answer jcobs_encode_with_sentinel(const void *message, size_t message_len, void *frame,
                                                   size_t frame_size, unsigned char sentinel) JCOBS_READS(1, 2)
     JCOBS_WRITES(3, 4) JCOBS_CHECKED;
@@ -260,40 +268,43 @@ JCOBS_API jcobs_answer jcobs_encode_terminated_with_sentinel(const void *message
 #define JCOBS_MAX_OVERHEAD(message_len) (JCOBS_MAX_LENGTH(message_len) - sizeof(char) * (message_len))
 JCOBS_API jcobs_answer jcobs_encode_in_place(void *buffer, size_t buffer_size, size_t message_len)
     JCOBS_CHANGES(1, 2) JCOBS_CHECKED;
-/* returns: status OK, consumed message_len, length of the frame
- *          status TOO_SMALL, consumed 0, length 0, exactly if the buffer is shorter than jcobs_max_length(message_len):
- *              the buffer is as it was */
+/* returns:
+ * - OK: consumed is message_len, and length is the length of the frame;
+ * - TOO_SMALL, exactly if the buffer is shorter than jcobs_max_length(message_len): consumed and length are 0, and the
+ *   buffer is as it was. */
 
 /* Decodes the first frame of the source to the front of the buffer `message`. Leading zeros are skipped, and the frame
  * ends at the next zero or at the end of the source. A buffer of source_len bytes is always long enough. */
 JCOBS_API jcobs_answer jcobs_decode(const void *source, size_t source_len, void *message, size_t message_size)
     JCOBS_READS(1, 2) JCOBS_WRITES(3, 4) JCOBS_CHECKED;
-/* returns: status OK, consumed the leading zeros, the frame and the zero after it, length of the message
- *          status BROKEN, consumed as for OK, length of the frame's output, including the block that is cut off
- *          status TOO_SMALL, consumed as for OK, length message_size: the output is longer, and the buffer has its
- *              first bytes
- *          status EMPTY, consumed source_len, length 0: the source has no bytes, or only zeros */
+/* returns:
+ * - OK: consumed counts the leading zeros, the frame and the zero after it; length is the length of the message;
+ * - BROKEN: consumed is as for OK; length is the length of the frame's output, including the block that is cut off;
+ * - TOO_SMALL: consumed is as for OK; length is message_size. The output is longer, and the buffer has its first bytes;
+ * - EMPTY, if the source has no bytes or only zeros: consumed is source_len, and length is 0. */
 
 /* Decodes the frame at the front of the source, for the given sentinel, to the front of the buffer `message`. The frame
  * ends at the first sentinel or at the end of the source. No sentinel is skipped: if the source begins with a sentinel,
- * the message is empty. So the results for the sentinel 0 may differ from those of jcobs_decode, which skips leading
- * zeros, and whose output of a broken frame includes the block that is cut off. */
+ * the message is empty. So for the sentinel 0 the results may differ from those of jcobs_decode. That call skips
+ * leading zeros, and its output of a broken frame includes the block that is cut off. */
 JCOBS_API jcobs_answer jcobs_decode_with_sentinel(const void *source, size_t source_len, void *message,
                                                   size_t message_size, unsigned char sentinel) JCOBS_READS(1, 2)
     JCOBS_WRITES(3, 4) JCOBS_CHECKED;
-/* returns: status OK, consumed the frame and the sentinel after it, length of the message
- *          status BROKEN, consumed as for OK, length of the output of the whole blocks
- *          status TOO_SMALL, consumed as for OK, length message_size: the message, or the output of the whole blocks,
- *              is longer, and the buffer has its first bytes
- *          status EMPTY, consumed 0, length 0: the source has no bytes */
+/* returns:
+ * - OK: consumed counts the frame and the sentinel after it; length is the length of the message;
+ * - BROKEN: consumed is as for OK; length is the length of the frame's output, without the block that is cut off;
+ * - TOO_SMALL: consumed is as for OK; length is message_size. The message, or the output that BROKEN counts, is longer,
+ *   and the buffer has its first bytes;
+ * - EMPTY, if the source has no bytes: consumed and length are 0. */
 
 /* Decodes the frame at the front of the buffer in place. The frame ends at the first zero or at the end of the buffer.
- * No zero is skipped: if the buffer begins with a zero, the message is empty. There is always room, because no message
- * is longer than its frame. */
+ * No zero is skipped: if the buffer begins with a zero, the message is empty. The message always fits, because no
+ * message is longer than its frame. */
 JCOBS_API jcobs_answer jcobs_decode_in_place(void *buffer, size_t buffer_len) JCOBS_CHANGES(1, 2) JCOBS_CHECKED;
-/* returns: status OK, consumed the frame and the zero after it, length of the message
- *          status BROKEN, consumed as for OK, length of the output of the whole blocks
- *          status EMPTY, consumed 0, length 0: the buffer has no bytes */
+/* returns:
+ * - OK: consumed counts the frame and the zero after it; length is the length of the message;
+ * - BROKEN: consumed is as for OK; length is the length of the frame's output, without the block that is cut off;
+ * - EMPTY, if the buffer has no bytes: consumed and length are 0. */
 
 /* Does what jcobs_decode_in_place does, for the given sentinel. The bytes of the buffer from the message's end to the
  * frame's end are XORed with the sentinel. The sentinel and the bytes after it aren't changed, so the next frame begins
@@ -312,18 +323,18 @@ JCOBS_API void jcobs_decoder_reset(jcobs_decoder *decoder) JCOBS_STATE;
 /* Takes bytes of a stream in which a zero ends each frame. The call takes the bytes through the zero that ends the
  * first frame, or all bytes if no frame ends. The message of a frame that has ended is at the front of the buffer until
  * the next call. The bytes after the zero that ends the frame have no effect: push them in the next call. Every frame
- * is reported once, at the zero that ends it. Zeros between frames are skipped. A broken or oversized frame never
- * affects the next frame.
+ * is reported once, at the zero that ends it. Zeros between frames are skipped. A frame that is broken, or whose
+ * message is too long for the buffer, never affects the next frame.
  *
  * While a frame is open, pass the same buffer with the same size, and don't change its contents between two calls.
  * Otherwise the status of that frame and the contents of the buffer are unspecified. */
 JCOBS_API jcobs_answer jcobs_decoder_push(jcobs_decoder *decoder, void *buffer, size_t buffer_size, const void *bytes,
                                           size_t len) JCOBS_STATE JCOBS_WRITES(2, 3) JCOBS_READS(4, 5) JCOBS_CHECKED;
-/* returns: status OK, consumed the bytes through the zero that ends the frame, length of the message
- *          status BROKEN, consumed as for OK, length of the frame's output, including the block that is cut off
- *          status TOO_SMALL, consumed as for OK, length buffer_size: the output is longer, and the buffer has its first
- *              bytes
- *          status MORE, consumed len, length of the part of an unfinished message that is in the buffer */
+/* returns:
+ * - OK: consumed counts the bytes through the zero that ends the frame; length is the length of the message;
+ * - BROKEN: consumed is as for OK; length is the length of the frame's output, including the block that is cut off;
+ * - TOO_SMALL: consumed is as for OK; length is buffer_size. The output is longer, and the buffer has its first bytes;
+ * - MORE: consumed is len; length is the length of the part of an unfinished message that is in the buffer. */
 
 /* Does what jcobs_decoder_push does with one byte, and is faster. */
 JCOBS_API jcobs_answer jcobs_decoder_feed(jcobs_decoder *decoder, void *buffer, size_t buffer_size,
@@ -353,10 +364,11 @@ JCOBS_API void jcobs_encoder_reset(jcobs_encoder *encoder) JCOBS_STATE;
  * contents between two calls. Otherwise the contents of the buffer are unspecified. */
 JCOBS_API jcobs_answer jcobs_encoder_push(jcobs_encoder *encoder, void *buffer, size_t buffer_size, const void *bytes,
                                           size_t len) JCOBS_STATE JCOBS_WRITES(2, 3) JCOBS_READS(4, 5) JCOBS_CHECKED;
-/* returns: status OK, consumed len, length of the frame so far. The buffer has this frame only after the call that
- *              finishes the message, because that call writes the code of the open block
- *          status TOO_SMALL, consumed 0, length 0, exactly if the frame of the message, with these bytes, doesn't fit:
- *              the state and the buffer are as they were */
+/* returns:
+ * - OK: consumed is len, and length is the length of the frame so far. The buffer has this frame only after the call
+ *   that finishes the message, because that call writes the code of the open block;
+ * - TOO_SMALL, exactly if the frame of the message, with these bytes, doesn't fit: consumed and length are 0, and the
+ *   state and the buffer are as they were. */
 
 /* Does what jcobs_encoder_push does with one byte, and is faster. */
 JCOBS_API jcobs_answer jcobs_encoder_feed(jcobs_encoder *encoder, void *buffer, size_t buffer_size,
@@ -367,20 +379,23 @@ JCOBS_API jcobs_answer jcobs_encoder_feed(jcobs_encoder *encoder, void *buffer, 
  * encoder is in the initial state. */
 JCOBS_API jcobs_answer jcobs_encoder_finish(jcobs_encoder *encoder, void *buffer, size_t buffer_size) JCOBS_STATE
     JCOBS_WRITES(2, 3) JCOBS_CHECKED;
-/* returns: status OK, consumed 0, length of the frame
- *          status TOO_SMALL, consumed 0, length 0, only if the buffer is empty, or isn't the buffer of the pushes: the
- *              state and the buffer are as they were */
+/* returns:
+ * - OK: consumed is 0, and length is the length of the frame;
+ * - TOO_SMALL, only if the buffer is empty, or isn't the buffer of the pushes: consumed and length are 0, and the state
+ *   and the buffer are as they were. */
 
-/* Does what jcobs_encoder_finish does, and writes a zero after the frame. The zero needs one byte more. */
+/* Does what jcobs_encoder_finish does, and writes a zero after the frame. The zero needs one more byte in
+ * the buffer. */
 JCOBS_API jcobs_answer jcobs_encoder_finish_terminated(jcobs_encoder *encoder, void *buffer,
                                                        size_t buffer_size) JCOBS_STATE JCOBS_WRITES(2, 3) JCOBS_CHECKED;
-/* returns: status OK, consumed 0, length of the frame and its zero
- *          status TOO_SMALL, consumed 0, length 0, if the frame with its zero doesn't fit: the state and the buffer are
- *              as they were */
+/* returns:
+ * - OK: consumed is 0, and length is the length of the frame and its zero;
+ * - TOO_SMALL, if the frame with its zero doesn't fit: consumed and length are 0, and the state and the buffer are as
+ *   they were. */
 
 /* Do what jcobs_encoder_finish and jcobs_encoder_finish_terminated do, for another sentinel. Each byte of the frame is
- * XORed with the sentinel, and the byte after the frame is the sentinel. Push the bytes of the message as for the
- * sentinel 0. */
+ * XORed with the sentinel. The second call writes the sentinel after the frame. Push the bytes of the message as for
+ * the sentinel 0. */
 JCOBS_API jcobs_answer jcobs_encoder_finish_with_sentinel(jcobs_encoder *encoder, void *buffer, size_t buffer_size,
                                                           unsigned char sentinel) JCOBS_STATE
     JCOBS_WRITES(2, 3) JCOBS_CHECKED;

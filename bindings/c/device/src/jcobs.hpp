@@ -1,6 +1,8 @@
 // jcobs.hpp: the calls of jcobs.h for C++17. The functions of this header are inline and allocate nothing. They throw
 // only if a callback throws.
 //
+// SPDX-License-Identifier: MIT OR Apache-2.0
+//
 // To receive, in reads of any size:
 //
 //     unsigned char buffer[1024];
@@ -64,8 +66,8 @@ namespace jcobs
 namespace detail
 {
 
-// Whether the elements of a range are contiguous bytes of any type. An array of char isn't accepted, because its '\0'
-// would be one of the bytes.
+// Says whether the elements of a range are contiguous, and each element is one byte, whatever its type. An array of
+// char isn't accepted, because its '\0' would be one of the bytes.
 template <class Range, class Byte, class = void> struct is_bytes : std::false_type {
 };
 template <class Range, class Byte>
@@ -79,9 +81,9 @@ struct is_bytes<
                                                                 std::is_same_v<std::remove_const_t<element>, char>);
 };
 
-// Whether a range is a temporary object that owns its bytes, which are destroyed with the object. A range owns its
-// bytes if a const range of this type has const bytes. A view owns no bytes: a const view may have bytes that aren't
-// const.
+// Says whether a range is a temporary object that owns its bytes, so that the bytes are destroyed with the object. A
+// container owns its bytes: if the container is const, its bytes are const too. A view to write to owns no bytes: even
+// if the view is const, its bytes aren't.
 template <class Range, class = void> struct is_temporary : std::false_type {
 };
 template <class Range>
@@ -145,8 +147,8 @@ template <class Byte> class JCOBS_POINTER basic_view
     std::size_t size_ = 0;
 };
 
-using view = basic_view<const unsigned char>; // bytes that are read
-using buffer = basic_view<unsigned char>;     // bytes that are written
+using view = basic_view<const unsigned char>; // bytes that a function reads
+using buffer = basic_view<unsigned char>;     // bytes that a function writes
 
 // Returns the length of the longest frame of a message of message_len bytes, without a sentinel. Returns 0 if this
 // length doesn't fit a size_t.
@@ -243,9 +245,10 @@ class receiver
     }
 
     // Calls on_message(view) for each message whose frame ends in these bytes, and on_error(jcobs_answer) for each
-    // frame that is broken or too long. A message is in the buffer while on_message runs; after that, the next frame
-    // may overwrite the message. If a callback throws, the push has taken all bytes through the sentinel of the frame
-    // that the callback got, and no bytes after it. The receiver is then idle, and the next push begins a new frame.
+    // frame that is broken, or whose message is too long for the buffer. A message is in the buffer while on_message
+    // runs; after that, the next frame may overwrite the message. If a callback throws, the push has taken all bytes
+    // through the sentinel of the frame for which the callback was called, and no bytes after that sentinel. The
+    // receiver is then idle, and the next push begins a new frame.
     template <class OnMessage, class OnError> void push(view bytes, OnMessage &&on_message, OnError &&on_error)
     {
         consumed_ = 0;
@@ -260,7 +263,7 @@ class receiver
         }
     }
 
-    // Calls on_message(view) as the other push does, and ignores frames that are broken or too long.
+    // Calls on_message(view) as the other push does, and ignores frames that are broken or whose messages are too long.
     template <class OnMessage> void push(view bytes, OnMessage &&on_message)
     {
         push(bytes, std::forward<OnMessage>(on_message), [](jcobs_answer) {});
@@ -285,16 +288,16 @@ class receiver
         return jcobs_decoder_is_idle(&decoder_) == 1;
     }
 
-    // Forgets the open frame.
+    // Discards the open frame.
     void reset() noexcept
     {
         jcobs_decoder_reset(&decoder_);
     }
 
   private:
-    // Takes the bytes up to and including the sentinel that ends the first frame, or all bytes if no frame ends. There is at least
-    // one byte. For a sentinel other than 0 the bytes are fed one by one, because the archives for devices don't have
-    // jcobs_decoder_push_with_sentinel.
+    // Takes the bytes up to and including the sentinel that ends the first frame, or all bytes if no frame ends. The
+    // caller passes at least one byte. For a sentinel other than 0 the bytes are fed one by one, because the archives
+    // for devices don't have jcobs_decoder_push_with_sentinel.
     jcobs_answer next(const unsigned char *bytes, std::size_t len) noexcept
     {
         if (sentinel_ == 0)
@@ -335,8 +338,8 @@ class sender
         return *this;
     }
 
-    // push takes the next bytes of the message, and feed takes the next byte. Both return false if the frame of the
-    // message with the new bytes doesn't fit the buffer; then nothing has changed.
+    // push takes the next bytes of the message, and feed takes the next byte. push and feed return false, and change
+    // nothing, if the frame of the message, including the new bytes, doesn't fit the buffer.
     [[nodiscard]] bool push(view bytes) noexcept
     {
         return jcobs_encoder_push(&encoder_, buffer_.data(), buffer_.size(), bytes.data(), bytes.size()).status ==
@@ -347,7 +350,7 @@ class sender
         return jcobs_encoder_feed(&encoder_, buffer_.data(), buffer_.size(), byte).status == JCOBS_OK;
     }
 
-    // finish ends the message and returns its frame for the sentinel. finish_terminated also writes the sentinel after
+    // finish ends the message and returns its frame, for the given sentinel. finish_terminated also writes the sentinel after
     // the frame, and returns the frame with the sentinel. The returned bytes are in the buffer until the next push or
     // feed. If the frame, or the frame with the sentinel, doesn't fit the buffer, the result is an empty view, and
     // nothing has changed; reset drops the message. The result of finish is empty only if the buffer is empty.
@@ -360,7 +363,7 @@ class sender
         return for_sentinel(jcobs_encoder_finish_terminated(&encoder_, buffer_.data(), buffer_.size()), sentinel);
     }
 
-    // Forgets the message.
+    // Discards the message.
     void reset() noexcept
     {
         jcobs_encoder_reset(&encoder_);

@@ -1,6 +1,7 @@
 /* hand.c: COBS as firmware developers write it by hand, for comparing speed and size: one function per task, one pass,
- * and a test for room before each byte that is written. It does less than jcobs.c: if a message doesn't fit, as many
- * bytes are written as there is room for; the state is trusted; and a result is one number. Frames end with a zero. */
+ * and before each write a check that the buffer has room. This code does less than jcobs.c: if the output doesn't fit, it
+ * writes the bytes that fit; it assumes that the state isn't corrupt; and it returns one number. Frames end with a
+ * zero. */
 #include "hand.h"
 
 void hand_decoder_init(hand_decoder *decoder, void *buffer, size_t room)

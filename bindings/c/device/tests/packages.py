@@ -1,19 +1,22 @@
 #!/usr/bin/env python3
-"""Checks the files of this folder that package managers read, and makes the same builds: packages.py
+"""Checks the files of bindings/c/device that package managers read, and builds as the package managers would: packages.py
 
 PlatformIO and Arduino link the archive for each processor that has one, and compile src/jcobs.c for all others. ESP-IDF and
-Zephyr compile src/jcobs.c. None of these tools is run. Their scripts and the CMake file are run, with stand-ins for the parts of
-each tool that they use.
+Zephyr compile src/jcobs.c. None of these tools is run. Their scripts, the CMake file and the example for Arduino are run, with
+stand-ins for the parts of each tool that they use.
 """
 
 import json
 import pathlib
+import re
 import shutil
 import subprocess
 import sys
 import tempfile
 
 HERE = pathlib.Path(__file__).resolve().parent.parent
+# The processors that always have the DSP instructions of the architecture v7E-M.
+WITH_DSP = ("cortex-m4", "cortex-m7", "cortex-m55")
 NEEDED = "name version author maintainer sentence paragraph category architectures includes precompiled ldflags".split()
 # The definitions of ESP-IDF and Zephyr for the CMake file of a component or a module.
 ESP_IDF = """function(idf_component_register)
@@ -33,6 +36,19 @@ macro(zephyr_include_directories)
     target_include_directories(component PUBLIC ${CMAKE_CURRENT_LIST_DIR}/${ARGN})
 endmacro()
 set(CONFIG_JCOBS y)
+"""
+# The part of Arduino that the sketch uses, with standard input and output as the serial port.
+ARDUINO = """#include <stdio.h>
+struct Port {
+    int next = getchar();
+    void begin(long) {}
+    int available() { return next != EOF; }
+    int read() { int byte = next; next = getchar(); return byte; }
+    void write(const unsigned char *bytes, size_t len) { fwrite(bytes, 1, len, stdout); }
+} Serial;
+void setup();
+void loop();
+int main() { setup(); loop(); }
 """
 
 
@@ -104,6 +120,32 @@ def check_manifests():
     return len(cores)
 
 
+def check_instructions():
+    """Checks that each processor has the instructions of the archive that PlatformIO links for it."""
+    _, cores = run_script(HERE / "platformio.py", "")
+    for processor, folder in cores.items():
+        said = subprocess.run(["readelf", "-A", HERE / "src" / folder / "libjcobs.a"], capture_output=True, text=True, check=True)
+        architectures = set(re.findall(r"Tag_CPU_arch: (\S+)", said.stdout))
+        wanted = {"v7E-M"} if processor in WITH_DSP else set() if processor.startswith("rv") else {"v6S-M"}
+        assert architectures == wanted, f"{processor}: {architectures}"
+
+
+def run_sketch():
+    """Runs the example for Arduino. It sends back each whole frame, also after frames that are broken or too long."""
+    frames = [b"\1\0", b"\3hi\0", b"\1\2a\0", b"\x41" + b"x" * 64 + b"\0"]
+    damaged = [b"\x09broken\0", b"\x42" + b"x" * 65 + b"\0", b"\0"]
+    sent = b"".join(piece for pair in zip(frames, [*damaged, b""]) for piece in pair)
+    with tempfile.TemporaryDirectory() as work:
+        folder = pathlib.Path(work)
+        (folder / "Arduino.h").write_text(ARDUINO)
+        flags = ["-Wall", "-Wextra", "-Werror", f"-I{HERE}/src"]
+        subprocess.run(["gcc", "-std=c99", *flags, "-c", HERE / "src/jcobs.c", "-o", folder / "jcobs.o"], check=True)
+        sketch = ["-include", folder / "Arduino.h", "-x", "c++", HERE / "examples/Echo/Echo.ino", "-x", "none", folder / "jcobs.o"]
+        subprocess.run(["g++", "-std=gnu++11", *flags, *sketch, "-o", folder / "echo"], check=True)
+        echoed = subprocess.run([folder / "echo"], input=sent, capture_output=True, check=True).stdout
+    assert echoed == b"".join(frames), echoed
+
+
 def built_by_cmake(words):
     """Builds a program with the folder's CMakeLists.txt and these definitions of the tool."""
     with tempfile.TemporaryDirectory() as work:
@@ -123,6 +165,9 @@ def built_by_cmake(words):
 
 def main():
     cores = check_manifests()
+    check_instructions()
+    if shutil.which("g++"):
+        run_sketch()
     if shutil.which("cmake"):
         built_by_cmake(ESP_IDF)
         built_by_cmake(ZEPHYR)

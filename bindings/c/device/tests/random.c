@@ -2,8 +2,8 @@
  *
  * If WITH_SENTINELS is defined, the calls for other sentinels, which the archives don't have, are made too.
  *
- * Around the buffers are bytes that no call may change. Half of the states are left by earlier calls, with the buffer
- * as it was; the others are random bytes. */
+ * Around the buffers are bytes that no call may change. Half of the states come from earlier calls, whose buffer is kept
+ * too; the other states are random bytes. */
 #include "plain.h"
 
 #include <stdio.h>

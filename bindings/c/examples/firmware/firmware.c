@@ -14,11 +14,11 @@
 
 #include "board.h"
 
-#define MOST 64 /* the most bytes of a command */
+#define MAX_COMMAND 64 /* the most bytes of a command */
 
 /* THE RECEIVER: copy the code from here down to the line of dashes. */
 
-static volatile unsigned char ring[256]; /* indices of 8 bits wrap around at its length; one place stays free */
+static volatile unsigned char ring[256]; /* indices of 8 bits wrap around at its length; one byte stays unused */
 static volatile unsigned char ring_head; /* the interrupt handler writes here */
 static volatile unsigned char ring_tail; /* the main loop reads here */
 static volatile unsigned char ring_cut;  /* bytes are lost while this is set; the main loop clears it */
@@ -38,7 +38,7 @@ void uart_received(unsigned char byte) /* called by the interrupt handler */
 }
 
 static jcobs_decoder decoder = JCOBS_DECODER_INIT;
-static unsigned char command[MOST];
+static unsigned char command[MAX_COMMAND];
 
 static void handle(const unsigned char *bytes, size_t len);
 static void complain(unsigned int status);
@@ -72,7 +72,7 @@ static void receive(void) /* called by the main loop */
 
 static void send(const unsigned char *bytes, size_t len)
 {
-    static unsigned char frame[JCOBS_MAX_LENGTH(MOST + 1) + 1];
+    static unsigned char frame[JCOBS_MAX_LENGTH(MAX_COMMAND + 1) + 1];
     jcobs_answer answer = jcobs_encode_terminated(bytes, len, frame, sizeof frame);
     size_t i;
 
@@ -86,7 +86,7 @@ static unsigned char counts[3]; /* of frames that were received, broken, too lon
 
 static void handle(const unsigned char *bytes, size_t len)
 {
-    unsigned char reply[MOST + 1];
+    unsigned char reply[MAX_COMMAND + 1];
     unsigned int sum = 0;
     size_t i;
 

@@ -6,8 +6,8 @@
 //! cobs = { path = "jirompeka/bindings/rust/as-cobs" }
 //! ```
 //!
-//! Cargo does this only for crates that depend on version 0.5, because this package has the version 0.5.1 of `cobs`,
-//! with its names and signatures.
+//! Cargo uses this package only for crates that depend on `cobs` 0.5, because the package has the version number 0.5.1,
+//! and the names and signatures of `cobs` 0.5.1.
 #![no_std]
 #![forbid(unsafe_code)]
 

@@ -74,8 +74,9 @@ macro_rules! decoder_methods {
         /// # Errors
         ///
         /// - [`DecodeError::InvalidFrame`]: the byte is a zero inside a block. The next byte begins a frame.
-        /// - [`DecodeError::TargetBufTooSmall`]: the message is longer than the buffer. This is the result for the
-        ///   first byte that doesn't fit, and for each byte after it, through the zero that ends the frame.
+        /// - [`DecodeError::TargetBufTooSmall`]: the message is longer than the buffer. This call returns this error
+        ///   for the first byte that doesn't fit, and for each byte after it, up to and including the zero that ends
+        ///   the frame.
         #[inline]
         pub fn feed(&mut self, data: u8) -> Result<Option<usize>, DecodeError> {
             self.progress.feed(&mut self.dest[..], data)
@@ -85,17 +86,18 @@ macro_rules! decoder_methods {
         /// ends. The bytes after that zero have no effect: push them next.
         ///
         /// - `Ok(None)`: all bytes were taken, and no frame has ended.
-        /// - `Ok(Some(report))`: a frame has ended, after [`parsed_size`](DecodeReport::parsed_size) of these bytes,
-        ///   and its message is the first [`frame_size`](DecodeReport::frame_size) bytes of [`dest`](Self::dest).
+        /// - `Ok(Some(report))`: a frame has ended. The call has taken [`parsed_size`](DecodeReport::parsed_size)
+        ///   bytes, and the message is the first [`frame_size`](DecodeReport::frame_size) bytes of
+        ///   [`dest`](Self::dest).
         ///
         /// # Errors
         ///
         /// - [`DecodeError::InvalidFrame`]: the frame breaks off inside a block. The bytes through the zero that ends
         ///   it were taken.
-        /// - [`DecodeError::TargetBufTooSmall`]: the message is longer than the buffer. This is the result of the push
-        ///   with the first byte that doesn't fit, and of each later push that isn't empty, through the push with the
-        ///   zero that ends the frame. The bytes through that zero were taken, or all bytes if the push doesn't contain
-        ///   it.
+        /// - [`DecodeError::TargetBufTooSmall`]: the message is longer than the buffer. The push with the first byte
+        ///   that doesn't fit returns this error. Each later push that isn't empty also returns it, up to and including
+        ///   the push with the zero that ends the frame. The bytes through that zero were taken, or all bytes if the
+        ///   push doesn't contain that zero.
         ///
         /// After an error, continue with the bytes from [`parsed_size`](Self::parsed_size) on. Then a broken frame
         /// never affects another frame.
@@ -121,8 +123,8 @@ macro_rules! decoder_methods {
 
         /// Returns the buffer to which messages are decoded, for writing.
         ///
-        /// The buffer may be changed while no frame is open. If it is changed while a frame is open, the result of this
-        /// frame and the contents of the buffer are unspecified.
+        /// You may change the buffer while no frame is open. If you change the buffer while a frame is open, the result
+        /// of this frame and the contents of the buffer are unspecified.
         #[inline]
         pub fn dest_mut(&mut self) -> &mut [u8] {
             &mut self.dest[..]

@@ -44,15 +44,15 @@ impl<'a> CobsEncoder<'a> {
         self.encoder.push(self.dest, data)
     }
 
-    /// Ends the message, and returns the length of its frame in bytes. The slice then begins with this frame, without a
-    /// sentinel. It is the frame that [`encode`](crate::encode) would write. The bytes after the frame are as they were
-    /// before the first push. The length is 0 only if the slice is empty.
+    /// Ends the message, and returns the length of its frame in bytes. The slice then begins with the frame that
+    /// [`encode`](crate::encode) would write, without a sentinel. The bytes after the frame are as they were before the
+    /// first push. The length is 0 only if the slice is empty.
     #[inline]
     #[must_use]
     pub fn finalize(self) -> usize {
         if self.dest.is_empty() {
             return 0;
         }
-        close(self.dest, self.encoder.progress())
+        close(self.dest, &self.encoder)
     }
 }

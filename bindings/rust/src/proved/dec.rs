@@ -21,5 +21,5 @@ pub use in_place::{
 };
 pub use kind::{FrameKind, frame_kind, kind_by_blocks};
 pub use state::{DecodeResult, DecoderState};
-pub use unbuffered::{DecoderPhase, UnbufferedDecoder};
+pub use unbuffered::UnbufferedDecoder;
 pub use whole::{decode, decode_short};

@@ -4,7 +4,7 @@
 pub(crate) mod blocks;
 pub(crate) mod each;
 pub(crate) mod in_place;
-pub(crate) mod progress;
+pub(crate) mod push;
 pub(crate) mod room;
 pub(crate) mod sentinel;
 pub(crate) mod state;
@@ -19,8 +19,6 @@ use blocks::{append, append_short, close};
 pub use each::try_encode_each;
 use each::write_each;
 pub use in_place::encode_in_place;
-pub use progress::EncoderProgress;
-use progress::START;
 use room::try_append;
 pub use sentinel::{try_encode_including_sentinels, try_encode_with_sentinel};
 pub use state::{EncoderState, PushResult};
@@ -43,8 +41,8 @@ pub fn encode(source: &[u8], dest: &mut [u8]) -> usize {
         return write_each(source, dest);
     }
     if 0 < source.len() && source.len() <= WINDOW {
-        let progress = append_short(source, dest, START, false);
-        return close(dest, progress);
+        let encoder = append_short(source, dest, UnbufferedEncoder::new(), false);
+        return close(dest, &encoder);
     }
     encode_long(source, dest)
 }
@@ -54,10 +52,10 @@ pub fn encode(source: &[u8], dest: &mut [u8]) -> usize {
 #[inline(never)]
 fn encode_long(source: &[u8], dest: &mut [u8]) -> usize {
     if source.is_empty() {
-        return close(dest, START);
+        return close(dest, &UnbufferedEncoder::new());
     }
-    let progress = append(source, dest, START);
-    close(dest, progress)
+    let encoder = append(source, dest, UnbufferedEncoder::new());
+    close(dest, &encoder)
 }
 
 /// Does what [`encode`] does, if the frame fits `dest`.
@@ -81,17 +79,18 @@ fn try_encode_any(source: &[u8], dest: &mut [u8]) -> Result<usize, DestBufTooSma
     if source.len() < dest.len().min(FULL_CODE) {
         return Ok(encode(source, dest));
     }
-    let mut progress = START;
-    if dest.is_empty() || !try_append(source, dest, &mut progress) {
+    let mut encoder = UnbufferedEncoder::new();
+    if dest.is_empty() || !try_append(source, dest, &mut encoder) {
         return Err(DestBufTooSmallError);
     }
-    Ok(close(dest, progress))
+    Ok(close(dest, &encoder))
 }
 
 /// Encodes a message of up to 254 bytes for this sentinel. The caller ensures that the frame fits `dest`.
 #[inline(always)]
 fn encode_block(source: &[u8], dest: &mut [u8], sentinel: u8) -> usize {
-    // The frame's length is computed from the message's length, which a compiler may know.
+    // The length that `encode` returns isn't used: the frame's length is computed from the message's length, which a
+    // compiler may know.
     let _len = encode(source, dest);
     let len = source.len() + 1;
     xor_bytes(&mut dest[..len], sentinel);

@@ -86,7 +86,7 @@ impl core::error::Error for DecodeError {}
 #[cfg_attr(feature = "serde", derive(serde::Serialize, serde::Deserialize))]
 #[cfg_attr(feature = "defmt", derive(defmt::Format))]
 pub struct PushError {
-    /// The result for the last byte that was consumed.
+    /// The error that the last consumed byte raised.
     pub error: DecodeError,
 
     /// How many bytes were consumed, including the byte that raised the error.

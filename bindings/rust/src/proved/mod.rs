@@ -11,14 +11,14 @@ pub(crate) mod framed;
 pub(crate) mod stream;
 
 pub use dec::{
-    DecodeResult, DecoderPhase, DecoderState, FrameDecoder, FrameKind, PieceEnd, UnbufferedDecoder,
-    decode, decode_blocks_each, decode_in_place, decode_in_place_report,
-    decode_in_place_with_sentinel, decode_piece, decode_short, decode_short_in_place,
-    decode_with_sentinel, frame_kind, kind_by_blocks,
+    DecodeResult, DecoderState, FrameDecoder, FrameKind, PieceEnd, UnbufferedDecoder, decode,
+    decode_blocks_each, decode_in_place, decode_in_place_report, decode_in_place_with_sentinel,
+    decode_piece, decode_short, decode_short_in_place, decode_with_sentinel, frame_kind,
+    kind_by_blocks,
 };
 pub use enc::{
-    EncoderProgress, EncoderState, PushResult, UnbufferedEncoder, encode, encode_in_place,
-    try_encode, try_encode_each, try_encode_including_sentinels, try_encode_with_sentinel,
+    EncoderState, PushResult, UnbufferedEncoder, encode, encode_in_place, try_encode,
+    try_encode_each, try_encode_including_sentinels, try_encode_with_sentinel,
 };
 pub use error::{DecodeError, DecodeReport, DestBufTooSmallError, PushError};
 pub use find::{leading_zeros, len_to_zero};
@@ -28,8 +28,8 @@ pub use framed::{FrameReader, FrameSource, Next, ReadFault};
 #[cfg(feature = "alloc")]
 pub use stream::{FrameOutcome, decode_stream};
 
-/// Returns the greatest overhead of an encoded frame, for a message of `source_len` bytes: by how many bytes the frame
-/// may be longer than the message.
+/// Returns the greatest overhead of the encoded frame of a message of `source_len` bytes. The overhead is the number of
+/// bytes by which the frame is longer than the message.
 ///
 /// The greatest overhead is `source_len / 254` rounded up, and 1 for the empty message: each group of up to 254 nonzero
 /// bytes has a code of its own, and a frame has at least one code. A message without zeros reaches this overhead.
@@ -44,7 +44,7 @@ pub const fn max_encoding_overhead(source_len: usize) -> usize {
 /// Returns the length of the longest encoded frame of a message of `source_len` bytes, without sentinels: a buffer of
 /// this length has room for the frame of each message of `source_len` bytes.
 ///
-/// Precondition: this length fits a `usize`, which is so for each `source_len` up to `isize::MAX`.
+/// Precondition: this length fits a `usize`. This is so for each `source_len` up to `isize::MAX`.
 pub const fn max_encoding_length(source_len: usize) -> usize {
     source_len + max_encoding_overhead(source_len)
 }

@@ -55,9 +55,8 @@ fn frame_outcome(end: PieceEnd, buffer: &[u8]) -> Result<FrameOutcome, AllocErro
 /// decoder keeps its state. So a stream can be passed in parts, cut anywhere, and the joined results of the calls are
 /// those of the whole stream. Leading and repeated zeros make no piece.
 ///
-/// If the caller wrote to the decoder's buffer while a piece was open, the bytes of that piece's message are
-/// unspecified. The message of that piece is the first outcome. The length of this message and all later outcomes
-/// aren't affected.
+/// If the caller wrote to the decoder's buffer while a piece was open, only the first outcome is affected, and only if
+/// it is a message: the bytes of this message are unspecified, but its length isn't affected.
 ///
 /// # Errors
 /// `AllocError` if memory for an outcome runs out. Then the outcomes are lost, and the decoder is idle, so the next

@@ -5,8 +5,7 @@
 use core::slice;
 
 use jcobs::{
-    CobsDecoder, DecodeError, DecoderPhase, DestBufTooSmallError, EncoderProgress, FrameKind, PieceEnd,
-    UnbufferedDecoder, UnbufferedEncoder,
+    CobsDecoder, DecodeError, DestBufTooSmallError, FrameKind, PieceEnd, UnbufferedDecoder, UnbufferedEncoder,
 };
 
 unsafe extern "C" {
@@ -24,21 +23,6 @@ pub struct Answer {
     status: u32,
     consumed: usize,
     length: usize,
-}
-
-#[repr(C)]
-pub struct Decoder {
-    written: usize,
-    missing: u8,
-    joint: u8,
-    too_long: u8,
-}
-
-#[repr(C)]
-pub struct Encoder {
-    index: usize,
-    taken: u8,
-    full: u8,
 }
 
 const fn answer(status: u32, consumed: usize, length: usize) -> Answer {
@@ -133,47 +117,23 @@ pub unsafe extern "C" fn jcobs_frame_kind(bytes: *const u8, len: usize) -> u32 {
     }
 }
 
-impl Decoder {
-    fn phase(&self) -> DecoderPhase {
-        if self.too_long != 0 {
-            return DecoderPhase::TooLong;
-        }
-        DecoderPhase::Within { is_full: self.joint == 0, missing: self.missing, written: self.written }
-    }
-
-    fn keep(&mut self, phase: DecoderPhase) {
-        (self.written, self.missing, self.joint, self.too_long) = match phase {
-            DecoderPhase::Idle => (0, 0, 0, 0),
-            DecoderPhase::Within { is_full, missing, written } => (written, missing, u8::from(!is_full), 0),
-            DecoderPhase::TooLong => (0, 0, 0, 1),
-        };
-    }
-
-    fn is_idle(&self) -> bool {
-        (self.written, self.missing, self.joint, self.too_long) == (0, 0, 0, 0)
-    }
+#[unsafe(no_mangle)]
+pub extern "C" fn jcobs_decoder_reset(decoder: &mut UnbufferedDecoder) {
+    *decoder = UnbufferedDecoder::new();
 }
 
 #[unsafe(no_mangle)]
-pub extern "C" fn jcobs_decoder_reset(decoder: &mut Decoder) {
-    decoder.keep(UnbufferedDecoder::new().phase());
-}
-
-#[unsafe(no_mangle)]
-pub extern "C" fn jcobs_decoder_is_idle(decoder: &Decoder) -> u32 {
+pub extern "C" fn jcobs_decoder_is_idle(decoder: &UnbufferedDecoder) -> u32 {
     decoder.is_idle().into()
 }
 
 #[unsafe(no_mangle)]
-pub unsafe extern "C" fn jcobs_decoder_push(decoder: &mut Decoder, buffer: *mut u8, room: usize, bytes: *const u8, len: usize) -> Answer {
+pub unsafe extern "C" fn jcobs_decoder_push(decoder: &mut UnbufferedDecoder, buffer: *mut u8, room: usize, bytes: *const u8, len: usize) -> Answer {
     let (buffer, bytes) = unsafe { (write(buffer, room), read(bytes, len)) };
     if decoder.is_idle() && bytes.last() == Some(&0) && !bytes[..len - 1].contains(&0) {
         return piece(buffer, bytes);
     }
-    let mut inner = UnbufferedDecoder::from_phase(decoder.phase());
-    let found = inner.feed_piece(buffer, bytes);
-    decoder.keep(inner.phase());
-    match found {
+    match decoder.feed_piece(buffer, bytes) {
         None if decoder.too_long != 0 => answer(1, len, room),
         None => answer(1, len, decoder.written.min(room)),
         Some((end, taken)) => ended(end, taken, room),
@@ -203,12 +163,9 @@ fn ended(end: PieceEnd, taken: usize, room: usize) -> Answer {
 }
 
 #[unsafe(no_mangle)]
-pub unsafe extern "C" fn jcobs_decoder_feed(decoder: &mut Decoder, buffer: *mut u8, room: usize, byte: u8) -> Answer {
+pub unsafe extern "C" fn jcobs_decoder_feed(decoder: &mut UnbufferedDecoder, buffer: *mut u8, room: usize, byte: u8) -> Answer {
     let buffer = unsafe { write(buffer, room) };
-    let mut inner = UnbufferedDecoder::from_phase(decoder.phase());
-    let fed = inner.feed(buffer, byte);
-    decoder.keep(inner.phase());
-    match fed {
+    match decoder.feed(buffer, byte) {
         Ok(Some(length)) => answer(0, 1, length),
         Err(DecodeError::InvalidFrame { decoded_bytes }) => answer(3, 1, decoded_bytes.min(room)),
         Err(_) if byte == 0 => answer(2, 1, room),
@@ -217,55 +174,37 @@ pub unsafe extern "C" fn jcobs_decoder_feed(decoder: &mut Decoder, buffer: *mut 
     }
 }
 
-impl Encoder {
-    fn inner(&self) -> UnbufferedEncoder {
-        UnbufferedEncoder::from_progress(EncoderProgress {
-            index: self.index,
-            code: self.taken.saturating_add(1),
-            is_full: self.full != 0,
-        })
-    }
-
-    /// Returns the index at which the frame so far ends.
-    fn keep(&mut self, encoder: &UnbufferedEncoder) -> usize {
-        let EncoderProgress { index, code, is_full } = encoder.progress();
-        (self.index, self.taken, self.full) = (index, code.wrapping_sub(1), u8::from(is_full));
-        if is_full { index } else { index + usize::from(code) }
-    }
+/// Returns the index at which the frame so far ends.
+fn end_of(encoder: &UnbufferedEncoder) -> usize {
+    if encoder.full != 0 { encoder.index } else { encoder.index + usize::from(encoder.taken) + 1 }
 }
 
 #[unsafe(no_mangle)]
-pub extern "C" fn jcobs_encoder_reset(encoder: &mut Encoder) {
-    encoder.keep(&UnbufferedEncoder::new());
+pub extern "C" fn jcobs_encoder_reset(encoder: &mut UnbufferedEncoder) {
+    *encoder = UnbufferedEncoder::new();
 }
 
 #[unsafe(no_mangle)]
-pub unsafe extern "C" fn jcobs_encoder_push(encoder: &mut Encoder, buffer: *mut u8, room: usize, bytes: *const u8, len: usize) -> Answer {
+pub unsafe extern "C" fn jcobs_encoder_push(encoder: &mut UnbufferedEncoder, buffer: *mut u8, room: usize, bytes: *const u8, len: usize) -> Answer {
     let (buffer, bytes) = unsafe { (write(buffer, room), read(bytes, len)) };
-    let mut inner = encoder.inner();
-    match inner.push(buffer, bytes) {
-        Ok(()) => answer(0, len, encoder.keep(&inner)),
+    match encoder.push(buffer, bytes) {
+        Ok(()) => answer(0, len, end_of(encoder)),
         Err(DestBufTooSmallError) => answer(2, 0, 0),
     }
 }
 
 #[unsafe(no_mangle)]
-pub unsafe extern "C" fn jcobs_encoder_feed(encoder: &mut Encoder, buffer: *mut u8, room: usize, byte: u8) -> Answer {
+pub unsafe extern "C" fn jcobs_encoder_feed(encoder: &mut UnbufferedEncoder, buffer: *mut u8, room: usize, byte: u8) -> Answer {
     unsafe { jcobs_encoder_push(encoder, buffer, room, &byte, 1) }
 }
 
 #[unsafe(no_mangle)]
-pub unsafe extern "C" fn jcobs_encoder_finish(encoder: &mut Encoder, buffer: *mut u8, room: usize) -> Answer {
-    let mut inner = encoder.inner();
-    let finished = inner.finalize(unsafe { write(buffer, room) });
-    if finished.is_ok() {
-        encoder.keep(&inner);
-    }
-    encoded(0, finished)
+pub unsafe extern "C" fn jcobs_encoder_finish(encoder: &mut UnbufferedEncoder, buffer: *mut u8, room: usize) -> Answer {
+    encoded(0, encoder.finalize(unsafe { write(buffer, room) }))
 }
 
 #[unsafe(no_mangle)]
-pub unsafe extern "C" fn jcobs_encoder_finish_terminated(encoder: &mut Encoder, buffer: *mut u8, room: usize) -> Answer {
+pub unsafe extern "C" fn jcobs_encoder_finish_terminated(encoder: &mut UnbufferedEncoder, buffer: *mut u8, room: usize) -> Answer {
     let Some(last) = room.checked_sub(1) else { return answer(2, 0, 0) };
     let finished = unsafe { jcobs_encoder_finish(encoder, buffer, last) };
     if finished.status != 0 {

@@ -1,10 +1,7 @@
 //! Tests the coders whose buffer is passed to each call: from any state, with any buffer, no call panics, and no call
 //! returns a length that is greater than the buffer's.
 
-use jcobs::{
-    DecoderPhase, DestBufTooSmallError, EncoderProgress, PushError, UnbufferedDecoder,
-    UnbufferedEncoder,
-};
+use jcobs::{DestBufTooSmallError, PushError, UnbufferedDecoder, UnbufferedEncoder};
 
 use crate::FILL;
 
@@ -46,10 +43,10 @@ fn pieces() -> Vec<Vec<u8>> {
     pieces
 }
 
-fn check_decoder(phase: DecoderPhase, len: usize, piece: &[u8]) {
-    let place = || format!("{phase:?}, a buffer of {len}, {piece:?}");
+fn check_decoder(state: UnbufferedDecoder, len: usize, piece: &[u8]) {
+    let place = || format!("{state:?}, a buffer of {len}, {piece:?}");
     let mut dest = vec![FILL; len];
-    let mut decoder = UnbufferedDecoder::from_phase(phase);
+    let mut decoder = state;
     for _ in 0..2 {
         match decoder.push(&mut dest, piece) {
             Ok(None) => {}
@@ -60,31 +57,31 @@ fn check_decoder(phase: DecoderPhase, len: usize, piece: &[u8]) {
                     "{}",
                     place()
                 );
-                assert_eq!(decoder.phase(), DecoderPhase::Idle, "{}", place());
+                assert!(decoder.is_idle(), "{}", place());
             }
             Err(PushError { parsed_size, .. }) => {
                 assert!((1..=piece.len()).contains(&parsed_size), "{}", place());
             }
         }
     }
-    let mut decoder = UnbufferedDecoder::from_phase(phase);
+    let mut decoder = state;
     for &byte in piece.iter().chain(&[0, 2, 9]) {
         if let Ok(Some(message)) = decoder.feed(&mut dest, byte) {
             assert!(message <= len, "{}", place());
         }
         if byte == 0 {
-            assert_eq!(decoder.phase(), DecoderPhase::Idle, "{}", place());
+            assert!(decoder.is_idle(), "{}", place());
         }
     }
     for by_bytes in [false, true] {
-        let mut decoder = UnbufferedDecoder::from_phase(phase);
+        let mut decoder = state;
         let ended = match by_bytes {
             false => decoder.feed_piece(&mut dest, piece),
             true => decoder.feed_each(&mut dest, piece, 0),
         };
         let Some((end, taken)) = ended else { continue };
         assert_eq!(piece[taken - 1], 0, "{}", place());
-        assert_eq!(decoder.phase(), DecoderPhase::Idle, "{}", place());
+        assert!(decoder.is_idle(), "{}", place());
         if let jcobs::PieceEnd::Message(message) = end {
             assert!(message <= len, "{}", place());
         }
@@ -94,40 +91,35 @@ fn check_decoder(phase: DecoderPhase, len: usize, piece: &[u8]) {
 #[test]
 fn decoder_from_any_state() {
     let pieces = pieces();
-    let mut phases = vec![DecoderPhase::Idle, DecoderPhase::TooLong];
     for missing in [0, 1, 2, 14, 15, 16, 17, 31, 253, 254, 255] {
         for written in INDICES {
-            phases.extend([false, true].map(|is_full| DecoderPhase::Within {
-                is_full,
-                missing,
-                written,
-            }));
-        }
-    }
-    for phase in phases {
-        for len in LENS {
-            for piece in &pieces {
-                check_decoder(phase, len, piece);
+            for (joint, too_long) in [(0, 0), (1, 0), (255, 0), (0, 1), (1, 255)] {
+                let state = UnbufferedDecoder {
+                    written,
+                    missing,
+                    joint,
+                    too_long,
+                };
+                for len in LENS {
+                    for piece in &pieces {
+                        check_decoder(state, len, piece);
+                    }
+                }
             }
         }
     }
 }
 
-fn check_encoder(progress: EncoderProgress, len: usize, piece: &[u8]) {
-    let place = || format!("{progress:?}, a buffer of {len}, {piece:?}");
-    let EncoderProgress {
-        index,
-        code,
-        is_full,
-    } = progress;
+fn check_encoder(state: UnbufferedEncoder, len: usize, piece: &[u8]) {
+    let place = || format!("{state:?}, a buffer of {len}, {piece:?}");
+    let UnbufferedEncoder { index, taken, full } = state;
     // The open block, or the full block before it, ends within the buffer.
-    let is_within =
-        (1..255).contains(&code) && index <= len && (is_full || usize::from(code) <= len - index);
+    let is_within = taken < 254 && index <= len && (full != 0 || usize::from(taken) < len - index);
     let mut dest = vec![FILL; len];
-    let mut encoder = UnbufferedEncoder::from_progress(progress);
+    let mut encoder = state;
     let pushed = encoder.push(&mut dest, piece);
     if pushed.is_err() {
-        assert_eq!(encoder.progress(), progress, "{}", place());
+        assert_eq!(encoder, state, "{}", place());
         assert_eq!(dest, vec![FILL; len], "{}", place());
     }
     if !is_within {
@@ -135,9 +127,9 @@ fn check_encoder(progress: EncoderProgress, len: usize, piece: &[u8]) {
     } else if piece.is_empty() {
         assert_eq!(pushed, Ok(()), "{}", place());
     }
-    check_by_bytes(progress, len, piece, pushed);
+    check_by_bytes(state, len, piece, pushed);
     let finished = encoder.finalize(&mut dest);
-    let mut by_bytes = UnbufferedEncoder::from_progress(progress);
+    let mut by_bytes = state;
     let mut bytes_dest = vec![FILL; len];
     let by_bytes_pushed = by_bytes.push_each(&mut bytes_dest, piece);
     assert_eq!(by_bytes_pushed, pushed, "{}", place());
@@ -152,27 +144,27 @@ fn check_encoder(progress: EncoderProgress, len: usize, piece: &[u8]) {
 
 /// Compares the calls for single bytes and for a few bytes with this result of `push` of the piece.
 fn check_by_bytes(
-    progress: EncoderProgress,
+    state: UnbufferedEncoder,
     len: usize,
     piece: &[u8],
     pushed: Result<(), DestBufTooSmallError>,
 ) {
-    let place = || format!("{progress:?}, a buffer of {len}, {piece:?}");
+    let place = || format!("{state:?}, a buffer of {len}, {piece:?}");
     let mut dest = vec![FILL; len];
-    let mut other = UnbufferedEncoder::from_progress(progress);
+    let mut other = state;
     if other.push_few(&mut dest, piece) {
         assert_eq!(pushed, Ok(()), "{}", place());
     }
     if let Some(byte) = piece.first() {
-        let mut by_push = UnbufferedEncoder::from_progress(progress);
+        let mut by_push = state;
         let pushed = by_push.push(&mut dest, &[*byte]);
-        let mut by_feed = UnbufferedEncoder::from_progress(progress);
+        let mut by_feed = state;
         assert_eq!(by_feed.feed(&mut dest, *byte), pushed, "{}", place());
-        let mut by_len = UnbufferedEncoder::from_progress(progress);
+        let mut by_len = state;
         let fed = by_len.feed_len(&mut dest, *byte);
         assert_eq!(fed.map(|_| ()), pushed, "{}", place());
         for other in [by_feed, by_len] {
-            assert_eq!(other.progress(), by_push.progress(), "{}", place());
+            assert_eq!(other, by_push, "{}", place());
         }
     }
 }
@@ -181,16 +173,12 @@ fn check_by_bytes(
 fn encoder_from_any_state() {
     let pieces = pieces();
     for index in INDICES {
-        for code in [0, 1, 2, 3, 15, 16, 17, 239, 240, 253, 254, 255] {
-            for is_full in [false, true] {
-                let progress = EncoderProgress {
-                    index,
-                    code,
-                    is_full,
-                };
+        for taken in [0, 1, 2, 14, 15, 16, 238, 239, 252, 253, 254, 255] {
+            for full in [0, 1, 255] {
+                let state = UnbufferedEncoder { index, taken, full };
                 for len in LENS {
                     for piece in &pieces {
-                        check_encoder(progress, len, piece);
+                        check_encoder(state, len, piece);
                     }
                 }
             }

@@ -1,4 +1,4 @@
-//! Decodes frames to messages, in each room and with each cut.
+//! Decodes frames to messages, with each length of the buffer and each cut of the frame.
 
 use jcobs::{CobsDecoder, DecodeError, FrameKind, UnbufferedDecoder};
 
@@ -88,13 +88,9 @@ impl Case {
             Err(rejected) => (rejected.parsed_size, Some(Err(rejected.into()))),
         });
         let mut decoder = UnbufferedDecoder::new();
-        self.check(cut, |dest, bytes| {
-            // The coder has nothing but its state.
-            decoder = UnbufferedDecoder::from_phase(decoder.phase());
-            match decoder.feed_piece(dest, bytes) {
-                None => (bytes.len(), None),
-                Some((end, taken)) => (taken, Some(end.into_result())),
-            }
+        self.check(cut, |dest, bytes| match decoder.feed_piece(dest, bytes) {
+            None => (bytes.len(), None),
+            Some((end, taken)) => (taken, Some(end.into_result())),
         });
         self.check_buffered(cut);
         // The other two coders are slow here, and do the same step for each byte: they are tested at every fifth cut or

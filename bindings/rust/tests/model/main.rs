@@ -1,8 +1,8 @@
 //! Compares the coders with a model of the format that processes single bytes: each run of 0 to 600 bytes after each
-//! offset from 0 to 64, in each room up to one byte more than is needed, cut at each place. Also tests the coders whose
-//! buffer is passed to each call, from any state, with any buffer.
+//! offset from 0 to 64, with each length of the buffer up to one byte more than is needed, and cut at each place. Also
+//! tests the coders whose buffer is passed to each call, from any state, with any buffer.
 //!
-//! Without optimization not all rooms and cuts are tried, only those near the places where the result changes.
+//! Without optimization not all lengths and cuts are tried, only those near the places where the result changes.
 
 mod any_state;
 mod decoding;

@@ -1,40 +1,36 @@
--- The bytes of a list before its first zero, and the first piece after its leading zeros: by induction on the zeros, and by
--- `first_piece_head` for a list that begins with a code.
-use Rattle.std.proofs.Common.{◌≡◌, ◌≢◌, ℕ, zero, suc, ◌+◌, ◌-◌, ◌<◌, ◌≤◌, List, [], ◌∷◌, length, take, drop, get_or, Some, None, refl, ap, ◌∙◌, arith, inl, inr, length-drop}
-use Rattle.std.proofs.lemmas.Bool.{cases_eq, cases_lt, ne_eqb}
-use Rattle.std.proofs.lemmas.List.Elements.{All-head, All-tail}
+-- The bytes of a list before its first zero, by std's lemmas on the first place that passes a test (`head-is`), and the first
+-- piece after its leading zeros: by `first_piece_head` for a list that begins with a code.
+use Rattle.std.proofs.Common.{◌≡◌, ◌≢◌, ℕ, zero, suc, ◌+◌, ◌-◌, ◌<◌, ◌≤◌, List, [], ◌∷◌, ◌++◌, length, take, drop, get_or, Some, None, refl, sym, ap, ◌∙◌, ◌==◌, false, arith, inl, inr, length-drop, length-take}
+use Rattle.std.proofs.lemmas.Bool.{cases_lt, ne_eqb, eq-eqb, eqb-true, eqb-false}
+use Rattle.std.proofs.lemmas.List.{drop_more, get_or-take, get_or-drop, take-append-drop}
+use Rattle.std.proofs.lemmas.List.Sums.{fails_before_first, passes_at_first, position_or_len_is, prefix_len_stops}
+use Rattle.std.specs.List.{position_or_len}
+use Rattle.std.proofs.lemmas.List.Elements.{All-get_or}
 use Rattle.cobs.specs.Grammar.{HasNoZero}
 use Rattle.cobs.specs.Stream.{first_piece, head}
 use Rattle.cobs.specs.Decode.{leading_zeros}
-use Rattle.cobs.proofs.decoding.OutcomeLemmas.{head-zero, head-cons, length-head, first_piece_head}
+use Rattle.cobs.proofs.decoding.OutcomeLemmas.{head-cons, head-is, length-head-is, length-head, first_piece_head}
 
 -- the front up to the first zero, or the whole list
 pub front_is_head : (t : List ℕ) (n : ℕ) → n ≤ length t → HasNoZero (take n t) → (n < length t → get_or t n 0 ≡ 0) → take n t ≡ head t
-unfolding head
-front_is_head [] zero within none stop = refl
-front_is_head [] (suc n) within none stop = refl
-front_is_head (byte ∷ t) zero within none stop = grind (arith, head-zero)
-front_is_head (byte ∷ t) (suc n) within none stop = grind (arith, All-tail, head-cons, All-head, front_is_head t n (omega arith) (All-tail (λ b. b ≢ 0) byte (take n t) none) (λ more. stop (omega arith)))
+front_is_head t n within none stop =
+    let before : (k : ℕ) → k < n → (get_or t k 0 == 0) ≡ false = λ k below. grind (arith, get_or-take, All-get_or, ne_eqb, length-take) in
+    let is : position_or_len (λ b. b == 0) t ≡ n = position_or_len_is (λ b. b == 0) t n 0 within before (λ more. eq-eqb _ 0 (stop more)) in
+    rw (head-is t, is) refl
 
 -- the bytes before the first zero, by their number
 pub head-front : (t : List ℕ) → take (length (head t)) t ≡ head t
-unfolding head
-head-front [] = refl
-head-front (byte ∷ t) = grind (arith, cases_eq, head-zero, head-cons, head-front t)
+head-front t = rw (length-head-is t) (sym (head-is t))
 
 pub head-stop : (t : List ℕ) → length (head t) < length t → get_or t (length (head t)) 0 ≡ 0
-unfolding head
-head-stop [] more = grind arith
-head-stop (byte ∷ t) more = elim (cases_eq byte 0) [
-  | inl none ↦ rw none refl
-  | inr some ↦ (let l = ap length (head-cons byte t some) in ap (λ (k : ℕ). get_or (byte ∷ t) k 0) l ∙ head-stop t (omega arith))
-]
+head-stop t more = grind (arith, length-head-is, passes_at_first, eqb-true)
+
+-- the zero after them, and the rest
+pub head-cut : (t : List ℕ) → length (head t) < length t → t ≡ head t ++ 0 ∷ drop (length (head t) + 1) t
+head-cut t more = let n = length (head t) in cc (take-append-drop n t, drop_more t n 0 more, head-front t, head-stop t more)
 
 pub head-most : (t : List ℕ) (i : ℕ) → i < length t → get_or t i 0 ≡ 0 → length (head t) ≤ i
-unfolding head
-head-most [] i more found = grind arith
-head-most (byte ∷ t) zero more none = grind (arith, head-zero)
-head-most (byte ∷ t) (suc i) more found = grind (arith, cases_eq, head-zero, head-cons, head-most t i (omega arith) found)
+head-most t i more found = grind (arith, length-head-is, fails_before_first, cases_lt)
 
 -- a source without the zero that ends it, if nothing follows its first zero
 pub short_head : (t : List ℕ) (n : ℕ) → length t ≤ length (head t) + 1 → n ≤ length t → length t ≤ n + 1 → 0 < length t → (n < length t → get_or t n 0 ≡ 0) → (n ≡ length t → get_or t (n - 1) 0 ≢ 0) → n ≡ length (head t)
@@ -60,9 +56,7 @@ first_piece_behind (suc b ∷ t) = grind (arith, ne_eqb)
 
 -- and no zero is after them
 pub leading_zeros-stop : (t : List ℕ) → leading_zeros t < length t → get_or (drop (leading_zeros t) t) 0 0 ≢ 0
-leading_zeros-stop [] some = grind arith
-leading_zeros-stop (zero ∷ t) some = grind (arith, (leading_zeros-stop t (omega arith)))
-leading_zeros-stop (suc b ∷ t) some = grind (arith, ne_eqb)
+leading_zeros-stop t some = rw get_or-drop (let stop = prefix_len_stops (λ b. b == 0) t 0 some in grind (arith, eqb-false))
 
 -- no piece is in an empty list
 pub first_piece_empty : (t : List ℕ) → length t ≡ 0 → first_piece t ≡ None

@@ -1,22 +1,22 @@
--- The decoders of a whole list return the message m exactly if the list reads as m: by `outcome_reads`, for the list's first
--- piece.
-use Rattle.std.proofs.Common.{◌≡◌, ◌≢◌, ℕ, ◌<◌, ◌≤◌, ◌↔◌, ◌⊎◌, inl, inr, true, false, List, [], ◌∷◌, length, take, All, Result, Ok, Err, refl, sym, ap, ◌∙◌, subst, arith, get_or, Fits, w8, ⊎_elim}
+-- The decoders of a whole list report the outcome of the list's first piece (`Reported`), so they return the message m exactly
+-- if the list reads as m (`outcome_message`).
+use Rattle.std.proofs.Common.{◌≡◌, ◌≢◌, ℕ, ◌<◌, ◌≤◌, ◌↔◌, ◌⊎◌, inl, inr, false, List, [], ◌∷◌, length, take, All, Result, Ok, Err, refl, sym, ap, ◌∙◌, subst, arith, get_or, Fits, w8}
 use Rattle.std.proofs.lemmas.Bool.{cases_Bool, cases_lt}
 use Rattle.std.proofs.lemmas.List.Elements.{All-from_get_or, All-map, All-weaker}
 use Rattle.std.specs.Int.Bits.{bit_xor, xor_lt}
 use Rattle.cobs.specs.Sentinel.{xor_each}
 use Rattle.cobs.specs.Overwritten.{overwritten}
 use Rattle.cobs.specs.Grammar.{Reads}
-use Rattle.cobs.specs.Piece.{output, kept_output, is_whole, IsWhole}
-use Rattle.cobs.specs.Stream.{outcome_of, head}
+use Rattle.cobs.specs.Piece.{output, kept_output, is_whole}
+use Rattle.cobs.specs.Stream.{Broken, Message, Outcome, TooLong, outcome_of, head}
 use Rattle.cobs.specs.Decode.{outcome_result, report_result, len_through_piece, result_of_decode, first_output, head_result_within, in_place, result_in_place, in_place_report, result_of_sentinel_decode, output_of}
-use Rattle.cobs.specs.Headline.{IsPiece, BeginsWith, ReturnsMessage, ReportsMessage}
+use Rattle.cobs.specs.Headline.{IsPiece, ReturnsMessage, ReportsMessage}
 use Rattle.cobs.specs.declared.error.DecodeReport.{DecodeReport}
 use Rattle.cobs.specs.declared.error.DecodeError.{DecodeError}
 use Rattle.cobs.specs.declared.error.DecodeError.TheVariants.{InvalidFrame, TargetBufTooSmall}
-use Rattle.cobs.proofs.format.FrameLemmas.{frame_whole, frame_output, reads_output}
+use Rattle.cobs.proofs.format.FrameLemmas.{frame_output}
 use Rattle.cobs.proofs.decoding.KeptLemmas.{all-kept}
-use Rattle.cobs.proofs.decoding.OutcomeLemmas.{outcome_of_whole, first_piece_alone, head_alone, length-head, output_within, outcome_of_broken, outcome_of_long}
+use Rattle.cobs.proofs.decoding.OutcomeLemmas.{first_piece_alone, head_alone, length-head, outcome_message, outcome_says, output_within}
 use Rattle.cobs.proofs.decoding.OutcomeSteps.{result_by_piece}
 use Rattle.cobs.proofs.decoding.ReadsLemmas.{frame_piece}
 use Rattle.cobs.proofs.decoding.SourceSteps.{result-fits, result-too_long}
@@ -31,39 +31,25 @@ pub xored_below : (s : ℕ) (bytes : List ℕ) → s < 256 → ((i : ℕ) → Fi
 xored_below s bytes small fits = All-map (λ b. b < 256) (λ b. bit_xor b s) bytes
     (All-weaker (λ b. b < 256) (λ b. bit_xor b s < 256) (λ b below. xor_lt 8 b s below small) bytes (bytes_below bytes fits))
 
--- the message m is returned exactly if the list reads as m and m fits n bytes
-pub reads_where_fits : (f m : List ℕ) (n : ℕ) (P : Type 0) → (length (output f) ≤ n → P ↔ Reads f m) → (n < length (output f) → P → ⊥) → P ↔ (Reads f m × (length m ≤ n))
-reads_where_fits f m n P fits long = (
-  λ p. ⊎_elim
-      (λ (more : n < length (output f)). absurd (long more p))
-      (λ (within : length (output f) ≤ n). let r = (fits within).0 p in (r, (let is = ap length (frame_output f m r) in omega arith)))
-      (cases_lt n (length (output f))),
-  λ (r, small). (fits (let is = ap length (frame_output f m r) in omega arith)).1 r,
-)
+-- a call reports this outcome: the message's length, and its bytes at the buffer's front, or an error
+abbrev Reported : Outcome → Result ℕ DecodeError → List ℕ → Type 0
+Reported (Message m) result buffer = (result ≡ Ok (length m)) × (take (length m) buffer ≡ m)
+Reported (Broken count) result buffer = (error : DecodeError) × (result ≡ Err error)
+Reported TooLong result buffer = (error : DecodeError) × (result ≡ Err error)
 
--- a call that returns the output of a whole piece if that fits n bytes, and rejects any other piece
-record Decodes (f : List ℕ) (n : ℕ) (result : Result ℕ DecodeError) (buffer : List ℕ) : Type 0 where
-  whole : IsWhole f → length (output f) ≤ n → (result ≡ Ok (length (output f))) × (take (length (output f)) buffer ≡ output f)
-  rejected : (is_whole f ≡ false) ⊎ (n < length (output f)) → (error : DecodeError) × (result ≡ Err error)
+reported : (outcome : Outcome) (result : Result ℕ DecodeError) (buffer m : List ℕ) → Reported outcome result buffer
+    → ReturnsMessage result buffer m ↔ (outcome ≡ Message m)
+reported (Message k) result buffer m h = grind arith
+reported (Broken count) result buffer m h = grind arith
+reported TooLong result buffer m h = grind arith
 
-decodes-reads : (f m : List ℕ) (n : ℕ) (result : Result ℕ DecodeError) (buffer : List ℕ) → IsPiece f → All (λ b. b < 256) f → Decodes f n result buffer
-    → ReturnsMessage result buffer m ↔ (Reads f m × (length m ≤ n))
-decodes-reads f m n result buffer piece below d =
-    reads_where_fits f m n (ReturnsMessage result buffer m)
-    (λ fits. (
-      λ stated. ⊎_elim
-          (λ (whole : is_whole f ≡ true).
-          let w = d.whole whole fits in
-          let stated' : BeginsWith buffer (length (output f)) m = subst (λ r. ReturnsMessage r buffer m) w.0 stated in
-          subst (λ (x : List ℕ). Reads f x) (sym w.1 ∙ stated'.1) (reads_output f piece.0 piece.1 below whole))
-          (λ (broken : is_whole f ≡ false). absurd (subst (λ r. ReturnsMessage r buffer m) (d.rejected (inl broken)).1 stated))
-          (cases_Bool (is_whole f)),
-      λ r.
-          let is = frame_output f m r in
-          let w = d.whole (frame_whole f m r) fits in
-          subst (λ r. ReturnsMessage r buffer m) (sym w.0) (sym (ap length is), w.1 ∙ sym is),
-    ))
-    (λ more stated. absurd (subst (λ r. ReturnsMessage r buffer m) (d.rejected (inr more)).1 stated))
+-- so it returns the message m exactly if the list reads as m and m fits n bytes
+returns-reads : (f m : List ℕ) (n : ℕ) (result : Result ℕ DecodeError) (buffer : List ℕ) → IsPiece f → All (λ b. b < 256) f
+    → Reported (outcome_of f n) result buffer → ReturnsMessage result buffer m ↔ (Reads f m × (length m ≤ n))
+returns-reads f m n result buffer piece below h =
+    let r = reported (outcome_of f n) result buffer m h in
+    let o = outcome_message f m n piece below in
+    (λ s. o.0 (r.0 s), λ s. r.1 (o.1 s))
 
 reports : (parsed : ℕ) (result : Result ℕ DecodeError) (buffer m : List ℕ) (P : Type 0) → ReturnsMessage result buffer m ↔ P → ReportsMessage (report_result parsed result) buffer m ↔ P
 reports parsed result buffer m P h = grind arith
@@ -74,23 +60,21 @@ result_of_decode_alone : (f : List ℕ) (n : ℕ) → IsPiece f → result_of_de
 result_of_decode_alone [] n piece = grind arith
 result_of_decode_alone (byte ∷ bytes) n piece = grind (arith, result_by_piece, first_piece_alone)
 
-outcome_result-rejected : (f : List ℕ) (n : ℕ) → (is_whole f ≡ false) ⊎ (n < length (output f)) → (error : DecodeError) × (outcome_result (outcome_of f n) ≡ Err error)
-outcome_result-rejected f n (inr more) = grind (arith, outcome_of_long)
-outcome_result-rejected f n (inl broken) = ⊎_elim
-    (λ (more : n < length (output f)). (TargetBufTooSmall, ap outcome_result (outcome_of_long f n more)))
-    (λ (fits : length (output f) ≤ n). (InvalidFrame (length (output f)), ap outcome_result (outcome_of_broken f n fits broken)))
-    (cases_lt n (length (output f)))
+decode-reported : (f buffer buffer' : List ℕ) (outcome : Outcome) → outcome_of f (length buffer) ≡ outcome → buffer' ≡ overwritten buffer (output f)
+    → Reported outcome (outcome_result outcome) buffer'
+decode-reported f buffer buffer' (Message m) e is =
+    let (fits, whole, same) = outcome_says f (length buffer) e in
+    (refl, rw (is, same) (overwritten-begins buffer (output f) fits))
+decode-reported f buffer buffer' (Broken count) e is = (InvalidFrame count, refl)
+decode-reported f buffer buffer' TooLong e is = (TargetBufTooSmall, refl)
 
 pub decode_reads : (f buffer : List ℕ) (result : Result DecodeReport DecodeError) (buffer' : List ℕ) → result ≡ result_of_decode f (length buffer) → buffer' ≡ overwritten buffer (first_output f)
     → All (λ b. b < 256) f → IsPiece f → (m : List ℕ) → ReportsMessage result buffer' m ↔ (Reads f m × (length m ≤ length buffer))
 decode_reads f buffer result buffer' returned after below piece m =
     let written : buffer' ≡ overwritten buffer (output f) = after ∙ ap (λ p. overwritten buffer (output_of p)) (first_piece_alone f piece.0 piece.1) in
-    let decodes : Decodes f (length buffer) (outcome_result (outcome_of f (length buffer))) buffer' = record {
-      whole = λ whole fits. (ap outcome_result (outcome_of_whole f _ fits whole), ap (take (length (output f))) written ∙ overwritten-begins buffer (output f) fits);
-      rejected = outcome_result-rejected f (length buffer);
-    } in
-    subst (λ r. ReportsMessage r buffer' m ↔ (Reads f m × (length m ≤ length buffer))) (sym (returned ∙ result_of_decode_alone f _ piece))
-    (reports (len_through_piece f f) (outcome_result (outcome_of f _)) buffer' m _ (decodes-reads f m _ (outcome_result (outcome_of f _)) buffer' piece below decodes))
+    rw (returned, result_of_decode_alone f (length buffer) piece)
+    (reports (len_through_piece f f) (outcome_result (outcome_of f _)) buffer' m _
+    (returns-reads f m _ (outcome_result (outcome_of f _)) buffer' piece below (decode-reported f buffer buffer' _ refl written)))
 
 -- DECODING FROM A SOURCE FOR ANY SENTINEL
 
@@ -99,25 +83,30 @@ result_of_sentinel_decode_alone [] n piece = grind arith
 result_of_sentinel_decode_alone (byte ∷ bytes) n piece = grind (arith, head_alone)
 
 within-rejected : (f : List ℕ) (n : ℕ) → f ≢ [] → (is_whole f ≡ false) ⊎ (n < length (output f)) → (error : DecodeError) × (head_result_within f n ≡ Err error)
-within-rejected f n some either = ⊎_elim
-    (λ (more : n < length (kept_output f)). (TargetBufTooSmall, sym (result-too_long f n more)))
-    (λ (fits : length (kept_output f) ≤ n).
-    let broken : is_whole f ≡ false = grind (arith, all-kept, cases_Bool) in
-    (InvalidFrame (length (kept_output f)), sym (result-fits f n fits) ∙ (grind arith)))
-    (cases_lt n (length (kept_output f)))
+within-rejected f n some either = elim (cases_lt n (length (kept_output f))) [
+  | inl more ↦ (TargetBufTooSmall, sym (result-too_long f n more))
+  | inr fits ↦
+      let broken : is_whole f ≡ false = grind (arith, all-kept, cases_Bool) in
+      (InvalidFrame (length (kept_output f)), sym (result-fits f n fits) ∙ (grind arith))
+]
+
+source-reported : (f buffer buffer' : List ℕ) (outcome : Outcome) → outcome_of f (length buffer) ≡ outcome → f ≢ []
+    → buffer' ≡ overwritten buffer (kept_output f) → Reported outcome (head_result_within f (length buffer)) buffer'
+source-reported f buffer buffer' (Message m) e some is =
+    let (fits, whole, same) = outcome_says f (length buffer) e in
+    let kept = all-kept f whole in
+    (sym (result-fits f _ (omega (arith, ap length kept))) ∙ (grind arith), rw (is, kept, same) (overwritten-begins buffer (output f) fits))
+source-reported f buffer buffer' (Broken count) e some is = within-rejected f (length buffer) some (inl (outcome_says f (length buffer) e).1)
+source-reported f buffer buffer' TooLong e some is = within-rejected f (length buffer) some (inr (outcome_says f (length buffer) e))
 
 module _ (f buffer : List ℕ) (result : Result ℕ DecodeError) (buffer' : List ℕ) (returned : result ≡ result_of_sentinel_decode f (length buffer)) (after : buffer' ≡ overwritten buffer (kept_output (head f)))
     (below : All (λ b. b < 256) f) where
   source_reported : IsPiece f → (m : List ℕ) → ReturnsMessage result buffer' m ↔ (Reads f m × (length m ≤ length buffer))
-  source_reported piece m = decodes-reads f m (length buffer) result buffer' piece below (record {
-    whole = λ whole fits.
-        let some = piece.0 in
-        let kept = all-kept f whole in (
-          returned ∙ result_of_sentinel_decode_alone f _ piece ∙ sym (result-fits f _ (omega (arith, ap length kept))) ∙ (grind arith),
-          ap (take (length (output f))) (after ∙ ap (overwritten buffer) (ap kept_output (head_alone f piece.1) ∙ kept)) ∙ overwritten-begins buffer (output f) fits,
-        );
-    rejected = λ either. let r = within-rejected f _ piece.0 either in (r.0, returned ∙ result_of_sentinel_decode_alone f _ piece ∙ r.1);
-  })
+  source_reported piece m =
+      let written : buffer' ≡ overwritten buffer (kept_output f)
+      = after ∙ ap (λ (h : List ℕ). overwritten buffer (kept_output h)) (head_alone f piece.1) in
+      rw (returned, result_of_sentinel_decode_alone f (length buffer) piece)
+      (returns-reads f m _ _ buffer' piece below (source-reported f buffer buffer' _ refl piece.0 written))
 
   pub source_reads : (m : List ℕ) → Reads f m → length m ≤ length buffer → ReturnsMessage result buffer' m
   source_reads m r fits = (source_reported (frame_piece r) m).1 (r, fits)

@@ -1,5 +1,5 @@
--- The kept output of a piece, also of one after a block, and whether it is whole: by cutting the piece after its first part
--- (`PieceCuts`).
+-- Lemmas on the kept output of a piece, on the kept output of a block and a piece after it, and on whether a piece is
+-- whole. They cut the piece after its first part (`PieceCuts`).
 use Rattle.std.proofs.Common.{◌≡◌, ◌≢◌, ℕ, ◌+◌, ◌-◌, ◌<◌, ◌≤◌, Bool, true, false, cond, List, [], ◌∷◌, ◌++◌, length, take, refl, ap, ◌∙◌, arith, append_assoc, length-append, take_all, take_at, drop_at, eqb, Ok, Err}
 use Rattle.std.proofs.Math.Seq.{take-append-add}
 use Rattle.std.proofs.lemmas.Bool.{ne_eqb, eq-eqb}
@@ -36,7 +36,7 @@ last_part_fits : (p : List ℕ) → length (bytes_of (last_part p)) ≤ length (
 unfolding last_part output
 last_part_fits p = last_fits (parts p)
 
--- a part alone
+-- a block is a whole piece
 pub block-whole : (block : List ℕ) → IsBlock block → IsWhole block
 block-whole block is = grind (arith, is_whole-of, last_part-last, eq-eqb)
 

@@ -1,16 +1,20 @@
--- The outcome of a piece follows from its output's length and from whether it is whole (`outcome_of_whole` and the lemmas
--- after it), so it is `Message m` exactly if the piece is a frame of m (`outcome_reads`). The first piece of a stream is the
--- bytes before its first zero, by std's lemmas on `slice_split`.
-use Rattle.std.proofs.Common.{◌≡◌, ◌≢◌, ℕ, zero, suc, ◌-◌, ◌<◌, ◌≤◌, ◌↔◌, List, [], ◌∷◌, length, filter, All, Some, refl, sym, ap, ◌∙◌, subst, arith, length-append, false}
-use Rattle.std.specs.List.{concat}
-use Rattle.std.proofs.lemmas.Bool.{cases_Bool, cases_eq, ne_eqb, le-leb, eq-eqb, lt-leb}
-use Rattle.std.proofs.lemmas.List.Elements.{All-head, All-tail, All-cons, All-nil, All-weaker}
+-- The outcome of a piece follows from its output's length and from whether it is whole (`outcome_of_whole` and the lemmas after
+-- it), and says as much of the piece (`outcome_says`): so it is `Message m` exactly if the piece is a frame of m that fits
+-- (`outcome_message`). The first piece of a stream is the bytes before its first zero: std's `take_while`.
+use Rattle.std.proofs.Common.{◌≡◌, ◌≢◌, ℕ, zero, suc, ◌-◌, ◌<◌, ◌≤◌, ◌↔◌, List, [], ◌∷◌, ◌++◌, length, filter, All, Some, refl, sym, ap, ◌∙◌, subst, arith, length-append, length-drop, length-take, drop, false, not, ◌==◌, inl, inr}
+use Rattle.std.specs.List.{position_or_len, take_while}
+use Rattle.std.proofs.lemmas.Bool.{cases_Bool, cases_eq, cases_lt, ne_eqb, le-leb, eq-eqb, lt-leb, leb-true, leb-false}
+use Rattle.std.proofs.lemmas.List.Elements.{All-cons, All-nil, All-weaker, All-take}
+use Rattle.std.proofs.lemmas.List.Folds.{length-prefix_len}
+use Rattle.std.proofs.lemmas.List.Sums.{take_while-cons}
 use Rattle.std.proofs.lemmas.List.Splits.{slice_split-cons_no, slice_split_none}
-use Rattle.cobs.specs.Grammar.{HasNoZero, message_of, Reads}
-use Rattle.cobs.specs.Piece.{parts_after, parts, IsWhole, output, is_whole, last_part, missing}
-use Rattle.cobs.specs.Stream.{first_piece, head, Message, outcome_of, Broken, TooLong}
-use Rattle.cobs.proofs.decoding.PieceCuts.{is_whole-of}
-use Rattle.cobs.proofs.format.FrameLemmas.{concat-parts, frame_some, frame_nonzero, frame_whole, frame_output, reads_output}
+use Rattle.cobs.specs.Grammar.{HasNoZero, Reads}
+use Rattle.cobs.specs.Headline.{IsPiece}
+use Rattle.cobs.specs.Piece.{IsWhole, output, is_whole, last_part, missing}
+use Rattle.cobs.specs.Stream.{first_piece, head, Message, outcome_of, Outcome, Broken, TooLong}
+use Rattle.cobs.proofs.decoding.PieceCuts.{is_whole-of, joint_of, output-empty, output-last, output-more}
+use Rattle.cobs.proofs.format.LengthLemmas.{no_zero, some_stretch, stretches-front}
+use Rattle.cobs.proofs.format.FrameLemmas.{frame_some, frame_nonzero, frame_whole, frame_output, reads_output}
 
 -- A FRAME, BY ITS BYTES
 
@@ -25,27 +29,30 @@ reads_iff f m below = (
 
 -- THE OUTPUT IS NO LONGER THAN THE PIECE
 
-length-message_of : (blocks : List (List ℕ)) → All (λ block. block ≢ []) blocks → length (message_of blocks) ≤ length (concat blocks)
-length-message_of [] h = omega arith
-length-message_of ([] ∷ blocks) h = grind (arith, All-head)
-length-message_of ((c ∷ bytes) ∷ []) h = grind (arith, length-append)
-length-message_of ((c ∷ bytes) ∷ next ∷ blocks) h = grind (arith, All-tail, length-append, length-message_of (next ∷ blocks) (All-tail (λ block. block ≢ []) (c ∷ bytes) (next ∷ blocks) h))
-
-parts_nonempty : (n : ℕ) (p : List ℕ) → All (λ part. part ≢ []) (parts_after n p)
-unfolding parts_after
-parts_nonempty n [] = grind (arith, All-nil)
-parts_nonempty (suc n) (x ∷ p) = parts_nonempty n p
-parts_nonempty zero (c ∷ p) = grind (arith, All-cons, parts_nonempty (c - 1) p)
+within_by : (n : ℕ) (p : List ℕ) → length p ≤ n → length (output p) ≤ length p
+within_by n [] h = omega (arith, ap length (output-empty [] refl))
+within_by zero (code ∷ bytes) h = grind arith
+within_by (suc n) (code ∷ bytes) h =
+    let rest = within_by n (drop (code - 1) bytes) (omega (arith, length-drop (code - 1) bytes)) in
+    grind (arith, cases_lt, output-last, output-more, joint_of, length-append, length-drop, length-take)
 
 pub output_within : (p : List ℕ) → length (output p) ≤ length p
-unfolding output parts
-output_within p = grind (arith, length-message_of, parts_nonempty, concat-parts)
+output_within p = within_by (length p) p (omega arith)
 
 -- THE OUTCOME OF A PIECE
 
-outcome_whole : (p m : List ℕ) (n : ℕ) → length (output p) ≤ n → outcome_of p n ≡ Message m → IsWhole p × (m ≡ output p)
+-- what an outcome says of its piece
+abbrev pub Says : Outcome → List ℕ → ℕ → Type 0
+Says (Message m) p n = (length (output p) ≤ n) × IsWhole p × (m ≡ output p)
+Says (Broken count) p n = (length (output p) ≤ n) × (is_whole p ≡ false) × (count ≡ length (output p))
+Says TooLong p n = n < length (output p)
+
+says : (p : List ℕ) (n : ℕ) → Says (outcome_of p n) p n
 unfolding outcome_of
-outcome_whole p m n fits e = grind (arith, le-leb, cases_Bool)
+says p n = grind (arith, cases_Bool, leb-true, leb-false)
+
+pub outcome_says : (p : List ℕ) (n : ℕ) {outcome : Outcome} → outcome_of p n ≡ outcome → Says outcome p n
+outcome_says p n e = subst (λ o. Says o p n) e (says p n)
 
 pub outcome_of_whole : (p : List ℕ) (n : ℕ) → length (output p) ≤ n → IsWhole p → outcome_of p n ≡ Message (output p)
 unfolding outcome_of
@@ -66,18 +73,20 @@ outcome_of_none_missing p n some fits whole = grind (arith, outcome_of_whole, is
 pub outcome_of_some_missing : (p : List ℕ) (n : ℕ) → 0 < length p → length (output p) ≤ n → missing (last_part p) ≢ 0 → outcome_of p n ≡ Broken (length (output p))
 outcome_of_some_missing p n some fits broken = grind (arith, outcome_of_broken, is_whole-of, ne_eqb)
 
--- if there is room for its output
-pub outcome_reads : (f m : List ℕ) (n : ℕ) → f ≢ [] → HasNoZero f → All (λ b. b < 256) f → length (output f) ≤ n → (outcome_of f n ≡ Message m) ↔ Reads f m
-outcome_reads f m n some nonzero below fits = (
-  λ e. let w = outcome_whole f m n fits e in subst (λ (x : List ℕ). Reads f x) (sym w.1) (reads_output f some nonzero below w.0),
-  λ r. outcome_of_whole f n fits (frame_whole f m r) ∙ ap Message (sym (frame_output f m r)),
-)
-
 -- the outcome of a frame is its message, in each buffer that holds it
 pub outcome_frame : (f m : List ℕ) (n : ℕ) → Reads f m → length m ≤ n → outcome_of f n ≡ Message m
 outcome_frame f m n r fits =
     let is = frame_output f m r in
     outcome_of_whole f n (omega (arith, ap length is)) (frame_whole f m r) ∙ ap Message (sym is)
+
+-- and only that of a frame
+pub outcome_message : (f m : List ℕ) (n : ℕ) → IsPiece f → All (λ b. b < 256) f → (outcome_of f n ≡ Message m) ↔ (Reads f m × (length m ≤ n))
+outcome_message f m n (some, nonzero) below = (
+  λ e.
+      let (fits, whole, is) = outcome_says f n e in
+      (subst (Reads f) (sym is) (reads_output f some nonzero below whole), omega (arith, ap length is)),
+  λ (r, fits). outcome_frame f m n r fits,
+)
 
 -- WHAT IS BEFORE THE FIRST ZERO
 
@@ -85,9 +94,26 @@ pub head-zero : (bytes : List ℕ) → head (0 ∷ bytes) ≡ []
 unfolding head
 head-zero bytes = refl
 
-pub head-cons : (byte : ℕ) (bytes : List ℕ) → byte ≢ 0 → head (byte ∷ bytes) ≡ byte ∷ head bytes
+-- bytes without a zero are before it
+pub head-append : (p t : List ℕ) → HasNoZero p → head (p ++ t) ≡ p ++ head t
 unfolding head
-head-cons byte bytes some = grind (arith, slice_split-cons_no, ne_eqb)
+head-append p t h = grind (arith, stretches-front, some_stretch)
+
+pub head-cons : (byte : ℕ) (bytes : List ℕ) → byte ≢ 0 → head (byte ∷ bytes) ≡ byte ∷ head bytes
+head-cons byte bytes some = head-append (byte ∷ []) bytes (grind (arith, All-cons, All-nil))
+
+-- in std's words
+pub head-is : (t : List ℕ) → head t ≡ take_while (λ b. not (b == 0)) t
+unfolding head
+head-is [] = refl
+head-is (byte ∷ t) = elim (cases_eq byte 0) [
+  | inl none ↦ rw none refl
+  | inr some ↦ head-cons byte t some ∙ ap (λ (l : List ℕ). byte ∷ l) (head-is t)
+      ∙ sym (take_while-cons (λ b. not (b == 0)) byte t ∙ rw (ne_eqb byte 0 some) refl)
+]
+
+pub length-head-is : (t : List ℕ) → length (head t) ≡ position_or_len (λ b. b == 0) t
+length-head-is t = ap length (head-is t) ∙ length-prefix_len (λ b. not (b == 0)) t
 
 pub head_nonzero : (t : List ℕ) → HasNoZero (head t)
 unfolding head
@@ -95,14 +121,10 @@ head_nonzero [] = All-nil (λ b. b ≢ 0)
 head_nonzero (byte ∷ bytes) = grind (arith, All-nil, head-cons, All-cons, cases_eq, (head_nonzero bytes))
 
 pub head_all : (P : ℕ → Type 0) (t : List ℕ) → All P t → All P (head t)
-unfolding head
-head_all P [] h = All-nil P
-head_all P (byte ∷ bytes) h = grind (arith, All-nil, head-cons, All-cons, All-head, All-tail, cases_eq, (head_all P bytes (All-tail P byte bytes h)))
+head_all P t h = rw (head-is t) (All-take P _ t h)
 
 pub length-head : (t : List ℕ) → length (head t) ≤ length t
-unfolding head
-length-head [] = omega arith
-length-head (byte ∷ bytes) = grind (arith, head-cons, cases_eq, length-head bytes)
+length-head t = rw (head-is t) (omega (arith, length-take {A = ℕ}))
 
 pub first_piece_head : (byte : ℕ) (bytes : List ℕ) → byte ≢ 0 → first_piece (byte ∷ bytes) ≡ Some (head (byte ∷ bytes))
 unfolding first_piece head
@@ -111,15 +133,16 @@ first_piece_head byte bytes some = grind (arith, slice_split-cons_no, ne_eqb, he
 -- in a buffer of the stream's length
 pub head_reads : (byte : ℕ) (bytes m : List ℕ) → byte ≢ 0 → All (λ b. b < 256) (byte ∷ bytes) → (outcome_of (head (byte ∷ bytes)) (length (byte ∷ bytes)) ≡ Message m) ↔ Reads (head (byte ∷ bytes)) m
 head_reads byte bytes m some below =
-    let h = output_within (head (byte ∷ bytes)) in
-    let l = length-head (byte ∷ bytes) in
-    outcome_reads (head (byte ∷ bytes)) m (length (byte ∷ bytes)) (λ e. (let k = sym (head-cons byte bytes some) ∙ e in cc)) (head_nonzero (byte ∷ bytes)) (head_all (λ b. b < 256) (byte ∷ bytes) below) (omega arith)
+    let t = byte ∷ bytes in
+    let piece : IsPiece (head t) = (λ e. (let k = sym (head-cons byte bytes some) ∙ e in cc), head_nonzero t) in
+    let both = outcome_message (head t) m (length t) piece (head_all (λ b. b < 256) t below) in
+    (λ e. (both.0 e).0, λ r. both.1 (r, omega (arith, ap length (frame_output (head t) m r), output_within (head t), length-head t)))
 
 -- A PIECE ALONE IS ITS OWN FIRST PIECE AND HEAD
 
 pub head_alone : (p : List ℕ) → HasNoZero p → head p ≡ p
 unfolding head
-head_alone p h = grind (arith, slice_split_none, All-weaker, ne_eqb)
+head_alone p h = grind (arith, slice_split_none, no_zero)
 
 pub first_piece_alone : (p : List ℕ) → p ≢ [] → HasNoZero p → first_piece p ≡ Some p
 unfolding first_piece

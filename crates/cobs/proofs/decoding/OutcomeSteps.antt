@@ -1,5 +1,5 @@
--- What `decode` returns follows from the counts that a decoder has: the output's length, and the missing bytes of the last
--- part. By `outcome_of_none_missing` and `outcome_of_some_missing`.
+-- The result of `decode` follows from the two numbers that a decoder counts: the output's length, and the number of
+-- missing bytes of the last part. By `outcome_of_none_missing` and `outcome_of_some_missing`.
 use Rattle.std.proofs.Common.{◌≡◌, ℕ, ◌+◌, ◌<◌, ◌≤◌, false, IsTrue, eqb, List, [], ◌∷◌, length, take, drop, min, Option, None, Some, Result, Ok, Err, arith, length-take-le, take-append-drop, take_all}
 use Rattle.std.specs.Prelude.{IfOk}
 use Rattle.std.proofs.lemmas.Bool.{cases_eq, ne_eqb, eq-eqb}
@@ -25,7 +25,7 @@ result_of_decode-none source n h e = grind arith
 pub overwritten-none : (buffer : List ℕ) → overwritten buffer [] ≡ buffer
 overwritten-none buffer = grind arith
 
--- a buffer whose front is exactly what was to be written
+-- a buffer that begins with the bytes that had to be written, and is otherwise as it was
 pub overwritten-front : (old new bytes : List ℕ) (written : ℕ) → length new ≡ length old → written ≤ length old → drop written new ≡ drop written old → take written new ≡ bytes → new ≡ overwritten old bytes
 overwritten-front old new bytes written same within rest is = grind (arith, length-take-le, take-append-drop, take_all)
 
@@ -41,7 +41,7 @@ pub result-by : (p : List ℕ) (n k left : ℕ) (r : Result ℕ DecodeError) →
     → (IsTrue (eqb left 0) → r ≡ Ok k) → (eqb left 0 ≡ false → r ≡ Err (InvalidFrame k)) → r ≡ outcome_result (outcome_of p n)
 result-by p n k left r some fits count is whole broken = grind (arith, cases_eq, eq-eqb, ne_eqb, outcome_of_none_missing, outcome_of_some_missing)
 
--- whatever is returned
+-- a fact holds whatever is returned
 pub always : {P : Type 0} (r : Result ℕ DecodeError) → P → IfOk r (λ size. P)
 always r p = grind arith
 

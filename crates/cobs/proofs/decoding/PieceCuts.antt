@@ -1,5 +1,5 @@
--- A piece is its first part and what follows it, so its output and its last part are known from those of the rest: by the
--- definition of `parts_after`.
+-- A piece is its first part and the bytes after it. So the output and the last part of the piece follow from those of
+-- these bytes, by the definition of `parts_after`.
 use Rattle.std.proofs.Common.{◌≡◌, ℕ, ◌-◌, ◌<◌, ◌≤◌, eqb, List, [], ◌∷◌, ◌++◌, length, take, drop, if◌then◌else◌, ◌==◌, refl, arith, take_all, length-drop}
 use Rattle.cobs.specs.Piece.{last_part, is_whole, missing, parts, parts_after, output}
 use Rattle.cobs.proofs.format.FrameLemmas.{parts_after-drop, parts_after-past, last_of-cons, parts_after-some}

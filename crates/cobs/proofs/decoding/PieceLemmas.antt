@@ -1,5 +1,5 @@
--- What one more byte does to the output and to the last part of a piece: it joins the last part if bytes of it are missing,
--- else it is the next code. By induction on `parts_after`.
+-- How one more byte changes the output and the last part of a piece: the byte joins the last part if bytes of that part
+-- are missing; otherwise the byte is the next code. By induction on `parts_after`.
 use Rattle.std.proofs.Common.{◌≡◌, ℕ, zero, suc, ◌+◌, ◌-◌, ◌<◌, ◌≤◌, List, [], ◌∷◌, ◌++◌, length, drop, refl, arith, append_assoc, append-nil, inl, inr, length-drop, take_at, drop_at}
 use Rattle.std.proofs.lemmas.List.{take-append-le, drop-append-le, length_push}
 use Rattle.std.proofs.lemmas.Bool.{cases_lt}

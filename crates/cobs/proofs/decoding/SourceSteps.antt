@@ -1,10 +1,9 @@
 -- A source for any sentinel is a source for 0 once each byte is XORed with it: the bytes before its first sentinel, and the
--- result for that, by `xor_twice`.
-use Rattle.std.proofs.Common.{◌≡◌, ◌≢◌, ℕ, ◌<◌, ◌≤◌, All, List, [], ◌∷◌, length, take, get_or, bit_xor, Err, sym, ap, ◌∙◌, arith}
+-- result for that, by `coded_nonzero`.
+use Rattle.std.proofs.Common.{◌≡◌, ◌≢◌, ℕ, ◌<◌, ◌≤◌, All, List, [], ◌∷◌, length, take, get_or, bit_xor, Err, arith}
 use Rattle.std.specs.Int.Bits.{xor_self}
 use Rattle.std.proofs.lemmas.Bool.{le-leb, lt-leb}
 use Rattle.std.proofs.lemmas.List.{get_or-map, length-map, take-map}
-use Rattle.std.proofs.lemmas.List.Elements.{All-map, All-weaker}
 use Rattle.cobs.specs.Overwritten.{overwritten}
 use Rattle.cobs.specs.Grammar.{HasNoZero}
 use Rattle.cobs.specs.Piece.{kept_output}
@@ -15,7 +14,7 @@ use Rattle.cobs.specs.declared.error.DecodeError.TheVariants.{TargetBufTooSmall}
 use Rattle.cobs.proofs.decoding.HeadLemmas.{front_is_head}
 use Rattle.cobs.proofs.decoding.KeptLemmas.{kept_output-empty}
 use Rattle.cobs.proofs.decoding.OutcomeSteps.{overwritten-none}
-use Rattle.cobs_bytes.proofs.bytes.XoredLemmas.{xor_twice}
+use Rattle.cobs.proofs.format.SentinelLemmas.{coded_nonzero}
 
 -- RESULTS BY THE KEPT OUTPUT
 
@@ -38,9 +37,7 @@ front-head source end s within nonzero stop =
 
 module _ (source : List ℕ) (end s : ℕ) (within : end ≤ length source) (before : All (λ byte. byte ≢ s) (take end source)) (stop : end < length source → get_or source end 0 ≡ s) where
   pub xor_no_zero : HasNoZero (xor_each s (take end source))
-  xor_no_zero =
-      All-map (λ b. b ≢ 0) (λ b. bit_xor b s) (take end source)
-      (All-weaker (λ b. b ≢ s) (λ b. bit_xor b s ≢ 0) (λ b other e. other (sym (xor_twice b s) ∙ ap (λ (x : ℕ). bit_xor x s) e)) (take end source) before)
+  xor_no_zero = coded_nonzero (take end source) s before
 
   pub xor_head : xor_each s (take end source) ≡ head (xor_each s source)
   xor_head = grind (arith, front-head, xor_no_zero)

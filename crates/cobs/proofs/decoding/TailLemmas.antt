@@ -1,5 +1,5 @@
--- The kept output of a piece is the output of all its bytes except some of the last 253, since no block has more: by steps from
--- block to block (`ends-next`), as `kept_len` makes them.
+-- The kept output of a piece is the output of all its bytes except some of the last 253, since a broken block has at
+-- most 253 bytes after its code. Proved in steps from block to block (`ends-next`), as `kept_len` makes them.
 use Rattle.std.proofs.Common.{◌≡◌, ◌≢◌, ℕ, zero, suc, All, inl, inr, refl, ◌+◌, ◌-◌, ◌<◌, ◌≤◌, List, [], ◌∷◌, ◌++◌, length, take, drop, replicate, get_or, subst, sym, ap, ◌∙◌, arith, append_assoc, append-nil, zero-add, length-append, take_at}
 use Rattle.std.proofs.lemmas.List.{drop_more, take_more, length-take-le, length-drop, take-append-drop}
 use Rattle.std.proofs.Math.Seq.{take-add}
@@ -10,7 +10,7 @@ use Rattle.cobs.specs.Piece.{kept_output, last_part, missing, output, parts, par
 use Rattle.cobs.proofs.decoding.PieceLemmas.{last_part-one, last_part-push_next, last_part-push_more, missing-push_more, output-push_more}
 use Rattle.cobs.proofs.decoding.PieceCuts.{is_whole-of, output-empty}
 
--- bytes that the last part is missing go into it
+-- if bytes of the last part are missing, the next bytes join it
 pub record IntoLast (p xs : List ℕ) : Type 0 where
   pub out : output (p ++ xs) ≡ output p ++ xs
   pub last : last_part (p ++ xs) ≡ last_part p ++ xs
@@ -33,7 +33,7 @@ in_front p q n k = grind (arith, append_assoc, take-add)
 
 -- THE WALK OF `kept_len`
 
--- the first block that it steps over began before
+-- the first block that `kept_len` steps over began before the bytes q
 pub ends-start : (p q : List ℕ) (left : ℕ) → left ≤ length q → missing (last_part p) ≡ left → missing (last_part (p ++ take left q)) ≡ 0
 ends-start p q left fits is = let l = length-take-le left q fits in let i = into_last p (take left q) (omega arith) in omega (arith, i.left)
 

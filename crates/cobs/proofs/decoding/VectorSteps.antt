@@ -1,4 +1,4 @@
--- A buffer as long as the source has room for each output of it, so it holds all decoded bytes: by `output_within`.
+-- A buffer as long as the source has room for all bytes that are decoded from the source, by `output_within`.
 use Rattle.std.proofs.Common.{◌≡◌, ◌≢◌, ℕ, zero, suc, ◌<◌, ◌≤◌, List, [], ◌∷◌, length, take, Option, Some, None, Result, Ok, Err, if◌then◌else◌, arith, take_at, take_all, length-take}
 use Rattle.std.proofs.lemmas.Bool.{le-leb}
 use Rattle.cobs.specs.Overwritten.{overwritten}
@@ -53,7 +53,7 @@ module _ (source : List ℕ) (n : ℕ) (room : n ≡ length source) where
       → decoded source ≡ Ok (take (frame_size_of report) new)
   decoded-message report old new some long e is = grind (arith, decoded-is, piece-message, result-equals)
 
--- WHAT IS BEFORE THE FIRST ZERO
+-- THE BYTES BEFORE THE FIRST ZERO
 
 -- a kept output is no longer than the output
 pub kept_within : (p : List ℕ) → length (kept_output p) ≤ length p

@@ -1,5 +1,5 @@
--- The kept output of a piece, written to the front of a buffer byte by byte (`Written`), and what of it comes from each block:
--- by cutting the piece after its first block (`kept-block`).
+-- Lemmas on the kept output of a piece that is written to the front of a buffer byte by byte (`Written`), and on the
+-- part of it that comes from each block. They cut the piece after its first block (`kept-block`).
 use Rattle.std.proofs.Common.{◌≡◌, ◌≢◌, ◌∙◌, ◌+◌, ◌-◌, ◌<◌, ◌≤◌, ◌⊎◌, ◌==◌, ℕ, Bool, true, false, cond, if◌then◌else◌, List, [], ◌∷◌, ◌++◌, length, take, drop, get_or, set, Result, Ok, Err, refl, sym, ap, arith, inl, inr, append_assoc, append-nil, drop_at, length-append, length-drop, length-take-le, take-append-drop, take_all, take_at}
 use Rattle.std.proofs.lemmas.Bool.{eq-eqb, ne_eqb}
 use Rattle.std.proofs.lemmas.List.{drop-drop, drop_all, drop_more, get_or-drop, set_at}
@@ -15,7 +15,7 @@ use Rattle.cobs.proofs.decoding.KeptLemmas.{all-kept, block-whole, broken-part, 
 use Rattle.cobs.proofs.decoding.PieceCuts.{output-last}
 use Rattle.cobs.proofs.decoding.SourceSteps.{result-fits, result-too_long}
 
--- WHAT OF IT COMES FROM A BLOCK
+-- THE PART OF THE KEPT OUTPUT THAT COMES FROM A BLOCK
 
 -- whether the remaining bytes are whole, or there are none
 abbrev pub whole_left : List ℕ → Bool
@@ -50,7 +50,7 @@ module _ (p : List ℕ) (code : ℕ) (some : 0 < length p) (is : code ≡ get_or
   front : p ≡ code ∷ drop 1 p
   front = grind (arith, drop_more)
 
-  -- and break off inside its block
+  -- these bytes break off inside the block
   module _ (less : length p < code) where
     pub kept-none : kept_output p ≡ []
     kept-none = grind (arith, front, kept-broken, length-drop)
@@ -62,7 +62,7 @@ module _ (p : List ℕ) (code : ℕ) (some : 0 < length p) (is : code ≡ get_or
     pub code-some : 0 < code
     code-some = grind (arith, All-get_or)
 
-    -- or have the whole block
+    -- these bytes have the whole block
     module _ (below : code < 256) (fits : code ≤ length p) where
       abbrev bytes : List ℕ
       bytes = take (code - 1) (drop 1 p)
@@ -81,7 +81,8 @@ module _ (p : List ℕ) (code : ℕ) (some : 0 < length p) (is : code ≡ get_or
 
 -- THE BYTES IN THE BUFFER
 
--- the first bytes of what is kept of h are at the buffer's front, and these are left; its other bytes are as they were
+-- the first `written` bytes of the kept output of h are at the front of the buffer, and the bytes `left` are still to
+-- be written; the buffer's other bytes are as they were
 pub record Written (h old buffer : List ℕ) (written : ℕ) (left : List ℕ) : Type 0 where
   pub done : List ℕ
   pub count : length done ≡ written
@@ -106,20 +107,20 @@ module _ {h old buffer : List ℕ} {written : ℕ} {left : List ℕ} (s : Writte
   pub written-long : length buffer ≡ length old
   written-long = grind (arith, length-append, length-drop)
 
-  -- the other bytes
+  -- the bytes of the buffer after the written ones are as they were
   pub written-behind : (k : ℕ) → written ≤ k → get_or buffer k 0 ≡ get_or old k 0
   written-behind k order = grind (arith, common_steps, drop_at, get_or-drop)
 
-  -- nothing is left, and h is whole or not
+  -- nothing is left to be written
   module _ (none : left ≡ []) where
     kept-long : length (kept_output h) ≡ written
     kept-long = grind (arith, append-nil)
 
-    -- the result and the buffer, over bytes that had room for all of them (in their own place)
+    -- the result and the buffer, if the buffer had room for all bytes, as it has in place
     pub all-written-in_place : (whole : Bool) → whole_left h ≡ whole → (cond whole (Ok written) (Err (InvalidFrame written)) ≡ head_result h) × (buffer ≡ overwritten old (kept_output h))
     all-written-in_place whole w = grind (arith, take_all, kept-result, kept-long, append-nil)
 
-    -- the same for any buffer
+    -- the result and the buffer, for any buffer
     pub all-written : (whole : Bool) → whole_left h ≡ whole → Decoded h old buffer (cond whole (Ok written) (Err (InvalidFrame written)))
     all-written whole w = grind (arith, common_steps, all-written-in_place, result-fits, kept-long)
 
@@ -137,6 +138,6 @@ module _ {h old buffer : List ℕ} {written : ℕ} {left : List ℕ} (s : Writte
           kept = s.kept ∙ ap (λ (x : List ℕ). s.done ++ x) next ∙ sym (append_assoc s.done (byte ∷ []) more);
         }
 
-    -- for which there is no room
+    -- there is no room for the next byte
     pub buffer-full : length buffer ≤ written → Decoded h old buffer (Err TargetBufTooSmall)
     buffer-full no-room = grind (arith, written-long, length-append, result-too_long, take_at, drop_all)

@@ -1,5 +1,6 @@
--- What a `CobsEncoder` says about its slice (`CobsEncoderAfter`) and what the core of the encoder knows about it (`Opened`) are the
--- same, since a message has one encoded frame (`one_encoded`). So its length and its room follow, and `close` completes it.
+-- The two facts about the slice of an encoder, `CobsEncoderAfter` and `Opened`, follow from each other, since a message
+-- has only one encoded frame (`one_encoded`). So the length of the frame and the room for it follow, and `close`
+-- completes the frame.
 use Rattle.std.proofs.Common.{◌≡◌, ◌≢◌, ℕ, ◌+◌, ◌-◌, ◌<◌, ◌≤◌, Bool, true, false, if◌then◌else◌, List, [], ◌∷◌, ◌++◌, length, set, drop, take, get_or, All, refl, sym, ap, ◌∙◌, arith, inl, inr, ◌⊎◌, append-nil, append_assoc, take_at, drop_at, length-append, length-take-le, length-take}
 use Rattle.std.specs.List.{concat}
 use Rattle.std.proofs.lemmas.Bool.{cases_Bool, true≢false, ne_eqb}
@@ -19,7 +20,7 @@ use Rattle.cobs.specs.Internal.Reaches.{Opened, ends_in_full}
 no_bytes : (front : List (List ℕ)) (bytes : List ℕ) → true ≡ ends_in_full front bytes → (bytes ≡ []) × (is_full (last_of front) ≡ true)
 no_bytes front bytes h = grind (arith, true≢false)
 
--- blocks whose last isn't lone behind a full one are an encoded frame
+-- blocks are an encoded frame if the last one isn't the lone block after a full block
 encoded-open : {f m : List ℕ} (front : List (List ℕ)) (code : ℕ) (bytes : List ℕ) → let blocks = front ++ (code ∷ bytes) ∷ [] in
     IsFrameOf f blocks → m ≡ message_of blocks → false ≡ ends_in_full front bytes → IsEncodedFrame f m
 encoded-open front code bytes frame message noted = encoded-by (front ++ (code ∷ bytes) ∷ []) frame message lone_behind
@@ -29,7 +30,7 @@ encoded-open front code bytes frame message noted = encoded-by (front ++ (code �
         let same = same_from_push front (fr ++ c ∷ []) (code ∷ bytes) lone_block (e ∙ sym (append_assoc fr (c ∷ []) (lone_block ∷ []))) in
         grind (arith, true≢false, last_of-push)
 
--- and so are the blocks in front of a lone one behind a full one, which says nothing
+-- the blocks before a lone block that follows a full block are an encoded frame
 module _ (front : List (List ℕ)) (full : is_full (last_of front) ≡ true) where
   some : front ≢ []
   some none = grind arith
@@ -177,14 +178,14 @@ module _ {slice m : List ℕ} {r : Reached} (h : CobsEncoderAfter slice r m) whe
   length-frame : length h.frame ≡ end_of r
   length-frame = length-encoded h.frame m h.encoded ∙ end-is
 
-  -- it is within the slice
+  -- the frame ends within the slice
   pub after-fits : encoded_len m ≤ length slice
   after-fits = grind (arith, length-frame, end-is)
 
   pub after-place : IsPlaceIn (length slice) r
   after-place = grind (arith, parts, o, end-is, after-fits)
 
-  -- how long it is once the encoder has taken these bytes too
+  -- the length of the frame after the encoder has taken these bytes too
   pub after-len : (bytes : List ℕ) → bytes ≢ [] → encoded_len (m ++ bytes) ≡ r.block.index + open_len r.block.code bytes
   after-len bytes some =
       let code : next_of r - r.block.index ≡ r.block.code = omega arith in

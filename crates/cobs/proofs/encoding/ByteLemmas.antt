@@ -1,4 +1,4 @@
--- The bytes that an encoder over a slice has taken after one byte more: the byte closes, joins or fills the open block, by
+-- Lemmas on an encoder over a slice that takes one more byte. The byte closes, joins or fills the open block, by
 -- `Reaches-zero`, `Reaches-join` and `Reaches-full`.
 use Rattle.std.proofs.Common.{◌≡◌, ◌≢◌, ℕ, ◌+◌, ◌-◌, ◌<◌, ◌≤◌, true, false, List, [], ◌∷◌, ◌++◌, length, get_or, replicate, refl, ap, ◌∙◌, arith}
 use Rattle.std.proofs.Math.ListN.{set}
@@ -14,7 +14,7 @@ use Rattle.cobs.proofs.encoding.TakingLemmas.{front-filled, front-open, joined, 
 use Rattle.cobs_bytes.proofs.bytes.ListLemmas.{length-ones, ones-nonzero}
 use Rattle.cobs.specs.Internal.Reaches.{Reaches, start_with}
 
--- how long the frame of a longer message is
+-- the length of the frame of a longer message
 pub after-more : {slice m : List ℕ} {r : Reached} (a bytes : List ℕ) → CobsEncoderAfter slice r m → HasNoZero a → length a + 1 ≡ r.block.code → bytes ≢ [] → encoded_len (m ++ bytes) ≡ r.block.index + encoded_len (a ++ bytes)
 after-more {r = r} a bytes h nonzero long some =
     let k = length-ones (r.block.code - 1) in
@@ -33,7 +33,7 @@ module _ {source slice : List ℕ} {r : Reached} {next : ℕ} (place : IsPlaceIn
       let n = length-set slice r.block.index code in
       front-open (omega arith) (rw code-is at closed) (omega arith) refl is
 
-  -- another byte joins it
+  -- any other byte joins the open block
   more : get_or source 0 0 ≢ 0 → Reaches (start_with slice r source) (set slice next (get_or source 0 0)) 1 r.block.index (next + 1) IsNotFull
   more other = joined (get_or source 0 0) some start refl other (omega (arith, place.not_full)) fits
 
@@ -42,7 +42,7 @@ module _ {source slice : List ℕ} {r : Reached} {next : ℕ} (place : IsPlaceIn
       let n = length-set slice next (get_or source 0 0) in
       front-open (omega arith) (more other) (omega (arith, place.not_full)) (omega arith) is
 
-  -- and fills it, if it is the 254th
+  -- the byte fills the open block if it is the block's 254th byte
   pub byte-fills : {r' : Reached} → get_or source 0 0 ≢ 0 → r.block.code ≡ 254 → r' ≡ place_at (next + 1) 1 true → TakesFront slice r source 1 (set (set slice next (get_or source 0 0)) r.block.index 255) r'
   byte-fills other last is = let n = length-set slice next (get_or source 0 0) in front-filled (omega arith) (omega arith) (more other) refl is
 
@@ -50,7 +50,7 @@ module _ {source slice : List ℕ} {r : Reached} {next : ℕ} (place : IsPlaceIn
 pub fits-byte : (slice : List ℕ) (r : Reached) (byte : ℕ) → 0 < r.block.code → r.block.code < 255 → next_of r < length slice → end_after r (byte ∷ []) ≤ length slice
 fits-byte slice r byte some short room = grind (arith, short_room)
 
--- the same for the bytes that it has taken
+-- the three steps, for the bytes that an encoder has taken
 module _ {slice m : List ℕ} {r : Reached} (h : CobsEncoderAfter slice r m) (room : next_of r < length slice) where
   fits : (byte : ℕ) → end_after r (byte ∷ []) ≤ length slice
   fits byte = grind (arith, fits-byte, (after-place h))

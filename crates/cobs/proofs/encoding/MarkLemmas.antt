@@ -1,5 +1,6 @@
--- A window of a source that was copied after the open block, and whose zeros are replaced by codes one by one: each is marked by
--- `Reaches-join` over the bytes before it and `Reaches-zero`, and a window without a zero is taken only by `Reaches-join`.
+-- Lemmas on a window of a source that was copied after the open block, and whose zeros are replaced by codes one by
+-- one. A zero is replaced by `Reaches-join` for the bytes before it, and by `Reaches-zero`. A window without a zero is
+-- taken by `Reaches-join`.
 use Rattle.std.proofs.Common.{◌≡◌, ◌≢◌, ℕ, ◌+◌, ◌-◌, ◌%◌, ◌<◌, ◌≤◌, Bool, false, true, List, ◌++◌, length, drop, take, get_or, replicate, min, suc, refl, sym, ap, ◌∙◌, subst, inl, inr, arith, length-append, length-take-le, length-drop, take_all}
 use Rattle.std.proofs.Math.ListN.{set}
 use borrow.Rule.Slice.PartMut.{put_mid}
@@ -43,13 +44,13 @@ module _ {s : Start} {slice after : List ℕ} {read len index next : ℕ} (c : C
   copied-here : take len (drop next after) ≡ row
   copied-here = grind (arith, common_steps, least, mid-three, length-row)
 
-  -- the first k of them, which aren't zeros, join the open block
+  -- the first k copied bytes, which aren't zeros, join the open block
   copied-joins : (k : ℕ) → 0 < k → k ≤ len → next + k ≤ index + 255 → HasNoZero (take k (drop read s.source)) → Reaches s after (read + k) index (next + k) IsNotFull
   copied-joins k some le short nonzero =
       let here = sym (take-take k len (drop next after) le) ∙ ap (take k) copied-here ∙ take-take k len (drop read s.source) le in
       Reaches-join copied-reaches length-after k (let i = c.inside in omega arith) short nonzero here (λ full z p. absurd (omega arith)) (λ z. refl)
 
--- such bytes are a window, whose bits say which of them are zeros
+-- the copied bytes are a window, whose bits say which of them are zeros
 pub record CopiedWindow (s : Start) (slice after : List ℕ) (read len index next zeros : ℕ) : Type 0 where
   pub some : 0 < len
   pub few : len ≤ 32
@@ -114,7 +115,7 @@ module _ {s : Start} {slice : List ℕ} {read len index next zeros d : ℕ} (m :
   masked-code : (byte : ℕ) → IsMaskedAt s read len next zeros index (set slice index byte) d
   masked-code byte = grind (arith, drop-set-lt, take-set, take-set-lt, length-set)
 
-  -- the next one is replaced by a code
+  -- the next zero is replaced by a code
   module _ (some : zeros ≢ 0) where
     small : d + length left ≤ 64
     small = grind (arith, length-take-le, length-drop)
@@ -156,7 +157,7 @@ module _ {s : Start} {slice : List ℕ} {read len index next zeros d : ℕ} (m :
   pub masked-ordered : index ≤ next + lowest zeros
   masked-ordered = grind (arith, cases_eq, lowest-none, first-is)
 
--- a zero is marked, if there is one left
+-- the next zero is replaced, if there is one
 pub masked-first : {s : Start} {slice : List ℕ} {read len index next zeros : ℕ} → IsMasked s read len next zeros index slice → (after : List ℕ) (r : ℕ × ℕ)
     → after ≡ set slice index ((next + lowest zeros - index) % 256) → (zeros ≡ 0 → r ≡ (index, 0)) → (zeros ≢ 0 → r ≡ (next + lowest zeros, without_lowest zeros))
     → IsMasked s read len next r.1 r.0 after
@@ -194,7 +195,7 @@ pub window-front : {source old slice : List ℕ} {r r' : Reached} {read len inde
 window-front {source} {old} {slice} {r} {r'} w last is =
     subst (λ (n : ℕ). TakesFront old r source n slice r') last (front-open w.room w.reaches w.open' (omega (arith, w.ordered)) is)
 
--- WITHOUT A MASK
+-- BYTES THAT ARE TAKEN WITHOUT A MASK
 
 -- n zeros, in whose place ones are written
 pub row-taken : {s : Start} {slice after : List ℕ} {read index next : ℕ} {P : Bool → Type 0} → Reaches s slice read index next P → next < index + 255 → whole_end s ≤ length slice → (n : ℕ)

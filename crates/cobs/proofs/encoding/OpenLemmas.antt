@@ -1,5 +1,5 @@
--- The change of an open frame by each byte: a zero closes its last block, the 254th nonzero byte fills it, any other joins it.
--- By `message_of-close` and `message_of-more`.
+-- Lemmas on how a byte changes an open frame: a zero closes the last block, the 254th nonzero byte fills it, and any
+-- other byte joins it. By `message_of-close` and `message_of-more`.
 use Rattle.std.proofs.Common.{◌≡◌, ◌≢◌, ℕ, ◌+◌, ◌<◌, Bool, if◌then◌else◌, List, [], ◌∷◌, ◌++◌, length, set, All, refl, sym, ap, ◌∙◌, arith, append-nil, append_assoc, length-append}
 use Rattle.std.specs.List.{concat}
 use Rattle.std.proofs.lemmas.Bool.{ne_eqb}
@@ -27,12 +27,12 @@ message_of-more (x ∷ y ∷ bs) c d bytes more = grind (arith, append_assoc, (m
 pub concat-push : (front : List (List ℕ)) (block : List ℕ) → concat (front ++ block ∷ []) ≡ concat front ++ block
 concat-push front block = grind (arith, concat-append, append-nil)
 
--- some blocks and one more are not none
+-- blocks and one more block aren't an empty list
 pub append-some : (bs : List (List ℕ)) (b : List ℕ) (cs : List (List ℕ)) → bs ++ b ∷ cs ≢ []
 append-some [] b cs e = cc
 append-some (x ∷ bs) b cs e = cc
 
--- the blocks before the last, and the last
+-- a fact about all blocks holds for those before the last one, and for the last one
 pub All-front : (bs : List (List ℕ)) (b : List ℕ) → All IsBlock (bs ++ b ∷ []) → All IsBlock bs × IsBlock b
 All-front bs b h = grind (arith, All-apart, All-head)
 
@@ -68,7 +68,7 @@ module _ {m f : List ℕ} {index code : ℕ} (o : IsOpenFrame f m index code) wh
     (x, out ∙ sym (set_at (concat o.front ++ block) 1 [] x next long)),
   )
 
--- the change of it by a byte, and that of a list g that is f except for the code of the open block
+-- how a byte changes the open frame f, and a list g that equals f except for the code of the open block
 module _ {m f g : List ℕ} {index code : ℕ} (o : IsOpenFrame f m index code) (same : AgreeOutside index f g) where
   pub g-is : g ≡ concat o.front ++ same.0 ∷ o.bytes
   g-is = (rw (f-is o) at same.1) ∙ set_at (concat o.front) code o.bytes same.0 index (sym o.begins)
@@ -77,7 +77,7 @@ module _ {m f g : List ℕ} {index code : ℕ} (o : IsOpenFrame f m index code) 
   set-g : (y : ℕ) → set g index y ≡ concat o.front ++ y ∷ o.bytes
   set-g y = grind (arith, g-is, set_at)
 
-  -- the right code makes g that frame
+  -- g with the right code is the frame f
   pub completed : set g index code ≡ f
   completed = set-g code ∙ sym (f-is o)
 
@@ -91,7 +91,7 @@ module _ {m f g : List ℕ} {index code : ℕ} (o : IsOpenFrame f m index code) 
       closed o (code ∷ o.bytes) (index + code) x is.1 long (rw zero (ap (λ (l : List ℕ). l ++ 0 ∷ []) (sym o.message))) (ap (λ (l : List ℕ). l ++ x ∷ []) (set-g code))
 
   module _ (byte : ℕ) (nonzero : byte ≢ 0) where
-    -- a block of its bytes and this one
+    -- the open block's bytes and this byte are a block
     longer : (next : ℕ) → next ≡ code + 1 → next < 256 → IsBlock (next ∷ (o.bytes ++ byte ∷ []))
     longer next is fits = let b = (blocks-of o).1 in (omega (arith, b.0, length_push o.bytes byte), fits, All-push (λ byte. byte ≢ 0) o.bytes byte b.2 nonzero)
 
@@ -110,7 +110,7 @@ module _ {m f g : List ℕ} {index code : ℕ} (o : IsOpenFrame f m index code) 
       (same.0, rw (set_at (concat o.front) (code + 1) (o.bytes ++ byte ∷ []) same.0 index (sym o.begins), g-is) (append_assoc (concat o.front) (same.0 ∷ o.bytes) (byte ∷ []))),
     )
 
-    -- the 254th fills it
+    -- the 254th byte fills the block
     pub open-full : (x : ℕ) → code ≡ 254 → IsOpenOutput (set g index 255 ++ byte ∷ x ∷ []) (record { index = index + 255; code = 1 }) (m ++ byte ∷ [])
     open-full x last =
         let b = o.begins in

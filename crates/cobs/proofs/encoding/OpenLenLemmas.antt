@@ -1,5 +1,5 @@
--- How long the encoded frame gets, counted from its open block: which nonzero bytes that block has doesn't matter
--- (`same_start`), so they count as ones.
+-- Lemmas on the length of the encoded frame, counted from its open block. The values of that block's nonzero bytes
+-- don't matter (`same_start`), so ones stand for them.
 use Rattle.std.proofs.Common.{◌≡◌, ◌≢◌, ℕ, ◌+◌, ◌-◌, ◌<◌, ◌≤◌, Bool, true, List, [], ◌∷◌, ◌++◌, length, drop, get_or, length-drop, replicate, All, refl, ap, arith, append-nil, append_assoc, length-append}
 use Rattle.std.specs.List.{concat}
 use Rattle.std.proofs.lemmas.Bool.{cases_Bool, eqb-true, eqb-false}
@@ -12,7 +12,7 @@ use Rattle.cobs.proofs.encoding.OpenLemmas.{append-some}
 use Rattle.cobs_bytes.proofs.bytes.ListLemmas.{length-ones, ones-nonzero}
 use Rattle.cobs.specs.Internal.Reaches.{Opened, ends_in_full}
 
--- which nonzero bytes begin a message is no matter
+-- the values of the nonzero bytes at the start of a message don't matter
 pub same_start : (a b t : List ℕ) → HasNoZero a → HasNoZero b → length a ≡ length b → encoded_len (a ++ t) ≡ encoded_len (b ++ t)
 same_start a b t na nb e = grind (arith, stretches-front, length-append)
 
@@ -24,15 +24,15 @@ open_len-join code more t some nonzero =
     let both = All-append (λ byte. byte ≢ 0) front more (ones-nonzero (code - 1)) nonzero in
     grind (arith, append_assoc, same_start, ones-nonzero, length-append, length-ones)
 
--- a full block is closed if there are more bytes
+-- a full block is closed if more bytes follow
 pub open_len-full : (t : List ℕ) → t ≢ [] → open_len 255 t ≡ 255 + open_len 1 t
 open_len-full t more = encoded_len-full (replicate 254 1) t (length-ones 254) (ones-nonzero 254) more
 
--- a zero closes it
+-- a zero closes the open block
 pub open_len-zero : (code : ℕ) (t : List ℕ) → 0 < code → code < 255 → open_len code (0 ∷ t) ≡ code + open_len 1 t
 open_len-zero code t some short = grind (arith, length-ones, encoded_len-zero, ones-nonzero)
 
--- each byte of the message takes one of the frame at the least
+-- each byte of the message adds at least one byte to the frame
 pub open_len-least : (code : ℕ) (t : List ℕ) → 0 < code → code + length t ≤ open_len code t
 open_len-least code t some = grind (arith, length-append, length-ones)
 
@@ -68,9 +68,9 @@ len-blocks (b ∷ c ∷ front) code bytes t each some =
 pub Opened-len : {slice m : List ℕ} {index next : ℕ} {full : Bool} (t : List ℕ) → (full ≡ true → t ≢ []) → Opened slice m index next full → encoded_len (m ++ t) ≡ index + open_len (next - index) t
 Opened-len {full = full} t more o = grind (arith, length-ones, len-blocks, same_start, ones-nonzero, ends_in_full)
 
--- how long the frame gets, byte by byte
+-- the length of the frame, byte by byte
 module _ (bytes : List ℕ) (i : ℕ) where
-  -- the bytes are all taken
+  -- all bytes are taken
   pub len-end : (code : ℕ) → 0 < code → code ≤ 255 → length bytes ≤ i → open_len code (drop i bytes) ≡ code
   len-end code some short last = grind (arith, drop_all, append-nil, length-ones, encoded_len-last, ones-nonzero)
 
@@ -85,6 +85,6 @@ module _ (bytes : List ℕ) (i : ℕ) where
         let nonzero = All-cons (λ byte. byte ≢ 0) (get_or bytes i 0) [] other (All-nil (λ byte. byte ≢ 0)) in
         rw (drop_more bytes i 0 more) (open_len-join code (get_or bytes i 0 ∷ []) (drop (i + 1) bytes) some nonzero)
 
-    -- a zero closes it
+    -- a zero closes the open block
     pub len-zero : (code : ℕ) → 0 < code → code < 255 → get_or bytes i 0 ≡ 0 → open_len code (drop i bytes) ≡ code + open_len 1 (drop (i + 1) bytes)
     len-zero code some short is = grind (arith, drop_more, open_len-zero)

@@ -1,5 +1,5 @@
--- A slice that holds the open frame of a message except the open block's code, and how it is continued: by lemmas on parts of
--- the slice, and by `message_of-more` and `message_of-close` for the message.
+-- Lemmas on a slice that has the open frame of a message, except the open block's code, and on how the frame continues.
+-- By lemmas on parts of the slice, and by `message_of-more` and `message_of-close` for the message.
 use Rattle.std.proofs.Common.{◌≡◌, ◌≢◌, ℕ, ◌+◌, ◌≤◌, ◌==◌, Bool, false, List, [], ◌∷◌, ◌++◌, length, drop, take, refl, sym, ap, ◌∙◌, arith, suc, length-append, length-take-le, length-take}
 use Rattle.std.specs.List.{concat}
 use Rattle.std.proofs.Math.ListN.{set}
@@ -21,7 +21,7 @@ module _ {slice m : List ℕ} {index next : ℕ} {full : Bool} (o : Opened slice
   Opened-in : (slice' : List ℕ) → take index slice' ≡ take index slice → drop (index + 1) (take next slice') ≡ drop (index + 1) (take next slice) → Opened slice' m index next full
   Opened-in slice' front behind = grind arith
 
-  -- the bytes after it don't matter
+  -- the bytes after the open block don't matter
   pub Opened-same : (slice' : List ℕ) → take next slice' ≡ take next slice → Opened slice' m index next full
   Opened-same slice' same =
       let le : index ≤ next = omega arith in
@@ -31,11 +31,11 @@ module _ {slice m : List ℕ} {index next : ℕ} {full : Bool} (o : Opened slice
   pub Opened-same-empty : (slice' : List ℕ) → next ≡ index + 1 → take index slice' ≡ take index slice → Opened slice' m index next full
   Opened-same-empty slice' empty same = grind (arith, Opened-in, drop_all, length-take)
 
-  -- nor is the byte in its code's place
+  -- the byte at the place of the open block's code doesn't matter
   pub Opened-code : (x : ℕ) → Opened (set slice index x) m index next full
   Opened-code x = grind (arith, Opened-in, set, take-set-le, take-set-lt, drop-set-lt)
 
-  -- nonzero bytes that are there already join the open block
+  -- nonzero bytes that are already in place join the open block
   pub Opened-join : (more : List ℕ) → more ≢ [] → HasNoZero more → next + length more ≤ index + 255 → next + length more ≤ length slice → take (length more) (drop next slice) ≡ more
       → Opened slice (m ++ more) index (next + length more) false
   Opened-join more some nonzero short fits here =

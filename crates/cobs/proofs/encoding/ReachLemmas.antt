@@ -1,5 +1,6 @@
--- How far the core of the encoder has come with a source, and how it continues: nonzero bytes join the open block, a zero or
--- the 254th byte closes it. By `OpenedLemmas` for the slice, and `OpenLenLemmas` for the end of the frame.
+-- Lemmas on how many bytes of a source the core of the encoder has taken, and on how it continues: nonzero bytes join
+-- the open block, and a zero or the 254th byte closes it. By `OpenedLemmas` for the slice, and by `OpenLenLemmas` for
+-- the end of the frame.
 use Rattle.std.proofs.Common.{◌≡◌, ◌≢◌, ℕ, ◌+◌, ◌-◌, ◌<◌, ◌≤◌, ◌==◌, Bool, true, false, List, ◌∷◌, ◌++◌, length, drop, take, get_or, replicate, zero, suc, refl, sym, ap, ◌∙◌, arith, inl, inr, ◌⊎◌, append-nil, append_assoc, length-take-le, length-drop, take-append-drop}
 use Rattle.std.proofs.Math.ListN.{set}
 use Rattle.std.proofs.Math.Seq.{take-add}
@@ -23,7 +24,7 @@ module _ {s : Start} {slice : List ℕ} {pos index next : ℕ} {P : Bool → Typ
   pub least : next + (length s.source - pos) ≤ whole_end s
   least = grind (arith, length-drop, open_len-least)
 
-  -- less said of the last block
+  -- a weaker fact about the last block
   pub Reaches-weaker : {Q : Bool → Type 0} → ((full : Bool) → P full → Q full) → Reaches s slice pos index next Q
   Reaches-weaker weaker = grind (arith, Reaches-at)
 
@@ -98,7 +99,7 @@ module _ {s : Start} {slice : List ℕ} {pos index next : ℕ} {P : Bool → Typ
       let left = open_len-full (drop pos s.source) (λ e. omega (arith, length-drop pos s.source, ap length e)) in
       grind (arith, drop-set-lt, full-taken)
 
-  -- the last byte ends the frame
+  -- if all bytes are taken, the frame ends with the open block
   pub ends : pos ≡ length s.source → whole_end s ≡ next
   ends last = grind (arith, drop_all, append-nil, length-ones, encoded_len-last, ones-nonzero)
 
@@ -109,7 +110,7 @@ IsNotFull full = full ≡ false
 zero-first : (n pos : ℕ) (source : List ℕ) → pos + suc n ≤ length source → take (suc n) (drop pos source) ≡ replicate (suc n) 0 → (get_or source pos 0 ≡ 0) × (take n (drop (pos + 1) source) ≡ replicate n 0)
 zero-first n pos source within zeros = let left = drop_more source pos 0 (omega arith) in (cc, cc)
 
--- n + 1 zeros close the open block and the ones behind it, which have no bytes
+-- n + 1 zeros close the open block and the n blocks without bytes after it
 pub Reaches-zeros : (n : ℕ) {s : Start} {slice : List ℕ} {pos index next : ℕ} {P : Bool → Type 0} (after : List ℕ) → Reaches s slice pos index next P → pos + suc n ≤ length s.source
     → take (suc n) (drop pos s.source) ≡ replicate (suc n) 0 → whole_end s ≤ length slice → next < index + 255
     → take (next + n) after ≡ take next (set slice index (next - index)) ++ replicate n 1 → drop (whole_end s) after ≡ drop (whole_end s) s.slice

@@ -1,4 +1,5 @@
--- How many full blocks a message has, counted run by run, as `fits` counts them: by cutting the message at its zeros.
+-- Lemmas on how many full blocks a message has, counted run by run, as `fits` counts them. They cut the message at its
+-- zeros.
 use Rattle.std.proofs.Common.{◌≡◌, ◌≢◌, ℕ, ◌+◌, ◌-◌, ◌/◌, ◌<◌, ◌≤◌, List, [], ◌∷◌, ◌++◌, length, map, drop, take, get_or, replicate, refl, sym, ap, ◌∙◌, arith, append-nil, length-append, length-take-le, length-drop, take-append-drop}
 use Rattle.std.proofs.lemmas.Bool.{cases_eq}
 use Rattle.std.proofs.lemmas.List.{drop-drop, drop_more}
@@ -13,7 +14,7 @@ use Rattle.cobs_bytes.proofs.bytes.ListLemmas.{length-ones, ones-nonzero}
 abbrev pub blocks_in : List ℕ → ℕ
 blocks_in m = full_blocks (runs m)
 
--- n nonzero bytes and then t
+-- n nonzero bytes, followed by t
 abbrev pub behind : ℕ → List ℕ → List ℕ
 behind n t = replicate n 1 ++ t
 
@@ -21,17 +22,17 @@ blocks-cons : (run : ℕ) (parts : List (List ℕ)) → parts ≢ [] → full_bl
 blocks-cons run [] some = grind arith
 blocks-cons run (p ∷ ps) some = refl
 
--- there are fewer of them than bytes
+-- there are at most as many full blocks as bytes
 pub blocks-le : (run : ℕ) (t : List ℕ) → blocks_in (behind run t) ≤ run + length t
 blocks-le run t =
     let most = encoded_len-le (behind run t) in
     grind (arith, length-append, replicate, length-ones)
 
--- how long the frame is, from the open block on
+-- the length of the frame, counted from the open block
 pub open_len-is : (code : ℕ) (t : List ℕ) → 0 < code → open_len code t ≡ code + length t + blocks_in (behind (code - 1) t)
 open_len-is code t some = grind (arith, length-append, length-ones)
 
--- for the tactics of `fits` and `has_room`
+-- the rule set for the tactics of `fits` and `has_room`
 pub ruleset counted = (open_len-least, open_len-most, blocks-le)
 
 -- nonzero bytes lengthen the run
@@ -43,7 +44,7 @@ blocks-more run more t nonzero =
 blocks-nonzero : (run b : ℕ) (t : List ℕ) → b ≢ 0 → blocks_in (behind run (b ∷ t)) ≡ blocks_in (behind (run + 1) t)
 blocks-nonzero run b t other = blocks-more run (b ∷ []) t (All-cons (λ byte. byte ≢ 0) b [] other (All-nil (λ byte. byte ≢ 0)))
 
--- a zero ends it
+-- a zero ends the run
 pub blocks-zero : (run : ℕ) (t : List ℕ) → blocks_in (behind run (0 ∷ t)) ≡ run / 254 + blocks_in t
 blocks-zero run t = grind (arith, length-ones, slice_split_at, no_zero, ones-nonzero, blocks-cons, some_stretch, blocks_in)
 
@@ -56,7 +57,7 @@ blocks-skip : (n : ℕ) (bytes t : List ℕ) → n + length bytes < 254 → bloc
 blocks-skip n [] t few = grind (arith, blocks-zero)
 blocks-skip n (b ∷ bytes) t few = grind (arith, cases_eq, blocks-zero, blocks-nonzero, (blocks-skip 0 bytes t), (blocks-skip (n + 1) bytes t))
 
--- too few bytes for a block that is full before the last
+-- the bytes are too few for a full block that another block follows
 pub blocks-none : (run : ℕ) (t : List ℕ) → run + length t < 255 → blocks_in (behind run t) ≡ 0
 blocks-none run t few =
     let most = encoded_len-le (behind run t) in
@@ -71,11 +72,11 @@ module _ (source : List ℕ) (read run k : ℕ) where
   pub skipped : read + k < length source → run + k < 254 → get_or source (read + k) 0 ≡ 0 → blocks_in (behind run (drop read source)) ≡ blocks_in (behind 0 (drop (read + (k + 1)) source))
   skipped more few is = grind (arith, length-take-le, length-drop, drop_more, blocks_in, behind, next-are, blocks-skip)
 
-  -- nonzero ones
+  -- nonzero bytes
   pub run-more : read + k ≤ length source → HasNoZero (take k (drop read source)) → blocks_in (behind run (drop read source)) ≡ blocks_in (behind (run + k) (drop (read + k) source))
   run-more inside nonzero = grind (arith, length-take-le, length-drop, blocks_in, behind, next-are, blocks-more)
 
--- a longer message has no fewer of them
+-- more bytes after a run don't make the number of full blocks smaller
 blocks-least : (run : ℕ) (t : List ℕ) → (run - 1) / 254 ≤ blocks_in (behind run t)
 blocks-least run [] = grind (arith, blocks-end)
 blocks-least run (b ∷ t) = grind (arith, cases_eq, blocks-zero, blocks-nonzero, (blocks-least (run + 1) t))
@@ -84,6 +85,6 @@ blocks-longer : (run : ℕ) (m d : List ℕ) → blocks_in (behind run m) ≤ bl
 blocks-longer run [] d = grind (arith, blocks-end, blocks-least)
 blocks-longer run (b ∷ m) d = grind (arith, cases_eq, blocks-zero, blocks-nonzero, (blocks-longer 0 m d), (blocks-longer (run + 1) m d))
 
--- nor a shorter frame
+-- more bytes after a message don't make its frame shorter
 pub encoded_len-longer : (m d : List ℕ) → encoded_len m ≤ encoded_len (m ++ d)
 encoded_len-longer m d = let b : blocks_in m ≤ blocks_in (m ++ d) = blocks-longer 0 m d in let l = length-append m d in omega arith

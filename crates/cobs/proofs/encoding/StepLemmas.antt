@@ -1,4 +1,5 @@
--- Whether an encoder has room for a byte, by its plain numbers: a code below 255 is one more than the bytes taken.
+-- Lemmas on whether an encoder has room for a byte, given its plain numbers: the code of the open block is one more
+-- than the number of its bytes.
 use Rattle.std.proofs.Common.{◌≡◌, ℕ, ◌+◌, ◌<◌, ◌≤◌, List, [], ◌∷◌, length, arith}
 use Rattle.std.proofs.lemmas.Bool.{cases_Bool}
 use Rattle.cobs.specs.Fields.Progress.{reached_by}
@@ -13,7 +14,7 @@ use Rattle.cobs.proofs.encoding.TakingLemmas.{after-some}
 pub is-place : (e : UnbufferedEncoder) (n : ℕ) → e.taken ≤ 253 → e.index + e.taken + 1 < n → IsPlaceIn n (reached_by e)
 is-place e n short room = grind (arith, cases_Bool)
 
--- there is room for a byte exactly if the place after the open block's bytes isn't the last
+-- there is room for a byte exactly if the byte's index is within the slice
 pub has-room : (e : UnbufferedEncoder) (slice : List ℕ) (byte : ℕ) → e.taken ≤ 253 → e.index + e.taken + 1 < length slice → HasRoomFor (length slice) (reached_by e) (byte ∷ [])
 has-room e slice byte short room = record { place = is-place e (length slice) short room; fits = fits-byte slice (reached_by e) byte (omega arith) (omega arith) (omega arith) }
 
@@ -23,6 +24,6 @@ place-short e n p = grind arith
 pub room-only : (e : UnbufferedEncoder) (n byte : ℕ) → HasRoomFor n (reached_by e) (byte ∷ []) → (e.taken ≤ 253) × (e.index + e.taken + 1 < n)
 room-only e n byte h = grind (arith, place-short, open_len-least)
 
--- the end of the frame with some bytes more
+-- the end of the frame with some more bytes
 pub end-with : (e : UnbufferedEncoder) (bytes : List ℕ) → e.taken ≤ 253 → 0 < length bytes → end_after (reached_by e) bytes ≡ e.index + open_len (e.taken + 1) bytes
 end-with e bytes short some = grind (arith, after-some)

@@ -1,5 +1,5 @@
--- How the core of the encoder takes a source, step by step: `front-taken` turns what was reached into `TakesFront`, and
--- `front-next` joins two steps.
+-- Lemmas on how the core of the encoder takes a source, step by step: `front-taken` derives `TakesFront` from
+-- `Reaches`, and `front-next` joins two steps.
 use Rattle.std.proofs.Common.{◌≡◌, ◌≢◌, get_or, ℕ, ◌+◌, ◌-◌, ◌<◌, ◌≤◌, Bool, true, false, List, [], ◌∷◌, ◌++◌, length, drop, take, refl, sym, ap, ◌∙◌, inl, inr, arith, append-nil, append_assoc, length-drop, take_all}
 use Rattle.std.proofs.Math.ListN.{set}
 use Rattle.std.proofs.Math.Seq.{take-add}
@@ -20,10 +20,10 @@ use Rattle.cobs.specs.Internal.Reaches.{HadTaken, Reaches, Start, start_with, wh
 pub after-some : (r : Reached) (bytes : List ℕ) → 0 < length bytes → end_after r bytes ≡ r.block.index + open_len r.block.code bytes
 after-some r bytes h = grind arith
 
--- for the tactics of `try_append`
+-- the rule set for the tactics of `try_append`
 pub ruleset short_room = (after-some, open_len-most, cases_Bool)
 
--- a source has room for its bytes at the least
+-- the frame has room for at least the bytes of the source
 pub next-least : (r : Reached) (source : List ℕ) → 0 < r.block.code → 0 < length source → next_of r + length source ≤ end_after r source
 next-least r source code some = grind (arith, after-some, open_len-least)
 
@@ -36,7 +36,7 @@ module _ {s : Start} {slice : List ℕ} {read index next : ℕ} {P : Bool → Ty
   pub written : Reaches s (set slice next byte) read index next P
   written = grind (arith, common_steps, least, Opened-same, take-set-le, drop-set-lt)
 
-  -- and joins them, unless it is a zero
+  -- a byte that isn't a zero joins the open block
   pub joined : get_or s.source read 0 ≡ byte → byte ≢ 0 → next < index + 255 → whole_end s ≤ length slice → Reaches s (set slice next byte) (read + 1) index (next + 1) IsNotFull
   joined is other short fits =
       let l = least r in
@@ -48,7 +48,7 @@ module _ {s : Start} {slice : List ℕ} {read index next : ℕ} {P : Bool → Ty
 
 -- the end of a step
 module _ {source old slice : List ℕ} {r r' : Reached} (fits : end_after r source ≤ length slice) where
-  -- so far, which isn't the whole source after a full block
+  -- the bytes so far are taken, unless they are the whole source and end in a full block
   pub front-taken : {pos index next code : ℕ} {full : Bool} → Reaches (start_with old r source) slice pos index next (λ noted. noted ≡ full) → next < index + 255
       → (pos ≡ length source → full ≡ false) → index + code ≡ next → r' ≡ place_at index code full → TakesFront old r source pos slice r'
   unfolding HadTaken
@@ -66,7 +66,7 @@ module _ {source old slice : List ℕ} {r r' : Reached} (fits : end_after r sour
       → r' ≡ place_at index code false → TakesFront old r source pos slice r'
   front-open s short coded is = front-taken s short (λ all. refl) coded is
 
-  -- the last byte filled its block
+  -- the whole source is taken, and its last byte filled the open block
   front-full : {pos index : ℕ} {P : Bool → Type 0} → Reaches (start_with old r source) slice pos index (index + 255) P → pos ≡ length source
       → r' ≡ place_at (index + 255) 1 true → TakesFront old r source pos (set slice index 255) r'
   unfolding HadTaken
@@ -90,11 +90,11 @@ front-filled {source} {old} {slice} {r} {r'} {pos} {index} {next} fits full s on
       | inr none ↦ (let w = s.within in front-full fits (Reaches-at refl refl refl full (λ full p. p) s) (omega arith) (rw (full, one) at is))
     ]
 
--- nothing is taken
+-- a step that takes no byte
 pub front-none : (slice : List ℕ) (r : Reached) (source : List ℕ) → IsPlaceIn (length slice) r → TakesFront slice r source 0 slice r
 front-none slice r source p = grind (arith, append-nil)
 
--- one step and then another, on the rest of the source
+-- a step, and then another step on the rest of the source
 module _ {slice slice' source left : List ℕ} {r r' : Reached} (n : ℕ) (is : left ≡ drop n source) (a : TakesFront slice r source n slice' r') where
   -- the remaining bytes fit
   pub left-end : end_after r' left ≡ end_after r source
@@ -103,7 +103,7 @@ module _ {slice slice' source left : List ℕ} {r r' : Reached} (n : ℕ) (is : 
   pub front-next : {slice'' : List ℕ} {r'' : Reached} (k : ℕ) → TakesFront slice' r' left k slice'' r'' → TakesFront slice r source (n + k) slice'' r''
   front-next {slice''} {r''} k b = grind (arith, take-add, append_assoc, drop-drop, left-end)
 
-  -- with that the whole source is taken
+  -- after the second step the whole source is taken
   pub front-last : {slice'' : List ℕ} {r'' : Reached} → n ≤ length source → TakesFront slice' r' left (length left) slice'' r'' → TakesFront slice r source (length source) slice'' r''
   front-last le b = let sum : n + length left ≡ length source = omega (arith, length-drop n source, ap length is) in rw (← sum) (front-next (length left) b)
 
@@ -129,7 +129,7 @@ module _ (slice : List ℕ) (r : Reached) (is : r ≡ place_at 0 1 false) (some 
   pub start-taken : CobsEncoderAfter slice r []
   start-taken = rw is (after-nothing slice some)
 
-  -- takes its whole source
+  -- such an encoder has taken its whole source
   module _ {slice' source : List ℕ} {r' : Reached} (t : TakesFront slice r source (length source) slice' r') where
     pub start-after : CobsEncoderAfter slice' r' source
     start-after = all-after t [] start-taken
@@ -137,7 +137,8 @@ module _ (slice : List ℕ) (r : Reached) (is : r ≡ place_at 0 1 false) (some 
     pub start-len : end_of r' ≡ encoded_len source
     start-len = all-end t ∙ start-fits source
 
--- for the tactics of the functions that take a source in steps, of those that begin with nothing, and of the encoders
+-- the rule sets for the tactics of three kinds of functions: those that take a source in steps, those that begin with a
+-- new encoder, and the encoders
 pub ruleset next_steps = (next-least, left-end, front-next, take_rest)
 
 pub ruleset from_start = (start-fits, start-place, left-end, all-rest, take_rest)

@@ -1,4 +1,5 @@
--- A whole message that is taken into an empty slice, with its last block closed at the end, full or not (`write_each`).
+-- Lemmas on a whole message that is taken from the front of a slice on, and whose last block is closed at the end,
+-- whether it is full or not (`write_each`).
 use Rattle.std.proofs.Common.{◌≡◌, ℕ, ◌+◌, ◌-◌, ◌<◌, ◌≤◌, false, List, length, take, drop, refl, sym, ◌∙◌, inl, inr, arith, append-nil}
 use Rattle.std.proofs.Math.ListN.{set}
 use Rattle.std.proofs.lemmas.Bool.{cases_lt}
@@ -14,7 +15,7 @@ use Rattle.cobs.specs.Internal.Reaches.{HadTaken, Reaches, Start, start_with, wh
 abbrev pub start : List ℕ → List ℕ → Start
 start old source = start_with old (place_at 0 1 false) source
 
--- the end of its frame
+-- the end of the message's frame
 pub whole-fits : (old source : List ℕ) → 0 < length old → whole_end (start old source) ≡ encoded_len source
 whole-fits old source some = grind (arith, start-fits)
 
@@ -29,7 +30,7 @@ whole-start {old} {source} some = record {
   taken = λ m h. (false, refl, rw append-nil (from_after h));
 }
 
--- its last block is closed
+-- the last block of the message is closed
 module _ {old source slice : List ℕ} {pos index next : ℕ} (some : 0 < length old) (last : pos ≡ length source) (fits : encoded_len source ≤ length slice) (r : Reaches (start old source) slice pos index next IsNotFull) where
   pub whole-len : next ≡ encoded_len source
   whole-len = sym (ends r last) ∙ whole-fits old source some

@@ -1,4 +1,5 @@
--- Worked cases of the definitions and of the laws: each law says something of some frame, and the premises that it names are needed.
+-- Worked cases of the definitions and of the laws. They show that each law says something about some frame, and that
+-- its premises are needed.
 use Rattle.std.proofs.Common.{◌≡◌, ◌≢◌, ℕ, List, [], ◌∷◌, ◌++◌, replicate, map, refl, arith, true, All, Some, None, sym, subst, ⊎_elim}
 use Rattle.std.proofs.lemmas.List.Elements.{All-cons, All-nil, All-head, All-replicate}
 use Rattle.std.proofs.lemmas.Bool.{true≢false}
@@ -47,11 +48,11 @@ ones_block = (refl, omega arith, All-replicate (λ byte. byte ≢ 0) 254 1 (λ e
 longer_blocks : IsFrameOf (block_of_ones ++ lone_block) (block_of_ones ∷ lone_block ∷ [])
 longer_blocks = grind (arith, frame-cons, block_of_ones, ones_block, block-frame, lone_block-is_block)
 
--- with the lone block after it, it reads as the 254 ones too
+-- the block of the 254 ones, with the lone block after it, reads as the 254 ones too
 longer_reads : Reads (block_of_ones ++ lone_block) (replicate 254 1)
 longer_reads = grind (arith, block_of_ones, longer_blocks)
 
--- but that frame isn't canonical
+-- the block of the 254 ones with the lone block after it isn't canonical
 longer_not_canonical : IsCanonical (block_of_ones ++ lone_block) → ⊥
 longer_not_canonical c = c.shorter [] block_of_ones refl (one_frame (block_of_ones ++ lone_block) c.blocks (block_of_ones ∷ lone_block ∷ []) c.frame longer_blocks)
 
@@ -62,7 +63,7 @@ broken_piece : (parts (2 ∷ 5 ∷ 3 ∷ 1 ∷ []) ≡ (2 ∷ 5 ∷ []) ∷ (3 �
 unfolding parts parts_after output kept_output is_whole last_part
 broken_piece = grind arith
 
--- its outcome is no message; that of a whole piece is a message exactly if there is room
+-- the outcome of a broken piece is no message; the outcome of a whole piece is a message exactly if there is room
 outcomes : (map (outcome_of (2 ∷ 5 ∷ 3 ∷ 1 ∷ [])) (3 ∷ 2 ∷ []) ≡ Broken 3 ∷ TooLong ∷ []) × (map (outcome_of (2 ∷ 12 ∷ [])) (1 ∷ 0 ∷ []) ≡ Message (12 ∷ []) ∷ TooLong ∷ [])
 unfolding parts parts_after output is_whole last_part outcome_of
 outcomes = (refl, refl)
@@ -83,7 +84,8 @@ beyond_no_frame (m, r) =
 
 -- ALL FRAMES OF A MESSAGE
 
--- the empty message, one that ends in a zero, 253 and 255 ones, and 254 after a zero: only the last ends in a full run
+-- the empty message, a message that ends in a zero, 253 ones, 255 ones, and 254 ones after a zero: only the last
+-- message ends in a full run
 last_runs : map last_run ([] ∷ (replicate 254 1 ++ 0 ∷ []) ∷ replicate 253 1 ∷ replicate 255 1 ∷ (0 ∷ replicate 254 1) ∷ []) ≡ 0 ∷ 0 ∷ 253 ∷ 255 ∷ 254 ∷ []
 last_runs = refl
 
@@ -109,7 +111,7 @@ front_is_frame =
     let blocks = sym (parts-frame (3 ∷ 10 ∷ 11 ∷ 2 ∷ 12 ∷ []) r.blocks r.frame) in
     (front_frame (3 ∷ 10 ∷ 11 ∷ []) (2 ∷ 12 ∷ []) (10 ∷ 11 ∷ 0 ∷ 12 ∷ []) r (λ e. cc)).1 ((3 ∷ 10 ∷ 11 ∷ []) ∷ [], (2 ∷ 12 ∷ []) ∷ [], blocks, refl)
 
--- and fronts that end inside one
+-- fronts that end inside a block
 fronts_no_frames : (IsFrame (3 ∷ 10 ∷ []) → ⊥) × (IsFrame (3 ∷ 10 ∷ 11 ∷ 2 ∷ []) → ⊥)
 unfolding parts parts_after is_whole last_part
 fronts_no_frames = (λ (m, r). true≢false (sym (frame_whole (3 ∷ 10 ∷ []) m r)), λ (m, r). true≢false (sym (frame_whole (3 ∷ 10 ∷ 11 ∷ 2 ∷ []) m r)))

@@ -1,5 +1,5 @@
--- All frames of a message are its encoded frame and, if the message ends in a full run, that frame with the lone block: by
--- induction on the blocks, and `one_encoded`.
+-- All frames of a message: its encoded frame and, if the message ends in a full run, that frame followed by the lone
+-- block. By induction on the blocks, and by `one_encoded`.
 use Rattle.std.proofs.Common.{◌≡◌, ◌≢◌, ℕ, zero, suc, ◌+◌, ◌↔◌, true, false, List, [], ◌∷◌, ◌++◌, length, map, All, refl, sym, ap, ◌∙◌, subst, arith, append-nil, append_assoc, length-append, inl, inr, ⊎_elim, ◌⊎◌}
 use Rattle.std.specs.List.{concat}
 use Rattle.std.proofs.lemmas.List.Folds.{concat-append}
@@ -33,7 +33,7 @@ last_run-append bytes m h =
     let j = join_with_byte-slice_split 0 m in
     grind (arith, stretches-front, length-append, some_stretch)
 
--- what follows a full block ends in a full run exactly if all does
+-- the message after a full block ends in a full run exactly if the whole message does
 full_run-append : (bytes k : List ℕ) → length bytes ≡ 254 → HasNoZero bytes → k ≢ [] → EndsInFullRun (bytes ++ k) ↔ EndsInFullRun k
 full_run-append bytes [] l h some = grind arith
 full_run-append bytes (x ∷ k) l h some = grind (arith, last_run-append)
@@ -50,7 +50,7 @@ ends_full ((c ∷ bytes) ∷ d ∷ ds) some h s =
     let ih = ends_full (d ∷ ds) (λ e. cc) (All-tail IsBlock (c ∷ bytes) (d ∷ ds) h) (IsShorter-tail (c ∷ bytes) (d ∷ ds) s) in
     grind (arith, slice_split_at, no_zero, some_stretch, last_number-cons, full_run-append, first-block)
 
--- the same of an encoded frame
+-- an encoded frame ends in a full block exactly if its message ends in a full run
 pub ends_in_full : (g m : List ℕ) (e : IsEncodedFrame g m) → IsFull (last_of e.reads.blocks) ↔ EndsInFullRun m
 ends_in_full g m e =
     let r = e.reads in
@@ -108,7 +108,7 @@ frames_from f m (inr (x, (g, e, is))) =
 pub all_frames : (f m : List ℕ) → Reads f m ↔ IsFrameFor f m
 all_frames f m = (frames_of f m, frames_from f m)
 
--- the second is one byte longer
+-- the second frame is one byte longer than the encoded frame
 pub length-second : (f m : List ℕ) → IsEncodedFrame f m → EndsInFullRun m → length (f ++ lone_block) ≡ encoded_len m + 1
 length-second f m e x = length_push f 1 ∙ ap (λ (n : ℕ). n + 1) (length-encoded f m e)
 

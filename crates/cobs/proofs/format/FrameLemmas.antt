@@ -9,14 +9,14 @@ use Rattle.cobs.specs.Piece.{parts_after, parts, last_part, missing, is_whole, I
 
 -- THE PARTS OF A LIST
 
--- those after n bytes are those of the rest
+-- the parts after n bytes are the parts of the remaining bytes
 pub parts_after-drop : (n : ℕ) (p : List ℕ) → parts_after n p ≡ parts_after 0 (drop n p)
 unfolding parts_after
 parts_after-drop zero p = refl
 parts_after-drop (suc n) [] = refl
 parts_after-drop (suc n) (x ∷ p) = parts_after-drop n p
 
--- after all the bytes nothing is left, and after fewer something is
+-- after all bytes there is no part, and after fewer bytes there is one
 pub parts_after-past : (n : ℕ) (p : List ℕ) → length p ≤ n → parts_after n p ≡ []
 unfolding parts_after
 parts_after-past n p h = grind (arith, parts_after-drop, drop_all)
@@ -70,7 +70,7 @@ parts-blocks blocks h = ap parts (sym (append-nil (concat blocks))) ∙ parts-ap
 pub parts-frame : (f : List ℕ) (blocks : List (List ℕ)) → IsFrameOf f blocks → parts f ≡ blocks
 parts-frame f blocks frame = grind (arith, parts-blocks)
 
--- the last of some blocks is whole
+-- no byte of the last block is missing
 missing-last : (blocks : List (List ℕ)) → All IsBlock blocks → missing (last_of blocks) ≡ 0
 missing-last [] h = refl
 missing-last (block ∷ []) h = grind (arith, All-head)
@@ -78,7 +78,7 @@ missing-last (block ∷ next ∷ blocks) h = missing-last (next ∷ blocks) (All
 
 -- WHOLE PIECES
 
--- parts of which the last is whole are blocks
+-- if the last part is whole, all parts are blocks
 blocks_behind : (n : ℕ) (p : List ℕ) → HasNoZero p → All (λ b. b < 256) p → missing (last_of (parts_after n p)) ≡ 0 → All IsBlock (parts_after n p)
 unfolding parts_after
 blocks_behind n [] h below whole = All-nil IsBlock
@@ -122,19 +122,19 @@ module _ (f m : List ℕ) (r : Reads f m) where
   unfolding last_part is_whole
   frame_whole = grind (arith, frame_some, parts-frame, missing-last, eq-eqb)
 
-  -- it reads as its output
+  -- a frame reads as its output
   pub frame_output : m ≡ output f
   unfolding output
   frame_output = grind (arith, parts-frame)
 
--- and a whole piece without a zero is a frame
+-- a whole piece without a zero is a frame
 pub reads_output : (f : List ℕ) → f ≢ [] → HasNoZero f → All (λ b. b < 256) f → IsWhole f → Reads f (output f)
 unfolding output
 reads_output f some nonzero below whole = grind (arith, parts-some, blocks_of_whole, concat-parts)
 
 -- A FRAME OF BYTES
 
--- two lists end to end, each by itself
+-- a property of all elements of two lists end to end holds for each of the two lists
 pub All-apart : {X : Type 0} (P : X → Type 0) (xs ys : List X) → All P (xs ++ ys) → All P xs × All P ys
 All-apart P xs ys h = (
   subst (All P) (take_at xs ys (length xs) refl) (All-take P (length xs) (xs ++ ys) h),

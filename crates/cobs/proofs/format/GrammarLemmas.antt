@@ -1,5 +1,5 @@
--- The frame that a block and the bytes after it are, and that a frame is cut into blocks in one way (`one_frame`): by the
--- block's code, which says where the next one begins.
+-- A block and the bytes after it are a frame if the bytes after it are one, and a frame can be cut into blocks in only
+-- one way (`one_frame`). Both follow from the block's code, which says where the next block begins.
 use Rattle.std.proofs.Common.{◌≡◌, ◌≢◌, ◌↔◌, ℕ, ◌+◌, ◌<◌, List, [], ◌∷◌, ◌++◌, length, All, refl, sym, ap, ◌∙◌, subst, arith, append-nil, length-append, length-take}
 use Rattle.std.specs.List.{concat}
 use Rattle.std.proofs.lemmas.List.{append_cancel_left}
@@ -8,7 +8,7 @@ use Rattle.cobs.specs.Grammar.{IsBlock, IsFull, bytes_of, joint, lone_block, mes
 use Rattle.cobs.specs.Piece.{parts, parts_after}
 use Rattle.cobs.proofs.format.FrameLemmas.{parts-block, parts-frame, frame_output}
 
--- a frame has one parse
+-- a frame can be cut into blocks in only one way
 pub one_frame : (f : List ℕ) (bs cs : List (List ℕ)) → IsFrameOf f bs → IsFrameOf f cs → bs ≡ cs
 one_frame f bs cs hb hc = sym (parts-frame f bs hb) ∙ parts-frame f cs hc
 
@@ -30,7 +30,7 @@ IsShorter-cons b bs apart s (x ∷ front) block full e = grind arith
 pub IsShorter-single : (b : List ℕ) → IsShorter (b ∷ [])
 IsShorter-single b front block full e = (let n = ap length e in let l = length-append front (block ∷ lone_block ∷ []) in omega arith)
 
--- a frame by its blocks
+-- an encoded frame, given its blocks
 abbrev pub encoded-by : {f m : List ℕ} (blocks : List (List ℕ)) → IsFrameOf f blocks → m ≡ message_of blocks → IsShorter blocks → IsEncodedFrame f m
 encoded-by blocks frame message shorter = record {
   reads = record { blocks = blocks; frame = frame; message = message };
@@ -62,14 +62,14 @@ lone_block-is_block = grind (arith, All-nil)
 pub lone_block-reads : Reads lone_block []
 lone_block-reads = record { blocks = lone_block ∷ []; frame = block-frame lone_block lone_block-is_block; message = refl }
 
--- A BLOCK IN FRONT OF OTHER BYTES: WHICH FRAME THE TWO MAKE
+-- A BLOCK BEFORE OTHER BYTES: WHICH FRAME THEY ARE TOGETHER
 
 lone-parts : parts lone_block ≡ lone_block ∷ []
 unfolding parts parts_after
 lone-parts = refl
 
 module _ (block f : List ℕ) (is : IsBlock block) where
-  -- its blocks are that one and those of the other bytes
+  -- the blocks of the frame are this block and the blocks of the other bytes
   blocks-are : (blocks : List (List ℕ)) → IsFrameOf (block ++ f) blocks → blocks ≡ block ∷ parts f
   blocks-are blocks h = sym (parts-frame (block ++ f) blocks h) ∙ parts-block block f is
 
@@ -98,7 +98,7 @@ module _ (block f : List ℕ) (is : IsBlock block) where
     λ both. IsCanonical-cons block f is both.1 both.0,
   )
 
--- fewer bytes than their first code says
+-- bytes aren't a frame if there are fewer of them than the first code says
 pub short-frame : (code : ℕ) (bytes : List ℕ) → length bytes + 1 < code → IsFrame (code ∷ bytes) → ⊥
 unfolding parts parts_after
 short-frame code bytes short frame =

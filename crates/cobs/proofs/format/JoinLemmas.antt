@@ -11,7 +11,7 @@ use Rattle.cobs.proofs.format.FrameLemmas.{All-apart, parts-append, parts-frame}
 
 -- JOINED
 
--- what joined blocks stand for
+-- the message of joined lists of blocks
 pub message_of-append : (bs cs : List (List ℕ)) → bs ≢ [] → cs ≢ [] → message_of (bs ++ cs) ≡ message_of bs ++ joint (last_of bs) ++ message_of cs
 message_of-append [] cs p q = absurd (p refl)
 message_of-append (b ∷ []) [] p q = absurd (q refl)

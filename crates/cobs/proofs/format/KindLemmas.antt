@@ -1,4 +1,4 @@
--- The bytes after the first blocks decide which frame all bytes are: by `IsCanonical-block`, block by block.
+-- The bytes after the first blocks decide of which kind all bytes are. Proved block by block, by `IsCanonical-block`.
 use Rattle.std.proofs.Common.{◌≡◌, ◌≢◌, ◌↔◌, ℕ, zero, suc, ◌<◌, Bool, true, eqb, List, [], ◌∷◌, length, take, drop, get_or, All, refl, ap, subst, arith, length-drop, length-take-le, take-append-drop}
 use Rattle.std.proofs.lemmas.List.Elements.{All-head, All-tail, All-take, All-drop}
 use Rattle.cobs.specs.Grammar.{HasNoZero, IsBlock, IsFull, IsFrame, IsCanonical, lone_block, message_of}
@@ -7,9 +7,9 @@ use Rattle.cobs.specs.declared.dec.kind.FrameKind.TheVariants.{NotAFrame, Canoni
 use Rattle.cobs.proofs.format.FrameLemmas.{frame_some}
 use Rattle.cobs.proofs.format.GrammarLemmas.{IsCanonical-block, front-canonical, front-frame, short-frame}
 
--- WHAT A KIND SAYS
+-- THE MEANING OF A KIND
 
--- a kind says this of a list
+-- the meaning of a kind for a list
 abbrev pub IsKindOf : FrameKind → List ℕ → Type 0
 IsKindOf NotAFrame f = ¬ IsFrame f
 IsKindOf Canonical f = IsCanonical f
@@ -19,7 +19,7 @@ IsKindOf Longer f = IsFrame f × ¬ IsCanonical f
 frame_of : (f : List ℕ) → IsCanonical f → IsFrame f
 frame_of f c = (message_of c.blocks, record { blocks = c.blocks; frame = c.frame; message = refl })
 
--- and each of the three says it alone
+-- a kind that holds for a list is the list's only kind
 pub says : (f : List ℕ) (kind : FrameKind) → IsKindOf kind f → record {
   not_a_frame : (kind ≡ NotAFrame) ↔ ¬ IsFrame f;
   canonical : (kind ≡ Canonical) ↔ IsCanonical f;
@@ -29,19 +29,19 @@ says f kind h = record { not_a_frame = grind (arith, frame_of); canonical = grin
 
 -- BLOCK BY BLOCK
 
--- blocks are before `rest`, and the last of them is full or not
+-- whole blocks precede `rest`, and `after_full` says whether the last of them is full
 pub record BlocksBehind (f rest : List ℕ) (after_full : Bool) : Type 0 where
   pub nonzero : HasNoZero rest
   pub below : All (λ b. b < 256) rest
   pub frame : IsFrame f ↔ IsFrame rest
   pub canonical : IsCanonical f ↔ (IsCanonical rest × (after_full ≡ true → rest ≢ lone_block))
 
--- nothing is after them, or a broken block
+-- no byte follows the whole blocks, or a broken block does
 pub broken-kind : (f rest : List ℕ) (t : Bool) → BlocksBehind f rest t → (0 < length rest → length rest < get_or rest 0 0) → IsKindOf NotAFrame f
 broken-kind f [] t i broken = λ frame. (let h = i.frame.0 frame in frame_some [] h.0 h.1 refl)
 broken-kind f (code ∷ bytes) t i broken = λ frame. short-frame code bytes (let b = broken (omega arith) in omega arith) (i.frame.0 frame)
 
--- one block more
+-- one more whole block
 pub one-more : (f rest : List ℕ) (t : Bool) → BlocksBehind f rest t → get_or rest 0 0 < length rest → BlocksBehind f (drop (get_or rest 0 0) rest) (eqb (get_or rest 0 0) 255)
 one-more f [] t i more = grind arith
 one-more f (zero ∷ bytes) t i more = grind (arith, All-head)
@@ -63,7 +63,7 @@ one-more f (suc n ∷ bytes) t i more =
       canonical = (λ h. k.0 (i.canonical.0 h).0, λ h. i.canonical.1 (k.1 h, λ _ e. omega (arith, ap length e)));
     }
 
--- the last block is after them
+-- the last block follows the whole blocks
 last-block : (rest : List ℕ) → HasNoZero rest → All (λ b. b < 256) rest → 0 < length rest → length rest ≡ get_or rest 0 0 → IsBlock rest
 last-block [] nonzero below some last = grind arith
 last-block (code ∷ bytes) nonzero below some last = (omega arith, All-head (λ b. b < 256) code bytes below, All-tail (λ b. b ≢ 0) code bytes nonzero)
@@ -81,6 +81,6 @@ module _ (f rest : List ℕ) (t : Bool) (i : BlocksBehind f rest t) (some : 0 < 
   pub longer-kind : t ≡ true → length rest ≡ 1 → IsKindOf Longer f
   longer-kind full one = grind (arith, frame_of, canonical, lone-is)
 
-  -- another block, or not after a full one
+  -- another block, or the lone block after a block that isn't full
   pub canonical-kind : (t ≡ true → length rest ≢ 1) → IsKindOf Canonical f
   canonical-kind other = grind (arith, canonical)

@@ -1,5 +1,5 @@
--- How long an encoded frame is, by the runs of its message: each run has a code for each 254 of its bytes. By cutting the
--- message at its zeros.
+-- The length of an encoded frame follows from the runs of its message: each run has one code for each 254 of its bytes,
+-- rounded up. Proved by cutting the message at its zeros.
 use Rattle.std.proofs.Common.{◌≡◌, ◌≢◌, ℕ, ◌+◌, ◌<◌, ◌≤◌, ◌==◌, false, List, [], ◌∷◌, ◌++◌, length, map, All, ap, ◌∙◌, subst, arith, length-append}
 use Rattle.std.specs.List.{join_with_byte}
 use Rattle.std.proofs.lemmas.Bool.{ne_eqb}
@@ -10,18 +10,18 @@ use Rattle.cobs.specs.Grammar.{HasNoZero}
 use Rattle.cobs.specs.Stream.{stretches}
 use Rattle.cobs.specs.Length.{runs, full_blocks, encoded_len, max_overhead, max_encoded_len}
 
--- no byte passes the test by which stretches are cut
+-- if bytes have no zero, none of them passes the test at which stretches are cut
 pub no_zero : (bytes : List ℕ) → HasNoZero bytes → All (λ b. (b == 0) ≡ false) bytes
 no_zero bytes h = grind (arith, All-weaker, ne_eqb)
 
 pub some_stretch : (m : List ℕ) → stretches m ≢ []
 some_stretch m e = let n = length-slice_split (λ b. b == 0) m in let l = ap length e in omega arith
 
--- a last run of at most 254 bytes takes one block
+-- a last run of at most 254 bytes is one block
 pub encoded_len-last : (bytes : List ℕ) → length bytes < 255 → HasNoZero bytes → encoded_len bytes ≡ length bytes + 1
 encoded_len-last bytes l h = grind (arith, slice_split_none, no_zero)
 
--- a run of less than 254 bytes and its zero take one block
+-- a run of fewer than 254 bytes and the zero after it are one block
 pub encoded_len-zero : (bytes m : List ℕ) → length bytes < 254 → HasNoZero bytes → encoded_len (bytes ++ 0 ∷ m) ≡ length bytes + 1 + encoded_len m
 encoded_len-zero bytes m l h = grind (arith, slice_split_at, no_zero, some_stretch, length-append)
 
@@ -52,7 +52,7 @@ full_blocks-le [] = omega arith
 full_blocks-le (p ∷ []) = omega arith
 full_blocks-le (p ∷ q ∷ ps) = grind (arith, length-append, full_blocks-le (q ∷ ps))
 
--- the bound, which messages without zeros reach, and so each length
+-- the bound. Messages without zeros reach it, so it is reached at each length.
 pub encoded_len-le : (m : List ℕ) → encoded_len m ≤ max_encoded_len (length m)
 encoded_len-le m =
     let h = subst (λ (x : List ℕ). full_blocks (runs m) + 1 ≤ max_overhead (length x)) (join_with_byte-slice_split 0 m) (full_blocks-le (stretches m)) in
@@ -67,5 +67,5 @@ encoded_len-reached n =
     let h = encoded_len-nonzero _ (All-replicate (λ byte. byte ≢ 0) n 1 (λ e. cc)) in
     (_, l, All-replicate (λ byte. byte < 256) n 1 (omega arith), h ∙ ap max_encoded_len l)
 
--- the bound, for the tactics of a function
+-- the bound, as a rule set for the tactic of a function
 pub ruleset bounds = encoded_len-le

@@ -1,6 +1,6 @@
 -- A stream that has a frame and a zero for each of some messages has these messages as its outcomes: by `StreamLemmas`, one
 -- message at a time.
-use Rattle.std.proofs.Common.{◌≡◌, ◌≢◌, ℕ, ◌+◌, ◌<◌, ◌≤◌, List, [], ◌∷◌, ◌++◌, length, take, set, map, All, ap, ◌∙◌, arith, append_assoc, length-append, length-take, get_or}
+use Rattle.std.proofs.Common.{◌≡◌, ◌≢◌, ℕ, ◌+◌, ◌<◌, ◌≤◌, List, [], ◌∷◌, ◌++◌, length, take, set, map, All, arith, append_assoc, length-append, length-take, get_or}
 use Rattle.std.specs.List.{AllZip, flat_map}
 use Rattle.std.proofs.lemmas.List.{take_more, take_more_set, map_push, take-map, flat_map_more, take-append-le}
 use Rattle.std.proofs.lemmas.List.Elements.{AllZip-push, All-nil, All-head, All-tail}
@@ -9,13 +9,13 @@ use Rattle.std.proofs.Math.Seq.{take-append-add}
 use Rattle.std.specs.Global.{Vec}
 use Rattle.std.proofs.lemmas.Grind.{common_steps}
 use borrow.Rule.Slice.PartMut.{put_mid}
-use Rattle.cobs.specs.Grammar.{Reads, IsEncodedFrame}
+use Rattle.cobs.specs.Grammar.{IsEncodedFrame}
 use Rattle.cobs.specs.Length.{max_encoded_len}
-use Rattle.cobs.specs.Stream.{Outcome, Message, stream_outcomes}
+use Rattle.cobs.specs.Stream.{Message, stream_outcomes}
 use Rattle.cobs.specs.Messages.{AreFrames, messages_in, room_for_frames}
 use Rattle.cobs.proofs.format.FrameLemmas.{frame_some, frame_nonzero}
 use Rattle.cobs.proofs.decoding.OutcomeLemmas.{outcome_frame}
-use Rattle.cobs.proofs.format.StreamLemmas.{stream_outcomes-append, stream_outcomes-one, stream_outcomes-no_zero, unended-zero}
+use Rattle.cobs.proofs.format.StreamLemmas.{stream_outcomes-front, stream_outcomes-no_zero}
 
 -- ONE MORE MESSAGE
 
@@ -56,20 +56,17 @@ length-written dest new end part within = grind (arith, length-append, length-ta
 
 -- WHAT COMES BACK
 
--- the first outcome of a stream that begins with a frame and its zero is the frame's message
-outcomes_behind : (frame message bytes : List ℕ) (n : ℕ) → Reads frame message → length message ≤ n → stream_outcomes ((frame ++ 0 ∷ []) ++ bytes) n ≡ Message message ∷ stream_outcomes bytes n
-outcomes_behind frame message bytes n r fits =
-    let one = stream_outcomes-one frame n (frame_some frame message r) (frame_nonzero frame message r) in
-    cc (stream_outcomes-append (frame ++ 0 ∷ []) bytes n, unended-zero frame, outcome_frame frame message n r fits)
-
 outcomes_of_frames : (frames messages : List (List ℕ)) (n : ℕ) → AllZip IsEncodedFrame frames messages → All (λ m. length m ≤ n) messages
     → stream_outcomes (flat_map (λ f. f ++ 0 ∷ []) frames) n ≡ map Message messages
 outcomes_of_frames [] [] n h fits = stream_outcomes-no_zero [] n (All-nil (λ b. b ≢ 0))
 outcomes_of_frames [] (m ∷ messages) n h fits = absurd h
 outcomes_of_frames (f ∷ frames) [] n h fits = absurd h
 outcomes_of_frames (f ∷ frames) (m ∷ messages) n h fits =
-    outcomes_behind f m (flat_map (λ f. f ++ 0 ∷ []) frames) n h.0.reads (All-head (λ m. length m ≤ n) m messages fits)
-    ∙ ap (λ (x : List Outcome). Message m ∷ x) (outcomes_of_frames frames messages n h.1 (All-tail (λ m. length m ≤ n) m messages fits))
+    let r = h.0.reads in
+    let rest = outcomes_of_frames frames messages n h.1 (All-tail (λ m. length m ≤ n) m messages fits) in
+    let more = flat_map (λ f. f ++ 0 ∷ []) frames in
+    let first = stream_outcomes-front f more n (frame_some f m r) (frame_nonzero f m r) in
+    cc (append_assoc f (0 ∷ []) more, outcome_frame f m n r (All-head (λ m. length m ≤ n) m messages fits))
 
 -- the frames of messages that a buffer holds come out as exactly these messages
 pub AreFrames-outcomes : (messages : List (List ℕ)) (bytes : List ℕ) (n : ℕ) → AreFrames messages bytes → All (λ m. length m ≤ n) messages → stream_outcomes bytes n ≡ map Message messages

@@ -1,5 +1,5 @@
--- Frames for another sentinel and frames between sentinels: XORing each byte twice changes nothing (`xor_twice`), so what
--- holds for the sentinel 0 holds for each.
+-- Lemmas on frames for another sentinel, and on frames between sentinels. XORing each byte twice changes nothing
+-- (`xor_twice`), so each fact about the sentinel 0 holds for every sentinel.
 use Rattle.std.proofs.Common.{rules, get_or, ◌≡◌, ◌≢◌, ℕ, zero, suc, length-append, ◌+◌, ◌-◌, ◌<◌, ◌≤◌, List, [], ◌∷◌, length, drop, take, replicate, set, refl, sym, ap, ◌∙◌, subst, arith, take_at}
 use borrow.Rule.Slice.PartMut.{put_mid}
 use Rattle.std.specs.Int.Bits.{bit_xor, xor_self}
@@ -36,7 +36,8 @@ pub first_xored : (bytes : List ℕ) (s : ℕ) → 0 < length bytes → take 1 (
 first_xored [] s some = grind arith
 first_xored (b ∷ bytes) s some = refl
 
--- after a frame and two sentinels a slice is as it was, if the part between its ends is so after the frame
+-- a slice is unchanged after a frame and two sentinels, if the part between the slice's first and last byte is
+-- unchanged after the frame
 pub behind_sentinels : (dest part : List ℕ) (k n : ℕ) → n ≤ k → length part ≡ k → k < length dest → drop n part ≡ drop n (take k (drop 1 dest))
     → drop (n + 2) (set (set (put_mid 1 k dest part) 0 0) (n + 1) 0) ≡ drop (n + 2) dest
 behind_sentinels dest part k n short len within behind =
@@ -44,7 +45,7 @@ behind_sentinels dest part k n short len within behind =
 
 -- FREE OF THE SENTINEL
 
--- bytes without s, changed by it
+-- bytes without s have no zero after the XOR with s
 pub coded_nonzero : (f : List ℕ) (s : ℕ) → IsFreeOf s f → HasNoZero (xor_each s f)
 coded_nonzero f s free =
     All-map (λ b. b ≢ 0) (λ b. bit_xor b s) f (All-weaker (λ b. b ≢ s) (λ b. bit_xor b s ≢ 0) (λ b other e. other (sym (xor_twice b s) ∙ ap (λ (x : ℕ). bit_xor x s) e)) f free)
@@ -52,7 +53,7 @@ coded_nonzero f s free =
 pub encoded_nonzero : {f m : List ℕ} → IsEncodedFrame f m → HasNoZero f
 encoded_nonzero {f} {m} e = frame_nonzero f m e.reads
 
--- the sentinel is in no frame for it
+-- no frame for a sentinel contains it
 pub no_sentinel : (f : List ℕ) (s : ℕ) → IsFrame f → IsFreeOf s (xor_each s f)
 no_sentinel f s (m, r) = All-map (λ b. b ≢ s) (λ b. bit_xor b s) f
     (All-weaker (λ b. b ≢ 0) (λ b. bit_xor b s ≢ s) (λ b some is. some (sym (xor_twice b s) ∙ ap (λ (x : ℕ). bit_xor x s) is ∙ xor_self s)) f (frame_nonzero f m r))

@@ -1,9 +1,10 @@
 -- A stream in two parts, and one more byte of it: the ended pieces, and the unended bytes. By std's lemmas on `slice_split`.
-use Rattle.std.proofs.Common.{◌≡◌, ◌≢◌, ℕ, zero, suc, ◌+◌, ◌-◌, ◌<◌, true, cond, eqb, List, [], ◌∷◌, ◌++◌, length, take, refl, sym, ap, ◌∙◌, arith, append_assoc, length-append, filter, not, get_or, inl, inr}
-use Rattle.std.proofs.lemmas.List.{map-append, take_all, take_more}
-use Rattle.std.proofs.lemmas.List.Elements.{All-push, All-nil, All-cons, filter-append}
+use Rattle.std.proofs.Common.{◌≡◌, ◌≢◌, ℕ, zero, suc, ◌+◌, ◌-◌, ◌<◌, ◌≤◌, true, cond, eqb, List, [], ◌∷◌, ◌++◌, length, take, refl, sym, ap, ◌∙◌, arith, append_assoc, length-append, filter, not, get_or, inl, inr}
+use Rattle.std.proofs.lemmas.List.{map-append, take_all, take_more, take-append-le}
+use Rattle.std.proofs.Math.Seq.{take-append-add}
+use Rattle.std.proofs.lemmas.List.Elements.{All-push, All-nil, All-cons, All-take, filter-append}
 use Rattle.std.proofs.lemmas.List.Splits.{slice_split-cons_no, slice_split_at, slice_split_none, length-slice_split}
-use Rattle.std.proofs.lemmas.Bool.{ne_eqb}
+use Rattle.std.proofs.lemmas.Bool.{cases_lt, ne_eqb}
 use Rattle.std.specs.List.{onto_first}
 use Rattle.cobs.specs.Grammar.{HasNoZero, last_of}
 use Rattle.cobs.specs.Stream.{stretches, is_nonempty, but_last, ended_pieces, unended, Outcome, outcome_of, stream_outcomes}
@@ -168,3 +169,34 @@ stream_outcomes-one d n h e = grind (arith, stream_outcomes-piece)
 
 pub stream_outcomes-nothing : (n : ℕ) → stream_outcomes (0 ∷ []) n ≡ []
 stream_outcomes-nothing n = stream_outcomes-piece [] n (All-nil (λ b. b ≢ 0))
+
+-- A STREAM THAT BEGINS WITH A PIECE AND ITS ZERO
+
+-- the outcome of the piece, then those of the rest
+pub stream_outcomes-front : (f u : List ℕ) (n : ℕ) → f ≢ [] → HasNoZero f → stream_outcomes (f ++ 0 ∷ u) n ≡ outcome_of f n ∷ stream_outcomes u n
+stream_outcomes-front f u n some h =
+    cc (append_assoc f (0 ∷ []) u, stream_outcomes-append (f ++ 0 ∷ []) u n, unended-zero f, stream_outcomes-one f n some h)
+
+module _ (f u : List ℕ) (n k : ℕ) (some : f ≢ []) (h : HasNoZero f) where
+  -- up to the zero, nothing has ended
+  outcomes-before : k ≤ length f → stream_outcomes (take k (f ++ 0 ∷ u)) n ≡ []
+  outcomes-before within = rw (take-append-le k f (0 ∷ u) within) (stream_outcomes-no_zero (take k f) n (All-take (λ b. b ≢ 0) k f h))
+
+  -- with the zero, the first outcome is that of the piece
+  pub outcomes-behind : length f < k → (rest : List Outcome) × (stream_outcomes (take k (f ++ 0 ∷ u)) n ≡ outcome_of f n ∷ rest)
+  outcomes-behind past =
+      let split : k ≡ length f + suc (k - length f - 1) = omega arith in
+      let cut : take k (f ++ 0 ∷ u) ≡ f ++ 0 ∷ take (k - length f - 1) u
+      = ap (λ (k : ℕ). take k (f ++ 0 ∷ u)) split ∙ take-append-add f (0 ∷ u) (suc (k - length f - 1)) in
+      (_, ap (λ (x : List ℕ). stream_outcomes x n) cut ∙ stream_outcomes-front f (take (k - length f - 1) u) n some h)
+
+  -- so the outcomes of the first k bytes say whether the zero is among them
+  pub outcomes-none : stream_outcomes (take k (f ++ 0 ∷ u)) n ≡ [] → k ≤ length f
+  outcomes-none e = elim (cases_lt (length f) k) [ inl past ↦ absurd (let b = outcomes-behind past in cc) | inr within ↦ within ]
+
+  pub outcomes-first : (x : Outcome) (rest : List Outcome) → stream_outcomes (take k (f ++ 0 ∷ u)) n ≡ x ∷ rest
+      → (length f < k) × (x ≡ outcome_of f n)
+  outcomes-first x rest e = elim (cases_lt (length f) k) [
+    | inl past ↦ (past, let b = outcomes-behind past in cc)
+    | inr within ↦ absurd (let b = outcomes-before within in cc)
+  ]

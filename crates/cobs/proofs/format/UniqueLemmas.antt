@@ -1,12 +1,14 @@
--- Each message has one encoded frame (`one_encoded`), and its length: two canonical frames of one message begin with the same
--- block (`first-block`), and so on.
-use Rattle.std.proofs.Common.{◌⊎◌, inl, inr, ◌≡◌, ◌≢◌, ℕ, ◌<◌, Bool, true, false, if◌then◌else◌, List, [], ◌∷◌, ◌++◌, length, take, get_or, All, refl, sym, ap, ◌∙◌, subst, arith, append-nil, append_assoc, length-append, take_at, ⊎_elim}
+-- Each message has one encoded frame (`one_encoded`), and its length: the message says which bytes its first block has
+-- (`first_bytes`), so two canonical frames of one message begin with the same block, and so on.
+use Rattle.std.proofs.Common.{◌⊎◌, inl, inr, ◌≡◌, ◌≢◌, ℕ, ◌<◌, Bool, true, false, if◌then◌else◌, List, [], ◌∷◌, ◌++◌, length, take, All, refl, sym, ap, ◌∙◌, subst, arith, append-nil, append_assoc, length-append, take_at, take_all, ⊎_elim}
 use Rattle.std.specs.List.{concat}
-use Rattle.std.proofs.lemmas.Bool.{cases_Bool, ne_eqb, eqb-true, eqb-false}
-use Rattle.std.proofs.lemmas.List.{get_or_append_left, get_or_at, append_cancel_left}
-use Rattle.std.proofs.lemmas.List.Elements.{All-head, All-tail, All-get_or}
+use Rattle.std.proofs.lemmas.Bool.{cases_Bool, eqb-true, eqb-false}
+use Rattle.std.proofs.lemmas.List.{append_cancel_left}
+use Rattle.std.proofs.lemmas.List.Elements.{All-head, All-tail}
 use Rattle.cobs.specs.Grammar.{IsBlock, is_full, joint, lone_block, message_of, bytes_of, IsEncodedFrame, Reads}
 use Rattle.cobs.specs.Length.{encoded_len}
+use Rattle.cobs.specs.Stream.{head}
+use Rattle.cobs.proofs.decoding.OutcomeLemmas.{head-append, head-zero, head_alone}
 use Rattle.cobs.proofs.format.GrammarLemmas.{one_frame, one_message, IsShorter, IsShorter-tail}
 use Rattle.cobs.proofs.format.LengthLemmas.{encoded_len-last, encoded_len-zero, encoded_len-full}
 
@@ -20,12 +22,7 @@ empty_message (c ∷ x ∷ bytes) [] h e = absurd (cc)
 empty_message (c ∷ x ∷ bytes) (d ∷ ds) h e = absurd (cc)
 empty_message (c ∷ []) (d ∷ ds) h e = grind (arith, All-head)
 
--- a message begins with the bytes of its first block
-message-first : (c : ℕ) (a : List ℕ) (bs : List (List ℕ)) → (more : List ℕ) × (message_of ((c ∷ a) ∷ bs) ≡ a ++ more)
-message-first c a [] = ([], sym (append-nil a))
-message-first c a (b ∷ bs) = (joint (c ∷ a) ++ message_of (b ∷ bs), append_assoc a (joint (c ∷ a)) (message_of (b ∷ bs)))
-
--- and if there are more blocks, the joint and the rest follow them
+-- the bytes of a block before others, its joint and the message of these
 pub message-rest : (b : List ℕ) (d : List ℕ) (ds : List (List ℕ)) (t : Bool) → is_full b ≡ t → message_of (b ∷ d ∷ ds) ≡ bytes_of b ++ ((if t then [] else 0 ∷ []) ++ message_of (d ∷ ds))
 message-rest b d ds t e = grind (arith, append_assoc)
 
@@ -52,27 +49,22 @@ length-blocks ((c ∷ a) ∷ d ∷ ds) p h s = grind (arith, All-head, All-tail,
 
 -- THERE IS ONE ENCODED FRAME
 
--- of two first blocks of a message none is shorter
-not_shorter : (c d : ℕ) (a b : List ℕ) (bs cs : List (List ℕ)) → All IsBlock ((c ∷ a) ∷ bs) → All IsBlock ((d ∷ b) ∷ cs) → message_of ((c ∷ a) ∷ bs) ≡ message_of ((d ∷ b) ∷ cs) → length a < length b → ⊥
-not_shorter c d a b [] cs h i e lt = grind (arith, message-first, length-append)
-not_shorter c d a b (x ∷ bs) cs h i e lt =
-    let is = All-head IsBlock (c ∷ a) (x ∷ bs) h in
-    let other = All-head IsBlock (d ∷ b) cs i in
-    let m = message-first d b cs in
-    let open' : is_full (c ∷ a) ≡ false = ne_eqb c 255 (λ e. omega (arith, is.0, other.0, other.1)) in
-    let rest = message-rest (c ∷ a) x bs false open' in
-    All-get_or (λ byte. byte ≢ 0) b (length a) 0 lt other.2
-    (sym (get_or_append_left b m.0 0 (length a) lt) ∙ ap (λ (l : List ℕ). get_or l (length a) 0) (sym m.1 ∙ sym e ∙ rest) ∙ get_or_at a 0 (message_of (x ∷ bs)) 0 (length a) refl)
+-- the bytes of the first block are the first 254 of the message, as far as its first zero
+first_bytes : (c : ℕ) (a : List ℕ) (bs : List (List ℕ)) (n : ℕ) → All IsBlock ((c ∷ a) ∷ bs) → n ≡ 254 → a ≡ take n (head (message_of ((c ∷ a) ∷ bs)))
+first_bytes c a [] n h e = let is = All-head IsBlock (c ∷ a) [] h in rw (head_alone a is.2) (sym (take_all n a (omega (arith, is.0, is.1))))
+first_bytes c a (d ∷ ds) n h e =
+    let is = All-head IsBlock (c ∷ a) (d ∷ ds) h in
+    let cut : head (message_of ((c ∷ a) ∷ d ∷ ds)) ≡ a ++ head (joint (c ∷ a) ++ message_of (d ∷ ds))
+    = ap head (append_assoc a (joint (c ∷ a)) (message_of (d ∷ ds))) ∙ head-append a _ is.2 in
+    grind (arith, cases_Bool, eqb-true, eqb-false, head-zero, append-nil, take_all, take_at)
 
--- the first blocks of one message are one
+-- so the first blocks of one message are one
 same_first : (b c : List ℕ) (bs cs : List (List ℕ)) → All IsBlock (b ∷ bs) → All IsBlock (c ∷ cs) → message_of (b ∷ bs) ≡ message_of (c ∷ cs) → b ≡ c
 same_first [] c bs cs h i e = grind (arith, All-head)
 same_first (x ∷ b) [] bs cs h i e = grind (arith, All-head)
 same_first (x ∷ b) (y ∷ c) bs cs h i e =
-    let len : length b ≡ length c = omega (arith, not_shorter x y b c bs cs h i e, not_shorter y x c b cs bs i h (sym e)) in
-    let more_b = message-first x b bs in let more_c = message-first y c cs in
-    let front : take (length b) _ ≡ b = ap (take (length b)) more_b.1 ∙ take_at b more_b.0 (length b) refl in
-    grind (arith, take_at, All-head)
+    let bytes : b ≡ c = first_bytes x b bs 254 h refl ∙ ap (λ (m : List ℕ). take 254 (head m)) e ∙ sym (first_bytes y c cs 254 i refl) in
+    grind (arith, All-head)
 
 -- if the first block is the last, there are no more canonical blocks
 no_more : (b d : List ℕ) (ds : List (List ℕ)) → All IsBlock (b ∷ d ∷ ds) → IsShorter (b ∷ d ∷ ds) → message_of (b ∷ []) ≡ message_of (b ∷ d ∷ ds) → ⊥

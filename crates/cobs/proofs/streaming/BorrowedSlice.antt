@@ -1,5 +1,6 @@
--- `&mut *self.dest` as a result, for a field that is a `&'a mut [u8]`: a `CobsDecoder` ends as its slice's bytes end. The
--- method and that of `WriteBuffer` both have this body. By the rules of std for a loan that is handed on.
+-- `&mut *self.dest` as a result, for a field that is a `&'a mut [u8]`. When the loan ends, the slice of the
+-- `CobsDecoder` has the bytes that the caller wrote. `CobsDecoder::dest_mut` and `WriteBuffer::dest_mut` both have this
+-- body. By the rules of std for a loan that is handed on.
 use mathlib.Core.Path.{refl, ap}
 use mathlib.Core.List.{List, [], ◌∷◌}
 use base.Fml.{Lft, GName, fat, ftrue, flft, fobs, fbor}
@@ -46,22 +47,26 @@ use denote.Triple.Spec.{Meets}
 abbrev at : Lft → NamedLft
 at κ = record { mir = named 1; lft = κ }
 
--- the field is passed on, and the whole ends as the field does
+-- the field is lent, and at the end of the loan the decoder has the field's new value
 module _ {M : Type 1} {𝓤 : Ura M} (𝓛 : Logic 𝓤) (κ' : Lft) where
   hands : (x : CobsDecoder) → HandsTo 𝓛 (S.the_row (at κ')) (MutSlice (named 1) κ' u8) (λ o. o + 0) x x.dest (λ w. record x { dest = w })
-  hands x = hands_on 𝓛 (S.the_row (at κ')) (MutSlice (named 1) κ' u8) 0
+  hands x =
+      let D = S.the_type (at κ') in
+      let L = the_loose (at κ') in
+      let T = S.struct (at []) in
+      hands_on 𝓛 (S.the_row (at κ')) (MutSlice (named 1) κ' u8) 0
       (λ x. get_at (S.the_type (at [])).parts 0 ((S.struct (at [])).as_values x))
-      (put_record (S.the_type (at κ')) (the_loose (at κ')) 0 0 (S.struct (at [])).as_values (S.struct (at [])).Ghost (S.struct (at [])).make (λ v. tt) (λ x. refl) (λ v g. refl) (λ x. x))
-      (kept_record (S.the_type (at κ')) (the_loose (at κ')) 0 0 (S.struct (at [])).as_values (S.struct (at [])).Ghost (S.struct (at [])).make (λ v. tt) (λ x. refl) (λ v g. refl) (λ x. x))
-      (record_fill (S.the_type (at κ')) (the_loose (at κ')) 0 0 (S.struct (at [])).as_values (S.struct (at [])).Ghost (S.struct (at [])).make (λ v. tt) (λ x. refl) (λ v g. refl) (λ x. x) refl (λ f. refl))
-      (record_apart (S.the_type (at κ')) (the_loose (at κ')) 0 0 (S.struct (at [])).as_values (S.struct (at [])).Ghost (S.struct (at [])).make (λ v. tt) (λ x. refl) (λ v g. refl) (λ x. x) 𝓛 refl refl)
+      (put_record D L 0 0 T.as_values T.Ghost T.make (λ v. tt) (λ x. refl) (λ v g. refl) (λ x. x))
+      (kept_record D L 0 0 T.as_values T.Ghost T.make (λ v. tt) (λ x. refl) (λ v g. refl) (λ x. x))
+      (record_fill D L 0 0 T.as_values T.Ghost T.make (λ v. tt) (λ x. refl) (λ v g. refl) (λ x. x) refl (λ f. refl))
+      (record_apart D L 0 0 T.as_values T.Ghost T.make (λ v. tt) (λ x. refl) (λ v g. refl) (λ x. x) 𝓛 refl refl)
       x
 
 abbrev head_of : List Ty → Ty
 head_of [] = ty_int w8
 head_of (τ ∷ τs) = τ
 
--- the body of both
+-- the body of both methods
 abbrev lending : Fn
 lending =
     let D = head_of (S.the_row (record { mir = erased; lft = [] })).mir in

@@ -37,7 +37,7 @@ piece-nothing buffer phase = record {
     last : (p : List ℕ) → PhaseAfter (length buffer) phase p → last_piece (p ++ []) ≡ p
     last p h = grind (arith, append-nil, last_piece-unended, ended_pieces-no_zero, unended-no_zero)
 
--- bytes in which no piece ended, and one more, whatever it brings
+-- bytes in which no piece ended, and one more byte
 module _ {buffer₀ buffer buffer' : List ℕ} {phase₀ phase phase' : Phase} {result : Result (Option ℕ) DecodeError} (bytes : List ℕ) (i : ℕ) (inside : i < length bytes)
     (t : TakesPiece buffer₀ phase₀ (take i bytes) None buffer phase) (f : Feeds buffer phase (get_or bytes i 0) result buffer' phase') where
   pub none_before : (p : List ℕ) → PhaseAfter (length buffer₀) phase₀ p → stream_outcomes (p ++ take i bytes) (length buffer₀) ≡ []
@@ -53,7 +53,7 @@ module _ {buffer₀ buffer buffer' : List ℕ} {phase₀ phase phase' : Phase} {
   last_nonzero : get_or bytes i 0 ≢ 0 → (p : List ℕ) → PhaseAfter (length buffer₀) phase₀ p → last_piece (p ++ take (i + 1) bytes) ≡ unended (p ++ take i bytes) ++ get_or bytes i 0 ∷ []
   last_nonzero nz p h = grind (arith, stream_on, last_piece-unended, get_or, ended_pieces-nonzero, no_outcomes, none_before, unended-push, fed-nonzero)
 
-  -- the bytes after its output stay
+  -- the bytes after the output of that piece stay as they were
   left_so_far : (p : List ℕ) → PhaseAfter (length buffer₀) phase₀ p → drop (length (output (unended (p ++ take i bytes)))) buffer ≡ drop (length (output (unended (p ++ take i bytes)))) buffer₀
   left_so_far p h = grind (arith, last_piece-unended, no_outcomes, none_before)
 
@@ -77,7 +77,7 @@ module _ {buffer₀ buffer buffer' : List ℕ} {phase₀ phase phase' : Phase} {
   pub takes_behind : TakesBytes buffer₀ phase₀ (take (i + 1) bytes) (reported_by (get_or bytes i 0) result buffer') buffer' phase'
   takes_behind = rw (take_more bytes i 0 inside) (SoFar-more t.takes (TakesBytes-byte f))
 
-  -- it ends no piece
+  -- the byte ends no piece
   pub piece-more : (get_or bytes i 0 ≡ 0 → end_reported result ≡ None) → TakesPiece buffer₀ phase₀ (take (i + 1) bytes) None buffer' phase'
   piece-more none = record {
     takes = subst (λ stated. TakesBytes buffer₀ phase₀ (take (i + 1) bytes) stated buffer' phase') nothing takes_behind;
@@ -92,7 +92,7 @@ module _ {buffer₀ buffer buffer' : List ℕ} {phase₀ phase phase' : Phase} {
       nothing : reported_by (get_or bytes i 0) result buffer' ≡ []
       nothing = grind (arith, cases_eq, eq-eqb, ne_eqb)
 
-  -- it ends a piece
+  -- the byte ends a piece
   pub piece-ended : (end : PieceEnd) → get_or bytes i 0 ≡ 0 → end_reported result ≡ Some end → TakesPiece buffer₀ phase₀ bytes (Some (end, i + 1)) buffer' phase'
   piece-ended end z is =
       let e = stated-some result buffer' end is (rw f.len f.bound) in

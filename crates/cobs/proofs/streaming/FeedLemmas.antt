@@ -1,5 +1,6 @@
--- The machine of `Step` feeds a byte (`Feeds-step`): its phase, buffer and result after a front of a piece are those of the
--- front with the byte. By `PieceLemmas`, one case for each phase.
+-- A step of the machine of `Step` meets `Feeds` (`Feeds-step`): after a front of a piece, its phase and its buffer are
+-- those for the front with the byte, and its result is the one for the byte. By `PieceLemmas`, with one case for each
+-- phase.
 use Rattle.std.proofs.Common.{◌≡◌, ◌≢◌, ℕ, zero, suc, ◌+◌, ◌<◌, ◌≤◌, Bool, true, false, cond, leb, eqb, List, [], ◌∷◌, ◌++◌, length, take, drop, set, refl, sym, arith, length-append, Option, None, Result, Ok, Err, add-one}
 use Rattle.std.proofs.lemmas.List.{take_all, take-append-le, append-nil, length_push, take_more_set, set_past, drop-set-lt, length-set}
 use Rattle.std.proofs.lemmas.List.Elements.{All-push, All-nil}
@@ -21,7 +22,7 @@ use Rattle.cobs.proofs.streaming.LastPiece.{output-longer}
 use Rattle.cobs.proofs.streaming.TableLemmas.{output-nil}
 use Rattle.cobs.proofs.decoding.PieceLemmas.{output-one, last_part-one, output-push_more, output-push_next, last_part-push_next, missing-push_more, is_full-push_more, output-push}
 
--- a decoder whose output was too long is in that phase, whatever its other numbers are
+-- a decoder whose output was too long is in the phase `Overlong`, whatever its other numbers are
 pub over_is : (decoder : UnbufferedDecoder) → decoder.too_long ≢ 0 → phase_of decoder ≡ Overlong
 over_is decoder nz = grind (arith, ne_eqb)
 

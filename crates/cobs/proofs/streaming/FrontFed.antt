@@ -1,8 +1,7 @@
 -- A source that begins with a code, the front of which was fed to an idle decoder: up to the end of the source's first piece,
 -- or up to a byte for which the buffer has no room. The front has no zero, so it is a front of that piece (`QuietLemmas`).
-use Rattle.std.proofs.Common.{◌≡◌, ◌≢◌, ◌∙◌, ◌+◌, ◌<◌, ◌≤◌, ◌++◌, ℕ, zero, suc, List, [], ◌∷◌, length, take, drop, get_or, refl, sym, ap, arith, length-append, length-take-le}
-use Rattle.std.proofs.lemmas.List.{drop_more}
-use Rattle.std.proofs.lemmas.List.Elements.{All-head, All-tail}
+use Rattle.std.proofs.Common.{◌≡◌, ◌≢◌, ◌∙◌, ◌+◌, ◌<◌, ◌≤◌, ◌++◌, ℕ, List, ◌∷◌, length, take, drop, get_or, sym, ap, arith, length-append, length-take, length-take-le}
+use Rattle.std.proofs.lemmas.List.{drop_more, get_or-take, take-append-drop}
 use Rattle.cobs.specs.Decode.{leading_zeros}
 use Rattle.cobs.specs.Feed.{Idle, Overlong, Phase}
 use Rattle.cobs.specs.Grammar.{HasNoZero}
@@ -11,25 +10,19 @@ use Rattle.cobs.specs.Overwritten.{overwritten}
 use Rattle.cobs.specs.Piece.{output}
 use Rattle.cobs.specs.Step.{next_phase}
 use Rattle.cobs.specs.Stream.{head}
-use Rattle.cobs.proofs.decoding.HeadLemmas.{front_is_head}
-use Rattle.cobs.proofs.decoding.OutcomeLemmas.{head-cons, head-zero}
+use Rattle.cobs.proofs.decoding.HeadLemmas.{front_is_head, head-most}
+use Rattle.cobs.proofs.decoding.OutcomeLemmas.{head-append, head-cons, length-head}
 use Rattle.cobs.proofs.streaming.QuietLemmas.{Quiet, quiet, quiet-full, quiet-long, quiet-piece}
 
 -- a source after its leading zeros
 abbrev pub rest : List ℕ → List ℕ
 rest source = drop (leading_zeros source) source
 
--- the bytes before the first zero begin with bytes that aren't zeros
-front-of-head : (source : List ℕ) (n : ℕ) → HasNoZero (take n source) → head source ≡ take n source ++ head (drop n source)
-front-of-head source zero none = refl
-front-of-head [] (suc n) none = refl
-front-of-head (byte ∷ source) (suc n) none = grind (arith, head-cons, All-head, All-tail, front-of-head source n (All-tail (λ b. b ≢ 0) byte (take n source) none))
-
 -- a front of a source that begins with a code begins with it
 code-first : (source : List ℕ) (n : ℕ) → 0 < length (head source) → 0 < length (take n source) → get_or (take n source) 0 0 ≢ 0
-code-first source zero begins some = grind arith
-code-first [] (suc n) begins some = grind arith
-code-first (byte ∷ source) (suc n) begins some = grind (arith, head-zero)
+code-first source n begins some e =
+    let first : get_or source 0 0 ≡ 0 = sym (get_or-take n source 0 0 (omega (arith, length-take n source))) ∙ e in
+    omega (arith, length-head source, head-most source 0 (omega (arith, length-head source)) first)
 
 -- the first `run` bytes were fed
 pub record FrontFed (source old new : List ℕ) (phase : Phase) (run : ℕ) : Type 0 where
@@ -63,7 +56,7 @@ module _ {source old new : List ℕ} {phase : Phase} {run : ℕ} (f : FrontFed s
     split : take run source ++ get_or source run 0 ∷ tail ≡ head source
     split =
         ap (λ (l : List ℕ). take run source ++ l) (sym (ap head (drop_more source run 0 more) ∙ head-cons _ _ other))
-        ∙ sym (front-of-head source run none)
+        ∙ sym (head-append (take run source) (drop run source) none) ∙ ap head (take-append-drop run source)
 
     pub over-long : length old < length (output (head source))
     over-long = grind (arith, split, quiet-long, front, tail)

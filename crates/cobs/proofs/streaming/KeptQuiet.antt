@@ -1,5 +1,5 @@
--- The bytes before a zero, decoded up to the last ones that are kept: the result, and the contents of the buffer. By
--- `quiet` for the bytes that are fed, and `TailLemmas` for those that aren't.
+-- The result and the buffer of a decoder that gets the bytes before a zero, and decodes them up to the last byte whose
+-- output is kept. By `quiet` for the bytes that are fed, and by `TailLemmas` for the bytes that aren't fed.
 use Rattle.std.proofs.Common.{◌≡◌, ◌≢◌, ℕ, zero, suc, ◌-◌, ◌<◌, ◌≤◌, ◌↔◌, IsTrue, Bool, false, get_or, List, [], ◌∷◌, ◌++◌, length, take, drop, refl, ap, ◌∙◌, arith, length-drop, take_all, Result, Ok, Err}
 use Rattle.std.specs.List.{All}
 use Rattle.std.proofs.lemmas.List.Elements.{All-head, All-tail, All-drop, All-take, All-append, All-get_or}
@@ -23,14 +23,14 @@ use Rattle.cobs.proofs.decoding.TailLemmas.{whole-kept}
 use Rattle.cobs.proofs.streaming.QuietLemmas.{Quiet, quiet, quiet-at, quiet-written}
 use Rattle.cobs.proofs.streaming.SpanLemmas.{FeedsQuietly-append}
 
--- the last part of bytes is missing fewer than a full block has
+-- fewer bytes of a last part are missing than a full block has
 few_by : (n : ℕ) (p : List ℕ) → length p ≤ n → All (λ b. b < 256) p → missing (last_part p) < 255
 unfolding last_part parts parts_after
 few_by n [] h small = omega arith
 few_by zero (code ∷ bytes) h small = grind arith
 few_by (suc n) (code ∷ bytes) h small = grind (arith, cases_lt, last_part-more, length-drop, All-drop, All-tail, All-head, last_part-last, few_by n (drop (code - 1) bytes) (omega (arith, length-drop (code - 1) bytes)) (All-drop (λ b. b < 256) (code - 1) bytes (All-tail (λ b. b < 256) code bytes small)))
 
--- where all but the last 254 bytes are fed, a block is missing no more than these
+-- if all bytes except the last 254 are fed, at most these 254 bytes of a block are missing
 pub tail_left : (p : List ℕ) (end : ℕ) → length p ≡ end - 254 → All (λ b. b < 256) p → missing (last_part p) ≤ end - length p
 unfolding last_part parts parts_after
 tail_left [] end is small = omega arith
@@ -41,14 +41,14 @@ head_by : (h : List ℕ) (n : ℕ) (whole : Bool) (result : Result ℕ DecodeErr
     → (IsTrue whole ↔ (missing (last_part h) ≡ 0)) → result ≡ head_result h
 head_by h n whole result ok broken count is = grind (arith, head_result-is, cases_eq, eq-eqb, ne_eqb)
 
--- of whole blocks
+-- the result for whole blocks
 pub whole_result : (h : List ℕ) → missing (last_part h) ≡ 0 → head_result h ≡ Ok (length (output h))
 whole_result h whole = grind (arith, head_result-is, whole-kept, eq-eqb)
 
 pub whole_front : (h old front : List ℕ) (n : ℕ) → missing (last_part h) ≡ 0 → front ≡ output h → length front ≤ length old → n ≡ length front → front ++ drop n old ≡ overwritten old (kept_output h)
 whole_front h old front n whole is fits count = grind (arith, whole-kept, take_all)
 
--- the bytes p are fed, and the first of the bytes q after them: their output is the kept output of all
+-- the bytes p are fed, and then the first `len` bytes of q; the output of these bytes is the kept output of p and q
 module _ (p q old b1 b2 : List ℕ) (phase : Phase) (inner : UnbufferedDecoder) (len : ℕ) (whole : Bool) (result : Result ℕ DecodeError) (nz : HasNoZero p) (nz' : HasNoZero q)
     (f : FeedsQuietly old Idle p b1 phase) (g : FeedsQuietly b1 phase (take len q) b2 (phase_of inner)) (kept : output (p ++ take len q) ≡ kept_output (p ++ q)) (is : IsTrue whole ↔ (missing (last_part (p ++ q)) ≡ 0))
     (ok : IsTrue whole → result ≡ Ok inner.written) (broken : whole ≡ false → result ≡ Err (InvalidFrame inner.written)) where
@@ -61,11 +61,11 @@ module _ (p q old b1 b2 : List ℕ) (phase : Phase) (inner : UnbufferedDecoder) 
     quiet-written old b2 (p ++ take len q) (phase_of inner) run ∙ ap (overwritten old) kept,
   )
 
-  -- if the buffer isn't the source, it has room
+  -- the result and the buffer, if the buffer isn't the source's own and has room
   pub kept_fits : (result ≡ head_result_within (p ++ q) (length old)) × (b2 ≡ overwritten old (kept_output (p ++ q)))
   kept_fits = grind (arith, kept_fed, le-leb, run)
 
--- or one of these bytes has no room
+-- the result and the buffer, if one of these bytes has no room
 pub kept_stop : (h p old new : List ℕ) (phase : Phase) (run : ℕ) → output p ≡ kept_output h → HasNoZero p → run < length p → FeedsQuietly old Idle (take run p) new phase → next_phase (length new) phase (get_or p run 0) ≡ Overlong
     → (Err TargetBufTooSmall ≡ head_result_within h (length old)) × (new ≡ overwritten old (kept_output h))
 kept_stop h p old new phase run kept none more f over = grind (arith, head_alone, All-get_or, over-long, lt-leb, over-written)

@@ -1,5 +1,5 @@
 -- The last piece of a stream, and outputs that grow with it: by `StreamLemmas` and `output-push`.
-use Rattle.std.proofs.Common.{◌≡◌, ◌≢◌, ℕ, ◌<◌, ◌≤◌, List, [], ◌∷◌, ◌++◌, length, take, drop, filter, refl, ap, ◌∙◌, subst, arith, append_assoc, length-append}
+use Rattle.std.proofs.Common.{◌≡◌, ◌≢◌, ℕ, ◌<◌, ◌≤◌, List, [], ◌∷◌, ◌++◌, length, take, drop, filter, refl, sym, ap, ◌∙◌, subst, arith, append_assoc, length-append, take_at}
 use Rattle.std.proofs.lemmas.List.{append-nil, take-append-drop}
 use Rattle.std.proofs.lemmas.List.Elements.{filter-append}
 use Rattle.cobs.specs.Grammar.{HasNoZero, last_of}
@@ -47,16 +47,25 @@ last_piece-zero t none = grind (arith, pieces, unended-zero, append-nil, ended_p
 
 -- WHAT IS WRITTEN OF IT
 
--- an output grows by each byte of its piece
-pub output-longer : (q : List ℕ) (b : ℕ) → length (output q) ≤ length (output (q ++ b ∷ []))
+-- an output grows at its end, with each byte of its piece
+output-end : (p tail : List ℕ) → (more : List ℕ) × (output (p ++ tail) ≡ output p ++ more)
 unfolding output parts parts_after
-output-longer [] b = omega arith
-output-longer (c ∷ q) b = omega (arith, ap length (output-push c q b).1, length-append (output (c ∷ q)) (output-push c q b).0)
+output-end [] tail = (output tail, refl)
+output-end (c ∷ p) [] = ([], ap output (append-nil (c ∷ p)) ∙ sym (append-nil (output (c ∷ p))))
+output-end (c ∷ p) (x ∷ tail) =
+    let one = output-push c p x in
+    let rest = output-end (c ∷ p ++ x ∷ []) tail in
+    (one.0 ++ rest.0, cc (append_assoc (c ∷ p) (x ∷ []) tail, append_assoc (output (c ∷ p)) one.0 rest.0))
 
--- an output grows with its piece
-pub output-grows : (q tail : List ℕ) → length (output q) ≤ length (output (q ++ tail))
-output-grows q [] = grind (arith, append-nil)
-output-grows q (x ∷ tail) = grind (arith, output-longer, append_assoc, (output-grows (q ++ x ∷ []) tail))
+pub output-grows : (p tail : List ℕ) → length (output p) ≤ length (output (p ++ tail))
+output-grows p tail = let e = output-end p tail in omega (arith, ap length e.1, length-append (output p) e.0)
+
+pub output-longer : (p : List ℕ) (b : ℕ) → length (output p) ≤ length (output (p ++ b ∷ []))
+output-longer p b = output-grows p (b ∷ [])
+
+-- so the output so far is the front of it
+pub output-begins : (p tail : List ℕ) → take (length (output p)) (output (p ++ tail)) ≡ output p
+output-begins p tail = let e = output-end p tail in rw e.1 (take_at (output p) e.0 (length (output p)) refl)
 
 -- a buffer that begins with an output, as far as it fits, and is otherwise as before
 pub overwritten-is : (written buffer buffer' : List ℕ) → length buffer' ≡ length buffer → take (length written) buffer' ≡ take (length buffer') written → drop (length written) buffer' ≡ drop (length written) buffer

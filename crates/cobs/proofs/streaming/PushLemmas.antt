@@ -1,4 +1,5 @@
--- A push so far, and its end: a byte that returns `Ok(None)` continues the push, any other ends it. By `ByByteLemmas`.
+-- Lemmas on a push so far, and on its end: a byte that returns `Ok(None)` continues the push, and any other byte ends
+-- it. By `ByByteLemmas`.
 use Rattle.std.proofs.Common.{Err, IfOk, IfSome, List, None, Ok, Option, Result, Some, [], ap, arith, cond, drop, eqb, get_or, length, refl, sym, take, ℕ, ◌++◌, ◌+◌, ◌<◌, ◌∙◌, ◌∷◌, ◌≡◌, ◌≤◌}
 use Rattle.std.proofs.lemmas.List.{take_more, length_push, same_from_push}
 use Rattle.std.proofs.lemmas.Bool.{ne_eqb, eq-eqb, cases_eq}
@@ -31,7 +32,7 @@ result_at p bytes n place = result_for (unended (p ++ take place bytes)) (get_or
 abbrev pub IsQuiet : List ℕ → List ℕ → ℕ → ℕ → Type 0
 IsQuiet p bytes n i = (place : ℕ) → place < i → result_at p bytes n place ≡ Ok None
 
--- the byte after them, which ends the push
+-- the byte after the first i bytes, which ends the push
 ends_at : (p bytes : List ℕ) (n i place : ℕ) (r : Result (Option ℕ) DecodeError) → IsQuiet p bytes n i → result_at p bytes n i ≡ r → place < i + 1 → result_at p bytes n place ≡ cond (eqb (place + 1) (i + 1)) r (Ok None)
 ends_at p bytes n i place r quiet last within = grind (arith, eq-eqb, ne_eqb, cases_eq)
 
@@ -74,7 +75,7 @@ module _ {buffer₀ buffer buffer' : List ℕ} {phase₀ phase phase' : Phase} {
 
   -- THE PUSH ENDS
 
-  -- this is its result
+  -- this is the result of the push
   ended : (r : Result (Option DecodeReport) PushError) → consumed_size bytes r ≡ i + 1 → last_result r ≡ result
       → ((p : List ℕ) → DecoderAfter buffer₀ phase₀ p → reported_by (get_or bytes i 0) result buffer' ≡ pushed_outcomes bytes r buffer')
       → IfOk r (λ found. IfSome found (λ report. frame_size_of report ≤ length buffer₀)) → PushesBytes buffer₀ phase₀ bytes r buffer' phase'

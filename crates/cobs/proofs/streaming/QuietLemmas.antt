@@ -1,41 +1,37 @@
 -- Bytes fed quietly to an idle decoder, as the decoders of whole frames feed them: the buffer holds their output, and the
--- phase is that after them. By `Feeds-step`, byte by byte.
-use Rattle.std.proofs.Common.{◌≡◌, ◌≢◌, ℕ, ◌+◌, ◌<◌, ◌≤◌, Bool, cond, eqb, List, [], ◌∷◌, ◌++◌, length, take, drop, get_or, refl, sym, ap, ◌∙◌, subst, arith, append_assoc, append-nil, Ok, None, take_all, take_at}
-use Rattle.std.proofs.lemmas.List.{drop_all, take-take}
-use Rattle.std.proofs.lemmas.List.Elements.{All-nil, All-cons, All-head, All-tail}
-use Rattle.std.proofs.lemmas.Bool.{cases_Bool, ne_eqb, le-leb, leb-true, leb-false}
+-- phase is that after them. They are a piece that hasn't ended (`piece-all`).
+use Rattle.std.proofs.Common.{◌≡◌, ◌≢◌, ℕ, ◌<◌, ◌≤◌, Bool, cond, eqb, List, [], ◌∷◌, ◌++◌, length, drop, get_or, refl, sym, ap, ◌∙◌, subst, arith, append_assoc, append-nil, take_all, inl, inr}
+use Rattle.std.proofs.lemmas.List.{drop_all}
+use Rattle.std.proofs.lemmas.Bool.{cases_Bool, cases_eq, cases_lt, ne_eqb, le-leb, lt-leb, leb-false}
 use Rattle.cobs.specs.Grammar.{HasNoZero}
 use Rattle.cobs.specs.Piece.{last_part, missing, output, parts, parts_after}
 use Rattle.cobs.specs.Overwritten.{overwritten}
-use Rattle.cobs.specs.Feed.{Phase, Idle, Overlong, phase_after, PhaseAfter, DecoderAfter, result_for, fed}
+use Rattle.cobs.specs.Feed.{Phase, Idle, Within, Overlong, phase_after, PhaseAfter, DecoderAfter, fed}
 use Rattle.cobs.specs.declared.dec.unbuffered.UnbufferedDecoder.{UnbufferedDecoder}
 use Rattle.cobs.specs.Fields.Decoders.{phase_of, phase_with}
 use Rattle.cobs.specs.Internal.FeedsQuietly.{FeedsQuietly}
-use Rattle.cobs.specs.Step.{next_phase, next_buffer, next_result}
-use Rattle.cobs.proofs.decoding.PieceLemmas.{output-push}
-use Rattle.cobs.proofs.format.StreamLemmas.{fed-nonzero}
+use Rattle.cobs.specs.Step.{next_phase, next_buffer}
+use Rattle.cobs.specs.Push.{last_piece}
+use Rattle.cobs.specs.Stream.{head, stream_outcomes}
+use Rattle.cobs.proofs.decoding.HeadLemmas.{head-cut, head-front, head_some}
+use Rattle.cobs.proofs.decoding.OutcomeLemmas.{head_nonzero}
+use Rattle.cobs.proofs.format.StreamLemmas.{ended_pieces-no_zero, fed-nonzero, stream_outcomes-front, unended-no_zero}
 use Rattle.cobs.proofs.streaming.FeedLemmas.{Feeds-step, DecoderAfter-idle}
-use Rattle.cobs.proofs.streaming.LastPiece.{overwritten-is, output-longer, output-grows}
+use Rattle.cobs.proofs.streaming.LastPiece.{last_piece-unended, overwritten-is, output-begins, output-grows}
+use Rattle.cobs.proofs.streaming.RunLemmas.{piece-all}
 use Rattle.cobs.proofs.streaming.TableLemmas.{output-nil}
-use Rattle.cobs_bytes.proofs.bytes.ListLemmas.{drop-later}
 
--- bytes that a decoder in a piece takes quietly have no zero, which would end the piece
-result-zero : (n : ℕ) (phase : Phase) → phase ≢ Idle → next_result n phase 0 ≢ Ok None
-result-zero n phase going = grind arith
-
-phase-going : (n : ℕ) (phase : Phase) (x : ℕ) → x ≢ 0 → next_phase n phase x ≢ Idle
-phase-going n phase x nz = grind (arith, ne_eqb)
-
-quiet-nonzero : (xs buffer new : List ℕ) (phase phase' : Phase) → phase ≢ Idle → FeedsQuietly buffer phase xs new phase' → HasNoZero xs
-quiet-nonzero [] buffer new phase phase' going f = All-nil (λ b. b ≢ 0)
-quiet-nonzero (x ∷ xs) buffer new phase phase' going f =
-    let nz : x ≢ 0 = λ e. result-zero (length buffer) phase going (subst (λ (k : ℕ). next_result (length buffer) phase k ≡ Ok None) e f.0) in
-    All-cons (λ b. b ≢ 0) x xs nz (quiet-nonzero xs (next_buffer buffer phase x) new (next_phase (length buffer) phase x) phase' (phase-going (length buffer) phase x nz) f.1)
-
--- nor have those that begin with a code
+-- bytes taken quietly that begin with a code have no zero, which would end the piece
 pub quiet-piece : (xs old new : List ℕ) (phase : Phase) → (0 < length xs → get_or xs 0 0 ≢ 0) → FeedsQuietly old Idle xs new phase → HasNoZero xs
-quiet-piece [] old new phase first f = All-nil (λ b. b ≢ 0)
-quiet-piece (x ∷ xs) old new phase first f = grind (arith, All-cons, quiet-nonzero, ne_eqb)
+quiet-piece xs old new phase first f = elim (cases_lt (length (head xs)) (length xs)) [
+  | inl more ↦
+      let none = (piece-all xs old new Idle phase f).takes.outcomes [] (DecoderAfter-idle old Idle refl) in
+      let some : head xs ≢ [] = λ e. omega (arith, ap length e, head_some xs (omega arith) (first (omega arith))) in
+      let one = ap (λ (x : List ℕ). stream_outcomes x (length old)) (head-cut xs more)
+      ∙ stream_outcomes-front (head xs) _ (length old) some (head_nonzero xs) in
+      absurd cc
+  | inr all ↦ subst HasNoZero (sym (head-front xs) ∙ take_all (length (head xs)) xs all) (head_nonzero xs)
+]
 
 -- a front of a piece was fed quietly
 pub record Quiet (old new : List ℕ) (phase : Phase) (p : List ℕ) : Type 0 where
@@ -44,36 +40,29 @@ pub record Quiet (old new : List ℕ) (phase : Phase) (p : List ℕ) : Type 0 wh
   pub len : length new ≡ length old
   pub fits : length (output p) ≤ length old
 
-fits-by : (p : List ℕ) (x n : ℕ) → x ≢ 0 → result_for p x n ≡ Ok None → length (output (p ++ x ∷ [])) ≤ n
-unfolding result_for
-fits-by p x n nz e = grind (arith, ne_eqb, cases_Bool, leb-true)
+-- no byte made the output too long
+going : (xs buffer new : List ℕ) (phase phase' : Phase) → phase ≢ Overlong → FeedsQuietly buffer phase xs new phase' → phase' ≢ Overlong
+going [] buffer new phase phase' some f = grind arith
+going (x ∷ xs) buffer new phase phase' some f =
+    going xs (next_buffer buffer phase x) new (next_phase (length buffer) phase x) phase' (λ over. grind (arith, cases_eq, ne_eqb)) f.1
 
-quiet-by : (xs p old buffer new : List ℕ) (phase phase' : Phase) → HasNoZero xs → Quiet old buffer phase p → FeedsQuietly buffer phase xs new phase' → Quiet old new phase' (p ++ xs)
-quiet-by [] p old buffer new phase phase' none s f = grind (arith, append-nil)
-quiet-by (x ∷ xs) p old buffer new phase phase' none s f =
-    let nz = All-head (λ b. b ≢ 0) x xs none in
-    let step = Feeds-step buffer phase x in
-    let one : Quiet old (next_buffer buffer phase x) (next_phase (length buffer) phase x) (p ++ x ∷ []) = record {
-      after = subst (DecoderAfter (next_buffer buffer phase x) (next_phase (length buffer) phase x)) (fed-nonzero p x nz) (step.after p s.after);
-      rest = step.untouched p s.after.phased nz ∙ drop-later (length (output p)) (length (output (p ++ x ∷ []))) buffer old (output-longer p x) s.rest;
-      len = step.len ∙ s.len;
-      fits = let fits = fits-by p x (length buffer) nz (sym (step.returned p s.after.phased) ∙ f.0) in omega (arith, s.len);
-    } in
-    subst (Quiet old new phase') (append_assoc p (x ∷ []) xs) (quiet-by xs (p ++ x ∷ []) old (next_buffer buffer phase x) new (next_phase (length buffer) phase x) phase' (All-tail (λ b. b ≢ 0) x xs none) one f.1)
+fits-by : (p : List ℕ) (n : ℕ) → phase_after p n ≢ Overlong → length (output p) ≤ n
+unfolding phase_after
+fits-by [] n some = omega (arith, ap length output-nil)
+fits-by (c ∷ p) n some = grind (arith, cases_lt, lt-leb)
 
 pub quiet : (p old new : List ℕ) (phase : Phase) → HasNoZero p → FeedsQuietly old Idle p new phase → Quiet old new phase p
 quiet p old new phase none f =
-    let start : Quiet old old Idle [] = record { after = DecoderAfter-idle old Idle refl; rest = refl; len = refl; fits = omega (arith, ap length output-nil) } in
-    quiet-by p [] old old new Idle phase none start f
-
--- the output so far is the front of that of more
-output-begins : (p tail : List ℕ) → take (length (output p)) (output (p ++ tail)) ≡ output p
-output-begins [] tail = grind (arith, output-nil)
-output-begins (c ∷ p) [] = grind (arith, append-nil, take_all)
-output-begins (c ∷ p) (x ∷ tail) =
-    let more = output-push c p x in
-    ap (λ (q : List ℕ). take (length (output (c ∷ p))) (output q)) (sym (append_assoc (c ∷ p) (x ∷ []) tail)) ∙ sym (take-take _ _ (output ((c ∷ p ++ x ∷ []) ++ tail)) (output-longer (c ∷ p) x))
-    ∙ ap (take (length (output (c ∷ p)))) (output-begins (c ∷ p ++ x ∷ []) tail ∙ more.1) ∙ take_at (output (c ∷ p)) more.0 _ refl
+    let t = piece-all p old new Idle phase f in
+    let idle = DecoderAfter-idle old Idle refl in
+    let after : DecoderAfter new phase p = rw (unended-no_zero p none) at (t.takes.after [] idle) in
+    let last : last_piece p ≡ p = last_piece-unended p (ended_pieces-no_zero p none) ∙ unended-no_zero p none in
+    record {
+      after = after;
+      rest = rw last at (t.untouched [] idle.phased);
+      len = t.takes.len;
+      fits = rw (← t.takes.len) (fits-by p (length new) (λ over. going p old new Idle phase (λ e. cc) f (after.phased.phase_is ∙ over)));
+    }
 
 -- a phase that is too long, and one that the next byte makes so
 long-by : (p : List ℕ) (n : ℕ) → Overlong ≡ phase_after p n → n < length (output p)
@@ -91,6 +80,16 @@ at-by : (p : List ℕ) (n : ℕ) (going full : Bool) (left count : ℕ) → cond
 unfolding phase_after last_part output parts parts_after
 at-by [] n going full left count e fits = grind arith
 at-by (c ∷ p) n going full left count e fits = grind (arith, le-leb)
+
+within-by : (p : List ℕ) (n : ℕ) (full : Bool) (left count : ℕ) → Within full left count ≡ phase_after p n → length (output p) ≤ n
+    → (count ≡ length (output p)) × (left ≡ missing (last_part p))
+unfolding phase_after
+within-by [] n full left count e fits = absurd (cc)
+within-by (c ∷ p) n full left count e fits = grind (arith, le-leb)
+
+pub quiet-within : {old new p : List ℕ} {full : Bool} {left count : ℕ} → Quiet old new (Within full left count) p
+    → (count ≡ length (output p)) × (left ≡ missing (last_part p))
+quiet-within {old} {new} {p} {full} {left} {count} s = within-by p (length new) full left count s.after.phased.phase_is (omega (arith, s.len, s.fits))
 
 module _ (old new p : List ℕ) (phase : Phase) (s : Quiet old new phase p) where
   pub quiet-written : new ≡ overwritten old (output p)

@@ -1,15 +1,15 @@
 -- The first piece of a source, read byte by byte into a buffer: `IsRead` says how far. A byte that has room keeps it
 -- (`read-byte`, `read-full`, `read-zero`); one without room, a zero or the source's end is the last (`Ended`).
 use Rattle.std.proofs.Common.{◌≡◌, ◌≢◌, ◌∙◌, ◌+◌, ◌-◌, ◌<◌, ◌≤◌, ℕ, zero, suc, Bool, true, false, eqb, List, [], ◌∷◌, length, take, drop, get_or, set, min, Option, Some, None, refl, sym, ap, arith, length-drop, length-set}
-use Rattle.std.proofs.lemmas.Bool.{cases_eq, le-leb, le-ltb, lt-ltb, ne_eqb}
+use Rattle.std.proofs.lemmas.Bool.{cases_eq, le-ltb, lt-ltb, ne_eqb}
 use Rattle.std.proofs.lemmas.List.{drop-drop, drop_more, get_or-drop}
 use Rattle.cobs.specs.Decode.{first_output, leading_zeros}
-use Rattle.cobs.specs.Feed.{Overlong, Phase, Within, phase_after}
+use Rattle.cobs.specs.Feed.{Overlong, Phase, Within}
 use Rattle.cobs.specs.FirstPiece.{end_of_first, end_with}
 use Rattle.cobs.specs.Internal.FeedsQuietly.{FeedsQuietly}
 use Rattle.cobs.specs.Overwritten.{overwritten}
-use Rattle.cobs.specs.Piece.{last_part, missing, output}
-use Rattle.cobs.specs.Step.{next_buffer, next_phase}
+use Rattle.cobs.specs.Piece.{output}
+use Rattle.cobs.specs.Step.{grows, next_buffer, next_phase}
 use Rattle.cobs.specs.Stream.{head, outcome_of}
 use Rattle.cobs.specs.declared.dec.frame_decoder.PieceEnd.{PieceEnd}
 use Rattle.cobs.specs.declared.dec.frame_decoder.PieceEnd.TheVariants as ends
@@ -17,7 +17,7 @@ use Rattle.cobs.proofs.decoding.HeadLemmas.{first_piece_found, first_piece_none,
 use Rattle.cobs.proofs.decoding.OutcomeLemmas.{length-head, outcome_of_long, outcome_of_none_missing, outcome_of_some_missing}
 use Rattle.cobs.proofs.decoding.OutcomeSteps.{overwritten-none}
 use Rattle.cobs.proofs.streaming.FrontFed.{FrontFed, over-count, over-long, over-written, rest, whole, whole-count}
-use Rattle.cobs.proofs.streaming.QuietLemmas.{quiet-written}
+use Rattle.cobs.proofs.streaming.QuietLemmas.{quiet-within, quiet-written}
 use Rattle.cobs.proofs.streaming.SpanLemmas.{FeedsQuietly-more}
 
 -- the bytes before `at` are read: the decoder is then in a block, full or not, of which `left` bytes are missing
@@ -49,25 +49,12 @@ read-first source old start is more = grind (arith, length-drop, leading_zeros-s
 pub no-piece : (source old : List ℕ) (start : ℕ) → start ≡ leading_zeros source → start ≡ length source → Ended source old old None
 no-piece source old start is all = grind (arith, first_piece_none, length-drop, overwritten-none)
 
--- where the decoder is after a piece whose output fits
-within-at : (p : List ℕ) (n : ℕ) (full : Bool) (left count : ℕ) → Within full left count ≡ phase_after p n → length (output p) ≤ n → (count ≡ length (output p)) × (left ≡ missing (last_part p))
-unfolding phase_after
-within-at [] n full left count e fits = absurd (cc)
-within-at (c ∷ p) n full left count e fits = grind (arith, le-leb)
-
 -- a byte of an open block, in the machine of `Step`
-module _ (written byte : ℕ) (other : byte ≢ 0) (full : Bool) where
-  buffer-byte : (new : List ℕ) (left : ℕ) → left ≢ 0 → set new written byte ≡ next_buffer new (Within full left written) byte
-  buffer-byte new zero some = grind arith
-  buffer-byte new (suc left) some = grind (arith, ne_eqb)
-
-  phase-byte : (n left : ℕ) → left ≢ 0 → written < n → Within full (left - 1) (written + 1) ≡ next_phase n (Within full left written) byte
-  phase-byte n zero some room = grind arith
-  phase-byte n (suc left) some room = grind (arith, ne_eqb, lt-ltb)
-
-  phase-over : (n left : ℕ) → left ≢ 0 → n ≤ written → next_phase n (Within full left written) byte ≡ Overlong
-  phase-over n zero some room = grind arith
-  phase-over n (suc left) some room = grind (arith, ne_eqb, le-ltb)
+open-byte : (new : List ℕ) (full : Bool) (left written byte : ℕ) → byte ≢ 0 → left ≢ 0
+    → (next_buffer new (Within full left written) byte ≡ set new written byte)
+    × (next_phase (length new) (Within full left written) byte ≡ grows (length new) full (left - 1) written)
+open-byte new full zero written byte other some = absurd (some refl)
+open-byte new full (suc left) written byte other some = grind (arith, ne_eqb)
 
 module _ {source old new : List ℕ} {at left written : ℕ} {full : Bool} (s : IsRead source old at new full left written) where
   abbrev piece : List ℕ
@@ -88,7 +75,7 @@ module _ {source old new : List ℕ} {at left written : ℕ} {full : Bool} (s : 
       let at-stop = λ (more : s.n < length (rest source)). here ∙ stop (omega (arith, length-drop (leading_zeros source) source)) in
       let w = whole s.front at-stop in
       let long = whole-count s.front at-stop in
-      let counts = within-at piece (length new) full left written w.after.phased.phase_is (omega (arith, w.len, w.fits)) in
+      let counts = quiet-within w in
       grind (arith, cases_eq, ended-by, piece, outcome_of_none_missing, outcome_of_some_missing, quiet-written)
 
   -- another byte
@@ -127,11 +114,11 @@ module _ {source old new : List ℕ} {at left written : ℕ} {full : Bool} (s : 
 
     -- one of the block's bytes
     pub read-byte : left ≢ 0 → written ≢ length new → IsRead source old (at + 1) (set new written byte) full (left - 1) (written + 1)
-    read-byte some room = grind (arith, read-more, buffer-byte, byte, phase-byte, length-set)
+    read-byte some room = grind (arith, read-more, open-byte, byte, lt-ltb, length-set)
 
     pub over-byte : left ≢ 0 → length new ≤ written → {count : ℕ} → count ≡ min (length source) (at + 1 + length (head (drop (at + 1) source)) + 1)
         → Ended source old new (Some (ends.TooLong, count))
-    over-byte some no-room = grind (arith, over, phase-over, byte)
+    over-byte some no-room = over ((open-byte new full left written byte other some).1 ∙ rw (le-ltb written (length new) no-room) refl)
 
     -- the code after a full block
     pub read-full : left ≡ 0 → full ≡ true → IsRead source old (at + 1) new (eqb byte 255) (byte - 1) written

@@ -1,8 +1,8 @@
 -- Reads, one after another, and the first piece that ends in the bytes they gave: by `StreamLemmas`, one read at a time.
-use Rattle.std.proofs.Common.{◌≡◌, ◌≢◌, ℕ, ◌+◌, ◌-◌, ◌<◌, ◌≤◌, Bool, true, false, leb, List, [], ◌∷◌, ◌++◌, length, take, drop, refl, sym, ap, ◌∙◌, subst, arith, append_assoc, length-append, length-take, length-drop, Some, None, Ok, Err}
+use Rattle.std.proofs.Common.{◌≡◌, ◌≢◌, ℕ, ◌+◌, ◌-◌, ◌<◌, ◌≤◌, Bool, true, false, leb, List, [], ◌∷◌, ◌++◌, length, take, drop, refl, sym, ap, ◌∙◌, subst, arith, append_assoc, length-append, length-take, length-drop, take_at, ◌↔◌, Result, Some, None, Ok, Err}
 use Rattle.std.specs.List.{All}
 use Rattle.std.proofs.lemmas.List.{append-nil, nil_from_length, take_all, take-append-le, take-append-drop, drop-take, drop-drop, flat_map_more, length_push, same_from_push}
-use Rattle.std.proofs.lemmas.List.Elements.{All-nil, All-push, All-take, All-head, All-tail}
+use Rattle.std.proofs.lemmas.List.Elements.{All-nil, All-push, All-take, All-head}
 use Rattle.std.proofs.lemmas.Grind.{flat_map-append, common_steps}
 use Rattle.std.proofs.Math.Logic.{∥∥₁_elim}
 use Rattle.std.proofs.Math.Bool.{Bool-set}
@@ -15,12 +15,14 @@ use Rattle.cobs.specs.NextFrame.{Read, bytes_given, GaveBytes, all_given, EndsIn
 use Rattle.cobs.specs.Internal.KeptBytes.{EndsFirstIn, DecoderHasTaken, ReportsFirst}
 use Rattle.cobs.specs.declared.framed.Next.{Next}
 use Rattle.cobs.specs.declared.framed.Next.TheVariants as nexts
+use Rattle.cobs.specs.declared.framed.ReadFault.{ReadFault}
 use Rattle.cobs.specs.declared.framed.ReadFault.TheVariants as faults
 use Rattle.cobs.specs.declared.dec.frame_decoder.PieceEnd.{PieceEnd}
+use Rattle.cobs.proofs.format.FrameLemmas.{All-apart}
+use Rattle.cobs.proofs.decoding.OutcomeLemmas.{outcome_says}
 use Rattle.cobs.proofs.format.StreamLemmas.{outcomes_at, stream_outcomes-append, stream_outcomes-no_zero, stream_outcomes-push, unended-append, unended-no_zero, unended-zero}
 use Rattle.cobs.proofs.streaming.SoFar.{left_nothing, no_outcomes}
 use Rattle.cobs.proofs.streaming.LastPiece.{last_piece-zero}
-use Rattle.std.proofs.lemmas.Bool.{cases_Bool, leb-true, leb-false}
 
 -- THE FIRST PIECE THAT ENDS
 
@@ -35,22 +37,20 @@ EndsFirstIn-taken {buffer} {buffer'} {phase} {phase'} {end} {count} bytes t p h 
 }
 
 -- the contents of the buffer after a piece that a zero ends, once the piece's output is written over its front
-broken-fits : (p : List ℕ) (count n : ℕ) → outcome_of p n ≡ Broken count → (length (output p) ≤ n) × (count ≡ length (output p))
-unfolding outcome_of
-broken-fits p count n e = grind (arith, leb-true, cases_Bool)
-
-long-exceeds : (p : List ℕ) (n : ℕ) → outcome_of p n ≡ TooLong → n < length (output p)
-unfolding outcome_of
-long-exceeds p n e = grind (arith, leb-false, cases_Bool)
-
 written-fits : (out buffer : List ℕ) (count : ℕ) → length out ≤ length buffer → count ≡ length out → (count ≤ length (overwritten buffer out)) × (take count (overwritten buffer out) ≡ out)
 written-fits out buffer count fits is = grind (arith, take_all, length-append, take-append-le)
 
 HasDecoded-written : (outcome : Outcome) (piece buffer : List ℕ) → outcomes_at piece 0 (length buffer) ≡ outcome ∷ [] → HasDecoded outcome (overwritten buffer (output piece)) piece
 HasDecoded-written outcome [] buffer e = absurd cc
 HasDecoded-written (Message message) (byte ∷ bytes) buffer e = tt
-HasDecoded-written (Broken count) (byte ∷ bytes) buffer e = let fits = broken-fits (byte ∷ bytes) count (length buffer) cc in written-fits (output (byte ∷ bytes)) buffer count fits.0 fits.1
-HasDecoded-written TooLong (byte ∷ bytes) buffer e = grind (arith, common_steps, nil_from_length, length-drop, append-nil, length-take, long-exceeds)
+HasDecoded-written (Broken count) (byte ∷ bytes) buffer e =
+    let is : outcome_of (byte ∷ bytes) (length buffer) ≡ Broken count = cc in
+    let (fits, broken, counted) = outcome_says (byte ∷ bytes) (length buffer) is in
+    written-fits (output (byte ∷ bytes)) buffer count fits counted
+HasDecoded-written TooLong (byte ∷ bytes) buffer e =
+    let is : outcome_of (byte ∷ bytes) (length buffer) ≡ TooLong = cc in
+    let long : length buffer < length (output (byte ∷ bytes)) = outcome_says (byte ∷ bytes) (length buffer) is in
+    grind (arith, common_steps, nil_from_length, length-drop, append-nil, length-take)
 
 -- the contents of the buffer after a piece that a decoder has taken
 pub HasDecoded-taken : {buffer buffer' : List ℕ} {phase phase' : Phase} {end : PieceEnd} {count : ℕ} (bytes : List ℕ) → (t : TakesPiece buffer phase bytes (Some (end, count)) buffer' phase')
@@ -104,37 +104,31 @@ given-push front reads read = grind (arith, flat_map_more)
 last_read : (reads : List Read) (read last : Read) → EndsIn (reads ++ read ∷ []) last → read ≡ last
 last_read reads read last e = grind (arith, same_from_push)
 
--- the reads before one of some reads and one more
-earlier_reads : (reads earlier later : List Read) (last read : Read) → reads ++ last ∷ [] ≡ earlier ++ read ∷ later → reads ≡ earlier ++ drop (length earlier) reads
-earlier_reads reads earlier later last read e =
-    let within : length earlier ≤ length reads = omega (arith, ap length e, length_push reads last, length-append earlier (read ∷ later)) in
-    sym (take-append-drop (length earlier) reads)
-    ∙ ap (λ (x : List Read). x ++ drop (length earlier) reads)
-    (sym (take-append-le (length earlier) reads (last ∷ []) within) ∙ ap (take (length earlier)) e ∙ take-append-le (length earlier) earlier (read ∷ later) (omega arith) ∙ take_all (length earlier) earlier (omega arith))
+-- WHICH READS WERE CALLED FOR
 
--- if a read after some reads was called for, those were called for as well
-called_earlier : (front : List ℕ) (n : ℕ) (reads earlier later : List Read) → reads ≡ earlier ++ later → length earlier < 65536 → All GaveBytes reads → stream_outcomes (front ++ all_given reads) n ≡ []
-    → CallsForMore front n earlier
-called_earlier front n reads earlier later e few gave none = record {
-  few = few;
-  gave = subst (λ (x : List Read). All GaveBytes x) (ap (take (length earlier)) e ∙ take-append-le (length earlier) earlier later (omega arith) ∙ take_all (length earlier) earlier (omega arith)) (All-take GaveBytes (length earlier) reads gave);
-  none_ended = left_nothing _ _ (sym (stream_outcomes-append (front ++ all_given earlier) (all_given later) n)
-      ∙ ap (λ (x : List ℕ). stream_outcomes x n) (append_assoc front (all_given earlier) (all_given later) ∙ ap (λ (x : List ℕ). front ++ x) (sym (flat_map-append bytes_given earlier later) ∙ ap all_given (sym e))) ∙ none);
-}
+module _ (front : List ℕ) (n : ℕ) (reads : List Read) (gave : All GaveBytes reads) (none : stream_outcomes (front ++ all_given reads) n ≡ []) where
+  -- after the first k of them another read is made
+  called_after : (k : ℕ) → k < 65536 → CallsForMore front n (take k reads)
+  called_after k few =
+      let whole : all_given (take k reads) ++ all_given (drop k reads) ≡ all_given reads
+      = sym (flat_map-append bytes_given (take k reads) (drop k reads)) ∙ ap all_given (take-append-drop k reads) in
+      let all = append_assoc front (all_given (take k reads)) (all_given (drop k reads)) ∙ ap (λ (x : List ℕ). front ++ x) whole in
+      record {
+        few = omega (arith, length-take k reads);
+        gave = All-take GaveBytes k reads gave;
+        none_ended = left_nothing _ _ (sym (stream_outcomes-append (front ++ all_given (take k reads)) (all_given (drop k reads)) n)
+            ∙ ap (λ (x : List ℕ). stream_outcomes x n) all ∙ none);
+      }
 
--- each of some reads was called for, if another is called for after them
-EachCalledFor-push : (front : List ℕ) (n : ℕ) (reads : List Read) (last : Read) → CallsForMore front n reads → EachCalledFor front n (reads ++ last ∷ [])
-EachCalledFor-push front n reads last more = λ earlier later read e.
-    called_earlier front n reads earlier (drop (length earlier) reads) (earlier_reads reads earlier later last read e)
-    (omega (arith, ap length e, length_push reads last, length-append earlier (read ∷ later), more.few)) more.gave more.none_ended
-
--- the same of reads of which none is called for any more
-EachCalledFor-all : (front : List ℕ) (n : ℕ) (reads : List Read) → length reads ≤ 65536 → All GaveBytes reads → stream_outcomes (front ++ all_given reads) n ≡ [] → EachCalledFor front n reads
-EachCalledFor-all front n reads few gave none = grind (arith, common_steps, called_earlier, length-append)
-
--- no reads
-EachCalledFor-nil : (front : List ℕ) (n : ℕ) → EachCalledFor front n []
-EachCalledFor-nil front n = λ earlier later read e. absurd (omega (arith, ap length e, length-append earlier (read ∷ later)))
+  -- so each of them was called for, and so was one read after them
+  called_for : (more : List Read) → length more ≤ 1 → length (reads ++ more) ≤ 65536 → EachCalledFor front n (reads ++ more)
+  called_for more one few earlier later read e =
+      let long = ap length e ∙ length-append earlier (read ∷ later) in
+      let within : length earlier ≤ length reads = omega (arith, long, length-append reads more) in
+      let same : take (length earlier) reads ≡ earlier
+      = sym (take-append-le (length earlier) reads more within) ∙ ap (take (length earlier)) e
+      ∙ take_at earlier (read ∷ later) (length earlier) refl in
+      subst (λ (x : List Read). CallsForMore front n x) same (called_after (length earlier) (omega (arith, long)))
 
 -- A CALL THAT GOES ON
 
@@ -155,44 +149,46 @@ pub Going-start : {S : Type 0} (step : S → Read → S → Type 0) (source : S)
     → length reader.buffer ≡ length reader₀.buffer → Going step source source reader₀ reader unfinished 0
 Going-start step source reader₀ reader unfinished h len = grind (arith, All-nil, append-nil)
 
-some_is_none : (bytes : List ℕ) → Some bytes ≡ None → ⊥
-some_is_none bytes e = cc
-
 module _ {S : Type 0} {step : S → Read → S → Type 0} {from to : S} {reader₀ reader : ReaderState} {unfinished : Bool} {count : ℕ} where
-  more_called_for : count < 65536 → (g : Going step from to reader₀ reader unfinished count) → (p : List ℕ) → ReaderAfter reader₀ p → CallsForMore (p ++ reader₀.kept) (length reader₀.buffer) g.reads
-  more_called_for few g p b = grind arith
+  none_so_far : (g : Going step from to reader₀ reader unfinished count) → (p : List ℕ) → ReaderAfter reader₀ p
+      → stream_outcomes (p ++ reader₀.kept ++ all_given g.reads) (length reader₀.buffer) ≡ []
+  none_so_far g p b = ap (stream_outcomes (p ++ reader₀.kept ++ all_given g.reads)) (sym g.len) ∙ (g.at_end p b).none_ended
 
-  -- a read that gave nothing leaves the stream as it is
-  nothing_more : (g : Going step from to reader₀ reader unfinished count) (read : Read) → bytes_given read ≡ [] → (p : List ℕ) → p ++ reader₀.kept ++ all_given (g.reads ++ read ∷ []) ≡ p ++ reader₀.kept ++ all_given g.reads
-  nothing_more g read none p = grind (arith, given-push, append-nil)
-
-  -- the stream is at its end, and the chunk is empty
-  emptied : (kept : List ℕ) → kept ≡ [] → (g : Going step from to reader₀ reader unfinished count) → (p : List ℕ) → ReaderAfter reader₀ p → AtStreamEnd (p ++ reader₀.kept ++ all_given g.reads) (record reader { kept = kept })
-  emptied kept e g p b = grind arith
+  -- one more read is the last
+  ReadsNext-read : {to' : S} {reader' : ReaderState} {result : Result Next ReadFault} (read : Read) → count < 65536
+      → (g : Going step from to reader₀ reader unfinished count) → step to read to'
+      → (result ≡ Err faults.Io) ↔ (read ≡ None)
+      → ((p : List ℕ) → ReaderAfter reader₀ p
+      → Reports result (g.reads ++ read ∷ []) (p ++ reader₀.kept ++ all_given g.reads ++ bytes_given read) reader')
+      → ReadsNext step from to' reader₀ result reader'
+  ReadsNext-read {to'} read few g s failed says = record {
+    reads = g.reads ++ read ∷ [];
+    runs = Runs-push step from g.reads to to' read g.runs s;
+    failed = (λ e. (g.reads, ap (λ (r : Read). g.reads ++ r ∷ []) (failed.0 e)), λ l. failed.1 (last_read g.reads read None l));
+    called_for = λ p b. called_for _ _ g.reads g.gave (none_so_far g p b) (read ∷ [])
+        (omega arith) (omega (arith, length_push g.reads read, g.count_is));
+    result_says = λ p b. rw (given-push (p ++ reader₀.kept) g.reads read) (says p b);
+  }
 
   -- WHERE THE SOURCE GIVES NO MORE
+
+  -- the stream is at its end, and the chunk is empty
+  emptied : (kept : List ℕ) → kept ≡ [] → (g : Going step from to reader₀ reader unfinished count) → (p : List ℕ) → ReaderAfter reader₀ p
+      → AtStreamEnd (p ++ reader₀.kept ++ all_given g.reads ++ []) (record reader { kept = kept })
+      × (unfinished ≡ is_nonempty (unended (p ++ reader₀.kept ++ all_given g.reads ++ [])))
+  emptied kept e g p b = grind (arith, append-nil)
 
   -- a read failed
   pub ReadsNext-failed : {to' : S} (kept : List ℕ) → kept ≡ [] → count < 65536 → Going step from to reader₀ reader unfinished count → step to None to'
       → ReadsNext step from to' reader₀ (Err faults.Io) (record reader { kept = kept })
-  ReadsNext-failed {to'} kept e few g s = record {
-    reads = g.reads ++ None ∷ [];
-    runs = Runs-push step from g.reads to to' None g.runs s;
-    failed = (λ _. (g.reads, refl), λ _. refl);
-    called_for = λ p b. EachCalledFor-push _ _ g.reads None (more_called_for few g p b);
-    result_says = λ p b. rw (nothing_more g None refl p) (emptied kept e g p b, (g.reads, refl));
-  }
+  ReadsNext-failed kept e few g s = ReadsNext-read None few g s (λ _. refl, λ _. refl) (λ p b. ((emptied kept e g p b).0, (g.reads, refl)))
 
   -- a read gave no bytes
   pub ReadsNext-end : {to' : S} (kept : List ℕ) → kept ≡ [] → count < 65536 → Going step from to reader₀ reader unfinished count → step to (Some []) to'
       → ReadsNext step from to' reader₀ (Ok (nexts.End unfinished)) (record reader { kept = kept })
-  ReadsNext-end {to'} kept e few g s = record {
-    reads = g.reads ++ Some [] ∷ [];
-    runs = Runs-push step from g.reads to to' (Some []) g.runs s;
-    failed = (λ f. absurd cc, λ l. absurd (some_is_none [] (last_read g.reads (Some []) None l)));
-    called_for = λ p b. EachCalledFor-push _ _ g.reads (Some []) (more_called_for few g p b);
-    result_says = λ p b. rw (nothing_more g (Some []) refl p) (emptied kept e g p b, (g.reads, refl), g.flag p b);
-  }
+  ReadsNext-end kept e few g s = ReadsNext-read (Some []) few g s (λ f. absurd cc, λ n. absurd cc) (λ p b.
+      let w = emptied kept e g p b in
+      (w.0, (g.reads, refl), w.1))
 
 -- WHERE A PIECE ENDS
 
@@ -214,15 +210,11 @@ ReadsNext-kept step source reader reader' next h idle = record {
   reads = [];
   runs = refl;
   failed = (λ f. absurd cc, λ l. absurd (omega (arith, ap length l.1, length_push l.0 None)));
-  called_for = λ p b. EachCalledFor-nil _ _;
+  called_for = λ p b earlier later read e. absurd (omega (arith, ap length e, length-append earlier (read ∷ later)));
   result_says = λ p b.
       let w : ReportsFirst next (unended p) reader.kept reader'.buffer reader'.kept = rw (unended-no_zero p b.phased.piece) (h p b) in
       rw (append-nil (p ++ reader.kept)) (Reports-first next [] p reader.kept reader' (stream_outcomes-no_zero p _ b.phased.piece) w idle);
 }
-
-All-last : {X : Type 0} (P : X → Type 0) (xs : List X) (x : X) → All P (xs ++ x ∷ []) → P x
-All-last P [] x h = All-head P x [] h
-All-last P (y ∷ xs) x h = All-last P xs x (All-tail P y (xs ++ x ∷ []) h)
 
 -- more bytes in which no piece ends
 AtStreamEnd-more : (t bytes : List ℕ) (reader reader' : ReaderState) → length reader'.buffer ≡ length reader.buffer → AtStreamEnd t reader → AtStreamEnd (unended t ++ bytes) reader' → AtStreamEnd (t ++ bytes) reader'
@@ -233,16 +225,9 @@ module _ {S : Type 0} {step : S → Read → S → Type 0} {from to to' : S} {re
   pub ReadsNext-piece : (bytes : List ℕ) (next : Next) → count < 65536 → Going step from to reader₀ reader unfinished count → step to (Some bytes) to' → length reader'.buffer ≡ length reader.buffer
       → ((q : List ℕ) → ReaderAfter reader q → ReportsFirst next q bytes reader'.buffer reader'.kept) → ReaderAfter reader' []
       → ReadsNext step from to' reader₀ (Ok next) reader'
-  ReadsNext-piece bytes next few g s len h idle = record {
-    reads = g.reads ++ Some bytes ∷ [];
-    runs = Runs-push step from g.reads to to' (Some bytes) g.runs s;
-    failed = (λ f. absurd cc, λ l. absurd (some_is_none bytes (last_read g.reads (Some bytes) None l)));
-    called_for = λ p b. EachCalledFor-push _ _ g.reads (Some bytes) (more_called_for few g p b);
-    result_says = λ p b.
-        let t = p ++ reader₀.kept ++ all_given g.reads in
-        let end = g.at_end p b in
-        rw (given-push (p ++ reader₀.kept) g.reads (Some bytes)) (Reports-first next _ t bytes reader' (ap (stream_outcomes t) len ∙ end.none_ended) (h _ end.after) idle);
-  }
+  ReadsNext-piece bytes next few g s len h idle = ReadsNext-read (Some bytes) few g s (λ f. absurd cc, λ n. absurd cc) (λ p b.
+      let end = g.at_end p b in
+      Reports-first next _ _ bytes reader' (ap (stream_outcomes (p ++ reader₀.kept ++ all_given g.reads)) len ∙ end.none_ended) (h _ end.after) idle)
 
   -- they end none, and the call continues
   pub Going-push : (bytes : List ℕ) (unfinished' : Bool) → bytes ≢ [] → Going step from to reader₀ reader unfinished count → step to (Some bytes) to' → length reader'.buffer ≡ length reader.buffer
@@ -270,8 +255,14 @@ pub ReadsNext-too_many : {S : Type 0} {step : S → Read → S → Type 0} {from
 ReadsNext-too_many {reader₀} {reader} all g = record {
   reads = g.reads;
   runs = g.runs;
-  failed = (λ f. absurd cc, λ l. absurd (All-last GaveBytes l.0 None (subst (λ (x : List Read). All GaveBytes x) l.1 g.gave) refl));
-  called_for = λ p b. EachCalledFor-all _ _ g.reads (omega (arith, g.count_is)) g.gave (ap (stream_outcomes (p ++ reader₀.kept ++ all_given g.reads)) (sym g.len) ∙ (g.at_end p b).none_ended);
+  failed = (
+    λ f. absurd cc,
+    λ l.
+        let last = (All-apart GaveBytes l.0 (None ∷ []) (subst (λ (x : List Read). All GaveBytes x) l.1 g.gave)).1 in
+        absurd (All-head GaveBytes None [] last refl),
+  );
+  called_for = λ p b.
+      rw append-nil at (called_for _ _ g.reads g.gave (none_so_far g p b) [] (omega arith) (rw append-nil (omega (arith, g.count_is))));
   result_says = λ p b. (g.at_end p b, g.count_is ∙ all, g.gave);
 }
 

@@ -1,6 +1,7 @@
 -- Bytes that the machine takes quietly at once are as many feeds (`ran-on`), by induction on the bytes; and what such bytes
 -- leave of the buffer.
-use Rattle.std.proofs.Common.{◌≡◌, ◌≢◌, ℕ, zero, suc, ◌+◌, ◌-◌, ◌<◌, ◌≤◌, Bool, List, [], ◌∷◌, ◌++◌, length, take, drop, set, get_or, sym, ap, ◌∙◌, subst, refl, arith, append_assoc, None, Ok}
+use Rattle.std.proofs.Common.{◌≡◌, ◌≢◌, ℕ, zero, suc, ◌+◌, ◌-◌, ◌<◌, ◌≤◌, Bool, List, [], ◌∷◌, ◌++◌, length, take, drop, set, get_or, sym, ap, ◌∙◌, subst, refl, arith, append_assoc, take_all, None, Ok}
+use Rattle.std.proofs.Math.Seq.{take-length}
 use Rattle.std.proofs.lemmas.List.{drop_more, take_more_set, drop-set-lt, drop-drop}
 use Rattle.cobs.specs.declared.dec.unbuffered.UnbufferedDecoder.{UnbufferedDecoder}
 use Rattle.std.proofs.lemmas.List.Elements.{All-head, All-tail}
@@ -13,7 +14,7 @@ use Rattle.cobs.specs.Internal.FeedsQuietly.{FeedsQuietly}
 use Rattle.cobs.specs.Step.{next_phase, next_buffer, next_result}
 use Rattle.cobs.specs.Table.{written_in}
 use Rattle.cobs.proofs.streaming.FeedLemmas.{Feeds-step}
-use Rattle.cobs.proofs.streaming.ByByteLemmas.{piece-more}
+use Rattle.cobs.proofs.streaming.ByByteLemmas.{piece-more, piece-nothing}
 use Rattle.cobs_bytes.proofs.bytes.ListLemmas.{part-nonzero}
 
 -- the list with xs written over as many elements from the place on
@@ -43,6 +44,13 @@ pub piece-run : {buffer₀ buffer buffer' : List ℕ} {phase₀ phase phase' : P
 piece-run {buffer₀} {phase₀ = phase₀} bytes i r within t f =
     ran-on (λ buffer phase i. TakesPiece buffer₀ phase₀ (take i bytes) None buffer phase) bytes
     (λ buffer phase i within t quiet. piece-more bytes i within t (Feeds-step buffer phase (get_or bytes i 0)) (λ _. ap end_reported quiet)) _ _ _ _ i r within t f
+
+-- as do all bytes, fed in turn
+pub piece-all : (bytes buffer buffer' : List ℕ) (phase phase' : Phase) → FeedsQuietly buffer phase bytes buffer' phase'
+    → TakesPiece buffer phase bytes None buffer' phase'
+piece-all bytes buffer buffer' phase phase' f =
+    rw (take_all (0 + length bytes) bytes (omega arith)) at
+    (piece-run bytes 0 (length bytes) (omega arith) (piece-nothing buffer phase) (rw (← take-length bytes) at f))
 
 -- a piece that is too long continues with bytes that aren't zeros
 pub piece-over : {buffer₀ buffer : List ℕ} {phase₀ : Phase} (bytes : List ℕ) (i r : ℕ) → i + r ≤ length bytes → HasNoZero (take r (drop i bytes))

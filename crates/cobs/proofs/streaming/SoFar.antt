@@ -1,10 +1,10 @@
 -- A stream so far: the invariant of a loop that feeds one byte after another (`TakesBytes`), for one byte by `Feeds` and for more
 -- by `SoFar-more`.
-use Rattle.std.proofs.Common.{◌≡◌, ◌≢◌, ℕ, zero, suc, ◌+◌, ◌-◌, ◌<◌, ◌≤◌, List, [], ◌∷◌, ◌++◌, length, take, drop, refl, sym, ap, ◌∙◌, subst, arith, append_assoc, length-append, length-take, length-drop, map, inl, inr, ◌⊎◌, Option, Some, None, Result, Ok, Err, nat_le, cond, eqb}
+use Rattle.std.proofs.Common.{◌≡◌, ◌≢◌, ℕ, zero, suc, ◌+◌, ◌-◌, ◌<◌, ◌≤◌, List, [], ◌∷◌, ◌++◌, length, take, drop, refl, sym, ap, ◌∙◌, subst, arith, append_assoc, length-append, length-take, length-drop, map, inl, inr, ◌⊎◌, Option, Some, None, Result, Ok, Err, cond, eqb}
 use Rattle.std.specs.List.{Contains}
 use Rattle.std.proofs.lemmas.List.{append-nil, nil_from_length, length-map, take_rest, take_all, take-append-drop}
 use Rattle.std.proofs.lemmas.List.Elements.{All-nil, All-cons, All-append, Contains-push_cases, Contains-append_cases}
-use Rattle.std.proofs.lemmas.Bool.{leb-true, cases_Bool, cases_eq, eq-eqb, ne_eqb}
+use Rattle.std.proofs.lemmas.Bool.{leb-true, cases_eq, eq-eqb, ne_eqb}
 use Rattle.std.proofs.Math.Seq.{take-add}
 use Rattle.std.proofs.lemmas.Grind.{common_steps}
 use Rattle.cobs.specs.Grammar.{HasNoZero}
@@ -14,6 +14,7 @@ use Rattle.cobs.specs.Push.{error_outcomes}
 use Rattle.cobs.specs.FeedPiece.{AreAlikeAtFirst, FeedsEach, TakesBytes, TakesPiece, outcome_at, IsWithin, IsCountWithin}
 use Rattle.cobs.specs.declared.dec.frame_decoder.PieceEnd.{PieceEnd}
 use Rattle.cobs.specs.declared.error.DecodeError.{DecodeError}
+use Rattle.cobs.proofs.decoding.OutcomeLemmas.{outcome_says}
 use Rattle.cobs.proofs.streaming.FeedLemmas.{DecoderAfter-idle}
 use Rattle.cobs.proofs.format.StreamLemmas.{outcomes_at, outcomes_at-nonzero, stream_outcomes-append, stream_outcomes-no_zero, stream_outcomes-push_piece, unended-append, unended-no_zero, unended-push_piece}
 
@@ -53,13 +54,9 @@ zero_or_none (suc b ∷ xs) = elim (zero_or_none xs) [ inl h ↦ inl (suc h.0, o
 
 -- WHAT A BROKEN PIECE DECODES TO IS WITHIN THE BUFFER
 
-fits-outcome : (p : List ℕ) (count n : ℕ) → Broken count ≡ outcome_of p n → count ≤ n
-unfolding outcome_of
-fits-outcome p count n e = grind (arith, nat_le, leb-true, cases_Bool)
-
 fits-map : (ps : List (List ℕ)) (count n : ℕ) → Broken count ∷ [] ≡ map (λ p. outcome_of p n) ps → count ≤ n
 fits-map [] count n e = absurd cc
-fits-map (p ∷ ps) count n e = fits-outcome p count n cc
+fits-map (p ∷ ps) count n e = let is : outcome_of p n ≡ Broken count = cc in (let w = outcome_says p n is in omega arith)
 
 -- so the count of a result is within it
 pub count-within : (end : PieceEnd) (buffer t : List ℕ) (n : ℕ) → AreAlikeAtFirst (outcome_at end buffer ∷ []) (stream_outcomes t n) → IsWithin n end → IsCountWithin n end

@@ -1,10 +1,9 @@
 -- Bytes after an open block in which no full block ends, fed as a whole: they are written with a zero over each code
--- (`walked`). By the machine's step, byte by byte.
-use Rattle.std.proofs.Common.{◌≡◌, ◌≢◌, ℕ, zero, suc, ◌+◌, ◌-◌, ◌<◌, ◌≤◌, Bool, eqb, List, [], ◌∷◌, ◌++◌, length, set, take, drop, refl, sym, ap, ◌∙◌, arith, length-take-le, length-drop, length-set, replicate, take-append-drop}
+-- (`walked`). By `fed_walked`, for the bytes of one span (`IsSpan`).
+use Rattle.std.proofs.Common.{◌≡◌, ◌≢◌, ℕ, zero, suc, ◌+◌, ◌-◌, ◌<◌, ◌≤◌, Bool, eqb, List, [], ◌∷◌, ◌++◌, length, take, drop, refl, sym, ap, ◌∙◌, arith, length-take-le, length-drop, replicate, take-append-drop, take_all}
 use Rattle.std.proofs.lemmas.List.{append-nil, drop_all, drop-drop, length-replicate, take_rest, take-append-drop}
 use Rattle.std.proofs.Math.Seq.{drop-append_seam, take-add, take-append_seam}
-use Rattle.std.proofs.lemmas.List.Elements.{All-head, All-tail}
-use Rattle.std.proofs.lemmas.Bool.{ne_eqb, lt-ltb, cases_eq}
+use Rattle.std.proofs.lemmas.Bool.{ne_eqb, cases_eq}
 use borrow.Rule.Slice.PartMut.{put_mid}
 use Rattle.std.proofs.lemmas.Grind.{common_steps}
 use Rattle.cobs.specs.Grammar.{HasNoZero}
@@ -15,8 +14,8 @@ use Rattle.cobs.specs.Internal.FeedsQuietly.{FeedsQuietly}
 use Rattle.cobs.specs.Internal.Walk.{walked}
 use Rattle.cobs.specs.Sentinel.{xor_each}
 use Rattle.cobs.specs.Step.{next_phase, next_buffer}
-use Rattle.cobs.proofs.streaming.RunLemmas.{over, over-cons, phase_with-begun}
-use Rattle.cobs.proofs.streaming.WalkLemmas.{length-walked, walked-past, walked-any}
+use Rattle.cobs.proofs.streaming.RunLemmas.{over, phase_with-begun}
+use Rattle.cobs.proofs.streaming.WalkLemmas.{fed_walked, length-walked, walked-past, walked-any}
 use Rattle.cobs_bytes.proofs.bytes.ListLemmas.{ones-nonzero}
 
 -- the bytes are fed in two parts
@@ -30,13 +29,6 @@ FeedsQuietly-append (x ∷ xs) ys buffer buffer' buffer'' phase phase' phase'' f
 pub FeedsQuietly-more : (bytes buffer buffer' buffer'' : List ℕ) (phase phase' phase'' : Phase) (run more : ℕ) → FeedsQuietly buffer phase (take run bytes) buffer' phase'
     → FeedsQuietly buffer' phase' (take more (drop run bytes)) buffer'' phase'' → FeedsQuietly buffer phase (take (run + more) bytes) buffer'' phase''
 FeedsQuietly-more bytes buffer buffer' buffer'' phase phase' phase'' run more f g = grind (arith, take-add, FeedsQuietly-append)
-
--- after an open block
-fed_walked : (bytes buffer : List ℕ) (code left count : ℕ) → HasNoZero bytes → (code ≡ 255 → length bytes ≤ left) → (left < length bytes → length bytes < 254) → count + length bytes ≤ length buffer
-    → let w = walked code left bytes in FeedsQuietly buffer (Within (eqb code 255) left count) bytes (over count buffer w.0) (Within (eqb w.1 255) w.2 (count + length bytes))
-fed_walked [] buffer code left count nz full few room = grind (arith, take-append-drop)
-fed_walked (x ∷ xs) buffer code (suc left) count nz full few room = grind (arith, All-head, All-tail, length-set, ne_eqb, lt-ltb, over-cons, fed_walked xs (set buffer count x) code left (count + 1) (All-tail (λ b. b ≢ 0) x xs nz) (λ e. omega (arith, full e)) (λ h. omega (arith, few (omega arith))) (omega (arith, length-set buffer count x)))
-fed_walked (x ∷ xs) buffer code zero count nz full few room = grind (arith, All-head, All-tail, length-set, over, ne_eqb, lt-ltb, over-cons, fed_walked xs (set buffer count 0) x (x - 1) (count + 1) (All-tail (λ b. b ≢ 0) x xs nz) (λ e. omega (arith, few (omega arith))) (λ h. omega (arith, few (omega arith))) (omega (arith, length-set buffer count 0)))
 
 -- n bytes that were written to the front of a part
 pub part_put : (at n : ℕ) (dest ys xs : List ℕ) → ys ≡ xs ++ drop n (take (length dest - at) (drop at dest)) → put_mid at (length dest - at) dest ys ≡ take at dest ++ (xs ++ drop (at + n) dest)
@@ -72,35 +64,52 @@ full_by : (joint : ℕ) → code_by joint ≡ 255 → joint ≡ 0
 full_by zero is = refl
 full_by (suc joint) is = grind arith
 
--- a decoder takes bytes, and they are written as what they are from code to code
-module _ (inner : UnbufferedDecoder) (len : ℕ) (before xs : List ℕ) (room : inner.written + len ≤ length before) (long : length xs ≡ len)
-    (going : inner.too_long ≡ 0) (full : inner.joint ≡ 0 → len ≤ inner.missing) (nz : HasNoZero xs) (some : 0 < len) (few : inner.missing < len → len < 254)
-    (ys : List ℕ) (code left joint : ℕ) (w : ◌≡◌ {A = List ℕ × ℕ × ℕ} (ys, code, left) (walked (code_by inner.joint) inner.missing xs)) (joint-is : eqb joint 0 ≡ eqb code 255) where
-  from : phase_of inner ≡ Within (eqb (code_by inner.joint) 255) inner.missing inner.written
-  from = grind (arith, cases_eq, phase_with-begun, ne_eqb, code_by-full)
+-- the decoder after that many bytes, with these numbers of its open block
+abbrev moved_on : UnbufferedDecoder → ℕ → ℕ → ℕ → UnbufferedDecoder
+moved_on inner len left joint = record { written = inner.written + len; missing = left; joint = joint; too_long = inner.too_long }
 
-  pub open_fed : FeedsQuietly before (phase_of inner) xs (over inner.written before ys) (phase_of (record { written = inner.written + len; missing = left; joint = joint; too_long = inner.too_long }))
+-- bytes that a decoder takes at once after its output: none of them is after a full block
+record IsSpan (inner : UnbufferedDecoder) (len : ℕ) (before xs : List ℕ) : Type 0 where
+  room : inner.written + len ≤ length before
+  long : length xs ≡ len
+  going : inner.too_long ≡ 0
+  full : inner.joint ≡ 0 → len ≤ inner.missing
+  nonzero : HasNoZero xs
+  some : 0 < len
+  few : inner.missing < len → len < 254
+
+block-phase : (inner : UnbufferedDecoder) → inner.too_long ≡ 0 → (inner.joint ≡ 0 → 0 < inner.missing) → phase_of inner ≡ Within (eqb (code_by inner.joint) 255) inner.missing inner.written
+block-phase inner going full = grind (arith, cases_eq, phase_with-begun, ne_eqb, code_by-full)
+
+-- they are written as what they are from code to code
+module _ {inner : UnbufferedDecoder} {len : ℕ} {before xs : List ℕ} (s : IsSpan inner len before xs) (joint : ℕ) {ys : List ℕ} {code left : ℕ}
+    (w : ◌≡◌ {A = List ℕ × ℕ × ℕ} (ys, code, left) (walked (code_by inner.joint) inner.missing xs)) (joint-is : eqb joint 0 ≡ eqb code 255) where
+  open_fed : FeedsQuietly before (phase_of inner) xs (over inner.written before ys) (phase_of (moved_on inner len left joint))
   open_fed =
       let v = walked (code_by inner.joint) inner.missing xs in
-      let to : phase_of (record { written = inner.written + len; missing = left; joint = joint; too_long = inner.too_long }) ≡ Within (eqb v.1 255) v.2 (inner.written + length xs)
-      = rw going (phase_with-begun (eqb joint 0) left (inner.written + len) (omega arith)) ∙ ap (λ (b : Bool). Within b left (inner.written + len)) joint-is
-      ∙ ap (λ (t : List ℕ × ℕ × ℕ). Within (eqb t.1 255) t.2 (inner.written + len)) w ∙ ap (λ (k : ℕ). Within (eqb v.1 255) v.2 (inner.written + k)) (sym long) in
-      rw (from, to, ap (λ (t : List ℕ × ℕ × ℕ). t.0) w)
-      (fed_walked xs before (code_by inner.joint) inner.missing inner.written nz (λ e. omega (arith, full (full_by inner.joint e))) (λ h. omega (arith, few (omega arith))) (omega arith))
+      let to : phase_of (moved_on inner len left joint) ≡ Within (eqb v.1 255) v.2 (inner.written + length xs)
+      = rw s.going (phase_with-begun (eqb joint 0) left (inner.written + len) (omega (arith, s.some))) ∙ ap (λ (b : Bool). Within b left (inner.written + len)) joint-is
+      ∙ ap (λ (t : List ℕ × ℕ × ℕ). Within (eqb t.1 255) t.2 (inner.written + len)) w ∙ ap (λ (k : ℕ). Within (eqb v.1 255) v.2 (inner.written + k)) (sym s.long) in
+      rw (block-phase inner s.going (λ e. omega (arith, s.some, s.full e)), to, ap (λ (t : List ℕ × ℕ × ℕ). t.0) w)
+      (fed_walked xs before (code_by inner.joint) inner.missing inner.written s.nonzero
+      (λ e. omega (arith, s.long, s.full (full_by inner.joint e))) (λ h. omega (arith, s.long, s.few (omega (arith, s.long)))) (omega (arith, s.long, s.room)))
 
   -- written over a copy of them
-  pub written_over : (dest : List ℕ) → dest ≡ over inner.written before xs → put_mid inner.written (inner.written + len - inner.written) dest ys ≡ over inner.written before ys
-  written_over dest is = grind (arith, over, over-over, length-walked, code_by)
+  written_over : (dest : List ℕ) → dest ≡ over inner.written before xs → put_mid inner.written (inner.written + len - inner.written) dest ys ≡ over inner.written before ys
+  written_over dest is = let room = s.room in let long = s.long in grind (arith, over, over-over, length-walked, code_by)
 
 -- bytes of the open block
 pub block_fed : (inner : UnbufferedDecoder) (run : ℕ) (dest bytes new : List ℕ) → inner.too_long ≡ 0 → run ≤ inner.missing → inner.written + run ≤ length dest → run ≤ length bytes
     → HasNoZero (take run bytes) → new ≡ take inner.written dest ++ (take run bytes ++ drop (inner.written + run) dest)
-    → FeedsQuietly dest (phase_of inner) (take run bytes) new (phase_of (record { written = inner.written + run; missing = inner.missing - run; joint = inner.joint; too_long = inner.too_long }))
+    → FeedsQuietly dest (phase_of inner) (take run bytes) new (phase_of (moved_on inner run (inner.missing - run) inner.joint))
 block_fed inner zero dest bytes new going most room within nz is = grind (arith, take-append-drop)
 block_fed inner (suc run) dest bytes new going most room within nz is =
     let xs : List ℕ = take (suc run) bytes in
     let long : length xs ≡ suc run = length-take-le (suc run) bytes within in
-    grind (arith, open_fed, walked-past, code_by-full)
+    let s : IsSpan inner (suc run) dest xs = record { room = room; long = long; going = going; full = λ _. most; nonzero = nz; some = omega arith; few = λ less. absurd (omega arith) } in
+    let past = walked-past (code_by inner.joint) inner.missing xs (omega (arith, long)) in
+    let fed = open_fed s inner.joint (sym past) (code_by-full inner.joint) in
+    grind arith
 
 row_ones : (n : ℕ) → walked 1 0 (replicate n 1) ≡ (replicate n 0, 1, 0)
 row_ones zero = refl
@@ -109,13 +118,16 @@ row_ones (suc n) = grind (arith, row_ones n)
 -- a row of n blocks without bytes
 pub row_fed : (n : ℕ) (inner : UnbufferedDecoder) (dest bytes new : List ℕ) → 0 < n → n < 254 → inner.too_long ≡ 0 → inner.missing ≡ 0 → inner.joint ≢ 0 → inner.written + n ≤ length dest → take n bytes ≡ replicate n 1
     → new ≡ take inner.written dest ++ (replicate n 0 ++ drop (inner.written + n) dest)
-    → FeedsQuietly dest (phase_of inner) (take n bytes) new (phase_of (record { written = inner.written + n; missing = inner.missing; joint = inner.joint; too_long = inner.too_long }))
+    → FeedsQuietly dest (phase_of inner) (take n bytes) new (phase_of (moved_on inner n inner.missing inner.joint))
 row_fed n inner dest bytes new some few going none due room ones is =
     let code : ℕ = code_by inner.joint in
     let long : length (replicate {A = ℕ} n 1) ≡ n = length-replicate {A = ℕ} n 1 in
+    let s : IsSpan inner n dest (replicate n 1)
+    = record { room = room; long = long; going = going; full = λ e. absurd (due e); nonzero = ones-nonzero n; some = some; few = λ _. few } in
     rw (ones, is ∙ ap (λ (k : ℕ). take inner.written dest ++ (replicate n 0 ++ drop (inner.written + k) dest)) (sym (length-replicate {A = ℕ} n 0)))
-    (open_fed inner n dest (replicate n 1) room long going (λ e. absurd (due e)) (ones-nonzero n) some (λ _. few) (replicate n 0) 1 inner.missing inner.joint
-    (ap (λ (k : ℕ). (replicate n 0, 1, k)) none ∙ sym (row_ones n) ∙ walked-any 1 code 0 (replicate n 1) (omega (arith, long)) ∙ ap (λ (k : ℕ). walked code k (replicate n 1)) (sym none)) (ne_eqb inner.joint 0 due))
+    (open_fed s inner.joint
+    (ap (λ (k : ℕ). (replicate n 0, 1, k)) none ∙ sym (row_ones n) ∙ walked-any 1 code 0 (replicate n 1) (omega (arith, long)) ∙ ap (λ (k : ℕ). walked code k (replicate n 1)) (sym none))
+    (ne_eqb inner.joint 0 due))
 
 -- what `joint_after` returns for a code
 pub joint-is : (code joint : ℕ) → (code ≡ 255 → joint ≡ 0) → (code ≢ 255 → joint ≡ 1) → eqb joint 0 ≡ eqb code 255
@@ -144,13 +156,15 @@ module _ (inner : UnbufferedDecoder) (len : ℕ) (dest : List ℕ) (nz : HasNoZe
   dest-is = grind arith
 
   -- fed, as they were left there
-  pub kept : len ≤ inner.missing → FeedsQuietly before (phase_of inner) xs dest (phase_of (record { written = inner.written + len; missing = inner.missing - len; joint = inner.joint; too_long = inner.too_long }))
-  kept most = grind (arith, dest-is, open_fed, nonzero, code, walked-past, code_by-full)
+  pub kept : len ≤ inner.missing → FeedsQuietly before (phase_of inner) xs dest (phase_of (moved_on inner len (inner.missing - len) inner.joint))
+  kept most =
+      let all : take len xs ≡ xs = take_all len xs (omega (arith, long)) in
+      rw all at (block_fed inner len before xs dest going most room (omega (arith, long)) (rw all nonzero) (rw all is))
 
   -- fed, as they were written over
   pub marked : inner.missing < len → (ys : List ℕ) (last left joint : ℕ) → ◌≡◌ {A = List ℕ × ℕ × ℕ} (ys, last, left) (walked (inner.missing + 1) (inner.missing + 1 - 1) part) → eqb joint 0 ≡ eqb last 255
-      → FeedsQuietly before (phase_of inner) xs (put_mid inner.written (inner.written + len - inner.written) dest ys) (phase_of (record { written = inner.written + len; missing = left; joint = joint; too_long = inner.too_long }))
+      → FeedsQuietly before (phase_of inner) xs (put_mid inner.written (inner.written + len - inner.written) dest ys) (phase_of (moved_on inner len left joint))
   marked more ys last left joint e due =
+      let s : IsSpan inner len before xs = record { room = room; long = long; going = going; full = full; nonzero = nonzero; some = few.0; few = λ _. few.1 } in
       let w = e ∙ own more in
-      rw (written_over inner len before xs room long going full nonzero few.0 (λ _. few.1) ys last left joint w due dest dest-is)
-      (open_fed inner len before xs room long going full nonzero few.0 (λ _. few.1) ys last left joint w due)
+      rw (written_over s joint w due dest dest-is) (open_fed s joint w due)

@@ -1,4 +1,5 @@
--- The table of `DecoderState` against the grammar and against the machine of `Step`: one case for each state, by `PieceLemmas`.
+-- The table of `DecoderState` agrees with the grammar and with the machine of `Step`. By `PieceLemmas`, with one case
+-- for each state.
 use Rattle.std.proofs.Common.{◌≡◌, ◌≢◌, ℕ, zero, suc, ◌-◌, ◌<◌, ◌+◌, ◌⊎◌, ◌↔◌, Bool, true, false, cond, eqb, Some, List, [], ◌∷◌, ◌++◌, length, All, Ok, Err, refl, sym, ap, ◌∙◌, arith}
 use Rattle.std.proofs.lemmas.Bool.{cases_lt, eqb-true, ne_eqb}
 use Rattle.std.proofs.lemmas.List.{append-nil}
@@ -41,11 +42,11 @@ module _ (c : ℕ) (q : List ℕ) (b : ℕ) (some : b ≢ 0) where
   data_step true zero f l = grind (arith, ne_eqb, output-push_next)
   data_step false zero f l = grind (arith, ne_eqb, output-push_next)
 
--- the state after a byte that is no zero, and the data with the table's data for it
+-- the state after a byte that is no zero, and the data so far followed by the table's data for this byte
 next_state : (p : List ℕ) (b : ℕ) → b ≢ 0 → table_state (state_after p) b ≡ state_after (p ++ b ∷ [])
 next_state p b h = grind (arith, ne_eqb, opened_after, last_part-one, state_step)
 
--- no piece, no output
+-- without a piece there is no output
 pub output-nil : output [] ≡ []
 unfolding output parts parts_after
 output-nil = refl
@@ -81,7 +82,7 @@ StateAfter-end state p so_far m s = let h = complete p m s.piece s.bytes in grin
 
 -- THE PHASES OF A STREAMING DECODER
 
--- a code, or a zero in its place
+-- the state after a code, or after a zero in place of a code
 coded : (n b count : ℕ) → state_in (cond (eqb b 0) phases.Idle (Within (eqb b 255) (b - 1) count)) ≡ Some (cond (eqb b 0) Idle (opened_by b))
 coded n b count = grind (arith, eqb-true)
 

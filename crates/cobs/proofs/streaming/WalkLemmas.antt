@@ -1,37 +1,58 @@
--- Bytes read from code to code: their output as a piece, in two parts, and up to their last code. By induction on `walked`.
-use Rattle.std.proofs.Common.{◌≡◌, ◌≢◌, ℕ, zero, suc, ◌+◌, ◌-◌, ◌<◌, ◌≤◌, List, [], ◌∷◌, ◌++◌, length, take, drop, get_or, set, refl, sym, ap, ◌∙◌, arith, append_assoc, append-nil, length-append, length-set, length-drop, length-take-le, take-append-drop, take_all}
+-- Bytes read from code to code: fed to a decoder, their output as a piece, in two parts, and up to their last code. By induction
+-- on `walked`, and `quiet` for the output.
+use Rattle.std.proofs.Common.{◌≡◌, ◌≢◌, ℕ, zero, suc, ◌+◌, ◌-◌, ◌<◌, ◌≤◌, eqb, List, [], ◌∷◌, ◌++◌, length, take, drop, get_or, set, refl, sym, ap, ◌∙◌, arith, append_assoc, append-nil, length-set, length-drop, length-take-le, take-append-drop, take_all}
 use Rattle.std.proofs.lemmas.List.{drop_all, drop_more, drop-set-lt, take_more_set}
 use Rattle.std.proofs.lemmas.List.Elements.{All-head, All-tail}
-use Rattle.std.proofs.lemmas.Bool.{ne_eqb}
+use Rattle.std.proofs.lemmas.Bool.{ne_eqb, lt-ltb}
 use borrow.Rule.Slice.PartMut.{put_mid}
-use Rattle.cobs.specs.Grammar.{HasNoZero, code_of, message_of, last_of}
+use Rattle.cobs.specs.Grammar.{HasNoZero}
+use Rattle.cobs.specs.Feed.{Idle, Within}
+use Rattle.cobs.specs.Internal.FeedsQuietly.{FeedsQuietly}
 use Rattle.cobs.specs.Internal.Walk.{walked}
-use Rattle.cobs.specs.Piece.{output, last_part, missing, parts, parts_after}
+use Rattle.cobs.specs.Piece.{output, last_part, missing}
+use Rattle.cobs.proofs.streaming.QuietLemmas.{quiet, quiet-within}
+use Rattle.cobs.proofs.streaming.RunLemmas.{over, over-cons}
 
--- the first block has the bytes ys so far, and misses n
-abbrev opened : ℕ → ℕ → List ℕ → List ℕ → List (List ℕ)
-opened code n ys bytes = (code ∷ ys ++ take n bytes) ∷ parts_after n bytes
+pub length-walked : (code n : ℕ) (bytes : List ℕ) → length (walked code n bytes).0 ≡ length bytes
+length-walked code n [] = refl
+length-walked code (suc n) (b ∷ bytes) = ap suc (length-walked code n bytes)
+length-walked code zero (c ∷ bytes) = ap suc (length-walked c (c - 1) bytes)
 
-abbrev read : List (List ℕ) → List ℕ × ℕ × ℕ
-read blocks = (message_of blocks, code_of (last_of blocks), missing (last_of blocks))
+-- fed after an open block, they are written with a zero over each code
+pub fed_walked : (bytes buffer : List ℕ) (code left count : ℕ) → HasNoZero bytes
+    → (code ≡ 255 → length bytes ≤ left) → (left < length bytes → length bytes < 254) → count + length bytes ≤ length buffer
+    → let w = walked code left bytes in
+    FeedsQuietly buffer (Within (eqb code 255) left count) bytes (over count buffer w.0) (Within (eqb w.1 255) w.2 (count + length bytes))
+fed_walked [] buffer code left count nz full few room = grind (arith, take-append-drop)
+fed_walked (x ∷ xs) buffer code (suc left) count nz full few room =
+    let rest = fed_walked xs (set buffer count x) code left (count + 1) (All-tail (λ b. b ≢ 0) x xs nz)
+    (λ e. omega (arith, full e)) (λ h. omega (arith, few (omega arith))) (omega (arith, length-set buffer count x)) in
+    grind (arith, All-head, length-set, ne_eqb, lt-ltb, over-cons)
+fed_walked (x ∷ xs) buffer code zero count nz full few room =
+    let rest = fed_walked xs (set buffer count 0) x (x - 1) (count + 1) (All-tail (λ b. b ≢ 0) x xs nz)
+    (λ e. omega (arith, few (omega arith))) (λ h. omega (arith, few (omega arith))) (omega (arith, length-set buffer count 0)) in
+    grind (arith, All-head, length-set, over, ne_eqb, lt-ltb, over-cons)
 
-walked-opened : (code n : ℕ) (ys bytes : List ℕ) → code ≡ length ys + n + 1 → (code ≡ 255 → length bytes ≤ n) → length bytes < 254 → HasNoZero bytes
-    → read (opened code n ys bytes) ≡ let w = walked code n bytes in (ys ++ w.0, w.1, w.2)
-unfolding parts_after
-walked-opened code zero ys [] is full few nz = grind (arith, length-append)
-walked-opened code (suc n) ys [] is full few nz = grind (arith, length-append)
-walked-opened code (suc n) ys (b ∷ bytes) is full few nz = grind (arith, read, append_assoc, length-append, All-tail, walked-opened code n (ys ++ b ∷ []) bytes (omega (arith, length-append ys (b ∷ []))) (λ e. omega (arith, full e)) (omega arith) (All-tail (λ b. b ≢ 0) b bytes nz))
-walked-opened code zero ys (c ∷ bytes) is full few nz = grind (arith, opened, All-head, All-tail, read, ne_eqb, append-nil, append_assoc, walked-opened c (c - 1) [] bytes (omega (arith, All-head (λ b. b ≢ 0) c bytes nz)) (λ e. omega arith) (omega arith) (All-tail (λ b. b ≢ 0) c bytes nz))
-
--- a piece that begins with this code
-walked-piece : (first : ℕ) (bytes : List ℕ) → length bytes < 254 → HasNoZero (first ∷ bytes)
-    → (output (first ∷ bytes), code_of (last_part (first ∷ bytes)), missing (last_part (first ∷ bytes))) ≡ walked first (first - 1) bytes
-unfolding output last_part parts parts_after
-walked-piece first bytes few nz = walked-opened first (first - 1) [] bytes (omega (arith, All-head (λ b. b ≢ 0) first bytes nz)) (λ e. omega arith) few (All-tail (λ b. b ≢ 0) first bytes nz)
-
+-- so they are the output of the piece that begins with this code
 pub as_piece : (first : ℕ) (bytes : List ℕ) {ys : List ℕ} {code left : ℕ} → ◌≡◌ {A = List ℕ × ℕ × ℕ} (ys, code, left) (walked first (first - 1) bytes) → length bytes < 254 → HasNoZero (first ∷ bytes)
     → (ys ≡ output (first ∷ bytes)) × (left ≡ missing (last_part (first ∷ bytes)))
-as_piece first bytes w few nz = let e = w ∙ sym (walked-piece first bytes few nz) in grind arith
+as_piece first bytes {ys} {code} {left} w few nz =
+    let v = walked first (first - 1) bytes in
+    let some = All-head (λ b. b ≢ 0) first bytes nz in
+    let f : FeedsQuietly bytes Idle (first ∷ bytes) (over 0 bytes v.0) (Within (eqb v.1 255) v.2 (0 + length bytes))
+    = (
+      rw (ne_eqb first 0 some) refl,
+      rw (ne_eqb first 0 some)
+          (fed_walked bytes bytes first (first - 1) 0 (All-tail (λ b. b ≢ 0) first bytes nz) (λ e. omega arith) (λ h. few) (omega arith)),
+    ) in
+    let q = quiet (first ∷ bytes) bytes (over 0 bytes v.0) (Within (eqb v.1 255) v.2 (0 + length bytes)) nz f in
+    let counts = quiet-within q in
+    let all : length (output (first ∷ bytes)) ≡ length v.0 = omega (arith, counts.0, length-walked first (first - 1) bytes) in
+    let whole : over 0 bytes v.0 ≡ v.0
+    = rw (drop_all (0 + length v.0) bytes (omega (arith, length-walked first (first - 1) bytes))) (append-nil v.0) in
+    let begins = rw whole at q.after.begins in
+    let out : v.0 ≡ output (first ∷ bytes) = grind (arith, take_all) in
+    (cc, cc)
 
 -- in two parts
 pub walked-append : (code n : ℕ) (xs ys : List ℕ) → walked code n (xs ++ ys) ≡ let w = walked code n xs in let v = walked w.1 w.2 ys in (w.0 ++ v.0, v.1, v.2)
@@ -51,11 +72,6 @@ pub walked-any : (code code' n : ℕ) (bytes : List ℕ) → n < length bytes �
 walked-any code code' n [] some = grind arith
 walked-any code code' (suc n) (b ∷ bytes) some = grind (arith, walked-any code code' n bytes (omega arith))
 walked-any code code' zero (c ∷ bytes) some = refl
-
-pub length-walked : (code n : ℕ) (bytes : List ℕ) → length (walked code n bytes).0 ≡ length bytes
-length-walked code n [] = refl
-length-walked code (suc n) (b ∷ bytes) = ap suc (length-walked code n bytes)
-length-walked code zero (c ∷ bytes) = ap suc (length-walked c (c - 1) bytes)
 
 -- the next code, with a zero in its place
 module _ (first : ℕ) (bytes : List ℕ) (some : 0 < first) (more : first ≤ length bytes) where

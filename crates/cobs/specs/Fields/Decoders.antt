@@ -5,8 +5,6 @@ use Rattle.cobs.specs.declared.dec.buffered.CobsDecoderOwned.{CobsDecoderOwned}
 use Rattle.cobs.specs.declared.dec.heapless.CobsDecoderHeapless.{CobsDecoderHeapless}
 use Rattle.cobs.specs.Feed.{Phase, Idle, Within, Overlong}
 use Rattle.cobs.specs.declared.dec.unbuffered.UnbufferedDecoder.{UnbufferedDecoder}
-use Rattle.cobs.specs.declared.dec.unbuffered.DecoderPhase.{DecoderPhase}
-use Rattle.cobs.specs.declared.dec.unbuffered.DecoderPhase.TheVariants.{Idle as TheIdle, Within as TheWithin, TooLong}
 
 -- the phase of a decoder in a block, full or not, with this many bytes missing and this many written; before a piece
 -- begins, the phase is that after a full block, with nothing written
@@ -16,12 +14,6 @@ phase_with true (suc left) count = Within true (suc left) count
 phase_with true zero (suc count) = Within true zero (suc count)
 phase_with true zero zero = Idle
 
--- the phase that a `DecoderPhase` means
-abbrev pub phase_at : DecoderPhase → Phase
-phase_at TheIdle = Idle
-phase_at (TheWithin is_full left written) = phase_with is_full left written
-phase_at TooLong = Overlong
-
 -- the phase that a decoder's numbers mean, whatever they are
 abbrev pub phase_of : UnbufferedDecoder → Phase
 phase_of decoder = if decoder.too_long == 0 then phase_with (decoder.joint == 0) decoder.missing decoder.written else Overlong
@@ -30,11 +22,11 @@ phase_of decoder = if decoder.too_long == 0 then phase_with (decoder.joint == 0)
 abbrev pub borrowed_buffer : CobsDecoder → List ℕ
 borrowed_buffer decoder = decoder.dest.now
 
--- its phase
+-- the phase of a `CobsDecoder`
 abbrev pub borrowed_phase : CobsDecoder → Phase
 borrowed_phase decoder = phase_of decoder.inner
 
--- which slice that is
+-- a number for the slice that a `CobsDecoder` borrows
 abbrev pub borrowed_slice : CobsDecoder → ℕ
 borrowed_slice decoder = decoder.dest.ghost_name
 
@@ -42,7 +34,7 @@ borrowed_slice decoder = decoder.dest.ghost_name
 abbrev pub owned_buffer : CobsDecoderOwned → List ℕ
 owned_buffer decoder = decoder.dest.items
 
--- its phase
+-- the phase of a `CobsDecoderOwned`
 abbrev pub owned_phase : CobsDecoderOwned → Phase
 owned_phase decoder = phase_of decoder.inner
 
@@ -51,6 +43,6 @@ module _ {N : ℕ} where
   abbrev pub heapless_buffer : CobsDecoderHeapless N → List ℕ
   heapless_buffer decoder = decoder.dest.items
 
-  -- its phase
+  -- the phase of a `CobsDecoderHeapless`
   abbrev pub heapless_phase : CobsDecoderHeapless N → Phase
   heapless_phase decoder = phase_of decoder.inner

@@ -4,9 +4,9 @@ use Rattle.std.specs.Borrow.{MutBor}
 use Rattle.cobs.specs.declared.enc.encoder.CobsEncoder.{CobsEncoder}
 use Rattle.cobs.specs.OpenBlock.{Reached, CobsEncoderAfter}
 pub use Rattle.cobs.specs.OpenBlock.{IsPlaceIn}
-pub use Rattle.cobs.specs.Fields.Progress.{reached_at, reached_by}
+pub use Rattle.cobs.specs.Fields.Progress.{reached_by}
 
--- the bytes of its slice
+-- the bytes of the slice to which a `CobsEncoder` writes
 abbrev pub slice_of : CobsEncoder → List ℕ
 slice_of encoder = encoder.dest.now
 
@@ -22,7 +22,7 @@ HasTaken encoder m = CobsEncoderAfter (slice_of encoder) (slice_reached encoder)
 abbrev pub WritesTo : CobsEncoder → MutBor (List ℕ) → Type 0
 WritesTo encoder slice = encoder.dest.ghost_name ≡ slice.ghost_name
 
--- both write to the same slice of the caller
+-- both encoders write to the same slice of the caller
 abbrev pub IsOverSameSlice : CobsEncoder → CobsEncoder → Type 0
 IsOverSameSlice old new = new.dest.ghost_name ≡ old.dest.ghost_name
 

@@ -32,11 +32,11 @@ module _ {N : ℕ} where
   abbrev pub with_heapless_buffer : CobsDecoderHeapless N → List ℕ → CobsDecoderHeapless N
   with_heapless_buffer decoder bytes = record decoder { dest = refilled decoder.dest bytes; filled = filled_again decoder bytes }
 
--- a value ends with the bytes that the caller leaves in its buffer, and is otherwise as it was
+-- when the loan ends, the lender has the bytes that the caller left in its buffer, and is otherwise as it was
 abbrev pub LendsBytes : (R : RattleType) → MutBor R.Denot → MutBor (List ℕ) → (R.Denot → List ℕ → R.Denot) → Fml
 LendsBytes R lender bytes with_bytes = Lends R (Array u8 0) lender bytes (with_bytes lender.now)
 
--- the same of each decoder
+-- `LendsBytes` for each decoder
 abbrev pub LendsSlice : MutBor CobsDecoder → MutBor (List ℕ) → Fml
 LendsSlice decoder bytes = LendsBytes (borrowed_row (record { mir = named 1; lft = [] })) decoder bytes with_borrowed_buffer
 

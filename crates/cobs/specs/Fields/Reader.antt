@@ -6,11 +6,11 @@ use Rattle.cobs.specs.declared.framed.FrameReader.{FrameReader}
 use Rattle.cobs.specs.declared.framed.Recorded.{Recorded}
 
 module _ {D : Type 0} {g : _} where
-  -- its decoder
+  -- the decoder of a `FrameReader`
   abbrev pub decoder_of : FrameReader D g → D
   decoder_of reader = reader.decoder
 
-  -- the bytes of its chunk that it has read and not yet fed
+  -- the bytes that a `FrameReader` has read and not yet fed to its decoder
   abbrev pub kept_of : FrameReader D g → List ℕ
   kept_of reader = slice_range reader.chunk reader.start reader.end
 
@@ -19,6 +19,6 @@ module _ {D : Type 0} {g : _} where
   reader_state bytes phase reader =
       record { buffer = bytes reader.decoder; phase = phase reader.decoder; kept = kept_of reader }
 
--- its reader
+-- the reader from which a `Recorded` reads
 abbrev pub reader_of : {R : Type 0} → Recorded R → R
 reader_of source = source.reader

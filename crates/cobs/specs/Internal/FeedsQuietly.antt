@@ -4,7 +4,8 @@ use Rattle.std.specs.Prelude.{◌≡◌, List, [], ◌∷◌, ℕ, length, Ok, N
 use Rattle.cobs.specs.Feed.{Phase}
 use Rattle.cobs.specs.Step.{next_result, next_buffer, next_phase}
 
--- the bytes are fed one after another, each returns `Ok(None)`, and buffer and phase are then these
+-- the bytes are fed one after another, each returns `Ok(None)`, and they change buffer and phase to `buffer'` and
+-- `phase'`
 abbrev pub FeedsQuietly : List ℕ → Phase → List ℕ → List ℕ → Phase → Type 0
 FeedsQuietly buffer phase [] buffer' phase' = (buffer' ≡ buffer) × (phase' ≡ phase)
 FeedsQuietly buffer phase (byte ∷ bytes) buffer' phase' =

@@ -11,27 +11,28 @@ pub record DecoderHasTaken (buffer : List ℕ) (phase : Phase) (unfinished : Boo
   pub after : DecoderAfter buffer phase p
   pub flag : unfinished ≡ is_nonempty p
 
--- the outcome that a result means, with this buffer
+-- the outcome that a result means, if this is the buffer after the call
 abbrev pub IsOutcome : Next → List ℕ → Outcome → Type 0
 IsOutcome (nexts.Message n) buffer outcome = (outcome ≡ Message (take n buffer)) × (n ≤ length buffer)
 IsOutcome (nexts.Broken count) buffer outcome = (outcome ≡ Broken count) × (count ≤ length buffer)
 IsOutcome nexts.TooLong buffer outcome = outcome ≡ TooLong
 IsOutcome (nexts.End unfinished) buffer outcome = ⊥
 
--- the first piece that ends in these bytes after p has this outcome, and the rest follows its zero
+-- after the front p of a piece, the first piece that ends in these bytes has this outcome, and `rest` follows the zero
+-- that ends it
 pub record EndsFirstIn (p bytes : List ℕ) (n : ℕ) (outcome : Outcome) (rest : List ℕ) : Type 0 where
   pub front : List ℕ
   pub cut : bytes ≡ front ++ 0 ∷ rest
   pub none_before : stream_outcomes (p ++ front) n ≡ []
   pub here : stream_outcomes (p ++ (front ++ 0 ∷ [])) n ≡ outcome ∷ []
 
--- the result reports that piece, with this buffer
+-- the result reports the first piece that ends in these bytes after p, if this is the buffer after the call
 pub record ReportsFirst (next : Next) (p bytes buffer rest : List ℕ) : Type 0 where
   pub outcome : Outcome
   pub is : IsOutcome next buffer outcome
   pub first : EndsFirstIn p bytes (length buffer) outcome rest
   pub decoded : HasDecoded outcome buffer (unended (p ++ first.front))
 
--- the reader, with these bytes as those that it has read but not fed
+-- the reader, if these are the bytes that it has read but not fed
 abbrev pub with_kept : List ℕ → ReaderState → ReaderState
 with_kept kept reader = record reader { kept = kept }

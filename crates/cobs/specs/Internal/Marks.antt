@@ -5,8 +5,8 @@ use Rattle.cobs_bytes.specs.Mask.{lowest, zero_mask}
 use Rattle.cobs.specs.Internal.Reaches.{Reaches, Start, whole_end}
 
 -- The window has the `len` bytes of the source from `read` on, and was copied to `next`. Its first d bytes are taken.
--- The mask says which of the others are zeros, and so the places of the next codes; that of the open block belongs at
--- `index`.
+-- The mask says which of its other bytes are zeros, and so where the next codes belong. The code of the open block
+-- belongs at `index`.
 pub record IsMaskedAt (start : Start) (read len next zeros index : ℕ) (slice : List ℕ) (d : ℕ) : Type 0 where
   pub seen : d ≤ len
   pub some : 0 < len
@@ -19,7 +19,7 @@ pub record IsMaskedAt (start : Start) (read len next zeros index : ℕ) (slice :
   pub short : next + min (lowest zeros) len < index + 255
   pub reaches : Reaches start slice (read + d) index (next + d) (λ full. 0 < d → full ≡ false)
 
--- the bytes through the last marked zero are taken; the open block's code has replaced that zero
+-- the bytes up to and including the last zero that was replaced are taken; the open block begins at that zero
 abbrev pub IsMasked : Start → ℕ → ℕ → ℕ → ℕ → ℕ → List ℕ → Type 0
 IsMasked start read len next zeros index slice = IsMaskedAt start read len next zeros index slice (index + 1 - next)
 
@@ -27,7 +27,7 @@ IsMasked start read len next zeros index slice = IsMaskedAt start read len next 
 abbrev pub IsMask : ℕ → ℕ → ℕ → List ℕ → Type 0
 IsMask next zeros index slice = (start : Start) × (read : ℕ) × (len : ℕ) × IsMasked start read len next zeros index slice
 
--- each window that the one mask, index and slice describe is also described by the other ones
+-- each window that `zeros`, `index` and `slice` describe is also described by `zeros'`, `index'` and `slice'`
 abbrev pub Marks : ℕ → ℕ → ℕ → List ℕ → ℕ → ℕ → List ℕ → Type 0
 Marks next zeros index slice zeros' index' slice' =
     (start : Start) (read len : ℕ) → IsMasked start read len next zeros index slice → IsMasked start read len next zeros' index' slice'

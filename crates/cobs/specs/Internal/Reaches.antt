@@ -6,14 +6,14 @@ use Rattle.cobs.specs.Grammar.{HasNoZero, IsBlock, is_full, last_of, message_of}
 use Rattle.cobs.specs.Length.{open_len}
 use Rattle.cobs.specs.OpenBlock.{CobsEncoderAfter, Reached, end_after}
 
--- whether the frame's last block is full, so that the open one is only a placeholder
+-- whether the frame's last block is full, so that the open block is only a placeholder
 abbrev pub ends_in_full : List (List ℕ) → List ℕ → Bool
 ends_in_full front [] = is_full (last_of front)
 ends_in_full front (byte ∷ bytes) = false
 
--- The slice begins with the blocks of m before its open one, and has that block's bytes after the place of its code.
--- The next byte goes to `next`. Unlike a public state, this one may have 254 bytes in its block before the block is
--- closed.
+-- The slice begins with the blocks of m that precede the open block, and has the open block's bytes after the place of
+-- its code. The next byte belongs at `next`. Unlike the open block of a public state, this one may have 254 bytes
+-- before it is closed.
 pub record Opened (slice m : List ℕ) (index next : ℕ) (full : Bool) : Type 0 where
   pub front : List (List ℕ)
   pub bytes : List ℕ
@@ -40,13 +40,13 @@ start_with slice reached source = record { slice = slice; reached = reached; sou
 abbrev pub whole_end : Start → ℕ
 whole_end start = end_after start.reached start.source
 
--- the encoder had taken m at that start
+-- the encoder had taken m at this start
 unfoldable pub HadTaken : Start → List ℕ → Type 0
 HadTaken start m = CobsEncoderAfter start.slice start.reached m
 
--- From that start, the first `pos` bytes of the source are taken. The slice is then this one: its open block begins at
--- `index`, and the next byte goes to `next`. The frame still ends where it must end, and the bytes after that end are
--- as they were. P says whether the frame's last block is full.
+-- From this start on, the first `pos` bytes of the source are taken. The slice is then `slice`, its open block begins
+-- at `index`, and the next byte belongs at `next`. The frame of the whole source still ends at the same index, and the
+-- bytes after that index are as they were. P says whether the frame's last block is full.
 pub record Reaches (start : Start) (slice : List ℕ) (pos index next : ℕ) (P : Bool → Type 0) : Type 0 where
   pub ordered : index < next
   pub short : next ≤ index + 255

@@ -1,8 +1,8 @@
 -- Bytes after the front of a block, read from code to code.
 use Rattle.std.specs.Prelude.{List, [], ◌∷◌, ℕ, zero, suc, ◌-◌}
 
--- the bytes with a zero in place of each code, the last code, and how many bytes of its block are then missing, if n
--- bytes of a block with this code are missing before them
+-- These bytes follow the front of a block that has this code and of which n bytes are missing. `walked` is the bytes
+-- with a zero in place of each code, the last code, and how many bytes of the last code's block are missing at the end.
 abbrev pub walked : ℕ → ℕ → List ℕ → List ℕ × ℕ × ℕ
 walked code n [] = ([], code, n)
 walked code (suc n) (byte ∷ bytes) = let w = walked code n bytes in (byte ∷ w.0, w.1, w.2)

@@ -92,10 +92,11 @@ pub trait FrameDecoder {
     /// Returns `None` if no piece ended in these bytes; the decoder has then taken all of them. Returns `Some((end,
     /// count))` if the zero at index `count - 1` ended a piece; `end` says how the piece ended. The bytes after that
     /// zero had no effect. The bytes of the buffer after the piece's output are as they were. A piece that is too long
-    /// for the buffer ends at its zero, like every other piece, so the caller never has to feed single bytes.
+    /// for the buffer also ends at its zero, so the caller continues with the bytes from index `count` on, as after
+    /// every other piece.
     ///
-    /// An implementation doesn't have to define this method: the provided method feeds one byte after another. The
-    /// decoders of this library copy whole blocks instead.
+    /// An implementation doesn't have to define this method: the provided method feeds one byte after another. On
+    /// targets with SIMD vectors, the decoders of this library copy many bytes at once instead.
     ///
     /// ```
     /// let mut decoder = CobsDecoderHeapless::<1>::new();
@@ -131,8 +132,8 @@ pub trait FrameDecoder {
 /// A decoder that lends its buffer for writing.
 ///
 /// Writing replaces the bytes of the buffer. The decoder's state stays the same, and the buffer stays the same slice.
-/// So a write after the front of a piece was taken (`PhaseAfter`) doesn't change the results for this piece, but the
-/// bytes of its message are then unspecified.
+/// So a write in the middle of a piece doesn't change the results for this piece (`PhaseAfter`), but the bytes of its
+/// message are then unspecified.
 ///
 /// Each decoder of this library that implements this trait also has an inherent method `dest_mut`. A `CobsDecoder`
 /// borrows its slice, so a proof about a caller of `CobsDecoder::dest_mut` can use only the bytes of the slice, and

@@ -33,9 +33,9 @@ fn move_back(buffer: &mut [u8], at: usize, read: usize, len: usize)
 }
 
 impl UnbufferedDecoder {
-    /// Takes one step over the bytes at indices `read` to `end - 1` of the buffer, and writes their output to the same
-    /// buffer. Returns how many bytes the step took. The steps are those of `take_part` in `run.rt`, except that a step
-    /// takes at most one row of 32 blocks 01, and that the output always fits.
+    /// Takes the bytes of the next step, from the bytes at indices `read` to `end - 1` of the buffer, and writes their
+    /// output to the same buffer. Returns how many bytes the step took. The steps are those of `take_part` in `run.rt`,
+    /// except that a step takes at most one row of 32 blocks 01, and that the output always fits.
     #[inline(always)]
     fn take_part_in_place(&mut self, buffer: &mut [u8], read: usize, end: usize) -> usize
         requires going { self.old.too_long ≡ 0 }
@@ -104,7 +104,7 @@ fn decode_blocks_in_place(buffer: &mut [u8], end: usize) -> Result<usize, Decode
     ensures returned { result ≡ head_result (take end buffer.old) }
     ensures buffer { buffer.new ≡ overwritten buffer.old (kept_output (take end buffer.old)) }
 {
-    // A block that begins before the last 254 bytes is whole.
+    // A block has at most 255 bytes, so a block that begins before the last 254 bytes is whole.
     let tail = end.saturating_sub(FULL_BLOCK_BYTES);
     let mut progress = START;
     progress.take_in_place(buffer, 0, tail);

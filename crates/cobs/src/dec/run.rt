@@ -1,6 +1,6 @@
-//! The walk of the decoders over the bytes before a sentinel, on targets with SIMD vectors. A step takes a long block,
-//! rows of 32 blocks 01, or a *span*. A span is copied at once, together with the codes among its bytes; then a zero is
-//! written over each code.
+//! The loop with which the decoders take the bytes before a sentinel, on targets with SIMD vectors. Each step of the
+//! loop takes a long block, rows of 32 blocks 01, or a *span*. A span is up to 253 bytes, which are copied at once,
+//! together with the codes among them; then a zero is written over each code.
 ghost use Rattle.std.specs.Prelude.{IsTrue, ◌++◌, drop, ◌≡◌, ◌≢◌, ◌<◌, ◌≤◌, ◌+◌, ◌-◌, ◌∷◌, [], length, take, replicate, slice_index, false, List, ℕ};
 ghost use Rattle.cobs.specs.Feed.{Idle, Overlong};
 ghost use Rattle.cobs.specs.Fields.Decoders.{phase_of};
@@ -17,8 +17,8 @@ use crate::find::zero_or_len;
 use cobs_bytes::lanes::{copy_xored, copy_xored_short};
 use cobs_bytes::window::{WIDE_WINDOW, WINDOW, copy_window, has_vectors, is_all, write_row};
 
-/// The greatest number of bytes in a span. A full block has more bytes, so no code in a span follows a full block that
-/// begins in the same span.
+/// The greatest number of bytes in a span. A full block is longer than a span. So if a full block begins in a span, the
+/// code after that block isn't in the span.
 pub(crate) const SPAN_MAX: usize = FULL_BLOCK_BYTES - 1;
 
 /// Takes rows of 32 bytes from the front of `bytes`, as long as each byte of a row is `byte`, and for each row writes a
@@ -214,8 +214,9 @@ impl UnbufferedDecoder {
         len
     }
 
-    /// Takes all of `bytes` at once if they are 1 to 31 bytes, none of them is a zero, `dest` has room for them, and no
-    /// full block ends before the last of them. Returns whether it took them.
+    /// Takes all of `bytes` at once or none of them, and returns whether it took them. The function takes them only if
+    /// there are 1 to 31 of them, none of them is a zero, `dest` has room for them, and no full block ends before the
+    /// last of them.
     #[inline(always)]
     pub(crate) fn take_short(&mut self, dest: &mut [u8], bytes: &[u8]) -> bool
         ensures fed { IsTrue result → FeedsQuietly dest.old (phase_of self.old) bytes.now dest.new (phase_of self.new) }
@@ -236,30 +237,6 @@ impl UnbufferedDecoder {
         true
     }
 
-    /// Takes the code at the front of a piece, and the bytes after the code, which were copied from `copied` to the
-    /// front of `dest`. None of these bytes is a zero.
-    #[inline(always)]
-    fn begin(&mut self, dest: &mut [u8], code: u8, copied: &[u8])
-        requires idle { phase_of self.old ≡ Idle }
-        requires code { code ≢ 0 }
-        requires few { (0 < length copied.now) × (length copied.now < 254) }
-        requires room { length copied.now ≤ length dest.old }
-        requires copied { take (length copied.now) dest.old ≡ copied.now }
-        requires nonzero { HasNoZero copied.now }
-        // `xs` are the bytes that were copied, and `before` is the buffer as it was before the copy.
-        ensures fed { let len = length copied.now in (before xs : List ℕ) → len ≤ length before → length xs ≡ len
-            → dest.old ≡ xs ++ drop len before
-            → FeedsQuietly before (phase_of self.old) (code ∷ xs) dest.new (phase_of self.new) }
-        ensures begun { (self.new.too_long ≡ 0) × (0 < self.new.written) }
-    {
-        // The decoder is idle, so `self` equals `START`. Code that begins with `START` doesn't have to load the fields.
-        let mut begun = START;
-        begun.joint = joint_after(code);
-        begun.missing = code - 1;
-        begun.take_copied(dest, copied, 0);
-        *self = begun;
-    }
-
     /// Takes `bytes`, the first bytes of a piece, at once if there are at least 2 of them and `dest` has room for their
     /// output. Returns whether it took them. There must be at most 65 bytes, and none of them may be a zero.
     #[inline(always)]
@@ -275,9 +252,12 @@ impl UnbufferedDecoder {
         if len < 2 || dest.len() < len - 1 {
             return false;
         }
-        let code = bytes[0];
+        // The decoder is idle, so `self` equals `START`. Code that begins with `START` doesn't have to load the fields.
+        let mut begun = START;
+        begun.take_joint(dest, bytes[0]);
         let _zeros = copy_window(&bytes[1..], dest, 0);
-        self.begin(dest, code, &bytes[1..]);
+        begun.take_copied(dest, &bytes[1..], 0);
+        *self = begun;
         true
     }
 
@@ -312,8 +292,8 @@ impl UnbufferedDecoder {
         self.take_span(dest, bytes, sentinel)
     }
 
-    /// Takes `bytes`, none of which is the sentinel, as long as `dest` has room for their output, and returns how many
-    /// bytes it took.
+    /// Takes bytes from the front of `bytes` until `dest` has no room for the output of the next byte, or all bytes are
+    /// taken. Returns how many bytes it took. None of the bytes may be the sentinel.
     #[inline(always)]
     pub(crate) fn take_blocks(&mut self, dest: &mut [u8], bytes: &[u8], sentinel: u8) -> usize
         requires going { self.old.too_long ≡ 0 }
@@ -344,8 +324,8 @@ impl UnbufferedDecoder {
         taken
     }
 
-    /// Takes the bytes before the first zero, as long as `dest` has room for their output, and returns how many bytes
-    /// it took. One search finds the zero.
+    /// Takes bytes from the front of `bytes` until the next byte is a zero, or `dest` has no room for the output of the
+    /// next byte, or all bytes are taken. Returns how many bytes it took. One search finds the first zero.
     #[inline(always)]
     pub(crate) fn take_run(&mut self, dest: &mut [u8], bytes: &[u8]) -> usize
         ensures within { result ≤ length bytes.now }

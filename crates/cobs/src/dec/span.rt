@@ -89,9 +89,9 @@ pub(crate) fn decode_span(source: &[u8], dest: &mut [u8], sentinel: u8) -> Optio
 }
 
 /// Returns how many of `bytes`, the last bytes of a piece, have to be decoded, and whether the piece is whole. A whole
-/// piece is decoded to its end. A broken piece is decoded through the code of its last block, because the bytes of that
-/// block aren't kept. The first `left` bytes belong to a block that began before `bytes`. Each byte of `bytes` is XORed
-/// with the sentinel before it is read.
+/// piece is decoded to its end. A broken piece is decoded up to and including the code of its last block, because the
+/// output of that block's other bytes isn't kept. The first `left` bytes belong to a block that began before `bytes`.
+/// Each byte of `bytes` is XORed with the sentinel before it is read.
 pub(crate) fn kept_len(bytes: &[u8], left: usize, sentinel: u8) -> (usize, bool)
     requires left { left ≤ length bytes.now }
     requires nonzero { HasNoZero (xor_each sentinel bytes.now) }
@@ -109,8 +109,8 @@ pub(crate) fn kept_len(bytes: &[u8], left: usize, sentinel: u8) -> (usize, bool)
         if rest < code {
             return (at + 1, false);
         }
-        // A row of codes of blocks without bytes is skipped at once. A walk from code to code would be slower: each
-        // load would wait for the preceding load.
+        // A row of 32 blocks 01 is skipped at once. A walk from code to code would be slower: each load would wait for
+        // the preceding load.
         if code == 1 && WINDOW <= rest && is_all(bytes, at, 1 ^ sentinel) {
             at += WINDOW;
             continue;

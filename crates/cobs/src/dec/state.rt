@@ -71,7 +71,7 @@ impl Default for DecoderState {
 }
 
 impl DecoderState {
-    /// Returns the state after this code: all bytes of the block after the code are missing.
+    /// Returns the state in which the decoder has taken this code of a block, and none of the block's other bytes yet.
     fn opened(code: u8) -> DecoderState
         requires { code ≢ 0 }
         ensures opened { result ≡ opened_by code }
@@ -83,7 +83,7 @@ impl DecoderState {
         }
     }
 
-    /// Returns the table's row for this state and this byte: the result, and the next state.
+    /// Returns the result for this byte in this state, and the next state.
     fn row(&self, byte: u8) -> (Result<DecodeResult, DecodeError>, DecoderState)
         ensures returned { result.0 ≡ table_result self.now byte }
         ensures state { result.1 ≡ table_state self.now byte }
@@ -149,8 +149,8 @@ impl DecoderState {
         ensures answer { result ≡ table_result self.old byte }
         ensures state { self.new ≡ table_state self.old byte }
 
-        // The clauses `after` and `message` are about a state that has taken the front p of a piece. `so_far` has the
-        // bytes of the message in the results so far.
+        // The clauses `after` and `message` are about a state that has taken the front p of a piece. `so_far` is the
+        // list of the bytes of the message that the results so far contained.
         ensures after { (p so_far : List ℕ) → StateAfter self.old p so_far → byte ≢ 0
             → StateAfter self.new (p ++ byte ∷ []) (so_far ++ data_of result) }
         ensures message { (p so_far m : List ℕ) → StateAfter self.old p so_far → byte ≡ 0

@@ -1,17 +1,17 @@
 //! The step of a streaming decoder for one byte, and a loop of such steps.
-ghost use Rattle.std.specs.Prelude.{◌≡◌, ◌≢◌, length};
+ghost use Rattle.std.specs.Prelude.{◌≡◌, ◌≢◌, ◌≤◌, length};
 ghost use Rattle.cobs.specs.Feed.{Idle};
 ghost use Rattle.cobs.specs.FeedPiece.{TakesPiece};
 ghost use Rattle.cobs.specs.Fields.Decoders.{phase_of};
 ghost use Rattle.cobs.specs.Sentinel.{xor_each};
-ghost use Rattle.cobs.specs.Step.{next_phase, next_buffer, next_result, end_result};
+ghost use Rattle.cobs.specs.Step.{end_result, held, next_buffer, next_phase, next_result};
 
 use crate::block::FULL;
 use crate::dec::frame_decoder::PieceEnd;
 use crate::dec::unbuffered::{START, UnbufferedDecoder};
 use crate::error::DecodeError;
 
-/// Returns the value of `joint` after a block with this code.
+/// Returns the value that `joint` has while a block with this code is open: 0 for a full block, otherwise 1.
 #[inline(always)]
 pub(crate) fn joint_after(code: u8) -> u8
     ensures full { code ≡ 255 → result ≡ 0 }
@@ -49,39 +49,60 @@ impl UnbufferedDecoder {
         }
     }
 
-    /// Takes a byte of a piece, and writes its output to the buffer.
+    /// Takes a byte of a piece, writes its output to the buffer, and returns how many bytes of the open message the
+    /// buffer then holds. If the output is too long for the buffer, this is the buffer's length.
+    ///
+    /// This is the step of [`feed`](Self::feed) for a byte that isn't a zero. For a zero, which ends a piece, call
+    /// `feed`: after `take_byte` of a zero, the result for the open piece and the bytes of the buffer are unspecified.
+    /// (A choice of this library.)
+    ///
+    /// ```
+    /// let mut buffer = [0; 4];
+    /// let mut decoder = UnbufferedDecoder::new();
+    /// assert_eq!(rt; decoder.take_byte(&mut buffer, 3), 0);
+    /// assert_eq!(rt; decoder.take_byte(&mut buffer, 7), 1);
+    /// assert_eq!(rt; decoder.take_byte(&mut buffer, 8), 2);
+    /// assert_eq!(rt; decoder.feed(&mut buffer, 0), Ok(Some(2)));
+    /// assert!(rt; buffer.starts_with(&[7, 8]));
+    /// ```
+    // A byte inside a block has a return of its own, with a length that needs no test. So compilers generate fewer
+    // instructions for a call with one byte than if all cases shared a return.
     #[inline(always)]
-    pub(crate) fn take_byte(&mut self, dest: &mut [u8], byte: u8)
-        requires nonzero { byte ≢ 0 }
-        ensures buffer { dest.new ≡ next_buffer dest.old (phase_of self.old) byte }
-        ensures phase { phase_of self.new ≡ next_phase (length dest.old) (phase_of self.old) byte }
+    pub fn take_byte(&mut self, dest: &mut [u8], byte: u8) -> usize
+        ensures buffer { byte ≢ 0 → dest.new ≡ next_buffer dest.old (phase_of self.old) byte }
+        ensures phase { byte ≢ 0 → phase_of self.new ≡ next_phase (length dest.old) (phase_of self.old) byte }
+        ensures held { result ≡ held (length dest.old) (phase_of self.new) }
+        ensures bound { result ≤ length dest.old }
     {
+        let room = dest.len();
         if self.too_long != 0 {
-            return;
+            return room;
         }
         // `written` is read once here, because compilers would read it again after each write to the buffer. Each case
         // has a write of its own: that is faster than choosing a byte first and writing it in one place.
-        let at = self.written;
+        let mut at = self.written;
         if self.missing != 0 {
-            if dest.len() <= at {
-                self.too_long = 1;
-                return;
+            if at < room {
+                dest[at] = byte;
+                self.written = at + 1;
+                self.missing -= 1;
+                return at + 1;
             }
-            dest[at] = byte;
-            self.written = at + 1;
-            self.missing -= 1;
-            return;
+            self.too_long = 1;
+            return room;
         }
         if self.joint != 0 {
-            if dest.len() <= at {
+            if room <= at {
                 self.too_long = 1;
-                return;
+                return room;
             }
             dest[at] = 0;
-            self.written = at + 1;
+            at += 1;
+            self.written = at;
         }
-        self.missing = byte - 1;
+        self.missing = byte.wrapping_sub(1);
         self.joint = joint_after(byte);
+        at.min(room)
     }
 
     /// Takes the next byte of the stream, and writes its output to the buffer.

@@ -1,7 +1,7 @@
 //! The streaming decoder whose buffer is passed to each call. The three other streaming decoders are built on it.
 ghost use Rattle.std.specs.Prelude.{◌≡◌, ◌≢◌, ◌<◌, ◌≤◌, ◌↔◌, IsTrue, List, [], None, ℕ, length, slice_index, take};
 ghost use Rattle.cobs.specs.Feed.{DecoderAfter, Feeds, Idle};
-ghost use Rattle.cobs.specs.Fields.Decoders.{phase_at, phase_of};
+ghost use Rattle.cobs.specs.Fields.Decoders.{phase_of};
 ghost use Rattle.cobs.specs.Push.{PushesBytes};
 ghost use Rattle.cobs.specs.FeedPiece.{TakesPiece};
 ghost use Rattle.cobs.specs.Table.{FeedsByTable};
@@ -10,36 +10,6 @@ use crate::dec::frame_decoder::PieceEnd;
 use crate::error::{DecodeError, DecodeReport, PushError};
 use crate::find::{front_len, position_or_len};
 use cobs_bytes::window::{WINDOW, has_vectors};
-
-/// The state of an [`UnbufferedDecoder`]. (A choice of this library.)
-///
-/// ```
-/// let mut buffer = [0; 8];
-/// let mut decoder = UnbufferedDecoder::new();
-/// assert_eq!(rt; decoder.phase(), DecoderPhase::Idle);
-/// assert_eq!(rt; decoder.push(&mut buffer, &[4, 7, 8]), Ok(None));
-/// assert!(rt; matches!(decoder.phase(), DecoderPhase::Within { missing: 1, .. }));
-/// ```
-#[derive(Debug, Clone, Copy, PartialEq, Eq)]
-pub enum DecoderPhase {
-    /// No piece has begun.
-    Idle,
-
-    /// Inside a piece.
-    Within {
-        /// Whether the open block is full; no zero joins a full block to the next block.
-        is_full: bool,
-
-        /// How many bytes of the open block are missing.
-        missing: u8,
-
-        /// How many bytes of the piece's output have been written.
-        written: usize,
-    },
-
-    /// The output of the piece is too long for the buffer.
-    TooLong,
-}
 
 /// Decodes a stream of frames, each ended by a zero, into a buffer that the caller passes to each call.
 ///
@@ -107,61 +77,6 @@ impl UnbufferedDecoder {
         START
     }
 
-    /// Makes a decoder in the state `phase`. Any numbers in `phase` are accepted. If `phase` is `Within` with a full
-    /// block, no missing bytes and nothing written, the state is the same as `Idle`.
-    ///
-    /// ```
-    /// let mut buffer = [0; 8];
-    /// let mut first = UnbufferedDecoder::new();
-    /// assert_eq!(rt; first.push(&mut buffer, &[4, 7, 8]), Ok(None));
-    /// let mut second = UnbufferedDecoder::from_phase(first.phase());
-    /// assert_eq!(rt; second.feed(&mut buffer, 9), Ok(None));
-    /// assert_eq!(rt; second.feed(&mut buffer, 0), Ok(Some(3)));
-    /// assert!(rt; buffer.starts_with(&[7, 8, 9]));
-    /// ```
-    pub fn from_phase(phase: DecoderPhase) -> Self
-        ensures phase { phase_of result ≡ phase_at phase }
-    {
-        match phase {
-            DecoderPhase::Idle => START,
-            DecoderPhase::Within {
-                is_full,
-                missing,
-                written,
-            } => UnbufferedDecoder {
-                written,
-                missing,
-                joint: if is_full { 0 } else { 1 },
-                too_long: 0,
-            },
-            DecoderPhase::TooLong => UnbufferedDecoder {
-                too_long: 1,
-                ..START
-            },
-        }
-    }
-
-    /// Returns the decoder's state.
-    ///
-    /// ```
-    /// assert_eq!(rt; UnbufferedDecoder::new().phase(), DecoderPhase::Idle);
-    /// ```
-    pub fn phase(&self) -> DecoderPhase
-        ensures phase { phase_at result ≡ phase_of self.now }
-    {
-        if self.too_long != 0 {
-            return DecoderPhase::TooLong;
-        }
-        if self.is_idle() {
-            return DecoderPhase::Idle;
-        }
-        DecoderPhase::Within {
-            is_full: self.joint == 0,
-            missing: self.missing,
-            written: self.written,
-        }
-    }
-
     /// Returns true if no piece has begun; the next nonzero byte then begins a piece.
     ///
     /// ```
@@ -183,7 +98,7 @@ impl UnbufferedDecoder {
     /// let mut decoder = UnbufferedDecoder::new();
     /// assert_eq!(rt; decoder.push(&mut [0; 4], &[9, 9]), Ok(None));
     /// decoder.reset();
-    /// assert_eq!(rt; decoder.phase(), DecoderPhase::Idle);
+    /// assert!(rt; decoder.is_idle());
     /// ```
     pub fn reset(&mut self)
         ensures idle { phase_of self.new ≡ Idle }

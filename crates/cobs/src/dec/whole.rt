@@ -59,7 +59,7 @@ pub fn decode(source: &[u8], dest: &mut [u8]) -> Result<DecodeReport, DecodeErro
     decode_long(source, dest)
 }
 
-/// Does what [`decode`] does, for any source.
+/// Does what [`decode`] does, for any source: [`decode_short`] decodes only a short one.
 fn decode_long(source: &[u8], dest: &mut [u8]) -> Result<DecodeReport, DecodeError>
     ensures returned { result ≡ result_of_decode source.now (length dest.old) }
     ensures buffer { dest.new ≡ overwritten dest.old (first_output source.now) }

@@ -1,16 +1,16 @@
 //! Cuts a message into blocks: the core of the encoders that write to a slice, on targets with SIMD vectors. A *window*
 //! is 32 bytes that are copied at once. The *mask* of a window is a number with one bit for each byte of the window;
 //! the bit is 1 if the byte is a zero.
-ghost use Rattle.std.specs.Prelude.{◌≡◌, ◌≢◌, ◌<◌, ◌≤◌, ◌+◌, ◌-◌, ◌%◌, ◌++◌, ℕ, IsTrue, List, length, take, drop, replicate};
+ghost use Rattle.std.specs.Prelude.{◌≡◌, ◌≢◌, ◌<◌, ◌≤◌, ◌+◌, ◌-◌, ◌%◌, ◌++◌, ◌==◌, ℕ, IsTrue, List, length, not, take, drop, replicate};
 ghost use Rattle.cobs.specs.Grammar.{HasNoZero, IsEncodedFrame};
 ghost use Rattle.cobs.specs.OpenBlock.{CobsEncoderAfter, IsPlaceIn, end_after, end_of};
-ghost use Rattle.cobs.specs.Fields.Progress.{reached_at};
+ghost use Rattle.cobs.specs.Fields.Progress.{reached_by};
 ghost use Rattle.cobs_bytes.specs.Mask.{without_lowest};
 ghost use Rattle.cobs.specs.Internal.Marks.{IsMask, Marks};
 ghost use Rattle.cobs.specs.Internal.Taking.{IsFirstRun, TakesFront};
 
-use crate::block::FULL_CODE;
-use crate::enc::progress::EncoderProgress;
+use crate::block::{FULL_BLOCK_BYTES, FULL_CODE};
+use crate::enc::UnbufferedEncoder;
 use crate::find::position_or_len;
 use cobs_bytes::window::{WINDOW, copy_at, copy_window, has_vectors, write_row, zeros_at};
 
@@ -21,28 +21,30 @@ pub(crate) const APPEND_EACH_BELOW: usize = 8;
 /// The mask of a window that has only zeros.
 const ALL_ZEROS: u64 = 0xffff_ffff;
 
-/// Returns the progress with an open block at `index`, whose next byte belongs at `next`.
+/// Returns the state of an encoder whose open block is at `index`, and whose next byte belongs at `next`.
 #[inline(always)]
-fn progress_at(index: usize, next: usize, is_full: bool) -> EncoderProgress
+fn encoder_at(index: usize, next: usize, full: u8) -> UnbufferedEncoder
     requires ordered { index < next }
     requires open_block { next < index + 255 }
-    ensures { reached_at result ≡ record { block = record { index = index; code = next - index }; full = is_full } }
+    ensures { reached_by result
+        ≡ record { block = record { index = index; code = next - index }; full = not (full == 0) } }
 {
-    EncoderProgress {
+    let code = (next - index) as u8;
+    UnbufferedEncoder {
         index,
-        code: (next - index) as u8,
-        is_full,
+        taken: code - 1,
+        full,
     }
 }
 
 /// Returns whether `len` is from 1 to the length of a window, and `len` more bytes can't fill the open block.
 #[inline(always)]
-pub(crate) fn fits_window_and_block(progress: EncoderProgress, len: usize) -> bool
+pub(crate) fn fits_window_and_block(encoder: UnbufferedEncoder, len: usize) -> bool
     ensures some { IsTrue result → 0 < len }
     ensures few { IsTrue result → len ≤ 32 }
-    ensures open_block { IsTrue result → progress.code + len < 255 }
+    ensures open_block { IsTrue result → encoder.taken + len ≤ 253 }
 {
-    0 < len && len <= WINDOW && progress.code as usize + len < FULL_CODE
+    0 < len && len <= WINDOW && encoder.taken as usize + len < FULL_BLOCK_BYTES
 }
 
 /// Writes the code of the open block, which the first zero marked in the mask closes. Returns the index of the next
@@ -86,17 +88,17 @@ pub(crate) fn append_few(
     source: &[u8],
     len: usize,
     dest: &mut [u8],
-    progress: EncoderProgress,
-) -> EncoderProgress
+    encoder: UnbufferedEncoder,
+) -> UnbufferedEncoder
     requires within { len ≤ length source.now }
     requires some { 0 < len }
-    requires code { 0 < progress.code }
-    requires open_block { progress.code + len < 255 }
-    requires fits { end_after (reached_at progress) source.now ≤ length dest.old }
-    ensures { TakesFront dest.old (reached_at progress) source.now len dest.new (reached_at result) }
+    requires open_block { encoder.taken + len ≤ 253 }
+    requires fits { end_after (reached_by encoder) source.now ≤ length dest.old }
+    ensures { TakesFront dest.old (reached_by encoder) source.now len dest.new (reached_by result) }
 {
-    let mut index = progress.index;
-    let mut next = index + progress.code as usize;
+    let mut index = encoder.index;
+    let code = encoder.taken + 1;
+    let mut next = index + code as usize;
     'by_byte: for read in 0..len {
         let byte = source[read];
         dest[next] = byte;
@@ -104,7 +106,7 @@ pub(crate) fn append_few(
         index = if byte == 0 { next } else { index };
         next += 1;
     }
-    progress_at(index, next, false)
+    encoder_at(index, next, 0)
 }
 
 /// Takes a `source` of up to 32 bytes that can't fill the open block. The function has few branches that a processor
@@ -115,30 +117,30 @@ pub(crate) fn append_few(
 pub(crate) fn append_short(
     source: &[u8],
     dest: &mut [u8],
-    progress: EncoderProgress,
+    encoder: UnbufferedEncoder,
     test_for_none: bool,
-) -> EncoderProgress
+) -> UnbufferedEncoder
     requires some { 0 < length source.now }
     requires few { length source.now ≤ 32 }
-    requires code { 0 < progress.code }
-    requires open_block { progress.code + length source.now < 255 }
-    requires fits { end_after (reached_at progress) source.now ≤ length dest.old }
-    ensures { TakesFront dest.old (reached_at progress) source.now (length source.now) dest.new (reached_at result) }
+    requires open_block { encoder.taken + length source.now ≤ 253 }
+    requires fits { end_after (reached_by encoder) source.now ≤ length dest.old }
+    ensures { TakesFront dest.old (reached_by encoder) source.now (length source.now) dest.new (reached_by result) }
 {
     let len = source.len();
     if len < APPEND_EACH_BELOW {
-        return append_few(source, len, dest, progress);
+        return append_few(source, len, dest, encoder);
     }
-    let start = progress.index;
-    let next = start + progress.code as usize;
+    let start = encoder.index;
+    let code = encoder.taken as usize + 1;
+    let next = start + code;
     let mask = copy_window(source, dest, next);
     if test_for_none && mask == 0 {
-        return progress_at(start, next + len, false);
+        return encoder_at(start, next + len, 0);
     }
     let (first, others) = mark_first(dest, start, next, mask);
     let (index, zeros) = mark_first(dest, first, next, others);
     let index = mark_zeros(dest, index, next, zeros);
-    progress_at(index, next + len, false)
+    encoder_at(index, next + len, 0)
 }
 
 /// Writes the code 1 for each zero at the front of `source`, 32 codes at a time while more than 32 bytes are left, and
@@ -161,7 +163,7 @@ fn write_codes_of_zeros(source: &[u8], dest: &mut [u8], at: usize) -> usize
 }
 
 /// Takes windows of 32 bytes while more than 32 bytes are left. The function stops earlier if the open block becomes
-/// full. Returns how many bytes it took, and the progress after them.
+/// full. Returns how many bytes it took, and the encoder's state after them.
 ///
 /// Each window is copied to the place of the next byte. If the window fills the open block before a zero comes, the
 /// block is closed, and the caller copies the next bytes as slices, because a run that fills one block often fills more
@@ -173,18 +175,19 @@ fn write_codes_of_zeros(source: &[u8], dest: &mut [u8], at: usize) -> usize
 fn append_windows(
     source: &[u8],
     dest: &mut [u8],
-    start: EncoderProgress,
-) -> (usize, EncoderProgress)
+    encoder: UnbufferedEncoder,
+) -> (usize, UnbufferedEncoder)
     requires some { 0 < length source.now }
-    requires place { IsPlaceIn (length dest.old) (reached_at start) }
-    requires fits { end_after (reached_at start) source.now ≤ length dest.old }
+    requires place { IsPlaceIn (length dest.old) (reached_by encoder) }
+    requires fits { end_after (reached_by encoder) source.now ≤ length dest.old }
     ensures within { result.0 < length source.now }
-    ensures taken { TakesFront dest.old (reached_at start) source.now result.0 dest.new (reached_at result.1) }
+    ensures taken { TakesFront dest.old (reached_by encoder) source.now result.0 dest.new (reached_by result.1) }
 {
-    let (mut index, mut read) = (start.index, 0);
-    let mut next = index + start.code as usize;
+    let (mut index, mut read) = (encoder.index, 0);
+    let code = encoder.taken as usize + 1;
+    let mut next = index + code;
     if source.len() <= WINDOW {
-        return (0, start);
+        return (0, encoder);
     }
     let last = source.len() - WINDOW;
     'by_window: while read < last {
@@ -217,52 +220,52 @@ fn append_windows(
         // The block is full before a zero comes.
         dest[index] = FULL_CODE as u8;
         let end = index + FULL_CODE;
-        return (read + (end - next), progress_at(end, end + 1, true));
+        return (read + (end - next), encoder_at(end, end + 1, 1));
     }
-    (read, progress_at(index, next, false))
+    (read, encoder_at(index, next, 0))
 }
 
 /// Takes the first run of `source`, which has `run` bytes, and the zero after the run if there is one. The run is cut
-/// into blocks of at most 254 bytes, each copied as one slice. Returns how many bytes it took, and the progress after
-/// them.
+/// into blocks of at most 254 bytes, each copied as one slice. Returns how many bytes it took, and the encoder's
+/// state after them.
 #[inline(always)]
 #[tactic(auto, using(crate::proofs::encoding::TakingLemmas::next_steps))]
 fn append_long_run(
     source: &[u8],
     run: usize,
     dest: &mut [u8],
-    progress: EncoderProgress,
-) -> (usize, EncoderProgress)
+    encoder: UnbufferedEncoder,
+) -> (usize, UnbufferedEncoder)
     requires some { 0 < length source.now }
     requires run { IsFirstRun run source.now }
-    requires place { IsPlaceIn (length dest.old) (reached_at progress) }
-    requires fits { end_after (reached_at progress) source.now ≤ length dest.old }
+    requires place { IsPlaceIn (length dest.old) (reached_by encoder) }
+    requires fits { end_after (reached_by encoder) source.now ≤ length dest.old }
     ensures some { 0 < result.0 }
     ensures within { result.0 ≤ length source.now }
-    ensures taken { TakesFront dest.old (reached_at progress) source.now result.0 dest.new (reached_at result.1) }
+    ensures taken { TakesFront dest.old (reached_by encoder) source.now result.0 dest.new (reached_by result.1) }
 {
-    let mut progress = progress;
-    let mut read = 0;
+    let (mut index, mut read) = (encoder.index, 0);
+    let code = encoder.taken as usize + 1;
+    let mut next = index + code;
+    let mut full = encoder.full;
     'by_block: while read < run {
-        let EncoderProgress { index, code, .. } = progress;
-        let next = index + code as usize;
-        let len = (FULL_CODE - code as usize).min(run - read);
+        let len = (index + FULL_CODE - next).min(run - read);
         dest[next..next + len].copy_from_slice(&source[read..read + len]);
         read += len;
-        progress = if next + len == index + FULL_CODE {
+        next += len;
+        full = 0;
+        if next == index + FULL_CODE {
             dest[index] = FULL_CODE as u8;
-            progress_at(next + len, next + len + 1, true)
-        } else {
-            progress_at(index, next + len, false)
-        };
+            index = next;
+            next += 1;
+            full = 1;
+        }
     }
     if read == source.len() {
-        return (read, progress);
+        return (read, encoder_at(index, next, full));
     }
-    let EncoderProgress { index, code, .. } = progress;
-    let next = index + code as usize;
-    dest[index] = code;
-    (read + 1, progress_at(next, next + 1, false))
+    dest[index] = (next - index) as u8;
+    (read + 1, encoder_at(next, next + 1, 0))
 }
 
 /// Takes all bytes of `source`, whose first run has `run` bytes. The function first takes this run. Then it repeats two
@@ -273,64 +276,70 @@ pub(crate) fn append_rest(
     source: &[u8],
     run: usize,
     dest: &mut [u8],
-    progress: EncoderProgress,
-) -> EncoderProgress
+    encoder: UnbufferedEncoder,
+) -> UnbufferedEncoder
     requires some { 0 < length source.now }
     requires run { IsFirstRun run source.now }
-    requires place { IsPlaceIn (length dest.old) (reached_at progress) }
-    requires fits { end_after (reached_at progress) source.now ≤ length dest.old }
-    ensures { TakesFront dest.old (reached_at progress) source.now (length source.now) dest.new (reached_at result) }
+    requires place { IsPlaceIn (length dest.old) (reached_by encoder) }
+    requires fits { end_after (reached_by encoder) source.now ≤ length dest.old }
+    ensures { TakesFront dest.old (reached_by encoder) source.now (length source.now) dest.new (reached_by result) }
 {
-    let (mut read, mut progress) = append_long_run(source, run, dest, progress);
+    let (mut read, mut encoder) = append_long_run(source, run, dest, encoder);
     'by_run: while read < source.len() {
-        let (front, reached) = append_windows(&source[read..], dest, progress);
+        let (front, reached) = append_windows(&source[read..], dest, encoder);
         read += front;
         let rest = &source[read..];
         let (next, reached) = append_long_run(rest, position_or_len(rest, 0), dest, reached);
         read += next;
-        progress = reached;
+        encoder = reached;
     }
-    progress
+    encoder
 }
 
-/// Continues the frame in `dest` with `source`, from `progress` on, and returns the progress after `source`. [`close`]
+/// Continues the frame of `encoder` in `dest` with `source`, and returns the encoder's state after `source`. [`close`]
 /// writes the code of the open block later; until then the byte at the place of the code doesn't matter.
 ///
 /// [`append_windows`] takes most bytes. Usually few bytes are left; [`append_rest`] takes them if there are more of
 /// them than a window holds, or if they may fill the open block.
 #[inline(always)]
-pub(crate) fn append(source: &[u8], dest: &mut [u8], progress: EncoderProgress) -> EncoderProgress
+pub(crate) fn append(
+    source: &[u8],
+    dest: &mut [u8],
+    encoder: UnbufferedEncoder,
+) -> UnbufferedEncoder
     requires some { 0 < length source.now }
-    requires place { IsPlaceIn (length dest.old) (reached_at progress) }
-    requires fits { end_after (reached_at progress) source.now ≤ length dest.old }
-    ensures { TakesFront dest.old (reached_at progress) source.now (length source.now) dest.new (reached_at result) }
+    requires place { IsPlaceIn (length dest.old) (reached_by encoder) }
+    requires fits { end_after (reached_by encoder) source.now ≤ length dest.old }
+    ensures { TakesFront dest.old (reached_by encoder) source.now (length source.now) dest.new (reached_by result) }
 {
-    let (read, progress) = append_windows(source, dest, progress);
+    let (read, encoder) = append_windows(source, dest, encoder);
     let rest = &source[read..];
-    if fits_window_and_block(progress, rest.len()) {
-        append_short(rest, dest, progress, false)
+    if fits_window_and_block(encoder, rest.len()) {
+        append_short(rest, dest, encoder, false)
     } else {
         // Copied field by field, before the call and after it, so that the result of `append_short` stays in registers.
-        let start = EncoderProgress { ..progress };
+        let start = UnbufferedEncoder { ..encoder };
         let reached = append_rest(rest, position_or_len(rest, 0), dest, start);
-        EncoderProgress { ..reached }
+        UnbufferedEncoder { ..reached }
     }
 }
 
 /// Writes the code of the open block, unless the frame ends with a full block, and returns the frame's length. Before
 /// the call, the byte in the code's place may have any value.
-// The room is tested first, though only a full block leaves none. Otherwise compilers test whether the block is full in the
-// caller's loop over single bytes, which can make that loop half as fast in the Rust crate with link-time optimization.
+// The test whether `index` is within the slice comes first, though it fails only after a full block. Without it,
+// compilers test in the caller's loop over single bytes whether the block is full. In the Rust crate with link-time
+// optimization, this can make that loop half as fast.
 #[inline(always)]
-pub(crate) fn close_block(dest: &mut [u8], progress: EncoderProgress) -> usize
-    requires { IsPlaceIn (length dest.old) (reached_at progress) }
-    ensures frame { (m : List ℕ) → CobsEncoderAfter dest.old (reached_at progress) m
+pub(crate) fn close_block(dest: &mut [u8], encoder: &UnbufferedEncoder) -> usize
+    requires { IsPlaceIn (length dest.old) (reached_by encoder.now) }
+    ensures frame { (m : List ℕ) → CobsEncoderAfter dest.old (reached_by encoder.now) m
         → IsEncodedFrame (take result dest.new) m }
-    ensures end { result ≡ end_of (reached_at progress) }
+    ensures end { result ≡ end_of (reached_by encoder.now) }
     ensures rest { drop result dest.new ≡ drop result dest.old }
 {
-    let EncoderProgress { index, code, .. } = progress;
-    if index < dest.len() && !progress.is_full {
+    let index = encoder.index;
+    let code = encoder.taken + 1;
+    if index < dest.len() && encoder.full == 0 {
         dest[index] = code;
         return index + code as usize;
     }
@@ -339,24 +348,26 @@ pub(crate) fn close_block(dest: &mut [u8], progress: EncoderProgress) -> usize
 
 /// Does what [`close_block`] does. On a target with SIMD vectors, `close` also stores a byte after a full block, if the
 /// slice has a byte there: it stores the value that the byte already has.
-// Then compilers keep the caller's loop over single bytes as it is written. If only an open block's code were stored, this
-// loop would be slower in the Rust crate on x86-64. Without vectors the code is `close_block`, which needs fewer bytes of flash.
+// With this store, compilers keep the caller's loop over single bytes as it is written. If only an open block's code
+// were stored, this loop would be slower in the Rust crate on x86-64. Without vectors the code is `close_block`, which
+// needs fewer bytes of flash.
 #[inline(always)]
-pub(crate) fn close(dest: &mut [u8], progress: EncoderProgress) -> usize
-    requires { IsPlaceIn (length dest.old) (reached_at progress) }
-    ensures frame { (m : List ℕ) → CobsEncoderAfter dest.old (reached_at progress) m
+pub(crate) fn close(dest: &mut [u8], encoder: &UnbufferedEncoder) -> usize
+    requires { IsPlaceIn (length dest.old) (reached_by encoder.now) }
+    ensures frame { (m : List ℕ) → CobsEncoderAfter dest.old (reached_by encoder.now) m
         → IsEncodedFrame (take result dest.new) m }
-    ensures end { result ≡ end_of (reached_at progress) }
+    ensures end { result ≡ end_of (reached_by encoder.now) }
     ensures rest { drop result dest.new ≡ drop result dest.old }
 {
     if !has_vectors() {
-        return close_block(dest, progress);
+        return close_block(dest, encoder);
     }
-    let EncoderProgress { index, code, .. } = progress;
+    let index = encoder.index;
+    let code = encoder.taken + 1;
     if index < dest.len() {
-        dest[index] = if progress.is_full { dest[index] } else { code };
+        dest[index] = if encoder.full != 0 { dest[index] } else { code };
     }
-    if progress.is_full {
+    if encoder.full != 0 {
         return index;
     }
     index + code as usize

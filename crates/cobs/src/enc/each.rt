@@ -1,4 +1,4 @@
-//! A whole message that is encoded byte by byte.
+//! Encodes a whole message byte by byte, for targets without SIMD vectors.
 ghost use Rattle.std.specs.Prelude.{◌≡◌, ◌≤◌, ◌↔◌, length, take, drop, IsOk, IfOk, OnErr};
 ghost use Rattle.cobs.specs.Grammar.{HasNoZero, IsEncodedFrame};
 ghost use Rattle.cobs.specs.Length.{encoded_len};
@@ -67,7 +67,7 @@ pub fn try_encode_each(source: &[u8], dest: &mut [u8]) -> Result<usize, DestBufT
     ensures rest { IfOk result (λ n. drop n dest.new ≡ drop n dest.old) }
     ensures refused { OnErr result (dest.new ≡ dest.old) }
 {
-    if !has_room(1, source, dest.len()) {
+    if !has_room(0, source, dest.len()) {
         return Err(DestBufTooSmallError);
     }
     Ok(write_each(source, dest))

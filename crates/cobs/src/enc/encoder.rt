@@ -110,6 +110,6 @@ impl<'a> CobsEncoder<'a> {
         ensures rest { drop result self.exit.0.now ≡ drop result (slice_of self.entry) }
     {
         let CobsEncoder { dest, encoder } = self;
-        close(dest, encoder.progress())
+        close(dest, &encoder)
     }
 }

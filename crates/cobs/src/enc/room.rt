@@ -2,26 +2,25 @@
 ghost use Rattle.std.specs.Prelude.{◌≡◌, ◌<◌, ◌≤◌, ◌+◌, ◌^◌, ◌↔◌, IfSome, IsSome, IsTrue, false, length};
 ghost use Rattle.cobs.specs.Length.{max_encoded_len, open_len};
 ghost use Rattle.cobs.specs.OpenBlock.{IsPlaceIn, end_after};
-ghost use Rattle.cobs.specs.Fields.Progress.{reached_at};
+ghost use Rattle.cobs.specs.Fields.Progress.{reached_by};
 ghost use Rattle.cobs.specs.Internal.Taking.{IsFirstRun, TakesFront};
 
 use crate::block::FULL_BLOCK_BYTES;
+use crate::enc::UnbufferedEncoder;
 use crate::enc::blocks::{append, append_rest};
-use crate::enc::progress::EncoderProgress;
 use crate::find::position_or_len;
 use memchr::memrchr;
 
-/// Counts the blocks that become full and are followed by another byte, if the open block has this code and takes these
-/// bytes. Returns whether there are fewer than `spare` such blocks. Each of these blocks makes the frame one byte
-/// longer, because the next block needs a code.
-fn fits_each(code: u8, bytes: &[u8], spare: usize) -> bool
-    requires some { 0 < code }
-    requires open_block { code < 255 }
+/// Counts the blocks that become full and are followed by another byte, if the open block, which has `taken` bytes,
+/// takes these bytes too. Returns whether there are fewer than `spare` such blocks. Each of these blocks makes the frame
+/// one byte longer, because the next block needs a code.
+fn fits_each(taken: u8, bytes: &[u8], spare: usize) -> bool
+    requires open_block { taken ≤ 253 }
     requires spare { 0 < spare }
-    ensures fits { IsTrue result ↔ (open_len code bytes.now < code + length bytes.now + spare) }
+    ensures fits { IsTrue result ↔ (open_len (taken + 1) bytes.now ≤ taken + length bytes.now + spare) }
 {
     let mut left = spare;
-    let mut taken = code - 1;
+    let mut taken = taken;
     'by_byte: for i in 0..bytes.len() {
         if taken as usize == FULL_BLOCK_BYTES {
             left -= 1;
@@ -35,10 +34,10 @@ fn fits_each(code: u8, bytes: &[u8], spare: usize) -> bool
     true
 }
 
-/// Returns whether `spare` bytes cover the overhead of every message of `len` bytes: whether `len` is at most 254 times
-/// `spare`. The formula halves both sides of this comparison, so that half of `len`, rounded up, is compared with 127
-/// times `spare`, and then adds `spare` to both sides. So no sum overflows, and the function divides only by powers of
-/// two: small processors have no instruction for other divisions.
+/// Returns whether `spare` bytes cover the overhead of every message of `len` bytes, that is, whether `len` is at most
+/// 254 times `spare`. The function compares half of `len`, rounded up, with 127 times `spare`, after adding `spare` to
+/// both sides. So it divides only by 2 and by 128, because small processors have no instruction for other divisions,
+/// and nothing overflows.
 #[inline(always)]
 fn covers_overhead(len: usize, spare: usize) -> bool
     requires some { 0 < spare }
@@ -48,39 +47,38 @@ fn covers_overhead(len: usize, spare: usize) -> bool
     (len - len / 2 + spare - 1) / 128 < spare
 }
 
-/// Returns whether `room` bytes, counted from the code of an open block, are enough for the frame if the block takes
-/// these bytes. The bytes are read only if their number doesn't decide whether the frame fits.
+/// Returns whether `room` bytes, counted from the code of an open block that has `taken` bytes, are enough for the frame
+/// if the block takes these bytes too. The bytes are read only if their number doesn't decide whether the frame fits.
 // Inlined, because the two lengths mostly decide: a call would cost a short message more than the comparisons.
 #[inline(always)]
 #[tactic(auto, using(crate::proofs::encoding::RoomLemmas::counted))]
-pub(crate) fn has_room(code: u8, bytes: &[u8], room: usize) -> bool
-    requires some { 0 < code }
-    requires open_block { code < 255 }
-    ensures fits { IsTrue result ↔ (open_len code bytes.now ≤ room) }
+pub(crate) fn has_room(taken: u8, bytes: &[u8], room: usize) -> bool
+    requires open_block { taken ≤ 253 }
+    ensures fits { IsTrue result ↔ (open_len (taken + 1) bytes.now ≤ room) }
 {
-    let held = code as usize - 1;
+    let held = taken as usize;
     if room <= held || room - held <= bytes.len() {
         return false;
     }
     let len = held + bytes.len();
     let spare = room - len;
-    covers_overhead(len, spare) || fits_each(code, bytes, spare)
+    covers_overhead(len, spare) || fits_each(taken, bytes, spare)
 }
 
-/// Returns `Some` if `room` bytes, counted from the index of an open block with this code, are enough for the frame if
-/// the block takes `source`. Returns `None` if they aren't.
+/// Returns `Some` if `room` bytes, counted from the code of an open block that has `taken` bytes, are enough for the
+/// frame if the block takes `source` too. Returns `None` if they aren't.
 ///
-/// The function counts all full blocks except a full block at the end of the frame. If one of the next bytes that could
-/// fill a block is a zero, the block doesn't become full, and the count continues after the last zero among these
-/// bytes. If none of these bytes is a zero, the run fills the block. The function then searches for the end of the run,
-/// because the run fills a block with each 254 of its bytes. If the function searched for the end of the first run, the
-/// `Some` contains the length of this run, so that the encoder needn't search again; otherwise the `Some` contains 0.
+/// The function counts all full blocks except a full block at the end of the frame. It looks at the bytes that would
+/// fill the open block. If one of them is a zero, the block doesn't become full, and the function continues after the
+/// last zero among them. If none of them is a zero, the run fills the block, and another block with each further 254 of
+/// its bytes. So the function then searches for the end of the run. If the function searched for the end of the first
+/// run, the `Some` contains the length of this run, so that the encoder needn't search again; otherwise the `Some`
+/// contains 0.
 #[inline(never)]
 #[tactic(auto, using(crate::proofs::encoding::RoomLemmas::counted))]
-fn fits(code: usize, source: &[u8], room: usize) -> Option<usize>
-    requires some { 0 < code }
-    requires open_block { code < 255 }
-    ensures fits { IsSome result ↔ (open_len code source.now ≤ room) }
+fn fits(taken: u8, source: &[u8], room: usize) -> Option<usize>
+    requires open_block { taken ≤ 253 }
+    ensures fits { IsSome result ↔ (open_len (taken + 1) source.now ≤ room) }
     ensures run { IfSome result (λ run. 0 < run → IsFirstRun run source.now) }
 {
     if room < source.len() {
@@ -88,7 +86,8 @@ fn fits(code: usize, source: &[u8], room: usize) -> Option<usize>
     }
     let spare = room - source.len();
     // The current run has `run` bytes before index `read`, and there are `counted` full blocks before this run.
-    let mut run = code - 1;
+    let held = taken as usize;
+    let mut run = held;
     let mut counted = 0;
     let mut read = 0;
     let mut first = 0;
@@ -103,7 +102,7 @@ fn fits(code: usize, source: &[u8], room: usize) -> Option<usize>
             }
             read += more;
             if read == source.len() {
-                if spare < code + counted + (run + more - 1) / FULL_BLOCK_BYTES {
+                if spare <= held + counted + (run + more - 1) / FULL_BLOCK_BYTES {
                     return None;
                 }
                 return Some(first);
@@ -113,44 +112,44 @@ fn fits(code: usize, source: &[u8], room: usize) -> Option<usize>
         }
         run = 0;
     }
-    if code + counted <= spare {
+    if held + counted < spare {
         return Some(first);
     }
     None
 }
 
 /// Takes `source`, as [`append`] does, but only if the frame then fits `dest`. Returns whether the frame fits. Usually
-/// the lengths of `source` and `dest` decide, since the frame of a message without zeros is the longest; calling
-/// [`fits`] each time would be slower. A long run that [`fits`] has searched isn't searched again. This function isn't
-/// inlined, so that a short push doesn't save registers for it.
+/// the lengths of `source` and `dest` decide whether the frame fits, since no frame is longer than that of a message
+/// without zeros; calling [`fits`] each time would be slower. A long run that [`fits`] has searched isn't searched
+/// again. This function isn't inlined, so that a short push doesn't save registers for it.
 #[inline(never)]
 #[tactic(auto, using(crate::proofs::encoding::TakingLemmas::short_room))]
-pub(crate) fn try_append(source: &[u8], dest: &mut [u8], progress: &mut EncoderProgress) -> bool
+pub(crate) fn try_append(source: &[u8], dest: &mut [u8], encoder: &mut UnbufferedEncoder) -> bool
     requires some { 0 < length source.now }
-    requires place { IsPlaceIn (length dest.old) (reached_at progress.old) }
-    ensures fits { IsTrue result ↔ (end_after (reached_at progress.old) source.now ≤ length dest.old) }
-    ensures taken { IsTrue result → TakesFront dest.old (reached_at progress.old) source.now
-        (length source.now) dest.new (reached_at progress.new) }
-    ensures rejected { result ≡ false → (dest.new ≡ dest.old) × (reached_at progress.new ≡ reached_at progress.old) }
+    requires place { IsPlaceIn (length dest.old) (reached_by encoder.old) }
+    ensures fits { IsTrue result ↔ (end_after (reached_by encoder.old) source.now ≤ length dest.old) }
+    ensures taken { IsTrue result → TakesFront dest.old (reached_by encoder.old) source.now
+        (length source.now) dest.new (reached_by encoder.new) }
+    ensures rejected { result ≡ false → (dest.new ≡ dest.old) × (reached_by encoder.new ≡ reached_by encoder.old) }
 {
     // Copied field by field, here and below: a load of all fields at once would have to wait, because they were stored
     // one by one.
-    let start = EncoderProgress { ..*progress };
+    let start = UnbufferedEncoder { ..*encoder };
     let room = dest.len() - start.index;
     // `len` is the number of bytes that the message has from the open block on.
-    let len = start.code as usize - 1 + source.len();
+    let len = start.taken as usize + source.len();
     let mut run = 0;
     if room <= len || !covers_overhead(len, room - len) {
-        match fits(start.code as usize, source, room) {
+        match fits(start.taken, source, room) {
             Some(first) => run = first,
             None => return false,
         }
     }
-    *progress = if run == 0 {
+    *encoder = if run == 0 {
         append(source, dest, start)
     } else {
         let reached = append_rest(source, run, dest, start);
-        EncoderProgress { ..reached }
+        UnbufferedEncoder { ..reached }
     };
     true
 }

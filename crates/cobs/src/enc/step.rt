@@ -12,44 +12,16 @@ use crate::enc::room::has_room;
 use crate::error::DestBufTooSmallError;
 
 impl UnbufferedEncoder {
-    /// Takes the next byte of the message, for which there is room.
-    // This function calls no other function, so that the loop of `encode_in_place` stays in registers.
+    /// Takes the next byte of the message, for which there is room, and returns the length that the frame has if the
+    /// message ends with this byte.
+    // This function calls no other function, so that the loop of `encode_in_place` stays in registers. In each case the
+    // frame ends after the byte at index `next`.
     #[inline(always)]
-    pub(crate) fn append_byte(&mut self, dest: &mut [u8], byte: u8)
+    pub(crate) fn append_byte(&mut self, dest: &mut [u8], byte: u8) -> usize
         requires open_block { self.old.taken ≤ 253 }
         requires room { self.old.index + self.old.taken + 1 < length dest.old }
-        ensures { (behind : List ℕ) → end_after (reached_by self.old) (byte ∷ behind) ≤ length dest.old
+        ensures taken { (behind : List ℕ) → end_after (reached_by self.old) (byte ∷ behind) ≤ length dest.old
             → TakesFront dest.old (reached_by self.old) (byte ∷ behind) 1 dest.new (reached_by self.new) }
-    {
-        let code = self.taken + 1;
-        let next = self.index + code as usize;
-        if byte == 0 {
-            dest[self.index] = code;
-            self.index = next;
-            self.taken = 0;
-            self.full = 0;
-            return;
-        }
-        dest[next] = byte;
-        if code as usize == FULL_BLOCK_BYTES {
-            dest[self.index] = FULL_CODE as u8;
-            self.index = next + 1;
-            self.taken = 0;
-            self.full = 1;
-        } else {
-            self.taken = code;
-            self.full = 0;
-        }
-    }
-
-    /// Takes the next byte of the message, for which there is room, and returns the length of the frame so far.
-    // This function does what `append_byte` does, in fewer instructions for a call with one byte, and in more
-    // instructions for a loop over bytes.
-    #[inline(always)]
-    fn append_one(&mut self, dest: &mut [u8], byte: u8) -> usize
-        requires open_block { self.old.taken ≤ 253 }
-        requires room { self.old.index + self.old.taken + 1 < length dest.old }
-        ensures taken { TakesFront dest.old (reached_by self.old) (byte ∷ []) 1 dest.new (reached_by self.new) }
         ensures end { result ≡ end_of (reached_by self.new) }
     {
         let index = self.index;
@@ -102,13 +74,7 @@ impl UnbufferedEncoder {
         ensures len { length dest.new ≡ length dest.old }
         ensures refused { OnErr result ((dest.new ≡ dest.old) × (self.new ≡ self.old)) }
     {
-        let room = dest.len();
-        let taken = self.taken;
-        // An open block has at most 253 bytes: other numbers don't come from these calls.
-        if 253 < taken || room < self.index || room - self.index <= taken as usize + 1 {
-            return Err(DestBufTooSmallError);
-        }
-        self.append_byte(dest, byte);
+        self.feed_len(dest, byte)?;
         Ok(())
     }
 
@@ -143,10 +109,12 @@ impl UnbufferedEncoder {
     {
         let room = dest.len();
         let code = self.taken as usize + 1;
+        // A block with a greater code isn't open: such a number doesn't come from these calls. The tests read the field,
+        // and not a copy of it: so rustc sees that no index of the step is out of bounds.
         if FULL_BLOCK_BYTES < code || room < self.index || room - self.index <= code {
             return Err(DestBufTooSmallError);
         }
-        Ok(self.append_one(dest, byte))
+        Ok(self.append_byte(dest, byte))
     }
 
     /// Takes up to 8 bytes of the message if they fit and can't fill the open block, and returns whether it took them.
@@ -182,7 +150,7 @@ impl UnbufferedEncoder {
         if len == 0 || APPEND_EACH_BELOW < len || 253 < taken + len || room <= taken + len {
             return false;
         }
-        *self = UnbufferedEncoder::from_progress(append_few(bytes, len, dest, self.progress()));
+        self.set(append_few(bytes, len, dest, *self));
         true
     }
 
@@ -222,7 +190,7 @@ impl UnbufferedEncoder {
         if bytes.is_empty() {
             return Ok(());
         }
-        if !has_room(self.taken + 1, bytes, dest.len() - self.index) {
+        if !has_room(self.taken, bytes, dest.len() - self.index) {
             return Err(DestBufTooSmallError);
         }
         self.append_each(dest, bytes);
@@ -230,8 +198,8 @@ impl UnbufferedEncoder {
     }
 
     /// Takes the next bytes of the message, for which there is room, one at a time.
-    // The loop changes only two numbers, so that they stay in registers, and one line closes every block. On a small processor
-    // `append_byte` in the loop would need more instructions and more flash.
+    // The loop changes variables, which stay in registers, and one line closes every block. On a small processor `append_byte`
+    // in the loop would need more instructions and more flash.
     #[inline(always)]
     fn append_each(&mut self, dest: &mut [u8], bytes: &[u8])
         requires some { 0 < length bytes.now }
@@ -241,6 +209,8 @@ impl UnbufferedEncoder {
     {
         let mut index = self.index;
         let mut next = index + self.taken as usize + 1;
+        // The index after the open block's 254th byte. If the sum wraps, no index is equal to it.
+        let mut limit = index.wrapping_add(FULL_CODE);
         'by_byte: for i in 0..bytes.len() {
             let byte = bytes[i];
             if byte != 0 {
@@ -248,9 +218,10 @@ impl UnbufferedEncoder {
                 next += 1;
             }
             // A zero ends the block, and so does its 254th byte.
-            if byte == 0 || next - index == FULL_CODE {
+            if byte == 0 || next == limit {
                 dest[index] = (next - index) as u8;
                 index = next;
+                limit = index.wrapping_add(FULL_CODE);
                 next += 1;
             }
         }

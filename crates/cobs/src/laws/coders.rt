@@ -141,7 +141,7 @@ pub fn law_18()
 /// block followed by the lone block, 01, is not canonical. Bytes aren't a frame if there are fewer of them than the
 /// first code says.
 ///
-/// So your own reader that goes from code to code can tell whether the bytes are a frame, and which kind of frame they
+/// So your own reader that goes from code to code finds out whether the bytes are a frame, and which kind of frame they
 /// are.
 ///
 /// ```
@@ -201,8 +201,9 @@ pub fn law_20()
 /// A loop over the pieces of a stream.
 ///
 /// If an idle decoder reads a piece with `feed_piece`, the outcomes of the stream are the outcome of that piece, and
-/// then the outcomes of the bytes after the piece. The unended bytes of the stream are the unended bytes of its part
-/// after that piece. If no piece ends, the stream has no outcome, and the decoder has taken the unended bytes.
+/// then the outcomes of the bytes after the piece. The unended bytes of the stream (those after its last zero, or all
+/// bytes if it has no zero) are the unended bytes of the bytes after that piece. If no piece ends, the stream has no
+/// outcome, and the decoder has taken the unended bytes.
 ///
 /// So a loop over `feed_piece` is proved by one equation: the outcomes found so far, followed by those of the remaining
 /// bytes, are the outcomes of the stream.

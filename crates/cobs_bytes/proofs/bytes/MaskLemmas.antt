@@ -1,5 +1,5 @@
--- The mask of the zeros among bytes: its lowest bit is the first zero, and without that bit it is the mask of what follows.
--- By induction on the bytes.
+-- The mask of the zeros among bytes: its lowest set bit marks the first zero, and without that bit it is the mask of
+-- the bytes after that zero. By induction on the bytes.
 use Rattle.std.proofs.Common.{min, ◌≡◌, ◌≢◌, ℕ, ◌+◌, ◌-◌, ◌*◌, ◌%◌, ◌^◌, ◌<◌, ◌≤◌, cond, eqb, not, List, [], ◌∷◌, ◌++◌, length, map, drop, take, get_or, replicate, All, if◌then◌else◌, ◌==◌, suc, zero, refl, sym, ap, ◌∙◌, subst, inl, inr, arith, length-take-le, length-append, w8}
 use Rattle.std.proofs.Math.Nat.{pow-suc, pow-le-pow_right}
 use Rattle.std.proofs.lemmas.Bool.{ne_eqb, eq-eqb, eqb-true, not-true, not-false, cases_eq, cases_lt}
@@ -33,7 +33,7 @@ zeros_by_lanes source at n room few =
     bitmask_splat w8 eqb (take n (drop at source)) n 0 (length-chunk at n source room) few
     ∙ zero_mask-lanes (take n (drop at source))
 
--- a zero's bit, and another byte's
+-- the bit of a zero, and the bit of another byte
 pub set_if : (b : ℕ) → b ≡ 0 → ◌≡◌ {A = ℕ} (if b == 0 then 1 else 0) 1
 set_if b is = grind (arith, eq-eqb)
 
@@ -45,7 +45,7 @@ pub zero_mask-none : (bytes : List ℕ) → zero_mask bytes ≡ 0 → All (λ b.
 zero_mask-none [] e = All-nil (λ b. b ≢ 0)
 zero_mask-none (b ∷ bytes) e = grind (arith, cases_eq, set_if, All-cons, (zero_mask-none bytes (omega arith)))
 
--- and without a zero no bit is set
+-- if there is no zero, no bit is set
 pub zero_mask-clear : (bytes : List ℕ) → HasNoZero bytes → zero_mask bytes ≡ 0
 zero_mask-clear [] nz = refl
 zero_mask-clear (b ∷ bytes) nz = grind (arith, All-tail, clear_if, All-head, zero_mask-clear bytes (All-tail (λ b. b ≢ 0) b bytes nz))
@@ -71,7 +71,7 @@ lowest_bit bytes few some =
     let e = zero_mask-lanes bytes in
     grind (arith, trailing_mask_l)
 
--- the zeros of some bytes after d other ones, which aren't zeros
+-- the mask of bytes that follow d other bytes, which aren't zeros
 abbrev pub mask_behind : ℕ → List ℕ → ℕ
 mask_behind d bytes = zero_mask (replicate d 1 ++ bytes)
 
@@ -90,7 +90,7 @@ nonzero_len-behind : (d : ℕ) (bytes : List ℕ) → nonzero_len (replicate d 1
 nonzero_len-behind zero bytes = omega arith
 nonzero_len-behind (suc d) bytes = grind (arith, nonzero_len, nonzero_len-behind d bytes)
 
--- a number's lowest bit, and the others
+-- the lowest bit of a number, and the other bits
 pub bit_at-first : (a x : ℕ) → a ≤ 1 → bit_at (a + 2 * x) 0 ≡ a
 bit_at-first a x le = grind (arith, bit_at_lowest)
 
@@ -105,7 +105,7 @@ and-step a b x y la lb = same_from_bits (bit_and (a + 2 * x) (b + 2 * y)) (min a
     by_place (suc i) =
         omega (arith, bit_at_and (a + 2 * x) (b + 2 * y) (suc i), bit_at_and x y i, bit_at-next a x i la, bit_at-next b y i lb, bit_at-next (min a b) (bit_and x y) i (omega arith))
 
--- a number and one less: the lowest bit that is set is taken from it
+-- the bits that a number has in common with the number one below: all except its lowest set bit
 less-odd : (m z : ℕ) → m ≡ 1 + 2 * z → bit_and m (m - 1) ≡ 0 + 2 * z
 less-odd m z is =
     let less : m - 1 ≡ 0 + 2 * z = omega arith in
@@ -117,7 +117,7 @@ less-even m z some is =
     let less : m - 1 ≡ 1 + 2 * (z - 1) = omega arith in
     grind (arith, and-step)
 
--- a mask and one less: the first zero is taken from it
+-- a mask and the number one below: the bit of the first zero is removed
 mask-and : (bytes : List ℕ) → zero_mask bytes ≢ 0 → bit_and (zero_mask bytes) (zero_mask bytes - 1) ≡ mask_behind (nonzero_len bytes + 1) (drop (nonzero_len bytes + 1) bytes)
 mask-and [] some = grind arith
 mask-and (b ∷ bytes) some =
@@ -132,7 +132,7 @@ mask-and (b ∷ bytes) some =
           ∙ sym (mask_behind-more (nonzero_len bytes + 1) (drop (nonzero_len bytes + 1) bytes)) ∙ ap (λ k. mask_behind k (drop k (b ∷ bytes))) more)
     ]
 
--- a mask some of whose zeros have been taken from it
+-- a mask from which the bits of some zeros have been removed
 module _ (d : ℕ) (bytes : List ℕ) (few : d + length bytes ≤ 64) (some : mask_behind d bytes ≢ 0) where
   pub some_left : zero_mask bytes ≢ 0
   some_left = mask_behind-some d bytes some
@@ -158,7 +158,7 @@ clear_front bytes k few le =
 pub zero_mask-lt : (bytes : List ℕ) → zero_mask bytes < 2 ^ length bytes
 zero_mask-lt bytes = rw (← zero_mask-lanes bytes) (subst (λ (n : ℕ). mask_l (map (λ b. eqb b 0) bytes) < 2 ^ n) (length-map bytes (λ b. eqb b 0)) (mask_l-lt (map (λ b. eqb b 0) bytes)))
 
--- where every bit is set, each byte is 0
+-- if every bit is set, each byte is 0
 pub zero_mask-all : (bytes : List ℕ) → zero_mask bytes + 1 ≡ 2 ^ length bytes → bytes ≡ replicate (length bytes) 0
 zero_mask-all [] e = refl
 zero_mask-all (b ∷ bytes) e = grind (arith, pow-suc, cases_eq, set_if, clear_if, zero_mask-all bytes)

@@ -1,5 +1,5 @@
--- Windows that are copied if they have no zero, one of them overlapping the one before it, are one copy: by lemmas on parts
--- of a list.
+-- Two windows that are copied if they have no zero are together one copy, even if they overlap. By lemmas on parts of a
+-- list.
 use Rattle.std.proofs.Common.{rules, ◌-◌, ◌≡◌, ◌≢◌, ℕ, ◌+◌, ◌≤◌, List, ◌++◌, length, drop, take, ap, ◌∙◌, arith}
 use Rattle.std.proofs.lemmas.List.{same_lists, places}
 use Rattle.std.proofs.lemmas.List.Elements.{All-get_or, All-from_get_or}
@@ -14,7 +14,7 @@ use Rattle.cobs_bytes.proofs.bytes.MaskLemmas.{put_is}
 pub or-none : (a b x y : ℕ) → a ≡ x → b ≡ y → bit_or a b ≡ 0 → (x ≡ 0) × (y ≡ 0)
 or-none a b x y p q none = grind (arith, le_or_l, le_or_r)
 
--- done bytes are copied, and n more, from the one at start on
+-- the first `done` bytes are copied, and then n bytes from index `start` on
 module _ (source : List ℕ) (done start n : ℕ) (inside : start + n ≤ length source) (before : start ≤ done) (behind : done ≤ start + n) where
   pub more-nonzero : HasNoZero (take done source) → HasNoZero (take n (drop start source)) → HasNoZero (take (start + n) source)
   more-nonzero first next = All-from_get_or (λ b. b ≢ 0) (take (start + n) source) 0 (λ i lt.

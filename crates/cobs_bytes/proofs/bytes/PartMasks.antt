@@ -1,4 +1,5 @@
--- One mask from those of two parts that may overlap, since they agree where they do: bit by bit.
+-- The mask of bytes follows from the masks of two parts that may overlap, since the two masks agree in the overlap.
+-- Proved bit by bit.
 use Rattle.std.proofs.Common.{◌≡◌, ℕ, ◌+◌, ◌-◌, ◌*◌, ◌%◌, ◌^◌, ◌<◌, ◌≤◌, cond, eqb, suc, zero, List, [], ◌∷◌, length, drop, take, get_or, ap, ◌∙◌, arith, length-drop, length-take, ⊎_elim}
 use Rattle.std.proofs.Math.Nat.{pow-le-pow_right, mul-lt-mul_of_pos_right}
 use Rattle.std.proofs.lemmas.Nat.{pow-add, pow_pos}
@@ -22,7 +23,7 @@ bit_at-zero_mask [] i = bit_at-zero i
 bit_at-zero_mask (b ∷ bytes) zero = grind (arith, bit_at-first, bit-le)
 bit_at-zero_mask (b ∷ bytes) (suc i) = grind (arith, bit_at-next, bit_of, bit-le, bit_at-zero_mask bytes i)
 
--- the mask of a window, from those of its first n bytes and its last n
+-- the mask of a window, from the masks of its first n and its last n bytes
 pub or-window : (w : List ℕ) (len n front back : ℕ) → length w ≡ len → n ≤ len → len ≤ n + n → n ≤ 32 → front ≡ zero_mask (take n w) → back ≡ zero_mask (drop (len - n) w)
     → bit_or front (back * 2 ^ (len - n) % 18446744073709551616) ≡ zero_mask w
 or-window w len n front back long some few small front-is back-is =

@@ -1,5 +1,5 @@
--- Short stretches that are copied, each byte XORed: two windows that may overlap cover the stretch (`two-copied`), and XOR with
--- one byte twice changes nothing.
+-- Lemmas on a few bytes that are copied, each XORed with the sentinel: two windows that may overlap cover them
+-- (`two-copied`), and a second XOR with the same byte restores a byte.
 use Rattle.std.proofs.Common.{◌≡◌, ◌≢◌, ℕ, ◌+◌, ◌-◌, ◌%◌, ◌^◌, ◌≤◌, cond, eqb, List, [], ◌∷◌, ◌++◌, length, map, drop, take, replicate, bit_xor, refl, ap, ◌∙◌, subst, arith, take_all, w8}
 use Rattle.std.proofs.lemmas.List.{take-map, drop-map, length-map}
 use Rattle.std.proofs.lemmas.Simd.{zip2_splat, length-chunk, bitmask_splat}

@@ -126,8 +126,8 @@ fn a_failed_write_ends_a_run(rt: HostRuntime) -> Result<(), Fail> {
     Ok(())
 }
 
-/// Opens a line with these bytes. Every second attempt to open it succeeds, three in all: two lines break after 8
-/// bytes, the third has nothing to read yet.
+/// Opens a line with these bytes. Every second attempt to open it succeeds, three attempts in all: two lines break
+/// after 8 bytes, and the third line has nothing to read yet.
 #[derive(Drop)]
 struct Plug<'a> {
     bytes: &'a [u8],
@@ -171,7 +171,8 @@ fn a_line_is_opened_again_after_a_hang_up(rt: HostRuntime) -> Result<(), Fail> {
 /// A frame; the line may hang up at each of its bytes.
 const CUT: &[u8] = b"\x03ab\x05cdef\x00";
 
-/// The text for a hang-up, by style: first if no frame had begun, and then if a frame had begun.
+/// The text for a hang-up, by style: first if no frame had begun, and then if a frame had begun. `Raw`, `Bytes` and
+/// `Pcap` write only messages, so they have no text for a hang-up.
 const HUNG_UP: [(Style, &[u8], &[u8]); 7] = [
     (Style::Hex, b"hung up\n", b"unfinished\nhung up\n"),
     (Style::Text, b"hung up\n", b"unfinished\nhung up\n"),

@@ -1,4 +1,5 @@
-//! Tests which bytes had been written when the next bytes were read. The stream is cut in two at each place.
+//! Tests which bytes had been written when the next bytes were read. The stream is cut into two parts, once at each
+//! place.
 
 use super::{SENT, STREAM, settings, timer, written_after};
 use crate::recorder::{Recorder, send_recorded, show_recorded};

@@ -11,7 +11,7 @@ use crate::proved::find::{len_without_end, position_or_len};
 
 /// Decodes a source that contains no sentinel, and returns the message's length.
 fn decode_blocks(source: &[u8], dest: &mut [u8], sentinel: u8) -> Result<usize, DecodeError> {
-    // A block that begins before the last 254 bytes is whole.
+    // A block has at most 255 bytes, so a block that begins before the last 254 bytes is whole.
     let tail = source.len().saturating_sub(FULL_BLOCK_BYTES);
     let mut progress = START;
     if progress.take_blocks(dest, &source[..tail], sentinel) < tail {
@@ -56,7 +56,8 @@ pub fn decode_with_sentinel(
         return Err(DecodeError::EmptyFrame);
     }
     let len = len_without_end(source, sentinel);
-    // A broken frame must not change bytes after its output, so a short frame is decoded into a buffer of its own.
+    // A broken frame must not change bytes of `dest` after its output, so a short frame is first decoded into the local
+    // buffer `short`.
     let mut short = [0; WIDE_WINDOW];
     if len <= dest.len() + 1 && decode_span(&source[..len], &mut short, sentinel) == Some(0) {
         dest[..len - 1].copy_from_slice(&short[..len - 1]);

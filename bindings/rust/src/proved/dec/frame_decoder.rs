@@ -81,10 +81,11 @@ pub trait FrameDecoder {
     /// Returns `None` if no piece ended in these bytes; the decoder has then taken all of them. Returns `Some((end,
     /// count))` if the zero at index `count - 1` ended a piece; `end` says how the piece ended. The bytes after that
     /// zero had no effect. The bytes of the buffer after the piece's output are as they were. A piece that is too long
-    /// for the buffer ends at its zero, like every other piece, so the caller never has to feed single bytes.
+    /// for the buffer also ends at its zero, so the caller continues with the bytes from index `count` on, as after
+    /// every other piece.
     ///
-    /// An implementation doesn't have to define this method: the provided method feeds one byte after another. The
-    /// decoders of this library copy whole blocks instead.
+    /// An implementation doesn't have to define this method: the provided method feeds one byte after another. On
+    /// targets with SIMD vectors, the decoders of this library copy many bytes at once instead.
     ///
     /// ```
     /// use jcobs::{CobsDecoderHeapless, FrameDecoder, PieceEnd};

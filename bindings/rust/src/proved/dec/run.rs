@@ -1,7 +1,7 @@
 // Made by bindings/rust/translate.py from `crates/cobs/src/dec/run.rt`: change that file, and run it again.
-//! The walk of the decoders over the bytes before a sentinel, on targets with SIMD vectors. A step takes a long block,
-//! rows of 32 blocks 01, or a *span*. A span is copied at once, together with the codes among its bytes; then a zero is
-//! written over each code.
+//! The loop with which the decoders take the bytes before a sentinel, on targets with SIMD vectors. Each step of the
+//! loop takes a long block, rows of 32 blocks 01, or a *span*. A span is up to 253 bytes, which are copied at once,
+//! together with the codes among them; then a zero is written over each code.
 
 use crate::proved::block::FULL_BLOCK_BYTES;
 use crate::proved::cobs_bytes::lanes::{copy_xored, copy_xored_short};
@@ -13,8 +13,8 @@ use crate::proved::dec::step::joint_after;
 use crate::proved::dec::unbuffered::{START, UnbufferedDecoder};
 use crate::proved::find::zero_or_len;
 
-/// The greatest number of bytes in a span. A full block has more bytes, so no code in a span follows a full block that
-/// begins in the same span.
+/// The greatest number of bytes in a span. A full block is longer than a span. So if a full block begins in a span, the
+/// code after that block isn't in the span.
 pub(crate) const SPAN_MAX: usize = FULL_BLOCK_BYTES - 1;
 
 /// Takes rows of 32 bytes from the front of `bytes`, as long as each byte of a row is `byte`, and for each row writes a
@@ -141,8 +141,9 @@ impl UnbufferedDecoder {
         len
     }
 
-    /// Takes all of `bytes` at once if they are 1 to 31 bytes, none of them is a zero, `dest` has room for them, and no
-    /// full block ends before the last of them. Returns whether it took them.
+    /// Takes all of `bytes` at once or none of them, and returns whether it took them. The function takes them only if
+    /// there are 1 to 31 of them, none of them is a zero, `dest` has room for them, and no full block ends before the
+    /// last of them.
     #[inline(always)]
     pub(crate) fn take_short(&mut self, dest: &mut [u8], bytes: &[u8]) -> bool {
         let at = self.written;
@@ -160,18 +161,6 @@ impl UnbufferedDecoder {
         true
     }
 
-    /// Takes the code at the front of a piece, and the bytes after the code, which were copied from `copied` to the
-    /// front of `dest`. None of these bytes is a zero.
-    #[inline(always)]
-    fn begin(&mut self, dest: &mut [u8], code: u8, copied: &[u8]) {
-        // The decoder is idle, so `self` equals `START`. Code that begins with `START` doesn't have to load the fields.
-        let mut begun = START;
-        begun.joint = joint_after(code);
-        begun.missing = code - 1;
-        begun.take_copied(dest, copied, 0);
-        *self = begun;
-    }
-
     /// Takes `bytes`, the first bytes of a piece, at once if there are at least 2 of them and `dest` has room for their
     /// output. Returns whether it took them. There must be at most 65 bytes, and none of them may be a zero.
     #[inline(always)]
@@ -180,9 +169,12 @@ impl UnbufferedDecoder {
         if len < 2 || dest.len() < len - 1 {
             return false;
         }
-        let code = bytes[0];
+        // The decoder is idle, so `self` equals `START`. Code that begins with `START` doesn't have to load the fields.
+        let mut begun = START;
+        begun.take_joint(dest, bytes[0]);
         let _zeros = copy_window(&bytes[1..], dest, 0);
-        self.begin(dest, code, &bytes[1..]);
+        begun.take_copied(dest, &bytes[1..], 0);
+        *self = begun;
         true
     }
 
@@ -207,8 +199,8 @@ impl UnbufferedDecoder {
         self.take_span(dest, bytes, sentinel)
     }
 
-    /// Takes `bytes`, none of which is the sentinel, as long as `dest` has room for their output, and returns how many
-    /// bytes it took.
+    /// Takes bytes from the front of `bytes` until `dest` has no room for the output of the next byte, or all bytes are
+    /// taken. Returns how many bytes it took. None of the bytes may be the sentinel.
     #[inline(always)]
     pub(crate) fn take_blocks(&mut self, dest: &mut [u8], bytes: &[u8], sentinel: u8) -> usize {
         // `here` is a copy of the numbers that change, so that they stay in registers.
@@ -230,8 +222,8 @@ impl UnbufferedDecoder {
         taken
     }
 
-    /// Takes the bytes before the first zero, as long as `dest` has room for their output, and returns how many bytes
-    /// it took. One search finds the zero.
+    /// Takes bytes from the front of `bytes` until the next byte is a zero, or `dest` has no room for the output of the
+    /// next byte, or all bytes are taken. Returns how many bytes it took. One search finds the first zero.
     #[inline(always)]
     pub(crate) fn take_run(&mut self, dest: &mut [u8], bytes: &[u8]) -> usize {
         // If the piece is too long, `feed` returns an error for each of its bytes, so no byte is taken here.

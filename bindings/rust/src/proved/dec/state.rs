@@ -67,7 +67,7 @@ impl Default for DecoderState {
 }
 
 impl DecoderState {
-    /// Returns the state after this code: all bytes of the block after the code are missing.
+    /// Returns the state in which the decoder has taken this code of a block, and none of the block's other bytes yet.
     fn opened(code: u8) -> DecoderState {
         if code == 255 {
             DecoderState::GrabChain(254)
@@ -76,7 +76,7 @@ impl DecoderState {
         }
     }
 
-    /// Returns the table's row for this state and this byte: the result, and the next state.
+    /// Returns the result for this byte in this state, and the next state.
     fn row(&self, byte: u8) -> (Result<DecodeResult, DecodeError>, DecoderState) {
         match (self, byte) {
             (DecoderState::Idle, 0) => (Ok(DecodeResult::NoData), DecoderState::Idle),

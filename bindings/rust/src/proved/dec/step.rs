@@ -6,7 +6,7 @@ use crate::proved::dec::frame_decoder::PieceEnd;
 use crate::proved::dec::unbuffered::{START, UnbufferedDecoder};
 use crate::proved::error::DecodeError;
 
-/// Returns the value of `joint` after a block with this code.
+/// Returns the value that `joint` has while a block with this code is open: 0 for a full block, otherwise 1.
 #[inline(always)]
 pub(crate) fn joint_after(code: u8) -> u8 {
     if code == FULL { 0 } else { 1 }
@@ -38,35 +38,56 @@ impl UnbufferedDecoder {
         }
     }
 
-    /// Takes a byte of a piece, and writes its output to the buffer.
+    /// Takes a byte of a piece, writes its output to the buffer, and returns how many bytes of the open message the
+    /// buffer then holds. If the output is too long for the buffer, this is the buffer's length.
+    ///
+    /// This is the step of [`feed`](Self::feed) for a byte that isn't a zero. For a zero, which ends a piece, call
+    /// `feed`: after `take_byte` of a zero, the result for the open piece and the bytes of the buffer are unspecified.
+    ///
+    /// ```
+    /// use jcobs::UnbufferedDecoder;
+    ///
+    /// let mut buffer = [0; 4];
+    /// let mut decoder = UnbufferedDecoder::new();
+    /// assert_eq!(decoder.take_byte(&mut buffer, 3), 0);
+    /// assert_eq!(decoder.take_byte(&mut buffer, 7), 1);
+    /// assert_eq!(decoder.take_byte(&mut buffer, 8), 2);
+    /// assert_eq!(decoder.feed(&mut buffer, 0), Ok(Some(2)));
+    /// assert!(buffer.starts_with(&[7, 8]));
+    /// ```
+    // A byte inside a block has a return of its own, with a length that needs no test. So compilers generate fewer
+    // instructions for a call with one byte than if all cases shared a return.
     #[inline(always)]
-    pub(crate) fn take_byte(&mut self, dest: &mut [u8], byte: u8) {
+    pub fn take_byte(&mut self, dest: &mut [u8], byte: u8) -> usize {
+        let room = dest.len();
         if self.too_long != 0 {
-            return;
+            return room;
         }
         // `written` is read once here, because compilers would read it again after each write to the buffer. Each case
         // has a write of its own: that is faster than choosing a byte first and writing it in one place.
-        let at = self.written;
+        let mut at = self.written;
         if self.missing != 0 {
-            if dest.len() <= at {
-                self.too_long = 1;
-                return;
+            if at < room {
+                dest[at] = byte;
+                self.written = at + 1;
+                self.missing -= 1;
+                return at + 1;
             }
-            dest[at] = byte;
-            self.written = at + 1;
-            self.missing -= 1;
-            return;
+            self.too_long = 1;
+            return room;
         }
         if self.joint != 0 {
-            if dest.len() <= at {
+            if room <= at {
                 self.too_long = 1;
-                return;
+                return room;
             }
             dest[at] = 0;
-            self.written = at + 1;
+            at += 1;
+            self.written = at;
         }
-        self.missing = byte - 1;
+        self.missing = byte.wrapping_sub(1);
         self.joint = joint_after(byte);
+        at.min(room)
     }
 
     /// Takes the next byte of the stream, and writes its output to the buffer.

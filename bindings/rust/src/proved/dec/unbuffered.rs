@@ -6,38 +6,6 @@ use crate::proved::dec::frame_decoder::PieceEnd;
 use crate::proved::error::{DecodeError, DecodeReport, PushError};
 use crate::proved::find::{front_len, position_or_len};
 
-/// The state of an [`UnbufferedDecoder`].
-///
-/// ```
-/// use jcobs::{DecoderPhase, UnbufferedDecoder};
-///
-/// let mut buffer = [0; 8];
-/// let mut decoder = UnbufferedDecoder::new();
-/// assert_eq!(decoder.phase(), DecoderPhase::Idle);
-/// assert_eq!(decoder.push(&mut buffer, &[4, 7, 8]), Ok(None));
-/// assert!(matches!(decoder.phase(), DecoderPhase::Within { missing: 1, .. }));
-/// ```
-#[derive(Debug, Clone, Copy, PartialEq, Eq, Hash)]
-pub enum DecoderPhase {
-    /// No piece has begun.
-    Idle,
-
-    /// Inside a piece.
-    Within {
-        /// Whether the open block is full; no zero joins a full block to the next block.
-        is_full: bool,
-
-        /// How many bytes of the open block are missing.
-        missing: u8,
-
-        /// How many bytes of the piece's output have been written.
-        written: usize,
-    },
-
-    /// The output of the piece is too long for the buffer.
-    TooLong,
-}
-
 /// Decodes a stream of frames, each ended by a zero, into a buffer that the caller passes to each call.
 ///
 /// The `feed` of this decoder returns the same results as that of [`CobsDecoder`](crate::CobsDecoder). An `UnbufferedDecoder` has no buffer
@@ -108,63 +76,6 @@ impl UnbufferedDecoder {
         START
     }
 
-    /// Makes a decoder in the state `phase`. Any numbers in `phase` are accepted. If `phase` is `Within` with a full
-    /// block, no missing bytes and nothing written, the state is the same as `Idle`.
-    ///
-    /// ```
-    /// use jcobs::UnbufferedDecoder;
-    ///
-    /// let mut buffer = [0; 8];
-    /// let mut first = UnbufferedDecoder::new();
-    /// assert_eq!(first.push(&mut buffer, &[4, 7, 8]), Ok(None));
-    /// let mut second = UnbufferedDecoder::from_phase(first.phase());
-    /// assert_eq!(second.feed(&mut buffer, 9), Ok(None));
-    /// assert_eq!(second.feed(&mut buffer, 0), Ok(Some(3)));
-    /// assert!(buffer.starts_with(&[7, 8, 9]));
-    /// ```
-    #[must_use]
-    pub const fn from_phase(phase: DecoderPhase) -> Self {
-        match phase {
-            DecoderPhase::Idle => START,
-            DecoderPhase::Within {
-                is_full,
-                missing,
-                written,
-            } => UnbufferedDecoder {
-                written,
-                missing,
-                joint: if is_full { 0 } else { 1 },
-                too_long: 0,
-            },
-            DecoderPhase::TooLong => UnbufferedDecoder {
-                too_long: 1,
-                ..START
-            },
-        }
-    }
-
-    /// Returns the decoder's state.
-    ///
-    /// ```
-    /// use jcobs::{DecoderPhase, UnbufferedDecoder};
-    ///
-    /// assert_eq!(UnbufferedDecoder::new().phase(), DecoderPhase::Idle);
-    /// ```
-    #[must_use]
-    pub const fn phase(&self) -> DecoderPhase {
-        if self.too_long != 0 {
-            return DecoderPhase::TooLong;
-        }
-        if self.is_idle() {
-            return DecoderPhase::Idle;
-        }
-        DecoderPhase::Within {
-            is_full: self.joint == 0,
-            missing: self.missing,
-            written: self.written,
-        }
-    }
-
     /// Returns true if no piece has begun; the next nonzero byte then begins a piece.
     ///
     /// ```
@@ -184,12 +95,12 @@ impl UnbufferedDecoder {
     /// Makes the decoder idle, so that the next nonzero byte begins a new piece.
     ///
     /// ```
-    /// use jcobs::{DecoderPhase, UnbufferedDecoder};
+    /// use jcobs::UnbufferedDecoder;
     ///
     /// let mut decoder = UnbufferedDecoder::new();
     /// assert_eq!(decoder.push(&mut [0; 4], &[9, 9]), Ok(None));
     /// decoder.reset();
-    /// assert_eq!(decoder.phase(), DecoderPhase::Idle);
+    /// assert!(decoder.is_idle());
     /// ```
     pub fn reset(&mut self) {
         *self = UnbufferedDecoder::new();

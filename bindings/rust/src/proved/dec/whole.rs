@@ -35,7 +35,7 @@ pub fn decode(source: &[u8], dest: &mut [u8]) -> Result<DecodeReport, DecodeErro
     decode_long(source, dest)
 }
 
-/// Does what [`decode`] does, for any source.
+/// Does what [`decode`] does, for any source: [`decode_short`] decodes only a short one.
 #[inline(never)]
 fn decode_long(source: &[u8], dest: &mut [u8]) -> Result<DecodeReport, DecodeError> {
     if source.is_empty() {

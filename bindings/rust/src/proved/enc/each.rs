@@ -1,5 +1,5 @@
 // Made by bindings/rust/translate.py from `crates/cobs/src/enc/each.rt`: change that file, and run it again.
-//! A whole message that is encoded byte by byte.
+//! Encodes a whole message byte by byte, for targets without SIMD vectors.
 
 use crate::proved::block::FULL_CODE;
 use crate::proved::enc::room::has_room;
@@ -45,7 +45,7 @@ pub(crate) fn write_each(source: &[u8], dest: &mut [u8]) -> usize {
 /// # Errors
 /// Those of [`try_encode`](crate::try_encode).
 pub fn try_encode_each(source: &[u8], dest: &mut [u8]) -> Result<usize, DestBufTooSmallError> {
-    if !has_room(1, source, dest.len()) {
+    if !has_room(0, source, dest.len()) {
         return Err(DestBufTooSmallError);
     }
     Ok(write_each(source, dest))

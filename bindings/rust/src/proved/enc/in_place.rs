@@ -21,5 +21,5 @@ pub fn encode_in_place(buffer: &mut [u8], len: usize) -> usize {
         let byte = buffer[before + taken];
         encoder.append_byte(buffer, byte);
     }
-    close_block(buffer, encoder.progress())
+    close_block(buffer, &encoder)
 }

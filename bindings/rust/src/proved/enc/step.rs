@@ -8,36 +8,12 @@ use crate::proved::enc::room::has_room;
 use crate::proved::error::DestBufTooSmallError;
 
 impl UnbufferedEncoder {
-    /// Takes the next byte of the message, for which there is room.
-    // This function calls no other function, so that the loop of `encode_in_place` stays in registers.
+    /// Takes the next byte of the message, for which there is room, and returns the length that the frame has if the
+    /// message ends with this byte.
+    // This function calls no other function, so that the loop of `encode_in_place` stays in registers. In each case the
+    // frame ends after the byte at index `next`.
     #[inline(always)]
-    pub(crate) fn append_byte(&mut self, dest: &mut [u8], byte: u8) {
-        let code = self.taken + 1;
-        let next = self.index + code as usize;
-        if byte == 0 {
-            dest[self.index] = code;
-            self.index = next;
-            self.taken = 0;
-            self.full = 0;
-            return;
-        }
-        dest[next] = byte;
-        if code as usize == FULL_BLOCK_BYTES {
-            dest[self.index] = FULL_CODE as u8;
-            self.index = next + 1;
-            self.taken = 0;
-            self.full = 1;
-        } else {
-            self.taken = code;
-            self.full = 0;
-        }
-    }
-
-    /// Takes the next byte of the message, for which there is room, and returns the length of the frame so far.
-    // This function does what `append_byte` does, in fewer instructions for a call with one byte, and in more
-    // instructions for a loop over bytes.
-    #[inline(always)]
-    fn append_one(&mut self, dest: &mut [u8], byte: u8) -> usize {
+    pub(crate) fn append_byte(&mut self, dest: &mut [u8], byte: u8) -> usize {
         let index = self.index;
         let mut code = self.taken as usize + 1;
         let next = index + code;
@@ -78,13 +54,7 @@ impl UnbufferedEncoder {
     /// ```
     #[inline(always)]
     pub fn feed(&mut self, dest: &mut [u8], byte: u8) -> Result<(), DestBufTooSmallError> {
-        let room = dest.len();
-        let taken = self.taken;
-        // An open block has at most 253 bytes: other numbers don't come from these calls.
-        if 253 < taken || room < self.index || room - self.index <= taken as usize + 1 {
-            return Err(DestBufTooSmallError);
-        }
-        self.append_byte(dest, byte);
+        self.feed_len(dest, byte)?;
         Ok(())
     }
 
@@ -108,10 +78,12 @@ impl UnbufferedEncoder {
     pub fn feed_len(&mut self, dest: &mut [u8], byte: u8) -> Result<usize, DestBufTooSmallError> {
         let room = dest.len();
         let code = self.taken as usize + 1;
+        // A block with a greater code isn't open: such a number doesn't come from these calls. The tests read the field,
+        // and not a copy of it: so rustc sees that no index of the step is out of bounds.
         if FULL_BLOCK_BYTES < code || room < self.index || room - self.index <= code {
             return Err(DestBufTooSmallError);
         }
-        Ok(self.append_one(dest, byte))
+        Ok(self.append_byte(dest, byte))
     }
 
     /// Takes up to 8 bytes of the message if they fit and can't fill the open block, and returns whether it took them.
@@ -140,7 +112,7 @@ impl UnbufferedEncoder {
         if len == 0 || APPEND_EACH_BELOW < len || 253 < taken + len || room <= taken + len {
             return false;
         }
-        *self = UnbufferedEncoder::from_progress(append_few(bytes, len, dest, self.progress()));
+        self.set(append_few(bytes, len, dest, *self));
         true
     }
 
@@ -170,7 +142,7 @@ impl UnbufferedEncoder {
         if bytes.is_empty() {
             return Ok(());
         }
-        if !has_room(self.taken + 1, bytes, dest.len() - self.index) {
+        if !has_room(self.taken, bytes, dest.len() - self.index) {
             return Err(DestBufTooSmallError);
         }
         self.append_each(dest, bytes);
@@ -178,12 +150,14 @@ impl UnbufferedEncoder {
     }
 
     /// Takes the next bytes of the message, for which there is room, one at a time.
-    // The loop changes only two numbers, so that they stay in registers, and one line closes every block. On a small processor
-    // `append_byte` in the loop would need more instructions and more flash.
+    // The loop changes variables, which stay in registers, and one line closes every block. On a small processor `append_byte`
+    // in the loop would need more instructions and more flash.
     #[inline(always)]
     fn append_each(&mut self, dest: &mut [u8], bytes: &[u8]) {
         let mut index = self.index;
         let mut next = index + self.taken as usize + 1;
+        // The index after the open block's 254th byte. If the sum wraps, no index is equal to it.
+        let mut limit = index.wrapping_add(FULL_CODE);
         for i in 0..bytes.len() {
             let byte = bytes[i];
             if byte != 0 {
@@ -191,9 +165,10 @@ impl UnbufferedEncoder {
                 next += 1;
             }
             // A zero ends the block, and so does its 254th byte.
-            if byte == 0 || next - index == FULL_CODE {
+            if byte == 0 || next == limit {
                 dest[index] = (next - index) as u8;
                 index = next;
+                limit = index.wrapping_add(FULL_CODE);
                 next += 1;
             }
         }

@@ -1,4 +1,6 @@
-//! Declares the library for C, as bindings/c/include/jcobs.h does.
+//! Declares the library for C, as bindings/c/include/jcobs.h does. Its structs are the crate's coders without a buffer.
+
+use jcobs::{UnbufferedDecoder as Decoder, UnbufferedEncoder as Encoder};
 
 #[derive(Debug, Clone, Copy, PartialEq)]
 #[repr(C)]
@@ -13,23 +15,6 @@ pub const MORE: u32 = 1;
 pub const TOO_SMALL: u32 = 2;
 pub const BROKEN: u32 = 3;
 pub const EMPTY: u32 = 4;
-
-#[derive(Debug, Clone, Copy)]
-#[repr(C)]
-pub struct Decoder {
-    pub written: usize,
-    pub missing: u8,
-    pub joint: u8,
-    pub too_long: u8,
-}
-
-#[derive(Debug, Clone, Copy)]
-#[repr(C)]
-pub struct Encoder {
-    pub index: usize,
-    pub taken: u8,
-    pub full: u8,
-}
 
 mod declared {
     use super::{Answer, Decoder, Encoder};

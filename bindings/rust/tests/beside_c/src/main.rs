@@ -6,10 +6,10 @@ mod library;
 use std::fmt::Debug;
 
 use jcobs::{
-    DecodeError, DecodeReport, DecoderPhase, DestBufTooSmallError, EncoderProgress, PieceEnd,
-    UnbufferedDecoder, UnbufferedEncoder,
+    DecodeError, DecodeReport, DestBufTooSmallError, PieceEnd, UnbufferedDecoder,
+    UnbufferedEncoder,
 };
-use library::{Answer, BROKEN, Decoder, EMPTY, Encoder, MORE, OK, TOO_SMALL};
+use library::{Answer, BROKEN, EMPTY, MORE, OK, TOO_SMALL};
 
 struct Random(u64);
 
@@ -206,24 +206,15 @@ fn decoding(seen: &mut Compared, random: &mut Random) {
     );
 }
 
-fn phase_of(decoder: Decoder) -> DecoderPhase {
-    let Decoder {
+/// Returns what the numbers of a decoder mean: after an overflow only `too_long` matters.
+fn state_of(decoder: UnbufferedDecoder) -> Option<(usize, u8, bool)> {
+    let UnbufferedDecoder {
         written,
         missing,
         joint,
         too_long,
     } = decoder;
-    if too_long != 0 {
-        DecoderPhase::TooLong
-    } else if (written, missing, joint) == (0, 0, 0) {
-        DecoderPhase::Idle
-    } else {
-        DecoderPhase::Within {
-            is_full: joint == 0,
-            missing,
-            written,
-        }
-    }
+    (too_long == 0).then_some((written, missing, joint != 0))
 }
 
 /// Returns the result of the library for C that stands for this end of a piece.
@@ -241,14 +232,9 @@ fn decoder(seen: &mut Compared, random: &mut Random) {
     let mut buffer = random.buffer(300);
     let mut copy = buffer.clone();
     let mut c = if random.below(2) == 0 {
-        Decoder {
-            written: 0,
-            missing: 0,
-            joint: 0,
-            too_long: 0,
-        }
+        UnbufferedDecoder::new()
     } else {
-        Decoder {
+        UnbufferedDecoder {
             // If the message is longer than the buffer, the two results differ.
             written: random.below(buffer.len() + 1),
             missing: random.below(256) as u8,
@@ -256,7 +242,7 @@ fn decoder(seen: &mut Compared, random: &mut Random) {
             too_long: u8::from(random.below(8) == 0),
         }
     };
-    let mut rust = UnbufferedDecoder::from_phase(phase_of(c));
+    let mut rust = c;
     for _ in 0..4 {
         let state = c;
         let bytes = random.bytes();
@@ -269,8 +255,8 @@ fn decoder(seen: &mut Compared, random: &mut Random) {
         );
         seen.same(
             "decoder_push, its state",
-            phase_of(c),
-            rust.phase(),
+            state_of(c),
+            state_of(rust),
             &(state, &bytes),
         );
         seen.same("decoder_push, its buffer", &buffer, &copy, &(state, &bytes));
@@ -281,19 +267,11 @@ fn decoder(seen: &mut Compared, random: &mut Random) {
         seen.same("decoder_feed", returned, expected, &(state, byte));
         seen.same(
             "decoder_feed, its state",
-            phase_of(c),
-            rust.phase(),
+            state_of(c),
+            state_of(rust),
             &(state, byte),
         );
         seen.same("decoder_feed, its buffer", &buffer, &copy, &(state, byte));
-    }
-}
-
-fn progress_of(encoder: Encoder) -> EncoderProgress {
-    EncoderProgress {
-        index: encoder.index,
-        code: encoder.taken + 1,
-        is_full: encoder.full != 0,
     }
 }
 
@@ -301,19 +279,15 @@ fn encoder(seen: &mut Compared, random: &mut Random) {
     let mut buffer = random.buffer(600);
     let mut copy = buffer.clone();
     let mut c = if random.below(2) == 0 {
-        Encoder {
-            index: 0,
-            taken: 0,
-            full: 0,
-        }
+        UnbufferedEncoder::new()
     } else {
-        Encoder {
+        UnbufferedEncoder {
             index: random.below(buffer.len() + 3),
             taken: random.below(255) as u8,
             full: random.below(2) as u8,
         }
     };
-    let mut rust = UnbufferedEncoder::from_progress(progress_of(c));
+    let mut rust = c;
     for _ in 0..4 {
         let state = c;
         let bytes = random.bytes();
@@ -322,8 +296,8 @@ fn encoder(seen: &mut Compared, random: &mut Random) {
         seen.same("encoder_push", returned, expected, &(state, &bytes));
         seen.same(
             "encoder_push, its state",
-            progress_of(c),
-            rust.progress(),
+            c,
+            rust,
             &(state, &bytes),
         );
         // The byte at the place of the open block's code isn't specified until the block ends.

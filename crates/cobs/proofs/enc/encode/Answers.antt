@@ -1,13 +1,13 @@
 -- A message of one window is appended to an empty frame (`start-after`). The other two paths are clauses of `encode_long` and
 -- `write_each`.
-use Rattle.std.proofs.Common.{refl, arith}
+use Rattle.std.proofs.Common.{arith}
 use Rattle.cobs.proofs.format.SentinelLemmas.{encoded_nonzero}
 use Rattle.cobs.proofs.encoding.TakingLemmas.{start-after, start-len}
 use Rattle.cobs.proofs.enc.encode.Goals as goal
 use Rattle.std.proofs.lemmas.Grind.{common_steps}
 
 pub returns-then-source-le-WINDOW-clause-frame : goal.returns-then-source-le-WINDOW-clause-frame
-returns-then-source-le-WINDOW-clause-frame c = c.close.ensures.frame c.args.source.now (start-after c.args.dest.now _ refl (omega arith) c.append_short-progress.ensures)
+returns-then-source-le-WINDOW-clause-frame c = c.close.ensures.frame c.args.source.now (start-after c.args.dest.now _ c.new.ensures.start (omega arith) c.append_short-encoder.ensures)
 
 pub returns-then-source-le-WINDOW-clause-len : goal.returns-then-source-le-WINDOW-clause-len
 returns-then-source-le-WINDOW-clause-len c = grind (arith, common_steps, start-len)

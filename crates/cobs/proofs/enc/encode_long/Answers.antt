@@ -1,6 +1,6 @@
 -- The whole source was taken from an encoder that had taken nothing (`start-after`), and closing its last block ends the
 -- frame.
-use Rattle.std.proofs.Common.{◌≡◌, [], refl, ◌∙◌, arith}
+use Rattle.std.proofs.Common.{◌≡◌, [], ◌∙◌, arith}
 use Rattle.std.proofs.lemmas.Grind.{common_steps}
 use Rattle.cobs.proofs.encoding.TakingLemmas.{all-rest, start-after, start-len, start-taken}
 use Rattle.cobs.proofs.enc.encode_long.Goals as goal
@@ -8,11 +8,11 @@ use Rattle.cobs.proofs.enc.encode_long.Goals as goal
 pub returns-then-is_empty-clause-frame : goal.returns-then-is_empty-clause-frame
 returns-then-is_empty-clause-frame c =
     let none : c.args.source.now ≡ [] = grind (arith, common_steps) in
-    rw none (c.close.ensures.frame [] (start-taken c.args.dest.now _ refl (omega arith)))
+    rw none (c.close.ensures.frame [] (start-taken c.args.dest.now _ c.new.ensures.start (omega arith)))
 
 pub returns : goal.returns
 returns c = record {
-  frame = c.close-2.ensures.frame c.args.source.now (start-after c.args.dest.now _ refl (omega arith) c.append-progress.ensures);
-  len = c.close-2.ensures.end ∙ start-len c.args.dest.now _ refl (omega arith) c.append-progress.ensures;
-  rest = c.close-2.ensures.rest ∙ (rw c.close-2.ensures.end (all-rest c.append-progress.ensures));
+  frame = c.close-2.ensures.frame c.args.source.now (start-after c.args.dest.now _ c.new-2.ensures.start (omega arith) c.append-encoder.ensures);
+  len = c.close-2.ensures.end ∙ start-len c.args.dest.now _ c.new-2.ensures.start (omega arith) c.append-encoder.ensures;
+  rest = c.close-2.ensures.rest ∙ (rw c.close-2.ensures.end (all-rest c.append-encoder.ensures));
 }

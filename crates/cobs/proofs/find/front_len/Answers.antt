@@ -1,5 +1,5 @@
--- A mask of 32 bytes says where their first zero is, or that they have none (`Window`). The second window begins at `at`, so
--- that it ends after 64 bytes, or with a shorter source.
+-- The mask of 32 bytes says at which index their first zero is, or that they have no zero (`Window`). The second window
+-- begins at `at`, so that it ends after 64 bytes, or at the end of a shorter source.
 use Rattle.std.proofs.Common.{◌≡◌, ◌≢◌, ◌<◌, ◌≤◌, ◌+◌, ℕ, List, length, take, drop, get_or, ap, sym, ◌∙◌, arith, length-take-le, length-drop}
 use Rattle.std.proofs.Math.Seq.{take-add}
 use Rattle.std.proofs.lemmas.List.{get_or-take, get_or-drop, take-take}
@@ -59,7 +59,7 @@ module _ (c : After-zeros_at-later) where
       let front = rw (take-take at 32 source (omega (arith, c.min-at.ensures))) at (All-take (λ b. b ≢ 0) at (take 32 source) none) in
       rw (take-add at k source) (All-append (λ b. b ≢ 0) (take at source) (take k (drop at source)) front after)
 
-  -- nor has the second
+  -- the second window has no zero either
   module _ (none : c.zeros_at-later.result ≡ 0) where
     windows : HasNoZero (take (at + 32) source)
     windows = grind (arith, both, zero_mask-none, at, source, later)

@@ -1,5 +1,5 @@
--- The bytes that were passed have no zero (`Searched`). Four bytes or one that aren't zero are passed (`next`,
--- `shorter`).
+-- The bytes that were passed have no zero (`Searched`). Each iteration passes four bytes, or one byte, that aren't
+-- zeros (`next`, `shorter`).
 use Rattle.std.proofs.Common.{◌≡◌, ◌≢◌, ◌∙◌, ◌+◌, ◌-◌, ◌<◌, ◌≤◌, ◌++◌, ℕ, List, length, take, drop, get_or, ap, sym, subst, arith, length-drop, refl, take_all}
 use Rattle.std.proofs.lemmas.Bool.{eqb-false}
 use Rattle.std.proofs.lemmas.List.{drop-drop, take_more}

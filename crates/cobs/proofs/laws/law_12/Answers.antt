@@ -1,4 +1,4 @@
--- The fields are the lemmas of `HeadLemmas` and `OutcomeLemmas` on the bytes before a zero, and those of `LastPiece`.
+-- The fields are lemmas of `HeadLemmas` and `OutcomeLemmas` on the bytes before a zero, and lemmas of `LastPiece`.
 use Rattle.cobs.proofs.decoding.HeadLemmas.{first_piece_behind, first_piece_none, first_piece_some, front_is_head}
 use Rattle.cobs.proofs.decoding.OutcomeLemmas.{first_piece_head, head_reads}
 use Rattle.cobs.proofs.decoding.SourceSteps.{xor_head}

@@ -1,4 +1,4 @@
--- Each message has one encoded frame: `encoded_frame` gives it, and `one_encoded` shows that there is no other.
+-- Each message has one encoded frame: by `encoded_frame` there is one, and by `one_encoded` there is no other.
 use Rattle.cobs.proofs.format.EnumerationLemmas.{encoded_frame}
 use Rattle.cobs.proofs.format.UniqueLemmas.{length-encoded, one_encoded}
 use Rattle.cobs.proofs.format.FrameLemmas.{frame_bytes}

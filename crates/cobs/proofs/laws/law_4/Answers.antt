@@ -1,5 +1,5 @@
--- The bounds of a frame's length are lemmas of `LengthLemmas`; that a longer message has a longer frame is
--- `encoded_len-longer`.
+-- The bounds of a frame's length are lemmas of `LengthLemmas`. By `encoded_len-longer`, the frame doesn't get shorter
+-- if bytes are appended to the message.
 use Rattle.cobs.proofs.format.LengthLemmas.{encoded_len-le, encoded_len-nonzero, encoded_len-reached}
 use Rattle.cobs.proofs.encoding.RoomLemmas.{encoded_len-longer}
 use Rattle.cobs.proofs.laws.law_4.Goals as goal

@@ -1,5 +1,5 @@
--- The list holds the outcomes of the bytes so far (`SoFar`). Each piece that ends adds one (`SoFar-piece`); the last bytes add
--- none (`SoFar-all`).
+-- The list has the outcomes of the bytes so far (`SoFar`). Each piece that ends adds an outcome (`SoFar-piece`); the
+-- last bytes, in which no piece ends, add none (`SoFar-all`).
 use Rattle.std.proofs.Common.{◌∙◌, refl, arith}
 use Rattle.std.proofs.lemmas.List.{map_push}
 use Rattle.cobs.specs.Messages.{outcome_in}

@@ -1,4 +1,4 @@
--- Both vectors are read before one is written, so that the bytes that are moved are those before the call (`two-copied`).
+-- Both vectors are loaded before either is stored, so the moved bytes are the bytes before the call (`two-copied`).
 use Rattle.std.proofs.Common.{arith}
 use Rattle.cobs_bytes.proofs.bytes.NonzeroCopies.{two-copied}
 use Rattle.cobs_bytes.proofs.lanes.move_two.Goals as goal

@@ -1,4 +1,4 @@
--- The loop maps one byte more at each turn, by `map_over_more`.
+-- Each iteration of the loop changes one more byte, by `map_over_more`.
 use Rattle.std.proofs.Common.{ℕ, ◌<◌, List, length, get_or, arith}
 use Rattle.std.proofs.lemmas.List.{get_or_default}
 use Rattle.std.proofs.lemmas.List.Edits.{map_over_more}

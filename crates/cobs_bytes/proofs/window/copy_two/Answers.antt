@@ -1,5 +1,5 @@
--- Two vectors that overlap, one from the front and one up to the end, copy the whole source (`two-copied`), and their two
--- masks are its mask (`or-window`).
+-- Two vectors that overlap, one at the front and one at the end, copy the whole source (`two-copied`). Their two masks
+-- together are the mask of the source (`or-window`).
 use Rattle.std.proofs.Common.{◌+◌, ◌++◌, ◌∙◌, length, take, drop, List, ℕ, ap, refl, arith, take_all, length-drop}
 use Rattle.cobs_bytes.proofs.bytes.NonzeroCopies.{two-copied}
 use Rattle.cobs_bytes.proofs.bytes.PartMasks.{or-window}

@@ -1,5 +1,4 @@
--- A source of 32 bytes is copied by one vector (`copy_at`), which is the whole source; the other lengths are proved by
--- the tactic.
+-- A source of 32 bytes is copied as one vector (`copy_at`). The tactic proves the other lengths.
 use Rattle.std.proofs.Common.{◌+◌, ◌++◌, ◌∙◌, take, drop, List, ℕ, ap, sym, arith, take_all}
 use Rattle.cobs_bytes.specs.Mask.{zero_mask}
 use Rattle.cobs_bytes.proofs.window.copy_window.Goals as goal

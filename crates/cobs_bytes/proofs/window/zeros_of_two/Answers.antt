@@ -1,4 +1,4 @@
--- The masks of the first and the last N bytes cover all of them, by `or-window`.
+-- The masks of the first N and of the last N bytes cover all bytes, by `or-window`.
 use Rattle.std.proofs.Common.{arith, length-drop, take_all}
 use Rattle.cobs_bytes.proofs.bytes.PartMasks.{or-window}
 use Rattle.cobs_bytes.proofs.window.zeros_of_two.Goals as goal

@@ -1,4 +1,5 @@
--- `jcobs_encode` had one byte less than the frame's buffer, so there is room for the terminator (`Writes-terminated`).
+-- `jcobs_encode` got the buffer without its last byte, so there is room for the zero after the frame
+-- (`Writes-terminated`).
 use Rattle.std.proofs.Common.{◌≢◌, ◌-◌, ℕ, List, length, length-take-le, refl, sym, ◌∙◌, subst, arith}
 use Rattle.std.proofs.lemmas.Bool.{eqb-false}
 use Rattle.cobs.specs.Grammar.{IsEncodedFrame}

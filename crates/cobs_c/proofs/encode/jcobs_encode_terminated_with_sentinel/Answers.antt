@@ -1,4 +1,5 @@
--- The frame is written to all but the last byte of the buffer, and the sentinel goes after it: by `Writes-terminated`.
+-- The frame is written to the buffer without the buffer's last byte, and the sentinel is written after the frame, by
+-- `Writes-terminated`.
 use Rattle.std.proofs.Common.{◌≢◌, ◌-◌, ℕ, List, length, length-take-le, refl, sym, ◌∙◌, arith}
 use Rattle.std.proofs.lemmas.Bool.{eqb-false}
 use Rattle.cobs_abi.proofs.WritesLemmas.{Writes-terminated}

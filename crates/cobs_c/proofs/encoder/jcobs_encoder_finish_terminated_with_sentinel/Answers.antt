@@ -1,5 +1,5 @@
--- The finish has one byte less than the buffer, so there is room for the terminator: by `Finishes-no_room` and
--- `Finishes-terminated`.
+-- The call that ends the message got the buffer without its last byte, so there is room for the sentinel after the
+-- frame, by `Finishes-no_room` and `Finishes-terminated`.
 use Rattle.std.proofs.Common.{◌≢◌, ◌-◌, ◌∙◌, ℕ, List, length, length-take-le, refl, sym, arith}
 use Rattle.std.proofs.lemmas.Bool.{eqb-false}
 use Rattle.cobs_abi.proofs.FinishLemmas.{Finishes-no_room, Finishes-terminated}

@@ -1,4 +1,4 @@
--- The frame of `jcobs_encoder_finish`, with each byte XORed: by `Finishes-changed` and the clauses of `law_6`.
+-- The frame is that of `jcobs_encoder_finish`, with each byte XORed. By `Finishes-changed` and the clauses of `law_6`.
 use Rattle.cobs_abi.proofs.FinishLemmas.{Finishes-changed}
 use Rattle.cobs_c.proofs.encoder.jcobs_encoder_finish_with_sentinel.Goals as goal
 

@@ -1,4 +1,4 @@
--- As many words as fit are copied, and a zero after them: by `words-written`.
+-- As many bytes of the text as fit are copied, followed by a zero, by `words-written`.
 use Rattle.std.proofs.Common.{◌≢◌, ◌++◌, ◌-◌, ℕ, List, length, min, take, drop, set, sym, ap, ◌∙◌, arith}
 use Rattle.std.proofs.lemmas.Bool.{eqb-false}
 use Rattle.cobs_abi.specs.Text.{words}

@@ -1,4 +1,5 @@
--- The loop collects what the iterator yields, and this is the split text at its end (`YieldsList-end`).
+-- The loop collects the words that the iterator yields. At the end they are all words of the split text
+-- (`YieldsList-end`).
 use Rattle.std.proofs.Common.{arith}
 use Rattle.std.proofs.lemmas.Iterator.Consumers.{YieldsList-at, YieldsList-end}
 use Rattle.std.proofs.lemmas.Iterator.Splits.{YieldsList-from_str_split}

@@ -1,6 +1,6 @@
--- The digits of the first `at` bytes are written. The digits of two parts together are the digits of the one part and
--- then those of the other (`encode_with-append`). So the digits of one chunk more follow those that are written
--- (`Appends-trans`).
+-- The digits of the first `at` bytes are written. The digits of two parts together are the digits of the first part and
+-- then the digits of the second (`encode_with-append`). So the digits of the next chunk follow the digits that are
+-- written (`Appends-trans`).
 use Rattle.std.proofs.Common.{◌≡◌, ◌+◌, ◌-◌, ◌*◌, ℕ, List, ◌++◌, take, drop, length, sym, ap, ◌∙◌, arith, length-take, length-drop, length-append}
 use Rattle.std.proofs.KnownBytes.{Appends-nil, Appends-trans}
 use Rattle.std.proofs.Math.Seq.{take-add}

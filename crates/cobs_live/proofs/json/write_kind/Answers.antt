@@ -8,7 +8,7 @@ use Rattle.cobs_live.specs.Json.{json_partial}
 use Rattle.cobs_live.proofs.AppendLemmas.{behind}
 use Rattle.cobs_live.proofs.json.write_kind.Goals as goal
 
--- the same, if the text is written in two parts
+-- the text, if it is written in two parts before the next call
 behind_two : {A E : Type 0} (r : Result A E) (a b c : Option (List ℕ)) (x y z : List ℕ) → Appends a b (x ++ y) → OnOk r (Appends b c z) → OnOk r (Appends a c (x ++ (y ++ z)))
 behind_two r a b c x y z first more = subst (λ (l : List ℕ). OnOk r (Appends a c l)) (append_assoc x y z) (behind r a b c (x ++ y) z first more)
 

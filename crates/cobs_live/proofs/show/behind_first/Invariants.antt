@@ -2,7 +2,7 @@ use Rattle.std.proofs.Common.{◌≡◌, true, drop}
 use Rattle.cobs_live.specs.Watched.{begun, skips_on}
 use Rattle.cobs_live.proofs.show.behind_first.Given as goal
 
--- the first zero is among the bytes that are left
+-- the first zero, if there is one, is among the remaining bytes
 abbrev pub invariant-loop-i : goal.invariant-loop-i
 invariant-loop-i l = record {
   begun : begun true (drop l.i l.bytes) ≡ begun true l.bytes;

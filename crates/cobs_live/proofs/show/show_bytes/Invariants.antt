@@ -1,5 +1,5 @@
--- The first `at` bytes are shown, whatever piece was open, and however many outcomes and bytes there were before the call
--- (`ShowsBytes`).
+-- The first `at` bytes are shown (`ShowsBytes`), for each piece that may have been open before the call, and for each
+-- number of earlier outcomes and bytes.
 use Rattle.std.proofs.Common.{◌≡◌, ◌≤◌, ◌-◌, ℕ, List, length, take}
 use Rattle.cobs.specs.Feed.{DecoderAfter}
 use Rattle.cobs.specs.Fields.Decoders.{phase_of}

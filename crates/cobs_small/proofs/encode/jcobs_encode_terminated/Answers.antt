@@ -11,7 +11,7 @@ use Rattle.cobs_abi.specs.declared.answer.Answer.{Answer}
 use Rattle.cobs_abi.specs.declared.answer.TheConstants.{OK}
 use Rattle.cobs_small.proofs.encode.jcobs_encode_terminated.Goals as goal
 
--- what isn't too long fits
+-- a frame that isn't longer than the buffer fits
 fits_unless : (room n : ℕ) → (room < n → ⊥) → n ≤ room
 fits_unless room n short = elim (cases_lt room n) [
   | inl long ↦ absurd (short long)

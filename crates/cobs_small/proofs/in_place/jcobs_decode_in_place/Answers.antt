@@ -11,7 +11,7 @@ use Rattle.cobs_abi.specs.Answer.{result_by, head_end}
 use Rattle.cobs_abi.specs.Decode.{DecodesInPlace}
 use Rattle.cobs_small.proofs.in_place.jcobs_decode_in_place.Goals as goal
 
--- no bytes
+-- the buffer is empty
 empty : (source : List ℕ) → length source ≡ 0 → DecodesInPlace source (result_by 0 (length source) (result_in_place [])) source
 unfolding head
 empty [] e = record { returned = refl; buffer = sym (drop_all _ [] (omega arith)) }

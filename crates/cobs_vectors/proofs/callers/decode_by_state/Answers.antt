@@ -1,5 +1,5 @@
--- The state after the first bytes of the frame and the message so far belong together (`StateAfter`), by the clause
--- `after` of `feed` for each byte; at the end, the clause `message` decides.
+-- The state is the state after the first bytes of the frame, and the vector has the message so far (`StateAfter`), by
+-- the clause `after` of `feed` for each byte. At the end, the clause `message` of `feed` decides.
 use Rattle.std.proofs.Common.{◌≡◌, ◌≢◌, ℕ, true, false, List, [], ◌∷◌, ◌++◌, take, get_or, refl, sym, ap, ◌∙◌, subst, take_all, append-nil}
 use Rattle.std.proofs.lemmas.List.{take_more}
 use Rattle.std.proofs.lemmas.List.Elements.{All-get_or}
@@ -20,7 +20,7 @@ by_byte-preserved c =
     ] in
     rw (take_more frame i 0 c.by_byte-test.true, items) next
 
--- the state after all of the frame
+-- the state after the whole frame
 pub returns-then-is_complete : goal.returns-then-is_complete
 returns-then-is_complete c =
     let frame : List ℕ = c.args.frame.now in

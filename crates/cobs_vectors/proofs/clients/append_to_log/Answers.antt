@@ -1,5 +1,5 @@
--- A log that ends in a zero, a frame and a zero report what the log reported and then the frame's message: by `law_10: apart`
--- (`reported`).
+-- The outcomes of a log that ends in a zero, followed by a frame and a zero, are the outcomes of the log and then the
+-- frame's message. By `law_10: apart` (`reported`).
 use Rattle.std.proofs.Common.{◌≡◌, ◌≢◌, ℕ, List, [], ◌∷◌, ◌++◌, length, ap, arith, append-nil, rules}
 use Rattle.std.proofs.lemmas.List.Elements.{All-nil}
 use Rattle.cobs.specs.Grammar.{HasNoZero}

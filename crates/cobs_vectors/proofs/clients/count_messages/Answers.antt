@@ -1,5 +1,5 @@
--- A push reports the outcomes of the bytes that it consumed, after those of the bytes before (`law_9: cut`). A message counts
--- one, an error and the end of the bytes none.
+-- A push reports the outcomes of the bytes that it consumed, which follow the outcomes of the earlier bytes (`law_9:
+-- cut`). A message is counted; an error and the end of the bytes aren't.
 use Rattle.std.proofs.Common.{◌≡◌, ◌≢◌, ◌≤◌, ◌+◌, ◌∙◌, ℕ, List, [], ◌∷◌, ◌++◌, length, take, drop, refl, sym, ap, arith, append_assoc, length-append, length-drop, take_all}
 use Rattle.std.specs.Prelude.{Option, Some, None, Result, Ok, Err}
 use Rattle.std.proofs.lemmas.List.{take_rest}
@@ -33,7 +33,7 @@ none_counted bytes buffer failure = grind (arith, no_message)
 is_some : (report : DecodeReport) → last_result (Ok (Some report)) ≢ Ok None
 is_some report e = absurd cc
 
--- a push of the bytes from `at` on, by a decoder that has taken p and the bytes before
+-- a push of the bytes from `at` on, to a decoder that has taken p and the bytes before `at`
 module _ (law : StreamLaw) {buffer buffer' : List ℕ} {phase phase' : Phase} (bytes : List ℕ) (result : Result (Option DecodeReport) PushError) (at n : ℕ) (same : length buffer ≡ n)
     (t : PushesBytes buffer phase (drop at bytes) result buffer' phase') (p : List ℕ) (h : DecoderAfter buffer phase (unended (p ++ take at bytes))) where
   joined : p ++ take (at + consumed_size (drop at bytes) result) bytes ≡ (p ++ take at bytes) ++ consumed (drop at bytes) result

@@ -1,4 +1,5 @@
--- A message is returned exactly if the piece reads as it and it fits: by `reads` and `only` of the push (`reported`).
+-- A message is returned exactly if the piece reads as this message and the message fits the buffer. By the clauses
+-- `reads` and `only` of the push (`reported`).
 use Rattle.std.proofs.Common.{◌≤◌, ◌↔◌, length, List, ℕ, subst, arith}
 use Rattle.cobs.specs.Grammar.{Reads}
 use Rattle.cobs.specs.Fields.Decoders.{borrowed_buffer}
@@ -6,7 +7,7 @@ use Rattle.cobs.specs.Headline.{BeginsWith, PushesMessage}
 use Rattle.cobs_vectors.proofs.clients.decode_ended.Goals as goal
 use Rattle.cobs_vectors.proofs.clients.decode_ended.Goals.{After-push}
 
--- both halves of the push's report
+-- the clauses `reads` and `only` of the push together
 reported : (c : After-push) (m : List ℕ) → PushesMessage c.push.result (borrowed_buffer c.push.new.self) m ↔ (Reads c.args.piece.now m × (length m ≤ length (borrowed_buffer c.new-decoder.result)))
 reported c m =
     let idle = c.new-decoder.ensures.phase in (

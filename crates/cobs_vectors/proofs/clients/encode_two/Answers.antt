@@ -1,12 +1,12 @@
--- The encoder has taken both messages, so `finalize` gives the frame of one after the other; each call keeps the bytes
--- after what it wrote (`drop_later`).
+-- The encoder has taken both pieces, so `finalize` writes the frame of the whole message. No call changes the bytes
+-- after the frame so far (`drop_later`).
 use Rattle.std.proofs.Common.{List, take, drop, ◌≤◌, ◌≡◌, ◌+◌, ◌-◌, ℕ, [], ◌++◌, ap, arith, sym, subst, ◌∙◌}
 use Rattle.std.proofs.lemmas.List.{drop-drop}
 use Rattle.cobs.specs.Grammar.{IsEncodedFrame}
 use Rattle.cobs.specs.Length.{encoded_len}
 use Rattle.cobs_vectors.proofs.clients.encode_two.Goals as goal
 
--- lists that are the same from one place on are so from a later one
+-- lists that are equal from an index on are equal from each later index on
 drop_later : (a b : ℕ) (xs ys : List ℕ) → a ≤ b → drop a xs ≡ drop a ys → drop b xs ≡ drop b ys
 drop_later a b xs ys h e =
     let k : b ≡ a + (b - a) = omega arith in

@@ -1,5 +1,5 @@
--- The encoder has taken nothing before the push and the message after it, by the clause `taken`; so the clauses of `push`
--- and `finalize` are about this message.
+-- Before the push the encoder has taken nothing, and after the push it has taken the message, by the clause `taken`. So
+-- the clauses of `push` and `finalize` are about this message.
 use Rattle.std.proofs.Common.{◌≡◌, [], take, refl}
 use Rattle.std.proofs.lemmas.Result.{IfOk-weaker, err_from_is_err_and}
 use Rattle.cobs.specs.Grammar.{IsEncodedFrame}

@@ -1,4 +1,5 @@
--- The zero returns the message of the frame that was fed, by `law_18: fed`, so the other arms can't happen.
+-- For the zero, the decoder returns the message of the frame that was fed, by `law_18: fed`. So the other arms are
+-- never reached.
 use Rattle.std.proofs.Common.{◌≡◌, ◌∙◌, ap, length, sym, take, Ok}
 use Rattle.cobs_vectors.proofs.clients.on_zero.Goals as goal
 

@@ -3,7 +3,7 @@ use Rattle.cobs.specs.Messages.{messages_in}
 use Rattle.cobs.specs.Stream.{ended_pieces, unended}
 use Rattle.cobs_vectors.proofs.clients.pieces_in.Given as goal
 
--- the pieces that ended in the bytes so far, and what these left
+-- the pieces that ended in the bytes so far, and the unended bytes
 abbrev pub invariant-by_byte : goal.invariant-by_byte
 invariant-by_byte l =
     let t = l.fn.begun.items ++ take l.byte-index l.chunk in

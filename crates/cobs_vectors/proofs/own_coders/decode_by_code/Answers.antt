@@ -1,5 +1,5 @@
--- The rest of the piece is its first block, and more bytes if there are any (`Blocks`). So each round adds one block's bytes
--- to the output, by `law_20`.
+-- The rest of the piece is a block, and then more bytes if there are any (`Blocks`). So each iteration adds the bytes
+-- of one block to the output, by `law_20`.
 use Rattle.std.proofs.Common.{◌≡◌, ◌≢◌, ◌∙◌, ◌++◌, ◌∷◌, ◌+◌, ◌-◌, ◌<◌, ◌≤◌, ◌==◌, [], false, true, ℕ, List, length, take, drop, get_or, refl, sym, ap, arith, append_assoc, append-nil}
 use Rattle.std.proofs.lemmas.Bool.{eq-eqb, ne_eqb, true≢false}
 use Rattle.std.proofs.lemmas.List.Elements.{All-from_get_or}
@@ -26,7 +26,7 @@ module _ (list : List ℕ) (read : ℕ) (nonzero : HasNoZero list) (within : rea
         → kept_output (drop read list) ≡ take (get_or list read 0 - 1) (drop (read + 1) list)
     kept_end one all_kept = grind (arith, last, block_at, block)
 
-  -- more follow
+  -- more bytes follow the block
   module _ (far : get_or list read 0 < length list - read) where
     whole_more : ((block p : List ℕ) → IsBlock block → p ≢ [] → is_whole (block ++ p) ≡ is_whole p) → is_whole (drop read list) ≡ is_whole (drop (read + get_or list read 0) list)
     whole_more whole = ap is_whole (split list read nonzero within) ∙ whole (block_at list read) (drop (read + code) list) block (more_some list read nonzero within far)

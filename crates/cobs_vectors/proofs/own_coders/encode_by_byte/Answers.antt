@@ -10,7 +10,7 @@ use Rattle.cobs.specs.OpenBlock.{CobsEncoderAfter, Reached, next_of, place_at}
 use Rattle.cobs_vectors.proofs.own_coders.encode_by_byte.Goals as goal
 use Rattle.cobs_vectors.proofs.own_coders.encode_by_byte.Goals.{else-byte-eq0+else-code-lt254, else-byte-eq0+then-code-lt254, then-byte-eq0}
 
--- where bytes are left there is room for the next one
+-- if bytes are left, there is room for the next byte
 room : ((m : List ℕ) → length m + 1 ≤ encoded_len m)
     → ((slice m a bytes : List ℕ) (reached : Reached) → CobsEncoderAfter slice reached m → HasNoZero a → length a + 1 ≡ reached.block.code → bytes ≢ [] → encoded_len (m ++ bytes) ≡ reached.block.index + encoded_len (a ++ bytes))
     → (m slice : List ℕ) (reached : Reached) (i n : ℕ) → CobsEncoderAfter slice reached (take i m) → IsPlaceIn (length slice) reached → i < length m → length slice ≡ n → encoded_len m ≤ n

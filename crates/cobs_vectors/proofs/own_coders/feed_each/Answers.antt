@@ -1,4 +1,5 @@
--- A byte that ends no piece continues it, by `law_17: byte`, and one that ends a piece is the last, by `law_17: end`.
+-- A byte that ends no piece continues the loop, by `law_17: byte`, and a byte that ends a piece is the last one, by
+-- `law_17: end`.
 use Rattle.std.proofs.Common.{sym, ◌∙◌}
 use Rattle.cobs_vectors.proofs.own_coders.feed_each.Goals as goal
 use Rattle.cobs_vectors.proofs.own_coders.feed_each.Goals.{then-byte-eq0+in_default, else-byte-eq0}

@@ -1,5 +1,5 @@
--- The open block's bytes may be replaced by ones (`one_more`), so the closed blocks and the open one's length give the
--- frame's length, by `law_15`.
+-- The bytes of the open block may be replaced by ones (`one_more`). So the length of the frame follows from the closed
+-- blocks and from the length of the open block, by `law_15`.
 use Rattle.std.proofs.Common.{◌≡◌, ◌≢◌, ◌<◌, ◌≤◌, ◌+◌, ◌∙◌, ℕ, List, [], ◌∷◌, ◌++◌, length, replicate, drop, drop-cons, get_or, sym, ap, add-one, arith, append_assoc, length-append}
 use Rattle.std.proofs.lemmas.List.{length-replicate}
 use Rattle.std.proofs.lemmas.List.Elements.{All-append, All-cons, All-nil, All-replicate}
@@ -8,7 +8,7 @@ use Rattle.cobs.specs.Length.{encoded_len}
 use Rattle.cobs_vectors.proofs.own_coders.frame_len.Goals as goal
 use Rattle.cobs_vectors.proofs.own_coders.frame_len.Goals.{else-byte-eq0, else-run-eq254, then-byte-eq0, then-run-eq254}
 
--- an open block's bytes are as good as ones
+-- the bytes of an open block may be replaced by ones
 ones : (run : ℕ) → HasNoZero (replicate run 1)
 ones run = All-replicate (λ b. b ≢ 0) run 1 (λ e. absurd cc)
 

@@ -1,4 +1,5 @@
--- Each block that is read leaves the question to the bytes after it (`frame_left`, `canonical_left`), by `law_19`.
+-- After each block, the kind of the piece depends only on the bytes after that block (`frame_left`, `canonical_left`),
+-- by `law_19`.
 use Rattle.std.proofs.Common.{◌≡◌, ◌≢◌, ◌↔◌, ◌++◌, ◌+◌, ◌-◌, ◌<◌, [], ℕ, List, length, drop, get_or, refl, sym, ap, subst, arith, length-drop}
 use Rattle.std.proofs.lemmas.Bool.{true≢false}
 use Rattle.std.proofs.lemmas.List.{drop_more}
@@ -18,7 +19,7 @@ module _ (list : List ℕ) (read : ℕ) (nonzero : HasNoZero list) (within : rea
   lone_left : drop read list ≡ lone_block → get_or list read 0 ≡ 1
   lone_left lone = grind (arith, drop_more)
 
-  -- the rest is a block and more
+  -- the rest is a block and more bytes
   module _ (far : get_or list read 0 < length list - read) where
     block : IsBlock (block_at list read)
     block = grind (arith, is_block)

@@ -2,7 +2,7 @@ use Rattle.std.proofs.Common.{◌≢◌, ◌↔◌, ◌-◌, ◌<◌, IsTrue, dr
 use Rattle.cobs.specs.Grammar.{IsCanonical, IsFrame, lone_block}
 use Rattle.cobs_vectors.proofs.own_coders.kind_by_code.Given as goal
 
--- which frame the piece is, by the rest of it
+-- the kind of the piece, given the kind of the remaining bytes
 abbrev pub invariant-by_block : goal.invariant-by_block
 invariant-by_block l = record {
   within : l.read < length l.piece;

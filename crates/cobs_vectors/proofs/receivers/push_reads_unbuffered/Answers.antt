@@ -1,4 +1,5 @@
--- A message is returned exactly if the piece reads as it and it fits: by `pushed` and `pushed_only` of `law_18` (`reported`).
+-- A message is returned exactly if the piece reads as this message and the message fits the buffer. By `pushed` and
+-- `pushed_only` of `law_18` (`reported`).
 use Rattle.std.proofs.Common.{◌↔◌, ◌<◌, ◌≤◌, List, ℕ, length}
 use Rattle.std.proofs.lemmas.List.Elements.{All-from_get_or}
 use Rattle.cobs.specs.Grammar.{Reads}
@@ -6,7 +7,7 @@ use Rattle.cobs.specs.Headline.{PushesMessage}
 use Rattle.cobs_vectors.proofs.receivers.push_reads_unbuffered.Goals as goal
 use Rattle.cobs_vectors.proofs.receivers.push_reads_unbuffered.Goals.{After-push}
 
--- both halves of the push's report
+-- `pushed` and `pushed_only` together
 reported : (c : After-push) (m : List ℕ) → PushesMessage c.push.result c.push.new.dest m ↔ (Reads c.args.piece.now m × (length m ≤ length c.args.dest.now))
 reported c m =
     let below = All-from_get_or (λ b. b < 256) c.args.ended.now 0 (λ i within. (c.type_inv.ended i).fits) in

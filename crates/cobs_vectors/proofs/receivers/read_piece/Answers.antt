@@ -1,5 +1,5 @@
--- The piece that ends is the one that was fed, so it is a message exactly if it reads as one: by `taken` and `taken_only`
--- of `law_18`.
+-- The piece that ends is the piece that was fed, so its outcome is a message exactly if it reads as that message. By
+-- `taken` and `taken_only` of `law_18`.
 use Rattle.std.proofs.Common.{◌≡◌, ◌<◌, ◌≤◌, ◌∙◌, [], List, ℕ, Some, length, take, ap, subst, sym}
 use Rattle.std.proofs.lemmas.List.Elements.{All-from_get_or}
 use Rattle.cobs.specs.declared.PieceEnd.TheVariants.{Broken, Message, TooLong}

@@ -1,5 +1,5 @@
--- The encoder has taken the first message after one push and both after two, by the clause `taken`; so the clauses `fits`
--- and `frame` of the last call are about both.
+-- After the first push the encoder has taken the first piece, and after the second push both pieces, by the clause
+-- `taken`. So the clauses `fits` and `frame` of the last calls are about the whole message.
 use Rattle.std.proofs.Common.{List, take, ◌≤◌, ◌≡◌, ℕ, [], ◌++◌, length, refl, ap, arith, sym, subst}
 use Rattle.std.proofs.lemmas.Result.{err_from_is_err_and}
 use Rattle.cobs.specs.Grammar.{IsEncodedFrame}

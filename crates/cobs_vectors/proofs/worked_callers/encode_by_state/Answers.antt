@@ -1,4 +1,5 @@
--- The output is open after each byte, by `push: carried`; and each result names an index within it (`within`).
+-- After each byte the vector has the open output, by `push: carried`, and each result names an index within the vector
+-- (`within`).
 use Rattle.std.proofs.Common.{◌≡◌, ◌<◌, ◌≤◌, ◌==◌, ℕ, Bool, true, false, List, [], ◌∷◌, ◌++◌, if◌then◌else◌, length, take, get_or, set, sym, ap, subst, arith, take_all, append_assoc}
 use Rattle.std.proofs.lemmas.List.{take_more}
 use Rattle.cobs.specs.declared.PushResult.{PushResult}
@@ -13,7 +14,7 @@ index_of (AddSingle b) = 0
 index_of (ModifyFromStartAndSkip (i, c)) = i
 index_of (ModifyFromStartAndPushAndSkip (i, c, b)) = i
 
--- it is the open block's
+-- this index isn't after the open block's
 index_of-push_result : (state : OpenBlock) (byte : ℕ) → index_of (push_result state byte) ≤ state.index
 index_of-push_result state byte = go (byte == 0) (state.code == 254)
   where

@@ -1,4 +1,5 @@
--- What is left of the kept output begins with the bytes of the open block (`kept-block`), and each is moved to its place.
+-- The part of the kept output that isn't written yet begins with the bytes of the open block (`kept-block`). Each of
+-- these bytes is moved to its place.
 use Rattle.std.proofs.Common.{◌≡◌, ◌≢◌, ◌∙◌, ◌+◌, ◌-◌, ◌<◌, ◌≤◌, ◌++◌, ◌∷◌, [], ℕ, suc, List, true, false, length, take, drop, get_or, set, refl, sym, ap, arith, length-drop, length-take-le}
 use Rattle.std.proofs.lemmas.List.{drop-drop, drop_all, drop_more, get_or-drop, get_or-take}
 use Rattle.std.proofs.lemmas.List.Elements.{All-drop}
@@ -16,7 +17,7 @@ module _ (old : List ℕ) (end : ℕ) (fits : end ≤ length old) where
   long : length h ≡ end
   long = length-take-le end old fits
 
-  -- the next byte of a block, which is still in its old place
+  -- the next byte of a block; this byte is still in its old place
   module _ {buffer left : List ℕ} {written : ℕ} (w : Written h old buffer written left) (read : ℕ) (order : written ≤ read) (here : read < end) where
     byte-is : get_or buffer read 0 ≡ get_or h read 0
     byte-is = written-behind w read order ∙ sym (get_or-take end old read 0 here)
@@ -27,7 +28,7 @@ module _ (old : List ℕ) (end : ℕ) (fits : end ≤ length old) where
         ap (λ (x : List ℕ). take (next - read) x ++ tail) (drop_more h read 0 (omega (arith, long)))
         ∙ ap (λ (k : ℕ). take k (get_or h read 0 ∷ drop (read + 1) h) ++ tail) one ∙ ap (λ (b : ℕ). b ∷ (take (next - (read + 1)) (drop (read + 1) h) ++ tail)) (sym byte-is)
 
-    -- the last one
+    -- the last byte of a block
     last-byte : (next : ℕ) (tail : List ℕ) → left ≡ take (next - read) (drop read h) ++ tail → read + 1 ≡ next → written < length buffer → Written h old (set buffer written (get_or buffer read 0)) (written + 1) tail
     last-byte next tail e last room = grind (arith, written-more, next-byte)
 
@@ -101,7 +102,7 @@ by_byte-init c =
 pub by_byte-preserved : goal.by_byte-preserved
 by_byte-preserved c = grind (arith, written-more, next-byte, written-long)
 
--- where the block ends
+-- the block is moved, and the next block follows it
 moved : (c : Joined-read-next) → let code = get_or c.by_block.buffer c.by_block.read 0 in
     BlockMoved c.args.buffer.now c.args.end code (c.by_block.read + code) c.if-read-next.buffer c.if-read-next.read c.if-read-next.written
 moved c =
@@ -124,7 +125,7 @@ moved c =
           })
     ]
 
--- and that the bytes from there on are whole if all are
+-- the bytes after the block are whole if all bytes are
 whole-from : (c : Joined-read-next) → whole_left (take c.args.end c.args.buffer.now) ≡ whole_left (drop c.if-read-next.read (take c.args.end c.args.buffer.now))
 whole-from c =
     let i = c.by_block.invariant in

@@ -1,5 +1,5 @@
--- The bytes that are written, and the kept output of the bytes that are left, are together the kept output of all
--- (`Written`). Within a block, its bytes that are left come before that.
+-- The bytes that are written, followed by the kept output of the remaining bytes, are the kept output of all bytes
+-- (`Written`). Within a block, the block's remaining bytes come between the two.
 use Rattle.std.proofs.Common.{◌≡◌, ◌++◌, ◌-◌, ◌<◌, ◌≤◌, ℕ, drop, get_or, take}
 use Rattle.cobs.specs.Piece.{kept_output}
 use Rattle.cobs.proofs.decoding.WrittenLemmas.{Written, whole_left, zero_before}
@@ -20,7 +20,7 @@ invariant-by_block l =
 abbrev pub decreases-by_block : goal.decreases-by_block
 decreases-by_block l = l.end - l.read
 
--- and the first bytes of a block
+-- the blocks before `read` and the first bytes of a block are decoded
 abbrev pub invariant-by_byte : goal.invariant-by_byte
 invariant-by_byte l =
     let h = take l.end l.fn.buffer in

@@ -1,4 +1,5 @@
--- What is left of the kept output begins with the bytes of the open block (`kept-block`), and each is written if it has room.
+-- The part of the kept output that isn't written yet begins with the bytes of the open block (`kept-block`). Each of
+-- these bytes is written if there is room for it.
 use Rattle.std.proofs.Common.{All, ◌≡◌, ◌≢◌, ◌∙◌, ◌+◌, ◌-◌, ◌<◌, ◌≤◌, ◌⊎◌, ◌++◌, ◌∷◌, [], ℕ, List, Result, true, false, length, take, drop, get_or, refl, sym, ap, arith, inl, inr, Bool, eqb}
 use Rattle.std.proofs.lemmas.Bool.{eqb-true, eqb-false}
 use Rattle.std.proofs.lemmas.List.{drop_all, drop_more, drop-map, get_or-map, length-map, take-map}
@@ -19,7 +20,7 @@ use Rattle.cobs.proofs.format.SentinelLemmas.{front_xored, rest_xored}
 use Rattle.cobs.proofs.dec.each.decode_head_each.Goals as goal
 use Rattle.cobs.proofs.dec.each.decode_head_each.Goals.{else-code-ne-FULL_CODE-via-then-code-ne-FULL_CODE+else-not-is_empty, else-code-ne-FULL_CODE-via-else-code-ne-FULL_CODE}
 
--- no code is left, or more
+-- no byte is left, or at least one
 none-left : (rest : List ℕ) (empty : Bool) → empty ≡ eqb (length rest) 0 → empty ≡ true → length rest ≡ 0
 none-left rest empty is e = eqb-true (length rest) 0 (sym is ∙ e)
 
@@ -34,7 +35,7 @@ no-bytes s (b ∷ bytes) none = absurd (omega arith)
 more-bytes : (s : ℕ) (items tail : List ℕ) (k : ℕ) → k < length items → xor_each s (drop k items) ++ tail ≡ bit_xor (get_or items k 0) s ∷ (xor_each s (drop (k + 1) items) ++ tail)
 more-bytes s items tail k less = grind (arith, drop_more)
 
--- after the last one
+-- after the last byte of a block
 bytes-ended : {h old buffer : List ℕ} {written : ℕ} (s : ℕ) (items tail : List ℕ) (k : ℕ) → Written h old buffer written (xor_each s (drop k items) ++ tail) → length items ≤ k → Written h old buffer written tail
 bytes-ended s items tail k w all = rw (drop_all k items all) at w
 
@@ -42,7 +43,7 @@ module _ (source old : List ℕ) (s : ℕ) where
   abbrev h : List ℕ
   h = head (xor_each s source)
 
-  -- the clauses, by the bytes before the first sentinel
+  -- the clauses follow from the result for the bytes before the first sentinel
   answered : (buffer : List ℕ) (result : Result ℕ DecodeError) → 0 < length source → Decoded h old buffer result
       → record { returned : result ≡ result_of_sentinel_decode (xor_each s source) (length old); buffer : buffer ≡ overwritten old (kept_output h) }
   answered buffer result some d = grind (arith, result_of_sentinel_decode-head)
@@ -71,7 +72,7 @@ module _ (rest : List ℕ) (s : ℕ) where
     is : code ≡ get_or p 0 0
     is = grind (arith, get_or-map)
 
-    -- that is whole
+    -- a whole block of the frame
     module _ (nonzero : HasNoZero p) (below : All (λ b. b < 256) p) (fits : code ≤ length rest) where
       p-fits : code ≤ length p
       p-fits = omega (arith, long)
@@ -83,7 +84,7 @@ module _ (rest : List ℕ) (s : ℕ) where
           → Written h old buffer written (xor_each s items ++ (zero_before code (drop code p) ++ kept_output (drop code p)))
       block-begun h old buffer written w = grind (arith, items-are, kept-block, p-some, small, p-fits)
 
-      -- and the bytes after it
+      -- the bytes after the block
       abbrev next : List ℕ
       next = take (length rest - code) (drop code rest)
 
@@ -93,7 +94,7 @@ module _ (rest : List ℕ) (s : ℕ) where
       next-long : length (drop code p) ≡ length next
       next-long = grind (arith, next-is, length-map)
 
-      -- with a zero before them
+      -- these bytes, with a zero before them
       next-zero : 0 < length next → code ≢ 255 → zero_before code (drop code p) ++ kept_output (drop code p) ≡ 0 ∷ kept_output (drop code p)
       next-zero more other = grind (arith, zero_before-some, next-long)
 

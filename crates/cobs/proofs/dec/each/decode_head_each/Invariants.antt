@@ -21,7 +21,7 @@ invariant-by_block l =
 abbrev pub decreases-by_block : goal.decreases-by_block
 decreases-by_block l = length l.rest
 
--- and the first bytes of a block
+-- the blocks before `rest` and the first bytes of a block are decoded
 abbrev pub invariant-by_byte : goal.invariant-by_byte
 invariant-by_byte l =
     let next = drop l.code (xor_each l.sentinel l.rest) in

@@ -1,4 +1,4 @@
--- Each byte moves the invariant by a lemma of `ReadPiece`, or ends the piece by one of them.
+-- For each byte a lemma of `ReadPiece` says that the invariant still holds, or that the piece ends.
 use Rattle.std.proofs.Common.{arith}
 use Rattle.std.proofs.lemmas.Bool.{eq-eqb, ne_eqb}
 use Rattle.cobs.proofs.streaming.ReadPiece.{ended, first-code, no-piece, over-byte, over-zero, read-byte, read-first, read-full, read-zero}
@@ -30,7 +30,7 @@ returns-then-written-dest-clause-buffer c =
 pub by_byte-preserved-then-left-ne0 : goal.by_byte-preserved-then-left-ne0
 by_byte-preserved-then-left-ne0 c = grind (arith, read-byte)
 
--- a code after a block that isn't full, and one after a full block
+-- a code after a block that isn't full, and a code after a full block
 pub returns-then-written-dest-2-clause-answer : goal.returns-then-written-dest-2-clause-answer
 returns-then-written-dest-2-clause-answer c =
     let after = c.through_piece-then-written-dest-2.ensures.end in

@@ -1,4 +1,4 @@
--- No byte from `at` to `end` is a zero, so the loop stops where the bytes before the first zero end (`front_is_head`).
+-- No byte from `at` to `end` is a zero, so the loop stops at the first zero (`front_is_head`).
 use Rattle.std.proofs.Common.{◌≡◌, ◌≢◌, ◌+◌, ◌-◌, ◌<◌, ◌≤◌, ℕ, List, length, drop, take, get_or, arith, length-drop, length-take-le}
 use Rattle.std.proofs.lemmas.List.{get_or-drop, take_more}
 use Rattle.std.proofs.lemmas.List.Elements.{All-push}

@@ -1,5 +1,5 @@
--- All but the last 254 bytes are fed, and of those as many as give what is kept (`kept_len`), unless the buffer is full
--- before: by `kept_fits` and `kept_stop`.
+-- First all bytes except the last 254 are fed, and then as many of the last 254 as the kept output needs (`kept_len`).
+-- So the clauses follow by `kept_fits`, or by `kept_stop` if the buffer is full before that.
 use Rattle.std.proofs.Common.{◌≡◌, ◌≢◌, ◌∙◌, ◌+◌, ◌-◌, ◌<◌, ◌≤◌, ◌++◌, ℕ, All, Err, Ok, Result, Bool, false, IsTrue, ◌↔◌, length-append, length-take, List, length, take, drop, get_or, sym, ap, arith, length-drop, length-take-le, take_all, take-append-drop}
 use Rattle.std.proofs.lemmas.List.{take-take, get_or-take, get_or-append-add, length-map}
 use Rattle.std.proofs.lemmas.List.Elements.{All-append, All-take, All-drop}
@@ -29,7 +29,7 @@ use Rattle.cobs.proofs.dec.forms.decode_blocks.Goals.{After-take_blocks, After-t
 abbrev Stopped : List ℕ → List ℕ → List ℕ → Type 0
 Stopped h old new = (Err TargetBufTooSmall ≡ head_result_within h (length old)) × (new ≡ overwritten old (kept_output h))
 
--- the first `run` of all bytes but the last 254 are fed
+-- the first `run` bytes, of all bytes except the last 254, are fed
 record Fed (h old b1 : List ℕ) (tail run : ℕ) (inner : UnbufferedDecoder) : Type 0 where
   tail-is : tail ≡ length h - 254
   none : HasNoZero h
@@ -56,7 +56,7 @@ module _ {h old b1 : List ℕ} {tail run : ℕ} {inner : UnbufferedDecoder} (f :
       let nonzero = All-take (λ b. b ≢ 0) k h f.none in
       kept_stop h (take k h) old b1 (phase_of inner) run cut.1.1 nonzero (omega (arith, length-take k h)) (rw same at f.fed) (rw here at over)
 
-  -- all of them are fed, and some of the bytes after them
+  -- all bytes except the last 254 are fed, and then some of the last 254
   module _ (all : tail ≤ run) where
     first : FeedsQuietly old Idle p b1 (phase_of inner)
     first = grind (arith, take_all, p, length-take)
@@ -84,7 +84,7 @@ module _ {h old b1 : List ℕ} {tail run : ℕ} {inner : UnbufferedDecoder} (f :
           let fed-all = rw (take_all more (take len q) (omega (arith, length-take-le len q fits))) at fed' in
           rw (take-append-drop tail h) at (kept_fits p q old b1 b2 (phase_of inner) inner' len whole result p-nonzero (All-drop (λ b. b ≢ 0) tail h f.none) first fed-all kept is ok broken)
 
--- the first run
+-- after the first call of `take_blocks`
 fed-first : (c : After-take_blocks)
     → Fed (xor_each c.args.sentinel c.args.source.now) c.args.dest.now c.take_blocks.new.dest c.saturating_sub-tail.result c.take_blocks.result c.take_blocks.new.self
 fed-first c = grind (arith, length-map, xored_below, front_xored)
@@ -109,7 +109,7 @@ returns-then-take_blocks-tail c =
     let stopped = first_stop (fed-first (goal.at.returns-then-take_blocks-tail c).After-take_blocks) c.if-take_blocks-tail.true stop in
     record { returned = stopped.0; buffer = stopped.1 }
 
--- the second run
+-- after the second call of `take_blocks`
 module _ (c : After-take_blocks-2)
     (f : Fed (xor_each c.args.sentinel c.args.source.now) c.args.dest.now c.take_blocks.new.dest c.saturating_sub-tail.result c.take_blocks.result c.take_blocks.new.self) where
   abbrev n : ℕ

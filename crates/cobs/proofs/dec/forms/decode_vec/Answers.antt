@@ -1,6 +1,6 @@
--- The vector has as many bytes as the source, so the buffer is never too short: what `decode` wrote, cut to the message's
--- length, is the message (`decoded-message`), and its errors are the frame's (`decoded-rejected`). `reads` and `only`
--- follow by `decoded_reads`.
+-- The vector has as many bytes as the source, so it is never too short. The bytes that `decode` wrote, cut to the
+-- message's length, are the message (`decoded-message`), and an error of `decode` is the frame's error
+-- (`decoded-rejected`). `reads` and `only` follow by `decoded_reads`.
 use Rattle.std.proofs.Common.{◌≡◌, ◌<◌, length, sym, ap, ◌∙◌, arith, Err, rules, take_at}
 use Rattle.std.proofs.lemmas.Bool.{eqb-false}
 use Rattle.cobs.specs.declared.error.DecodeError.{DecodeError}

@@ -1,5 +1,5 @@
--- The vector has as many bytes as the source, so the buffer is never too short: what `decode_with_sentinel` wrote, cut to
--- the message's length, is the message (`decoded_head-message`), and its errors are the frame's
+-- The vector has as many bytes as the source, so it is never too short. The bytes that `decode_with_sentinel` wrote,
+-- cut to the message's length, are the message (`decoded_head-message`), and an error of that call is the frame's error
 -- (`decoded_head-rejected`). `reads` and `only` follow by `decoded_head_reads`.
 use Rattle.std.proofs.Common.{◌≡◌, ◌<◌, ℕ, length, sym, ap, ◌∙◌, arith, bit_xor, Err, rules, take_at}
 use Rattle.std.proofs.lemmas.List.{length-map}

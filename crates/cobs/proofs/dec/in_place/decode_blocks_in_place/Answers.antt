@@ -1,5 +1,5 @@
--- All but the last 254 bytes are fed, and of those as many as give what is kept (`kept_len`): together they are what `kept_fed`
--- needs for the result and the buffer.
+-- First all bytes except the last 254 are fed, and then as many of the last 254 as the kept output needs (`kept_len`).
+-- From these two steps `kept_fed` derives the result and the buffer.
 use Rattle.std.proofs.Common.{◌≡◌, ◌+◌, ◌-◌, ◌<◌, ◌≤◌, ◌∙◌, ◌++◌, ℕ, List, length, take, drop, ap, sym, arith, length-take, length-drop, length-take-le, rules}
 use Rattle.std.proofs.lemmas.List.{take-take}
 use Rattle.std.proofs.lemmas.List.Elements.{All-take}
@@ -23,7 +23,7 @@ use Rattle.cobs_bytes.proofs.bytes.ListLemmas.{part-nonzero}
 pub take_in_place-requires-clause-nonzero : goal.take_in_place-requires-clause-nonzero
 take_in_place-requires-clause-nonzero c = part-nonzero 0 _ _ _ c.requires.nonzero (omega arith)
 
--- the first bytes are fed, and the last ones are as they were
+-- the first bytes are fed, and the last 254 bytes are as they were
 module _ (c : After-take_in_place) where
   abbrev old : List ℕ
   old = c.args.buffer.now

@@ -1,6 +1,6 @@
 -- The bytes up to the first zero are the head of the buffer (`front_is_head`), so their result is the report
--- (`in_place_report-decoded`, `in_place_report-rejected`). The clauses `reads` and `only` follow from the report and the
--- buffer alone (`in_place_reads`, `in_place_only`), on each way out.
+-- (`in_place_report-decoded`, `in_place_report-rejected`). On each path through the function, the clauses `reads` and
+-- `only` follow from the report and the buffer (`in_place_reads`, `in_place_only`).
 use Rattle.std.proofs.Common.{arith, rules, length-take-le}
 use Rattle.std.proofs.lemmas.Bool.{eqb-false}
 use Rattle.cobs.proofs.decoding.HeadLemmas.{front_is_head}

@@ -1,5 +1,5 @@
--- If the buffer has no zero except perhaps its last byte, the bytes before that are its head (`short_head`), so the
--- result of `decode_span_in_place` for them is the report (`in_place_report-decoded`).
+-- If no byte of the buffer is a zero, except perhaps the last one, the bytes before that zero are the buffer's head
+-- (`short_head`). So the result of `decode_span_in_place` for these bytes is the report (`in_place_report-decoded`).
 use Rattle.std.proofs.Common.{arith, length-take-le}
 use Rattle.std.proofs.lemmas.Bool.{eqb-true, eqb-false}
 use Rattle.cobs.proofs.decoding.HeadLemmas.{front_is_head, head-front, short_head}

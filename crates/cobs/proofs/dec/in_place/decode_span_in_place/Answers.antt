@@ -1,5 +1,5 @@
--- The bytes after the first code are moved to the front, and a zero is written over each code: by `as_piece` that is the
--- piece's output. If the last block breaks off, the bytes are put back, from a copy that was made before.
+-- The bytes after the first code are moved to the front, and a zero is written over each code. By `as_piece` the result
+-- is the piece's output. If the last block breaks off, the bytes are put back from a copy that was made before.
 use Rattle.std.proofs.Common.{◌≡◌, ◌≢◌, ◌-◌, ◌<◌, ◌≤◌, ◌∷◌, ◌++◌, ◌∙◌, ℕ, List, Ok, length, take, drop, get_or, set, refl, sym, arith, length-drop, length-take-le, take-append-drop, take_at, drop_at, append-nil, replicate}
 use Rattle.std.proofs.lemmas.List.{drop_more}
 use Rattle.std.proofs.lemmas.List.Elements.{All-cons}
@@ -17,7 +17,7 @@ use Rattle.cobs.proofs.dec.in_place.decode_span_in_place.Goals as goal
 use Rattle.cobs_bytes.proofs.bytes.XoredLemmas.{xor_each-zero}
 use Rattle.cobs_bytes.proofs.bytes.ListLemmas.{drop-later, part-nonzero}
 
--- the first byte of a buffer and a copy of those after it are its front
+-- the first byte of a buffer, followed by a copy of the next bytes, is the buffer's front
 front-is : (old copied rest : List ℕ) (len : ℕ) → 1 < len → len ≤ 65 → len ≤ length old → copied ≡ xor_each 0 (take (len - 1) (drop 1 old)) ++ rest
     → take len (set (put_mid 1 64 (replicate 65 0) copied) 0 (get_or old 0 0)) ≡ take len old
 front-is old copied rest len some most within is = grind (arith, length-take-le, length-drop, xor_each-zero, take_at, drop_more, append-nil)
@@ -53,7 +53,7 @@ module _ {old moved : List ℕ} {len : ℕ} (m : Moved old moved len) where
   frame-nonzero : HasNoZero (take len old)
   frame-nonzero = rw frame-is nonzero
 
-  -- what these bytes are from code to code is the piece
+  -- these bytes with a zero over each code are the output of the piece
   module _ {ys : List ℕ} {last left : ℕ} (w : ◌≡◌ {A = List ℕ × ℕ × ℕ} (ys, last, left) (walked (get_or old 0 0) (get_or old 0 0 - 1) (take (len - 1) moved))) where
     piece : (ys ≡ output (take len old)) × (left ≡ missing (last_part (take len old)))
     piece = rw frame-is (as_piece _ _ (rw front at w) (omega (arith, long)) nonzero)

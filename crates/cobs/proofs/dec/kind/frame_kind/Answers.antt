@@ -1,5 +1,5 @@
--- A byte that is zero makes the bytes no frame (`frame_nonzero`); otherwise `kind_by_blocks` decides, which requires that
--- there is none.
+-- If one of the bytes is a zero, the bytes aren't a frame (`frame_nonzero`). Otherwise `kind_by_blocks`, which requires
+-- that no byte is a zero, returns the kind.
 use Rattle.std.proofs.Common.{arith, ℕ, List, ◌≢◌, take_all}
 use Rattle.std.proofs.lemmas.List.Elements.{All-get_or}
 use Rattle.cobs.specs.declared.dec.kind.FrameKind.TheVariants.{NotAFrame}

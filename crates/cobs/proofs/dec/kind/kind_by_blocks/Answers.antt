@@ -1,5 +1,5 @@
--- A whole block before others doesn't change the kind (`one-more`). What is left at the end decides: a block that breaks
--- off (`broken-kind`), a lone one after a full one (`longer-kind`), or another (`canonical-kind`).
+-- A whole block before others doesn't change the kind (`one-more`). The last block decides: it breaks off
+-- (`broken-kind`), it is the lone block after a full block (`longer-kind`), or it is another block (`canonical-kind`).
 use Rattle.std.proofs.Common.{ℕ, List, ◌≡◌, ◌<◌, drop, length, get_or, arith, length-drop}
 use Rattle.std.proofs.lemmas.List.{drop_more, drop-drop}
 use Rattle.cobs.specs.declared.dec.kind.FrameKind.TheVariants.{NotAFrame, Canonical}

@@ -1,4 +1,5 @@
--- The bytes are a frame exactly if those from `read` on are one, since whole blocks are before them (`BlocksBehind`).
+-- The bytes are a frame exactly if the bytes from `read` on are a frame, since only whole blocks precede `read`
+-- (`BlocksBehind`).
 use Rattle.std.proofs.Common.{◌-◌, ◌≤◌, drop, length}
 use Rattle.cobs.proofs.format.KindLemmas.{BlocksBehind}
 use Rattle.cobs.proofs.dec.kind.kind_by_blocks.Given as goal

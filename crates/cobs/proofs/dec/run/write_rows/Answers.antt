@@ -1,4 +1,4 @@
--- Each turn writes one row of zeros after those so far (`three-next`).
+-- Each iteration writes one more row of zeros after the rows so far (`three-next`).
 use Rattle.std.proofs.Common.{◌+◌, ◌++◌, List, ℕ, take, drop, replicate, ap, ◌∙◌, arith}
 use Rattle.std.proofs.Math.Seq.{take-add}
 use Rattle.std.proofs.lemmas.List.{length-replicate, replicate-append-replicate}

@@ -1,5 +1,5 @@
--- Induction along the codes: the first code's block is left as it is, a zero replaces the next code, and the rest is a
--- shorter list that begins with that code (`walked-next`); in the last block nothing is replaced (`walked-past`).
+-- By induction on the codes. The bytes of the first code's block are left as they are, a zero replaces the next code,
+-- and a shorter list follows that code (`walked-next`). In the last block nothing is replaced (`walked-past`).
 use Rattle.std.proofs.Common.{◌≢◌, ◌-◌, ◌<◌, ℕ, List, ◌∷◌, get_or, arith, drop, length, length-drop}
 use Rattle.std.proofs.lemmas.List.Elements.{All-cons, All-head, All-drop, All-get_or, All-tail}
 use Rattle.cobs.specs.Grammar.{HasNoZero}

@@ -9,7 +9,7 @@ use Rattle.cobs.proofs.format.SentinelLemmas.{rest_xored}
 use Rattle.cobs.proofs.streaming.WalkLemmas.{behind-code, walked-next, walked-past}
 use Rattle.cobs.proofs.dec.span.+write_zeros_at_copied.Goals as goal
 
--- the copies are as many bytes, and each is its byte, XORed
+-- there are as many copied bytes as bytes, and each of them is a byte XORed with the sentinel
 module _ (copied dest : List ℕ) (s : ℕ) (is : dest ≡ xor_each s copied) where
   long : length dest ≡ length copied
   long = grind (arith, length-map, bit_xor)

@@ -1,5 +1,5 @@
--- The bytes after the first code are copied and XORed, and a zero is written over each code among them. That is the output of
--- the piece (`as_piece`).
+-- The bytes after the first code are copied and XORed, and a zero is written over each code among them. The result is
+-- the output of the piece (`as_piece`).
 use Rattle.std.proofs.Common.{◌≡◌, ◌≢◌, ◌-◌, ◌<◌, ◌≤◌, ◌∷◌, ◌++◌, ◌∙◌, ℕ, List, get_or, bit_xor, arith, length, take, drop, ap, refl, sym, length-drop}
 use Rattle.std.proofs.Math.Seq.{take-append_seam}
 use Rattle.std.proofs.lemmas.List.{drop_more, length-map, take_rest}

@@ -1,4 +1,4 @@
--- If `left` bytes are missing at the start, whole blocks are before `at`: no byte is missing there.
+-- If `left` bytes of a block are missing at the start, no byte is missing at `at`: a block ends there.
 use Rattle.std.proofs.Common.{◌≡◌, ◌≤◌, ◌-◌, ◌++◌, ℕ, List, length, take}
 use Rattle.cobs.specs.Piece.{last_part, missing}
 use Rattle.cobs.specs.Sentinel.{xor_each}

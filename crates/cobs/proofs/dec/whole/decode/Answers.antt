@@ -1,5 +1,5 @@
--- The clauses `reads` and `only` follow from `returned` and `buffer` alone, which each of the three ways has
--- (`decode_reads`): a short frame, a long one, and one that is decoded byte by byte.
+-- The clauses `reads` and `only` follow from `returned` and `buffer` (`decode_reads`). Each of the three calls has
+-- these two clauses: the calls for a short frame, for a long frame, and for decoding byte by byte.
 use Rattle.cobs.proofs.decoding.HeadlineLemmas.{bytes_below, decode_reads}
 use Rattle.cobs.proofs.decoding.ReadsLemmas.{frame_piece}
 use Rattle.cobs.proofs.dec.whole.decode.Goals as goal

@@ -1,4 +1,5 @@
--- The bytes after the leading zeros are fed, up to the end of the piece or up to a byte without room: by `FrontFed` for either.
+-- The bytes after the leading zeros are fed, up to the end of the piece or up to a byte without room. `FrontFed` has
+-- lemmas for both cases.
 use Rattle.std.proofs.Common.{◌≡◌, ◌≢◌, ◌∙◌, ◌<◌, ◌-◌, ℕ, List, length, take, drop, get_or, Some, refl, arith, rules, length-drop, sym, ap}
 use Rattle.std.proofs.lemmas.Bool.{eqb-true, eqb-false}
 use Rattle.std.proofs.lemmas.List.{take_rest}

@@ -7,7 +7,7 @@ use Rattle.cobs.proofs.enc.blocks.append_few.Goals.{then-byte-eq0, else-byte-eq0
 use Rattle.cobs.proofs.enc.blocks.append_few.Goals as goal
 
 pub by_byte-init : goal.by_byte-init
-by_byte-init c = record { open' = omega arith; reaches = Reaches-weaker (reaches-start (omega arith) c.requires.code (omega arith)) (λ full u lt. absurd (omega arith)) }
+by_byte-init c = record { open' = omega arith; reaches = Reaches-weaker (reaches-start (omega arith) (omega arith) (omega arith)) (λ full u lt. absurd (omega arith)) }
 
 pub by_byte-preserved : goal.by_byte-preserved
 by_byte-preserved c =
@@ -24,4 +24,4 @@ pub returns : goal.returns
 returns c =
     let all : c.by_byte.read ≡ c.args.len = omega arith in
     let i = c.by_byte.invariant in
-    rw (← all) (front-open (omega arith) (Reaches-weaker i.reaches (λ full p. p (omega arith))) (omega arith) (omega arith) c.progress_at.ensures)
+    rw (← all) (front-open (omega arith) (Reaches-weaker i.reaches (λ full p. p (omega arith))) (omega arith) (omega arith) c.encoder_at.ensures)

@@ -1,13 +1,13 @@
 -- The first `read` bytes of the source are taken (`TakesFront`).
 use Rattle.std.proofs.Common.{◌≤◌, ◌-◌, length}
-use Rattle.cobs.specs.Fields.Progress.{reached_at}
+use Rattle.cobs.specs.Fields.Progress.{reached_by}
 use Rattle.cobs.specs.Internal.Taking.{TakesFront}
 use Rattle.cobs.proofs.enc.blocks.append_rest.Given as goal
 
 abbrev pub invariant-by_run : goal.invariant-by_run
 invariant-by_run l = record {
   within : l.read ≤ length l.source;
-  taken : TakesFront l.fn.dest (reached_at l.fn.progress) l.source l.read l.dest (reached_at l.progress);
+  taken : TakesFront l.fn.dest (reached_by l.fn.encoder) l.source l.read l.dest (reached_by l.encoder);
 }
 
 abbrev pub decreases-by_run : goal.decreases-by_run

@@ -1,7 +1,7 @@
 -- The source is one window (`short-copied`). After each call of `mark_first` and `mark_zeros` the mask still describes it.
 use Rattle.std.proofs.Common.{length, refl, arith}
 use Rattle.cobs.specs.OpenBlock.{next_of}
-use Rattle.cobs.specs.Fields.Progress.{reached_at}
+use Rattle.cobs.specs.Fields.Progress.{reached_by}
 use Rattle.cobs.specs.Internal.Marks.{IsMasked}
 use Rattle.cobs.specs.Internal.Reaches.{Start, start_with}
 use Rattle.cobs.proofs.encoding.MarkLemmas.{WindowTaken, masked-end, short-copied, window-front}
@@ -11,13 +11,13 @@ use Rattle.cobs.proofs.enc.blocks.append_short.Goals as goal
 -- the source as it was copied
 module _ (c : After-copy_window-mask) where
   abbrev start : Start
-  start = start_with c.args.dest.now (reached_at c.args.progress) c.args.source.now
+  start = start_with c.args.dest.now (reached_by c.args.encoder) c.args.source.now
 
-  copied : IsMasked start 0 (length c.args.source.now) (next_of (reached_at c.args.progress)) c.copy_window-mask.result c.args.progress.index c.copy_window-mask.new.dest
+  copied : IsMasked start 0 (length c.args.source.now) (next_of (reached_by c.args.encoder)) c.copy_window-mask.result c.args.encoder.index c.copy_window-mask.new.dest
   copied =
       let r = c.requires in
       let copy = c.copy_window-mask.ensures in
-      short-copied r.code r.some r.few r.open_block r.fits copy.copied copy.zeros
+      short-copied (omega arith) r.some r.few (omega arith) r.fits copy.copied copy.zeros
 
 pub mark_first-first-requires : goal.mark_first-first-requires
 mark_first-first-requires c = (_, _, _, copied (goal.at.mark_first-first-requires c).After-copy_window-mask)
@@ -29,21 +29,21 @@ pub mark_zeros-index-requires : goal.mark_zeros-index-requires
 mark_zeros-index-requires c = (_, _, _, c.mark_first-index.ensures.marks _ _ _ (c.mark_first-first.ensures.marks _ _ _ (copied (goal.at.mark_zeros-index-requires c).After-copy_window-mask)))
 
 -- all its zeros are marked
-marked : (c : After-mark_zeros-index) → let r = reached_at c.args.progress in let s = start_with c.args.dest.now r c.args.source.now in
-    IsMasked s 0 (length c.args.source.now) (next_of r) c.copy_window-mask.result c.args.progress.index c.copy_window-mask.new.dest
+marked : (c : After-mark_zeros-index) → let r = reached_by c.args.encoder in let s = start_with c.args.dest.now r c.args.source.now in
+    IsMasked s 0 (length c.args.source.now) (next_of r) c.copy_window-mask.result c.args.encoder.index c.copy_window-mask.new.dest
     → WindowTaken s c.mark_zeros-index.new.dest 0 (length c.args.source.now) c.mark_zeros-index.result (next_of r)
 marked c w = masked-end (c.mark_zeros-index.ensures _ _ _ (c.mark_first-index.ensures.marks _ _ _ (c.mark_first-first.ensures.marks _ _ _ w))) refl
 
-pub progress_at-requires-2 : goal.progress_at-requires-2
-progress_at-requires-2 c =
-    let at = goal.at.progress_at-requires-2 c in
+pub encoder_at-requires-2 : goal.encoder_at-requires-2
+encoder_at-requires-2 c =
+    let at = goal.at.encoder_at-requires-2 c in
     let t = marked at.After-mark_zeros-index (copied at.After-copy_window-mask) in
     record { ordered = t.ordered; open_block = t.open' }
 
 pub returns : goal.returns
 returns c =
     let at = goal.at.returns c in
-    window-front (marked at.After-mark_zeros-index (copied at.After-copy_window-mask)) (omega arith) c.progress_at-2.ensures
+    window-front (marked at.After-mark_zeros-index (copied at.After-copy_window-mask)) (omega arith) c.encoder_at-2.ensures
 
 pub returns-then-mask-eq0 : goal.returns-then-mask-eq0
-returns-then-mask-eq0 c = window-front (masked-end (copied (goal.at.returns-then-mask-eq0 c).After-copy_window-mask) c.if-mask-eq0.true) (omega arith) c.progress_at.ensures
+returns-then-mask-eq0 c = window-front (masked-end (copied (goal.at.returns-then-mask-eq0 c).After-copy_window-mask) c.if-mask-eq0.true) (omega arith) c.encoder_at.ensures

@@ -8,7 +8,7 @@ use Rattle.std.proofs.lemmas.List.{length-set, take_rest}
 use Rattle.cobs.specs.Internal.Marks.{IsMasked}
 use Rattle.cobs.specs.Internal.Reaches.{Start, start_with}
 use Rattle.std.proofs.Math.ListN.{set}
-use Rattle.cobs.specs.Fields.Progress.{reached_at}
+use Rattle.cobs.specs.Fields.Progress.{reached_by}
 use Rattle.cobs.proofs.encoding.ReachLemmas.{Reaches-weaker}
 use Rattle.cobs.proofs.encoding.MarkLemmas.{CopiedWindow, WindowTaken, copied-reaches, filled, first-within, length-after, length-row, lowest-none, masked-end, masked-start, masked-step, row-taken}
 use Rattle.cobs_bytes.proofs.bytes.MaskLemmas.{window_all}
@@ -19,7 +19,7 @@ use Rattle.cobs.proofs.enc.blocks.append_windows.Goals as goal
 -- the window as it was copied
 module _ (c : After-copy_at-window) where
   abbrev start : Start
-  start = start_with c.args.dest.now (reached_at c.args.start) c.args.source.now
+  start = start_with c.args.dest.now (reached_by c.args.encoder) c.args.source.now
 
   abbrev zeros : ℕ
   zeros = c.copy_at-window.result
@@ -54,7 +54,7 @@ pub mark_zeros-index-requires : goal.mark_zeros-index-requires
 mark_zeros-index-requires c = (_, _, _, coded (goal.at.mark_zeros-index-requires c).After-copy_at-window c.if-window-eq0.false (omega arith))
 
 -- a row of zeros is taken
-row : (c : After-write_codes_of_zeros-zeros) → let s = start_with c.args.dest.now (reached_at c.args.start) c.args.source.now in let n = c.write_codes_of_zeros-zeros.result in
+row : (c : After-write_codes_of_zeros-zeros) → let s = start_with c.args.dest.now (reached_by c.args.encoder) c.args.source.now in let n = c.write_codes_of_zeros-zeros.result in
     CopiedWindow s c.by_window.dest c.copy_at-window.new.dest c.by_window.read 32 c.by_window.index c.by_window.next c.copy_at-window.result
     → WindowTaken s c.write_codes_of_zeros-zeros.new.dest c.by_window.read n (c.by_window.next + n - 1) c.by_window.next × (0 < n) × (c.by_window.read + n < length c.args.source.now)
 unfolding count_trailing_zeros
@@ -104,10 +104,10 @@ returns-in-by_window-clause-taken c =
     let fits = length-after w.copied in
     let none = none-near (goal.at.returns-in-by_window-clause-taken c).Joined-window-eq0 (first-within w) in
     let l = length-set c.copy_at-window.new.dest c.by_window.index 255 in
-    front-taken (omega arith) (filled w none (omega arith)) (omega arith) (λ all. absurd (omega arith)) (omega arith) c.progress_at.ensures
+    front-taken (omega arith) (filled w none (omega arith)) (omega arith) (λ all. absurd (omega arith)) (omega arith) c.encoder_at.ensures
 
 pub returns-clause-taken : goal.returns-clause-taken
 returns-clause-taken c =
     let i = c.by_window.invariant in
     let o = i.reaches.ordered in
-    front-open (omega arith) (Reaches-weaker i.reaches (λ full p. p (omega arith))) i.open' (omega arith) c.progress_at-2.ensures
+    front-open (omega arith) (Reaches-weaker i.reaches (λ full p. p (omega arith))) i.open' (omega arith) c.encoder_at-2.ensures

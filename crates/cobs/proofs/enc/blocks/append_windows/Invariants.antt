@@ -1,6 +1,6 @@
 -- The first `read` bytes of the source are taken (`Reaches`), the open block has room for a byte, and a byte is left.
 use Rattle.std.proofs.Common.{◌≡◌, ◌<◌, ◌≤◌, ◌-◌, ◌+◌, false, length}
-use Rattle.cobs.specs.Fields.Progress.{reached_at}
+use Rattle.cobs.specs.Fields.Progress.{reached_by}
 use Rattle.cobs.specs.Internal.Reaches.{Reaches, start_with}
 use Rattle.cobs.proofs.enc.blocks.append_windows.Given as goal
 
@@ -8,7 +8,7 @@ abbrev pub invariant-by_window : goal.invariant-by_window
 invariant-by_window l = record {
   more : l.read < length l.source;
   open' : l.next < l.index + 255;
-  reaches : Reaches (start_with l.fn.dest (reached_at l.fn.start) l.source) l.dest l.read l.index l.next (λ full. l.last ≤ l.read → full ≡ false);
+  reaches : Reaches (start_with l.fn.dest (reached_by l.fn.encoder) l.source) l.dest l.read l.index l.next (λ full. l.last ≤ l.read → full ≡ false);
 }
 
 abbrev pub decreases-by_window : goal.decreases-by_window

@@ -2,14 +2,14 @@
 -- block (`closed-full`), because an open one has room.
 use Rattle.std.proofs.Common.{arith}
 use Rattle.cobs.proofs.encoding.AfterLemmas.{closed-full, closed-open}
-use Rattle.cobs.proofs.enc.blocks.close_block.Goals.{else-index-dest-via-then-index-dest+else-not-progress, else-index-dest-via-else-index-dest}
+use Rattle.cobs.proofs.enc.blocks.close_block.Goals.{else-index-dest-via-then-index-dest+else-encoder-eq0, else-index-dest-via-else-index-dest}
 use Rattle.cobs.proofs.enc.blocks.close_block.Goals as goal
 
-pub returns-then-not-progress-clause-frame : goal.returns-then-not-progress-clause-frame
-returns-then-not-progress-clause-frame c = λ m h. closed-open h (grind arith)
+pub returns-then-encoder-eq0-clause-frame : goal.returns-then-encoder-eq0-clause-frame
+returns-then-encoder-eq0-clause-frame c = λ m h. closed-open h (grind arith)
 
 pub returns-clause-frame : goal.returns-clause-frame
 returns-clause-frame c = λ m h. closed-full h (elim c.else-index-dest.branch [
-  | else-index-dest-via-then-index-dest+else-not-progress w ↦ grind arith
+  | else-index-dest-via-then-index-dest+else-encoder-eq0 w ↦ grind arith
   | else-index-dest-via-else-index-dest w ↦ grind arith
 ])

@@ -1,8 +1,8 @@
 -- The frame so far ends before the bytes that are still to be read (`encoded_len-le`), so each of these is as it was (`there`).
-use Rattle.std.proofs.Common.{◌≡◌, ◌<◌, ◌≤◌, ◌+◌, ◌-◌, ◌++◌, ℕ, List, [], ◌∷◌, drop, take, get_or, refl, sym, ap, ◌∙◌, subst, arith, length, length-drop, length-take}
+use Rattle.std.proofs.Common.{◌≡◌, ◌<◌, ◌≤◌, ◌+◌, ◌-◌, ◌++◌, ℕ, List, [], ◌∷◌, drop, take, get_or, refl, sym, ◌∙◌, subst, arith, length, length-drop, length-take}
 use Rattle.std.proofs.lemmas.Bool.{cases_Bool}
 use Rattle.std.proofs.lemmas.List.{get_or-drop, length_push, take_more}
-use Rattle.cobs.specs.Fields.Progress.{reached_at, reached_by}
+use Rattle.cobs.specs.Fields.Progress.{reached_by}
 use Rattle.cobs.specs.Length.{max_encoded_len}
 use Rattle.cobs.specs.OpenBlock.{CobsEncoderAfter, Reached, end_after, end_of, next_of}
 use Rattle.cobs.specs.Overwritten.{message_in}
@@ -52,7 +52,7 @@ by_byte-preserved c =
     let r' : Reached = reached_by c.append_byte.new.self in
     let i = c.by_byte.invariant in
     let taken = length-take c.by_byte.taken (drop before old) in
-    let e = c.append_byte.ensures [] (fits-one _ c.args.len i.after (omega arith) (omega arith)) in
+    let e = c.append_byte.ensures.taken [] (fits-one _ c.args.len i.after (omega arith) (omega arith)) in
     let long = length-drop before old in
     let end = end-is i.after in
     let most = encoded_len-le (take c.by_byte.taken (drop before old)) in
@@ -64,21 +64,18 @@ by_byte-preserved c =
     grind (arith, all-rest, drop-later, all-end)
 
 pub close_block-requires : goal.close_block-requires
-close_block-requires c = rw c.progress.ensures.progress (after-place c.by_byte.invariant.after)
+close_block-requires c = after-place c.by_byte.invariant.after
 
 pub returns : goal.returns
 returns c =
-    let r : Reached = reached_at c.progress.result in
     let all : c.by_byte.taken ≡ c.args.len = omega arith in
     let m : List ℕ = message_in c.args.len c.args.buffer.now in
     let message : take c.by_byte.taken (drop c.max_encoding_overhead-before.result c.args.buffer.now) ≡ m = rw (all, c.max_encoding_overhead-before.ensures.overhead) refl in
-    let same = c.progress.ensures.progress in
-    let after : CobsEncoderAfter c.by_byte.buffer r m = rw (same, ← message) c.by_byte.invariant.after in
+    let after : CobsEncoderAfter c.by_byte.buffer (reached_by c.by_byte.encoder) m = rw (← message) c.by_byte.invariant.after in
     let frame = c.close_block.ensures.frame m after in
-    let end = c.close_block.ensures.end ∙ ap end_of same in
     record {
       frame = frame;
       no_sentinel = encoded_nonzero frame;
       len = c.close_block.ensures.end ∙ sym (end-is after);
-      rest = c.close_block.ensures.rest ∙ subst (λ (n : ℕ). drop n c.by_byte.buffer ≡ drop n c.args.buffer.now) (sym end) c.by_byte.invariant.rest;
+      rest = c.close_block.ensures.rest ∙ subst (λ (n : ℕ). drop n c.by_byte.buffer ≡ drop n c.args.buffer.now) (sym c.close_block.ensures.end) c.by_byte.invariant.rest;
     }

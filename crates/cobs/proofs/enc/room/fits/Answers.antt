@@ -8,22 +8,22 @@ use Rattle.cobs.proofs.enc.room.fits.Goals.{Then-read-source, Else-read-source}
 use Rattle.cobs.proofs.enc.room.fits.Goals as goal
 
 -- the source ends with the run
-ended : (c : Then-read-source) → c.by_run.counted + (c.by_run.run + c.position_or_len-more.result - 1) / 254 ≡ blocks_in (behind (c.args.code - 1) c.args.source.now)
+ended : (c : Then-read-source) → c.by_run.counted + (c.by_run.run + c.position_or_len-more.result - 1) / 254 ≡ blocks_in (behind c.args.taken c.args.source.now)
 ended c =
     let source : List ℕ = c.args.source.now in
     let nonzero = subst HasNoZero (ap (take _) (take_rest source _)) c.position_or_len-more.ensures.before in
     let all = run-more source _ c.by_run.run _ (omega arith) nonzero in
     grind (arith, drop_all, blocks_in, behind, blocks-end)
 
-pub returns-then-spare-code-clause-fits : goal.returns-then-spare-code-clause-fits
-returns-then-spare-code-clause-fits c = let e = ended (goal.at.returns-then-spare-code-clause-fits c).Then-read-source in grind (arith, open_len-is)
+pub returns-then-spare-held-clause-fits : goal.returns-then-spare-held-clause-fits
+returns-then-spare-held-clause-fits c = let e = ended (goal.at.returns-then-spare-held-clause-fits c).Then-read-source in grind (arith, open_len-is)
 
 pub returns-then-read-source-clause-fits : goal.returns-then-read-source-clause-fits
 returns-then-read-source-clause-fits c = let e = ended (goal.at.returns-then-read-source-clause-fits c).Then-read-source in grind (arith, open_len-is)
 
 -- a zero ends the run
 stopped : (c : Else-read-source) → c.by_run.counted + (c.by_run.run + c.position_or_len-more.result) / 254 + blocks_in (behind 0 (drop (c.by_run.read + c.position_or_len-more.result + 1) c.args.source.now))
-    ≡ blocks_in (behind (c.args.code - 1) c.args.source.now)
+    ≡ blocks_in (behind c.args.taken c.args.source.now)
 stopped c =
     let source : List ℕ = c.args.source.now in
     let read : ℕ = c.by_run.read in
@@ -43,5 +43,5 @@ by_run-preserved-in-Some c =
 pub by_run-preserved : goal.by_run-preserved
 by_run-preserved c = grind (arith, stopped, take_rest, length-drop)
 
-pub returns-then-code-counted-clause-fits : goal.returns-then-code-counted-clause-fits
-returns-then-code-counted-clause-fits c = grind (arith, length-drop, blocks-none, open_len-is)
+pub returns-then-held-counted-clause-fits : goal.returns-then-held-counted-clause-fits
+returns-then-held-counted-clause-fits c = grind (arith, length-drop, blocks-none, open_len-is)

@@ -10,7 +10,7 @@ invariant-by_run l = record {
   within : l.read ≤ length l.source;
   run : l.run < 254;
   first : 0 < l.first → IsFirstRun l.first l.source;
-  counted : l.counted + blocks_in (behind l.run (drop l.read l.source)) ≡ blocks_in (behind (l.code - 1) l.source);
+  counted : l.counted + blocks_in (behind l.run (drop l.read l.source)) ≡ blocks_in (behind l.taken l.source);
 }
 
 abbrev pub decreases-by_run : goal.decreases-by_run

@@ -19,7 +19,7 @@ by_byte-preserved c =
     let short = c.by_byte.invariant.short in
     let next = c.by_byte-test.true in
     let ready : (c.if-taken-eq-FULL_BLOCK_BYTES.taken < 254) × (0 < c.if-taken-eq-FULL_BLOCK_BYTES.left)
-    × (open_len (c.if-taken-eq-FULL_BLOCK_BYTES.taken + 1) (drop c.by_byte.i c.args.bytes.now) + c.args.code + c.args.spare + c.by_byte.i ≡ open_len c.args.code c.args.bytes.now + (c.if-taken-eq-FULL_BLOCK_BYTES.taken + 1) + c.if-taken-eq-FULL_BLOCK_BYTES.left) =
+    × (open_len (c.if-taken-eq-FULL_BLOCK_BYTES.taken + 1) (drop c.by_byte.i c.args.bytes.now) + c.args.taken + c.args.spare + c.by_byte.i ≡ open_len (c.args.taken + 1) c.args.bytes.now + c.if-taken-eq-FULL_BLOCK_BYTES.taken + c.if-taken-eq-FULL_BLOCK_BYTES.left) =
     elim c.if-taken-eq-FULL_BLOCK_BYTES.branch [
       | then-taken-eq-FULL_BLOCK_BYTES+else-left-eq0 w ↦
           let full = len-full c.args.bytes.now c.by_byte.i next (c.by_byte.taken + 1) (omega arith) in

@@ -7,5 +7,5 @@ abbrev pub invariant-by_byte : goal.invariant-by_byte
 invariant-by_byte l = record {
   short : l.taken < 255;
   more : 0 < l.left;
-  total : open_len (l.taken + 1) (drop l.i l.bytes) + l.fn.code + l.spare + l.i ≡ open_len l.fn.code l.bytes + (l.taken + 1) + l.left;
+  total : open_len (l.taken + 1) (drop l.i l.bytes) + l.fn.taken + l.spare + l.i ≡ open_len (l.fn.taken + 1) l.bytes + l.taken + l.left;
 }

@@ -1,5 +1,5 @@
--- By the clause of `feed_piece`: a piece that ended is the first one that was read (`EndsFirstIn-taken`); if none ended, the
--- decoder has taken all bytes.
+-- By the clause of `feed_piece`. A piece that ended is the first piece of the bytes that were read
+-- (`EndsFirstIn-taken`). If no piece ended, the decoder has taken all bytes.
 use Rattle.std.proofs.Common.{arith, ℕ, List, [], length, refl}
 use Rattle.std.proofs.Math.Bridge.{le_prop}
 use Rattle.std.proofs.Math.Logic.{∥∥₁_elim, ∥∥₁_map}

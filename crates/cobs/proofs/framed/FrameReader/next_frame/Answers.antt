@@ -1,6 +1,6 @@
--- A call begins with no reads (`Going-start`), each read that ends no piece is one more (`Going-push`), and each way out
--- is a lemma of `ReadingLemmas` whose name begins with `ReadsNext`: kept bytes, a failure, the end of the source, a
--- piece, too many reads.
+-- A call begins without a read (`Going-start`), and each read that ends no piece adds one read (`Going-push`). For each
+-- way in which the call can end, `ReadingLemmas` has a lemma whose name begins with `ReadsNext`: kept bytes, a failure,
+-- the end of the source, a piece, too many reads.
 use Rattle.std.proofs.Common.{◌≡◌, ◌≤◌, [], ◌∙◌, sym, subst, take, length-take, Some, arith}
 use Rattle.cobs.proofs.streaming.ReadingLemmas.{Going-start, Going-push, ReadsNext-kept, ReadsNext-failed, ReadsNext-end, ReadsNext-piece, ReadsNext-too_many, front_nonempty, front_rest, empty_range, left_of_range}
 use Rattle.cobs.proofs.framed.FrameReader.next_frame.Goals as goal

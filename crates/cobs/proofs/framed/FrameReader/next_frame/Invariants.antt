@@ -1,4 +1,4 @@
--- The reads of this call gave bytes that end no piece (`Going`), and no byte is kept between two reads.
+-- The reads of this call returned bytes in which no piece ends (`Going`), and no byte is kept between two reads.
 use Rattle.std.proofs.Common.{◌≡◌}
 use Rattle.cobs.specs.Fields.Reader.{decoder_of, reader_state}
 use Rattle.cobs.proofs.streaming.ReadingLemmas.{Going}

@@ -1,4 +1,5 @@
--- The length of a frame, block by block: `LengthLemmas` for its clauses, and `same_start` for equal starts.
+-- The length of a frame, block by block: the clauses are lemmas of `LengthLemmas`, except `same`, which is
+-- `same_start`.
 use Rattle.std.proofs.Common.{arith}
 use Rattle.cobs.proofs.format.LengthLemmas.{encoded_len-full, encoded_len-last, encoded_len-zero}
 use Rattle.cobs.proofs.encoding.OpenLenLemmas.{same_start}

@@ -1,4 +1,4 @@
--- The fields are lemmas on `CobsEncoderAfter`: the steps are in `ByteLemmas`, the start and the end in `AfterLemmas`.
+-- The fields are lemmas on `CobsEncoderAfter`: `ByteLemmas` has the steps, and `AfterLemmas` has the start and the end.
 use Rattle.cobs.proofs.encoding.AfterLemmas.{after-nothing, after-place, closed-full, closed-open}
 use Rattle.cobs.proofs.encoding.ByteLemmas.{after-byte, after-filled, after-more, after-zero}
 use Rattle.cobs.proofs.laws.coders.law_16.Goals as goal

@@ -1,4 +1,5 @@
--- A decoder of a caller's own: `FeedLemmas` and `TableLemmas` for one byte, and `ByByteLemmas` for a loop over the bytes.
+-- A decoder of your own, byte by byte: `FeedLemmas` and `TableLemmas` prove the step for one byte, and `ByByteLemmas` a
+-- loop over the bytes.
 use Rattle.cobs.proofs.streaming.ByByteLemmas.{piece-ended, piece-more, piece-nothing}
 use Rattle.cobs.proofs.streaming.FeedLemmas.{Feeds-step}
 use Rattle.cobs.proofs.streaming.TableLemmas.{FeedsByTable-step}

@@ -1,4 +1,4 @@
--- The fields are the lemmas of `FrameTaken`, for a zero and for a piece, and `push_reads` for a push.
+-- The fields about a zero and about a piece are lemmas of `FrameTaken`, and the field about a push is `push_reads`.
 use Rattle.cobs.proofs.streaming.FrameTaken.{fed-only, fed-reads, taken-only, taken-piece, taken-reads}
 use Rattle.cobs.proofs.streaming.PushHeadline.{push_reads}
 use Rattle.cobs.proofs.decoding.ReadsLemmas.{frame_piece}

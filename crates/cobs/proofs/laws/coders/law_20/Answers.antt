@@ -1,5 +1,5 @@
--- The output of a piece, block by block: a whole block in front by `front-whole` and `front-kept`, a last one by
--- `KeptLemmas`.
+-- The output of a piece, block by block: a whole block before other bytes by `front-whole` and `front-kept`, and a last
+-- block by `KeptLemmas`.
 use Rattle.std.proofs.Common.{arith}
 use Rattle.cobs.proofs.decoding.KeptLemmas.{all-kept, block-whole, broken-part, front-kept, front-whole, kept-broken}
 use Rattle.cobs.proofs.decoding.PieceCuts.{output-last}

@@ -1,5 +1,5 @@
--- A piece that was taken ends with a zero, after which nothing is unended: so the rest of the stream has its outcomes by itself
--- (`stream_outcomes-append`).
+-- A piece that was taken ends with a zero, and after a zero no byte is unended. So the outcomes of the rest of the
+-- stream don't depend on the piece (`stream_outcomes-append`).
 use Rattle.std.proofs.Common.{arith, ◌≡◌, ℕ, List, [], ◌∷◌, ◌++◌, length, take, drop, sym, Some}
 use Rattle.std.proofs.lemmas.List.{take-append-drop}
 use Rattle.cobs.specs.Feed.{Phase, Idle}

@@ -1,6 +1,6 @@
 use Rattle.std.specs.Io.KnownBytes.{Keeps}
 use Rattle.cobs_live.proofs.port.PortRead.read.Given as goal
 
--- every try so far would have blocked
+-- each earlier try would have blocked
 abbrev pub invariant-by_try : goal.invariant-by_try
 invariant-by_try g l = Keeps (g.R.Read.remaining l.fn.self.inner) (g.R.Read.remaining l.self.inner)

@@ -1,4 +1,4 @@
--- The reference that is returned lends the decoder's own buffer, by `lends`.
+-- The returned reference lends the decoder's buffer, by `lends`.
 use Rattle.cobs.specs.contracts.dec.buffered.CobsDecoderWriteBuffer.dest_mut as f
 use Rattle.cobs.proofs.streaming.BorrowedSlice.{lends}
 use Rattle.cobs.proofs.dec.buffered.CobsDecoderWriteBuffer.dest_mut.Statement.{statement}

@@ -1,4 +1,5 @@
--- A row of the table is one step of the piece: a nonzero byte (`StateAfter-step`), or its end (`StateAfter-end`).
+-- A row of the table is one step in the piece: a nonzero byte (`StateAfter-step`), or the zero that ends the piece
+-- (`StateAfter-end`).
 use Rattle.std.proofs.Common.{arith}
 use Rattle.cobs.proofs.streaming.TableLemmas.{StateAfter-start, StateAfter-step, StateAfter-end}
 use Rattle.cobs.proofs.dec.state.DecoderState.feed.Goals as goal

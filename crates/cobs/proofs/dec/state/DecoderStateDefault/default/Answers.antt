@@ -1,4 +1,4 @@
--- A new state is that after no byte, by `StateAfter-start`.
+-- A new state is the state after no byte, by `StateAfter-start`.
 use Rattle.cobs.proofs.streaming.TableLemmas.{StateAfter-start}
 use Rattle.cobs.proofs.dec.state.DecoderStateDefault.default.Goals as goal
 

@@ -39,7 +39,8 @@ by_byte-init c = piece-nothing _ _
 pub by_byte-preserved-else-here-ne0 : goal.by_byte-preserved-else-here-ne0
 by_byte-preserved-else-here-ne0 c =
     let e = c.take_byte.ensures in
-    next _ _ _ c.by_byte-test.true c.by_byte.invariant _ refl (Feeds-as refl e.phase e.buffer) (λ z. absurd (c.if-byte-ne0.true z))
+    let nonzero = c.if-byte-ne0.true in
+    next _ _ _ c.by_byte-test.true c.by_byte.invariant _ refl (Feeds-as refl (e.phase nonzero) (e.buffer nonzero)) (λ z. absurd (nonzero z))
 
 pub by_byte-preserved : goal.by_byte-preserved
 by_byte-preserved c =
@@ -57,8 +58,9 @@ to_end-init c = elim c.if-here-eq0.branch [
       rw (w.dest-is, w.here-is, w.taken-is) (record { none_ended = w.by_byte.invariant; overlong = λ more. absurd (omega (arith, more, w.by_byte-test.false)) })
   | then-here-eq0+then-by_byte-test+then-byte-ne0+then-here-ne0 w ↦
       let e = w.take_byte.ensures in
+      let nonzero = w.if-byte-ne0.true in
       rw (w.dest-is, w.here-is, w.taken-is) (record {
-        none_ended = next _ _ _ w.by_byte-test.true w.by_byte.invariant _ refl (Feeds-as refl e.phase e.buffer) (λ z. absurd (w.if-byte-ne0.true z));
+        none_ended = next _ _ _ w.by_byte-test.true w.by_byte.invariant _ refl (Feeds-as refl (e.phase nonzero) (e.buffer nonzero)) (λ z. absurd (nonzero z));
         overlong = λ _. over_is w.take_byte.new.self w.if-here-ne0.true;
       })
   | else-here-eq0 w ↦ rw (w.dest-is, w.here-is, w.taken-is) (record { none_ended = piece-nothing _ _; overlong = λ _. over_is c.args.self.now w.if-here-eq0.false })

@@ -1,4 +1,4 @@
--- No piece has ended in the bytes so far (`TakesPiece`). In the second loop, which passes the rest of a message that is
+-- No piece has ended in the bytes so far (`TakesPiece`). In the second loop, which skips the rest of a piece that is
 -- too long, the phase is `Overlong` while bytes are left.
 use Rattle.std.proofs.Common.{◌≡◌, ◌-◌, ◌<◌, None, length, take}
 use Rattle.cobs.specs.Feed.{Overlong}
@@ -14,7 +14,7 @@ invariant-by_byte l = TakesPiece l.fn.dest (phase_of l.fn.self) (take l.taken (x
 abbrev pub decreases-by_byte : goal.decreases-by_byte
 decreases-by_byte l = length l.bytes - l.taken
 
--- nor here, and if bytes are left the message is too long
+-- no piece has ended in the bytes so far, and if bytes are left, the piece is too long
 abbrev pub invariant-to_end : goal.invariant-to_end
 invariant-to_end l = record {
   none_ended : TakesPiece l.fn.dest (phase_of l.fn.self) (take l.taken (xor_each l.sentinel l.bytes)) None l.dest (phase_of l.here);

@@ -1,5 +1,5 @@
--- The bytes before a zero are fed quietly (`take_front`, `take_short`), and a zero after them ends the piece; or nothing was
--- taken (`kept`), and the bytes are fed by the other functions.
+-- Either the bytes before a zero are fed quietly (`take_front`, `take_short`), and the zero after them ends the piece,
+-- or no byte was taken (`kept`), and the other functions feed the bytes.
 use Rattle.std.proofs.Common.{◌≡◌, ◌≢◌, ◌∙◌, ◌<◌, ◌+◌, List, ℕ, zero, suc, Bool, true, false, Option, Result, None, refl, sym, ap, arith, get_or, length, take, take_all}
 use Rattle.std.proofs.Math.Seq.{take-length}
 use Rattle.cobs.specs.Feed.{Feeds, Phase, Idle, Within, Overlong}
@@ -17,12 +17,12 @@ use Rattle.cobs.proofs.dec.unbuffered.UnbufferedDecoder.feed_piece.Goals as goal
 use Rattle.cobs_bytes.proofs.bytes.XoredLemmas.{xor_each-zero}
 use Rattle.cobs.proofs.dec.unbuffered.UnbufferedDecoder.feed_piece.Goals.{Joined-bytes-gt-VERY_FEW, then-bytes-gt-VERY_FEW+then-is_idle+else-front-lt-WINDOW, else-front-lt-WINDOW-via-then-front-lt-WINDOW+else-take_front, else-front-lt-WINDOW-via-else-front-lt-WINDOW, then-bytes-gt-VERY_FEW+else-is_idle+else-take_short, else-bytes-gt-VERY_FEW}
 
--- bytes were fed of which none ends a piece
+-- bytes were fed, and none of them ends a piece
 quietly : (bytes buffer buffer' : List ℕ) (phase phase' : Phase) → FeedsQuietly buffer phase bytes buffer' phase' → TakesPiece buffer phase bytes None buffer' phase'
 quietly bytes buffer buffer' phase phase' fed =
     rw (take_all (0 + length bytes) bytes (omega arith)) at (piece-run bytes 0 (length bytes) (omega arith) (piece-nothing _ _) (rw (← take-length bytes) at fed))
 
--- a zero ends a piece of which a byte is written
+-- a zero ends a piece of which at least one byte of output is written
 ended_at : (is_full : Bool) (left count n : ℕ) (phase' : Phase) (result : Result (Option ℕ) DecodeError)
     → FeedsByTable n (phase_with is_full left (suc count)) 0 result phase' → end_reported result ≢ None
 ended_at false zero count n phase' result f none = grind (arith, f.returned (Grab 0) refl)

@@ -1,4 +1,4 @@
--- A new decoder is idle, so it is one that has taken no byte of a piece (`DecoderAfter-idle`).
+-- A new decoder is idle, so it has taken no byte of a piece (`DecoderAfter-idle`).
 use Rattle.std.proofs.Common.{refl}
 use Rattle.cobs.proofs.streaming.FeedLemmas.{DecoderAfter-idle}
 use Rattle.cobs.proofs.dec.unbuffered.UnbufferedDecoder.new.Goals as goal

@@ -1,5 +1,5 @@
--- A short push that was taken at once is one run without an end (`pushed_fed`); otherwise buffer and state are as before,
--- so `push_long` is called as if at the start.
+-- A short push that was taken at once is a run in which no piece ends (`pushed_fed`). Otherwise the buffer and the
+-- state are as before the call, so `push_long` begins from them.
 use Rattle.std.proofs.Common.{List, ℕ, arith, length}
 use Rattle.std.proofs.Math.Seq.{take-length}
 use Rattle.cobs.proofs.streaming.PushLemmas.{Pushed-start, pushed_none, pushed_fed}

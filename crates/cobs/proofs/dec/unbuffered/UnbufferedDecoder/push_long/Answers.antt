@@ -1,5 +1,6 @@
--- Each iteration feeds a run (`ran`), then the byte after it, which continues (`Pushed-more`) or ends the call: with a
--- message (`pushed_some`), an error (`pushed_error`), or the last byte (`pushed_none`).
+-- Each iteration feeds a run (`ran`), and then the byte after the run. This byte continues the call (`Pushed-more`), or
+-- ends it with a message (`pushed_some`) or an error (`pushed_error`). After the last byte the call ends without either
+-- (`pushed_none`).
 use Rattle.std.proofs.Common.{◌+◌, ◌∙◌, ap, arith, Ok, length-drop, length-take}
 use Rattle.cobs.specs.Fields.Decoders.{phase_of}
 use Rattle.cobs.proofs.streaming.PushLemmas.{Pushed, Pushed-start, Pushed-more, pushed_fed, pushed_none, pushed_some, pushed_error}

@@ -1,5 +1,5 @@
--- A code is fed, and then the bytes of its block, which were copied after the output (`copied_put`, `block_fed`):
--- together they are fed (`FeedsQuietly-more`).
+-- A code is fed, and then the bytes of its block, which were copied after the output (`copied_put`, `block_fed`).
+-- `FeedsQuietly-more` joins the two.
 use Rattle.std.proofs.Common.{◌≡◌, ◌≢◌, ◌-◌, ◌+◌, ℕ, List, length, take, drop, bit_xor, arith, length-drop, length-take-le}
 use Rattle.std.proofs.lemmas.List.{length-map}
 use Rattle.std.proofs.lemmas.List.Elements.{All-drop, All-take}
@@ -10,7 +10,7 @@ use Rattle.cobs.proofs.format.SentinelLemmas.{first_xored, slice_xored}
 use Rattle.cobs.proofs.streaming.SpanLemmas.{block_fed, FeedsQuietly-more, copied_put}
 use Rattle.cobs.proofs.dec.unbuffered.UnbufferedDecoder.take_block.Goals as goal
 
--- the code, and the bytes of its block that follow
+-- the code, and then the bytes of its block
 pub returns-clause-fed : goal.returns-clause-fed
 returns-clause-fed c =
     let bytes : List ℕ = c.args.bytes.now in

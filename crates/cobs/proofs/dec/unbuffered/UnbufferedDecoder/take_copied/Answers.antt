@@ -1,6 +1,6 @@
 -- Bytes that were copied after the output are fed: those of the open block as they are (`kept`), those after it with a
 -- zero over each code (`marked`).
-use Rattle.std.proofs.Common.{◌-◌, arith, length}
+use Rattle.std.proofs.Common.{arith, length}
 use Rattle.cobs.proofs.streaming.SpanLemmas.{joint-is, kept, marked}
 use Rattle.std.proofs.lemmas.List.Elements.{All-cons}
 use Rattle.cobs.proofs.dec.unbuffered.UnbufferedDecoder.take_copied.Goals as goal

@@ -1,5 +1,5 @@
--- The steps in place are fed one after another (`FeedsQuietly-more`). A step reads the bytes as they were at the start, since no
--- step before it wrote at or after the place that is read (`rest_read`).
+-- The steps in place are fed one after another (`FeedsQuietly-more`). Each step reads the bytes as they were at the
+-- start, since no earlier step wrote at or after the index that is read (`rest_read`).
 use Rattle.std.proofs.Common.{◌-◌, ℕ, List, take, drop, sym, subst, arith}
 use Rattle.cobs.specs.Fields.Decoders.{phase_of}
 use Rattle.cobs.specs.Grammar.{HasNoZero}

@@ -1,5 +1,5 @@
--- Bytes that were moved after the output are fed: those of the open block as they are (`kept`), those after it with a
--- zero over each code (`marked`).
+-- Bytes that were moved after the output are fed. If all of them belong to the open block, they stay as they are
+-- (`kept`). Otherwise a zero is written over each code (`marked`).
 use Rattle.std.proofs.Common.{arith}
 use Rattle.cobs.proofs.streaming.SpanLemmas.{joint-is, kept, marked}
 use Rattle.cobs.proofs.dec.unbuffered.UnbufferedDecoder.take_moved.Goals as goal

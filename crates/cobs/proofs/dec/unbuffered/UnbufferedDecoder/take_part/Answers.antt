@@ -1,5 +1,5 @@
--- Only the way for a row of codes without bytes is proved here: its zeros are written at once, as if the codes were fed
--- (`row_fed`).
+-- Only the case of a row of blocks without bytes is proved here: the zeros of the row are written at once, as if its
+-- codes were fed (`row_fed`).
 use Rattle.std.proofs.Common.{arith}
 use Rattle.cobs.proofs.format.SentinelLemmas.{ones_xored}
 use Rattle.cobs.proofs.streaming.SpanLemmas.{row_fed}

@@ -1,5 +1,5 @@
--- The bytes up to the first zero are XORed with 0, so they are the bytes themselves (`xor_each-zero`), and `take_blocks`
--- has fed them. If it stopped before their end, the byte there has no room.
+-- The bytes before the first zero are XORed with 0, which changes nothing (`xor_each-zero`), and `take_blocks` has fed
+-- them. If `take_blocks` stopped before the zero, there is no room for the next byte's output.
 use Rattle.std.proofs.Common.{◌≡◌, ◌≤◌, ◌<◌, ℕ, List, subst, get_or, length-take, arith, inl, inr}
 use Rattle.std.proofs.lemmas.Bool.{cases_lt}
 use Rattle.std.proofs.lemmas.List.{get_or-take, take-take}

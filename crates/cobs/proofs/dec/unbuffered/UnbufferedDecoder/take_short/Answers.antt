@@ -1,5 +1,5 @@
--- The bytes were copied after the output without being changed (`xor_each-zero`, `part_put`), which is what `take_copied`
--- requires, and then they are fed.
+-- The bytes were copied unchanged after the output (`xor_each-zero`, `part_put`), as `take_copied` requires, and
+-- `take_copied` feeds them.
 use Rattle.std.proofs.Common.{arith}
 use Rattle.cobs.proofs.streaming.SpanLemmas.{copied-there, part_put}
 use Rattle.cobs.proofs.dec.unbuffered.UnbufferedDecoder.take_short.Goals as goal

@@ -1,5 +1,5 @@
--- The first n bytes were copied after the output (`copied_put`), so they are there (`copied-there`), which is what
--- `take_copied` requires.
+-- The first n bytes were copied after the output (`copied_put`), so they are there (`copied-there`), as `take_copied`
+-- requires.
 use Rattle.std.proofs.Common.{◌≡◌, ◌≢◌, ◌≤◌, ◌+◌, ◌-◌, ◌++◌, List, ℕ, bit_xor, length, take, drop, sym, subst, arith, length-take-le}
 use Rattle.std.proofs.lemmas.List.{length-map}
 use Rattle.std.proofs.lemmas.List.Elements.{All-take}

@@ -52,7 +52,7 @@ pub by_run-preserved-then-bytes-taken-ne0 : goal.by_run-preserved-then-bytes-tak
 by_run-preserved-then-bytes-taken-ne0 c = record {
   within = omega arith;
   none_ended = piece-more _ _ c.if-taken-bytes.true (ran (goal.at.by_run-preserved-then-bytes-taken-ne0 c).After-take_run-taken)
-      (Feeds-as refl c.take_byte.ensures.phase c.take_byte.ensures.buffer) (λ z. absurd (c.if-bytes-taken-ne0.true z));
+      (Feeds-as refl (c.take_byte.ensures.phase c.if-bytes-taken-ne0.true) (c.take_byte.ensures.buffer c.if-bytes-taken-ne0.true)) (λ z. absurd (c.if-bytes-taken-ne0.true z));
 }
 
 pub by_run-preserved : goal.by_run-preserved

@@ -1,16 +1,15 @@
 -- The slice holds the message's open frame, so closing its last block makes the frame, and its length is the end
 -- (`end-is`). A frame has no zero (`encoded_nonzero`).
-use Rattle.std.proofs.Common.{ap, ◌∙◌, sym}
-use Rattle.cobs.specs.OpenBlock.{end_of}
+use Rattle.std.proofs.Common.{◌∙◌, sym}
 use Rattle.cobs.proofs.encoding.AfterLemmas.{end-is}
 use Rattle.cobs.proofs.format.SentinelLemmas.{encoded_nonzero}
 use Rattle.cobs.proofs.enc.encoder.CobsEncoder.finalize.Goals as goal
 
 pub returns-clause-len : goal.returns-clause-len
-returns-clause-len c = λ m h. c.close.ensures.end ∙ ap end_of c.progress.ensures.progress ∙ sym (end-is h)
+returns-clause-len c = λ m h. c.close.ensures.end ∙ sym (end-is h)
 
 pub returns-clause-frame : goal.returns-clause-frame
-returns-clause-frame c = λ m h. c.close.ensures.frame m (rw c.progress.ensures.progress h)
+returns-clause-frame c = λ m h. c.close.ensures.frame m h
 
 pub returns-clause-no_sentinel : goal.returns-clause-no_sentinel
 returns-clause-no_sentinel c = λ m h. encoded_nonzero (returns-clause-frame c m h)

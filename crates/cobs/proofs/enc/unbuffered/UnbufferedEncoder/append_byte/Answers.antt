@@ -1,14 +1,15 @@
 -- A zero closes the open block, and any other byte joins or fills it: the three steps of `ByteLemmas`.
-use Rattle.std.proofs.Common.{refl, arith}
+use Rattle.std.proofs.Common.{length, refl, arith}
 use Rattle.cobs.proofs.encoding.ByteLemmas.{byte-fills, byte-joins, byte-zero}
 use Rattle.cobs.proofs.encoding.StepLemmas.{is-place}
+use Rattle.cobs.proofs.enc.unbuffered.UnbufferedEncoder.append_byte.Goals.{then-byte-eq0, else-byte-eq0+then-code-eq-FULL_BLOCK_BYTES, else-byte-eq0+else-code-eq-FULL_BLOCK_BYTES}
 use Rattle.cobs.proofs.enc.unbuffered.UnbufferedEncoder.append_byte.Goals as goal
 
-pub returns-then-byte-eq0 : goal.returns-then-byte-eq0
-returns-then-byte-eq0 c = λ behind fits. byte-zero (is-place c.args.self.now _ c.requires.open_block c.requires.room) fits (omega arith) (omega arith) c.if-byte-eq0.true (omega arith) refl
-
-pub returns-then-code-eq-FULL_BLOCK_BYTES : goal.returns-then-code-eq-FULL_BLOCK_BYTES
-returns-then-code-eq-FULL_BLOCK_BYTES c = λ behind fits. byte-fills (is-place c.args.self.now _ c.requires.open_block c.requires.room) fits (omega arith) (omega arith) c.if-byte-eq0.false (omega arith) refl
-
-pub returns-else-code-eq-FULL_BLOCK_BYTES : goal.returns-else-code-eq-FULL_BLOCK_BYTES
-returns-else-code-eq-FULL_BLOCK_BYTES c = λ behind fits. byte-joins (is-place c.args.self.now _ c.requires.open_block c.requires.room) fits (omega arith) (omega arith) c.if-byte-eq0.false (omega arith) (omega arith) refl
+pub returns-clause-taken : goal.returns-clause-taken
+returns-clause-taken c = λ behind fits.
+    let place = is-place c.args.self.now (length c.args.dest.now) c.requires.open_block c.requires.room in
+    elim c.if-byte-eq0.branch [
+      | then-byte-eq0 w ↦ rw (w.self-is, w.dest-is, w.code-is) (byte-zero place fits (omega arith) (omega arith) w.if-byte-eq0.true (omega arith) refl)
+      | else-byte-eq0+then-code-eq-FULL_BLOCK_BYTES w ↦ rw (w.self-is, w.dest-is, w.code-is) (byte-fills place fits (omega arith) (omega arith) w.if-byte-eq0.false (omega arith) refl)
+      | else-byte-eq0+else-code-eq-FULL_BLOCK_BYTES w ↦ rw (w.self-is, w.dest-is, w.code-is) (byte-joins place fits (omega arith) (omega arith) w.if-byte-eq0.false (omega arith) (omega arith) refl)
+    ]

@@ -5,8 +5,9 @@ use Rattle.std.proofs.lemmas.List.{get_or-drop}
 use Rattle.cobs.specs.Internal.Taking.{TakesFront}
 use Rattle.cobs.specs.OpenBlock.{Reached, end_after, place_at}
 use Rattle.cobs.proofs.encoding.ByteLemmas.{byte-fills, byte-joins, byte-zero}
+use Rattle.cobs.proofs.encoding.OpenLenLemmas.{open_len-least}
 use Rattle.cobs.proofs.encoding.TakingLemmas.{front-next}
-use Rattle.cobs.proofs.enc.unbuffered.UnbufferedEncoder.append_each.Goals.{then-byte-ne0, else-byte-ne0, then-byte-eq0, then-byte-eq0-via-then-byte-eq0, then-byte-eq0-via-else-byte-eq0+then-next-index-eq-FULL_CODE, else-byte-eq0+else-next-index-eq-FULL_CODE}
+use Rattle.cobs.proofs.enc.unbuffered.UnbufferedEncoder.append_each.Goals.{then-byte-ne0, else-byte-ne0, then-byte-eq0, then-byte-eq0-via-then-byte-eq0, then-byte-eq0-via-else-byte-eq0+then-next-limit, else-byte-eq0+else-next-limit}
 use Rattle.cobs.proofs.enc.unbuffered.UnbufferedEncoder.append_each.Goals as goal
 
 -- the same slice, by another name
@@ -25,20 +26,24 @@ by_byte-preserved c =
     let is : get_or left 0 0 ≡ get_or source c.by_byte.i 0 = get_or-drop c.by_byte.i source 0 0 ∙ ap (λ (n : ℕ). get_or source n 0) (omega arith) in
     let some : 0 < length left = omega (arith, length-drop c.by_byte.i source) in
     let fits : end_after (place_at c.by_byte.index (c.by_byte.next - c.by_byte.index) i.taken.0) left ≤ length c.by_byte.dest = omega arith in
+    let least = open_len-least (c.by_byte.next - c.by_byte.index) left (omega arith) in
+    let room : c.by_byte.next < length c.by_byte.dest = grind (arith, end_after) in
     let at : c.by_byte.next ≡ c.by_byte.index + (c.by_byte.next - c.by_byte.index) = omega arith in
     elim c.if-byte-ne0.branch [
       | then-byte-ne0 a ↦ elim c.if-byte-eq0.branch [
         | then-byte-eq0 w ↦ elim w.then-byte-eq0.branch [
           | then-byte-eq0-via-then-byte-eq0 v ↦ absurd (a.if-byte-ne0.true v.if-byte-eq0.true)
-          | then-byte-eq0-via-else-byte-eq0+then-next-index-eq-FULL_CODE v ↦ record {
+          | then-byte-eq0-via-else-byte-eq0+then-next-limit v ↦ record {
             ordered = omega arith;
             short = omega arith;
+            limit = grind arith;
             taken = (true, λ lt. grind arith, front-next c.by_byte.i refl t 1 (named (grind arith) (byte-fills {source = left} t.place fits some at (λ e. a.if-byte-ne0.true (sym is ∙ e)) (omega arith) (grind arith))));
           }
         ]
-        | else-byte-eq0+else-next-index-eq-FULL_CODE w ↦ record {
+        | else-byte-eq0+else-next-limit w ↦ record {
           ordered = omega arith;
           short = omega arith;
+          limit = grind arith;
           taken = (false, λ lt. grind arith, front-next c.by_byte.i refl t 1 (named (grind arith) (byte-joins {source = left} t.place fits some at {code = c.if-byte-eq0.next - c.if-byte-eq0.index} (λ e. a.if-byte-ne0.true (sym is ∙ e)) (omega arith) (omega arith) (grind arith))));
         }
       ]
@@ -46,8 +51,9 @@ by_byte-preserved c =
         | then-byte-eq0 w ↦ record {
           ordered = omega arith;
           short = omega arith;
+          limit = grind arith;
           taken = (false, λ lt. grind arith, front-next c.by_byte.i refl t 1 (named (grind arith) (byte-zero {source = left} t.place fits some at (is ∙ a.if-byte-ne0.false) refl (grind arith))));
         }
-        | else-byte-eq0+else-next-index-eq-FULL_CODE w ↦ absurd (w.if-byte-eq0.false a.if-byte-ne0.false)
+        | else-byte-eq0+else-next-limit w ↦ absurd (w.if-byte-eq0.false a.if-byte-ne0.false)
       ]
     ]

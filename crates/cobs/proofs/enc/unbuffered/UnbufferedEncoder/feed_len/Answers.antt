@@ -1,4 +1,4 @@
--- The three tests say exactly that the byte has room (`room-only`, `has-room`), and then `append_one` takes it.
+-- The three tests say exactly that the byte has room (`room-only`, `has-room`), and then `append_byte` takes it.
 use Rattle.std.proofs.Common.{[], ◌∷◌, length, refl, arith}
 use Rattle.cobs.specs.Fields.Progress.{reached_by}
 use Rattle.cobs.specs.OpenBlock.{HasRoomFor}
@@ -6,7 +6,7 @@ use Rattle.cobs.specs.Internal.Taking.{TakesFront}
 use Rattle.cobs.proofs.encoding.StepLemmas.{has-room, room-only}
 use Rattle.cobs.proofs.encoding.TakingLemmas.{all-after, all-rest}
 use Rattle.cobs.proofs.encoding.AfterLemmas.{after-end, after-place}
-use Rattle.cobs.proofs.enc.unbuffered.UnbufferedEncoder.feed_len.Goals.{Joined-then-code-gt-FULL_BLOCK_BYTES, After-append_one, then-code-gt-FULL_BLOCK_BYTES-via-then-code-gt-FULL_BLOCK_BYTES}
+use Rattle.cobs.proofs.enc.unbuffered.UnbufferedEncoder.feed_len.Goals.{Joined-then-code-gt-FULL_BLOCK_BYTES, After-append_byte, then-code-gt-FULL_BLOCK_BYTES-via-then-code-gt-FULL_BLOCK_BYTES}
 use Rattle.cobs.proofs.enc.unbuffered.UnbufferedEncoder.feed_len.Goals as goal
 
 none : (c : Joined-then-code-gt-FULL_BLOCK_BYTES) → HasRoomFor (length c.args.dest.now) (reached_by c.args.self.now) (c.args.byte ∷ []) → ⊥
@@ -22,26 +22,26 @@ returns-then-code-gt-FULL_BLOCK_BYTES-clause-fits c = λ m h.
     let e = after-end h (c.args.byte ∷ []) in
     (λ t. cc, λ le. absurd (none c (record { place = after-place h; fits = omega arith })))
 
-room : (c : After-append_one) → HasRoomFor (length c.args.dest.now) (reached_by c.args.self.now) (c.args.byte ∷ [])
-room c = grind (arith, has-room)
+room : (c : After-append_byte) → HasRoomFor (length c.args.dest.now) (reached_by c.args.self.now) (c.args.byte ∷ [])
+room c = has-room c.args.self.now c.args.dest.now c.args.byte (omega arith) (omega arith)
 
-taken : (c : After-append_one) → TakesFront c.args.dest.now (reached_by c.args.self.now) (c.args.byte ∷ []) 1 c.append_one.new.dest (reached_by c.append_one.new.self)
-taken c = grind arith
+taken : (c : After-append_byte) → TakesFront c.args.dest.now (reached_by c.args.self.now) (c.args.byte ∷ []) 1 c.append_byte.new.dest (reached_by c.append_byte.new.self)
+taken c = c.append_byte.ensures.taken [] (room c).fits
 
 pub returns-clause-room : goal.returns-clause-room
-returns-clause-room c = grind (arith, room, After-append_one)
+returns-clause-room c = (λ t. room (goal.at.returns-clause-room c).After-append_byte, λ h. refl)
 
 pub returns-clause-fits : goal.returns-clause-fits
 returns-clause-fits c = λ m h.
     let e = after-end h (c.args.byte ∷ []) in
-    let fits = (room (goal.at.returns-clause-fits c).After-append_one).fits in
+    let fits = (room (goal.at.returns-clause-fits c).After-append_byte).fits in
     (λ t. omega arith, λ le. refl)
 
 pub returns-clause-taken : goal.returns-clause-taken
-returns-clause-taken c = grind (arith, all-after, taken, After-append_one)
+returns-clause-taken c = all-after (taken (goal.at.returns-clause-taken c).After-append_byte)
 
 pub returns-clause-rest : goal.returns-clause-rest
-returns-clause-rest c = grind (arith, all-rest, taken, After-append_one)
+returns-clause-rest c = all-rest (taken (goal.at.returns-clause-rest c).After-append_byte)
 
 pub returns-clause-within : goal.returns-clause-within
-returns-clause-within c = grind (arith, taken, After-append_one)
+returns-clause-within c = (taken (goal.at.returns-clause-within c).After-append_byte).place

@@ -1,8 +1,7 @@
 -- Only the clause `fits` is proved here: the length of the frame of all bytes so far is `end_after` (`after-end`), so
 -- there is room for the frame exactly if there is room up to that index, on each way out.
-use Rattle.std.proofs.Common.{append-nil, [], ◌≡◌, refl, ap, arith}
+use Rattle.std.proofs.Common.{append-nil, [], ◌≡◌, refl, arith}
 use Rattle.std.proofs.lemmas.Grind.{common_steps}
-use Rattle.cobs.specs.OpenBlock.{Reached, end_after}
 use Rattle.cobs.proofs.encoding.AfterLemmas.{after-end, after-fits, after-place}
 use Rattle.cobs.proofs.encoding.TakingLemmas.{all-end, short_room}
 use Rattle.cobs.proofs.enc.unbuffered.UnbufferedEncoder.push.Goals as goal
@@ -18,10 +17,9 @@ returns-then-is_empty-clause-fits c = λ m h.
 pub append_short-requires-clause-fits : goal.append_short-requires-clause-fits
 append_short-requires-clause-fits c = grind (arith, short_room)
 
-pub returns-then-at-bytes-clause-fits : goal.returns-then-at-bytes-clause-fits
-returns-then-at-bytes-clause-fits c = λ m h.
+pub returns-then-self-bytes-clause-fits : goal.returns-then-self-bytes-clause-fits
+returns-then-self-bytes-clause-fits c = λ m h.
     let e = after-end h c.args.bytes.now in
-    let same = ap (λ (r : Reached). end_after r c.args.bytes.now) c.progress-at.ensures.progress in
     let end = all-end c.append_short.ensures in
     let fits = c.append_short.ensures.place.fits in
     let long = c.append_short.auto.dest in
@@ -30,7 +28,6 @@ returns-then-at-bytes-clause-fits c = λ m h.
 pub returns-then-not-try_append-clause-fits : goal.returns-then-not-try_append-clause-fits
 returns-then-not-try_append-clause-fits c = λ m h.
     let e = after-end h c.args.bytes.now in
-    let same = ap (λ (r : Reached). end_after r c.args.bytes.now) c.progress-at.ensures.progress in
     (λ t. cc, λ le. let yes = c.try_append.ensures.fits.1 (omega arith) in cc)
 
 pub returns-clause-fits : goal.returns-clause-fits

@@ -1,6 +1,6 @@
 use Rattle.std.proofs.Common.{arith}
 use Rattle.cobs_bytes.proofs.bytes.XoredLemmas.{xor_each-zero}
-use Rattle.cobs_bytes.proofs.lanes.copy_xored_slice.Goals as goal
+use Rattle.cobs_bytes.proofs.lanes.copy_xored.Goals as goal
 
 -- with the sentinel 0 the copy is left as it is
 pub returns-else-sentinel-ne0 : goal.returns-else-sentinel-ne0

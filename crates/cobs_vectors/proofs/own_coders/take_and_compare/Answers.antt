@@ -1,0 +1,11 @@
+-- The byte is one step of the machine of `Step`, and `law_17: byte` says what this step means.
+use Rattle.std.proofs.Common.{[], ◌∷◌, arith}
+use Rattle.cobs.specs.Fields.Decoders.{phase_of}
+use Rattle.cobs_vectors.proofs.own_coders.take_and_compare.Goals as goal
+
+pub returns-clause-takes : goal.returns-clause-takes
+returns-clause-takes c =
+    let law = c.law_17.ensures in
+    let e = c.take_byte-count.ensures in
+    let feeds = law.step c.args.buffer.now (phase_of c.args.decoder.now) c.args.byte in
+    rw (e.buffer c.requires) (rw (e.phase c.requires) (law.byte (c.args.byte ∷ []) _ _ _ _ _ _ _ 0 (omega arith) (law.nothing _ _) feeds (λ z. absurd (c.requires z))))
