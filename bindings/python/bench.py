@@ -1,13 +1,13 @@
-"""Measures the package beside its plain Python, the C library that it calls, and a plain extension.
+"""Compares the speed of the package with its plain Python, with the C library that it calls and with a plain extension.
 
 usage: python bench.py [--random] [LENGTH ..]
 
-The messages are like records: one byte in 16 is zero, at random places. With --random all bytes are random. A frame is
-also fed to a decoder, alone, as a serial line gives it, and 32 of them in a chunk.
+The messages are like records: one byte in 16 is zero, at random places. With --random all bytes are random. A decoder
+is fed chunks of one frame, as from a serial line, and chunks of 32 frames, as from a file.
 
-The C library is measured by a loop in C, and the plain extension has encode and decode as one writes them, in loops over
-the bytes, by the whole interface of CPython. This script compiles both. All times are of the processor, the least of
-several runs, which take turns.
+A loop in C calls the C library. The plain extension is encode and decode as one writes them by hand in C, with loops
+over the bytes, and with CPython's full interface. This script compiles the loop and the plain extension. A time is the
+least processor time of several runs, in which the four take turns.
 """
 
 import importlib.util
@@ -194,7 +194,7 @@ def measured(program, plain_extension, length, at_random):
         "encode": (jcobs.encode, plain_extension.encode, _plain.encode, message, 1),
         "decode": (jcobs.decode, plain_extension.decode, _plain.decode, frame, 1),
         "feed of 1 frame": (feed, None, fed(_plain.Decoder(length, 0).feed), chunk, 1),
-        "feed of 32, a frame": (feed, None, fed(_plain.Decoder(length, 0).feed), chunk * 32, 32),
+        "feed of 32, per frame": (feed, None, fed(_plain.Decoder(length, 0).feed), chunk * 32, 32),
     }
     best = {name: [9e9] * 4 for name in rows}
     for _ in range(ROUNDS):

@@ -1,10 +1,16 @@
-"""Builds the extension over the C library, if this machine can; the package does without it, in plain Python.
+"""Builds the extension over the C library, if this machine can. Without it the package works in plain Python.
 
-The built library libjcobs.a is looked for, in this order, in the folder that JCOBS_LIB_DIR names; where bindings/c of the
-repository builds it; where bindings/c keeps it built; and in libjcobs/, where a source distribution has it. On a system
-that none of them fits, the C source that was written from the proved functions, jcobs.c, is compiled in its place.
+The built library, libjcobs.a, is taken from the first of these folders that has it:
 
-JCOBS_BACKEND asks for one of these ways: prebuilt, compiled, or python, which compiles nothing.
+- the folder that JCOBS_LIB_DIR names;
+- bindings/c/build of the repository, in which `make` of bindings/c writes it;
+- bindings/c/prebuilt of the repository;
+- libjcobs/ of a source distribution.
+
+If there is no libjcobs.a for this system, jcobs.c is compiled. Most of this C source is translated from proved
+functions.
+
+JCOBS_BACKEND chooses the backend: prebuilt (libjcobs.a), compiled (jcobs.c), or python, which compiles nothing.
 """
 
 import os
@@ -33,7 +39,7 @@ MACHINE = {"amd64": "x86_64", "arm64": "aarch64"}.get(platform.machine().lower()
 
 
 def places(machine):
-    """The files that may be the library for a machine, the first choice first."""
+    """Yields the files that may be the library for a machine, in the order in which they are tried."""
     if "JCOBS_LIB_DIR" in os.environ and machine == MACHINE:
         yield Path(os.environ["JCOBS_LIB_DIR"]) / "libjcobs.a"
     yield C / f"build/{machine}-unknown-linux-gnu/libjcobs.a"

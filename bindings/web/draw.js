@@ -1,8 +1,9 @@
-// Pictures of frames, as SVG text. The page and figures.mjs draw by this module alone; it needs no DOM.
+// Draws pictures of frames, as SVG text. The page and figures.mjs draw only with this module. It needs no DOM.
 //
-// A picture is a row of cells, one for each byte of the frame. Over each cell is the byte of the message that it is for: a
-// data byte itself (XORed with the sentinel, which changes nothing for 0), a zero over each code but the first and
-// one after a full block. Under the cells an arc leads from each code to the next.
+// A picture is a row of cells, one for each byte of the frame. Above each cell is the byte of the message that corresponds to the
+// cell: above a data byte the byte itself (XORed with the sentinel, which changes nothing for the sentinel 0), and above a code a
+// zero. Above the first code, and above a code after a full block, there is no byte. Below the cells an arc leads from each code to
+// the next one.
 
 export const CELL = 32;          // width of a cell, in pixels
 export const ROW_HEIGHT = 100;   // height of a row with its arcs and a margin
@@ -10,7 +11,7 @@ const TOP = 30;                  // where the cells of a row begin
 const HEIGHT = 28;               // height of a cell
 const DEPTH = 17;                // how far an arc hangs below the cells
 
-/** The style of the pictures; `root` is the selector that holds the colours. */
+/** Returns the style of the pictures. `root` is the selector of the element that defines the colours. */
 export function style(root) {
   return `${root}{--paper:#ffffff;--ink:#1b2330;--quiet:#5b6675;--line:#7d8997;--data:#eef2f7;--code:#1f5fbf;--on-code:#ffffff;--full:#7a3bc9;--zero:#b04a00;--bad:#b3261e}
 @media (prefers-color-scheme:dark){${root}{--paper:#12161c;--ink:#e6eaf0;--quiet:#a3afbf;--line:#6b7888;--data:#1f2833;--code:#7fb1ff;--on-code:#0d1117;--full:#c7a4ff;--zero:#ffb070;--bad:#ff938a}}
@@ -34,10 +35,10 @@ ${root} .axis{stroke:var(--line);fill:none}${root} .most{stroke:var(--code);stro
 ${root} .end{fill:none;stroke:var(--line);stroke-dasharray:2 3}`;
 }
 
-/** A byte as two hexadecimal digits. */
+/** Returns a byte as two hexadecimal digits. */
 export const hex = (byte) => byte.toString(16).padStart(2, "0");
 
-/** Where the codes of a piece stand: the first byte, and each byte right after a part. */
+/** Returns the indices of the codes of a piece: the first byte, and each byte right after a block. */
 export function codePlaces(piece, sentinel = 0) {
   const places = new Uint32Array(piece.length);
   let count = 0;
@@ -45,7 +46,7 @@ export function codePlaces(piece, sentinel = 0) {
   return places.slice(0, count);
 }
 
-/** The number of the last place at or before `at`. `places` rises and begins with 0. */
+/** Returns the index in `places` of the last place at or before `at`. `places` is in ascending order, and begins with 0. */
 export function partOf(places, at) {
   let low = 0;
   let high = places.length;
@@ -57,20 +58,20 @@ export function partOf(places, at) {
   return low;
 }
 
-/** A printable ASCII byte as its sign, any other as digits. */
+/** Returns a printable ASCII byte as its character, and any other byte as digits. */
 const sign = (byte) => (byte > 32 && byte < 127 ? String.fromCharCode(byte) : hex(byte));
 
 const counted = (number, noun) => `${number} ${noun}${number === 1 ? "" : "s"}`;
 const escaped = (text) => text.replace(/[&<>"]/g, (c) => ({ "&": "&amp;", "<": "&lt;", ">": "&gt;", '"': "&quot;" })[c]);
 
-/** One part of a piece, as the drawing sees it. */
+/** Returns the properties of one block of a piece that the drawing needs. */
 function partAt(piece, places, number, sentinel) {
   const at = places[number];
   const code = piece[at] ^ sentinel;
   return { at, code, end: at + code, full: code === 255, bad: at + code > piece.length };
 }
 
-/** What stands over a code: the zero of the message, nothing at the front, and a note after a full block. */
+/** Returns the text above a code: the zero of the message, nothing at the front, and a note after a full block. */
 function overCode(piece, places, number, sentinel) {
   if (number === 0) return { text: "", kind: "over" };
   const before = partAt(piece, places, number - 1, sentinel);
@@ -78,8 +79,8 @@ function overCode(piece, places, number, sentinel) {
 }
 
 /**
- * The cells and arcs of the bytes `from` up to `to` of a piece.
- * `options.show` makes the text of a frame's byte, `options.showOver` that of a message's.
+ * Returns the cells and arcs of the bytes from `from` up to `to` of a piece. `options.show` returns the text for a byte of the frame,
+ * and `options.showOver` the text for a byte of the message.
  */
 export function cellsOf(piece, places, from, to, options = {}) {
   const { sentinel = 0, show = hex, showOver = sign } = options;
@@ -115,11 +116,15 @@ export function cellsOf(piece, places, from, to, options = {}) {
 }
 
 /**
- * The cells and arcs, from the byte `from` of a piece on, as they are at a step of the encoder or the decoder. Of the piece the
- * first `frame` bytes are there, and of the message those over the first `over` cells; the codes before `arcs` have their arcs,
- * and the one at `open` is still counted, as `count`. The zeros of the message that have been read are at `seen` or before it.
- * `now` is the cell whose byte is read, over the frame or in it; `fresh` is the code that has just got its arc. With `isPlain` the
- * bytes are those before they are XORed with the sentinel.
+ * Returns the cells and arcs from the byte `from` of a piece on, as they are at a step of the encoder or the decoder. `stage` has:
+ * - `frame`: how many bytes of the piece are shown, from the first one on;
+ * - `over`: the bytes of the message above the first `over` cells are shown;
+ * - `arcs`: the codes before this index have their arcs;
+ * - `open` and `count`: the index of the code that is still counted, and its value so far;
+ * - `seen`: the zeros of the message that have been read are above this index or before it;
+ * - `now`: the index of the cell whose byte is read, and `isOver`: whether that byte is one of the message;
+ * - `fresh`: the index of the code that has just got its arc;
+ * - `isPlain`: whether the bytes are shown before they are XORed with the sentinel.
  */
 function staged({ cells, arcs }, from, stage) {
   const isOver = (at) => at < stage.over && (at < stage.frame || stage.isOver);
@@ -141,7 +146,7 @@ function staged({ cells, arcs }, from, stage) {
   };
 }
 
-/** A side of a block's outline that goes on in another row is left open. */
+/** Draws the outline of a block. A side at which the block continues in another row is left open. */
 function outline(x, width, cells, kind) {
   const [l, r, t, b, c] = [x + 1.5, x + width - 1.5, TOP - 1.5, TOP + HEIGHT + 1.5, 5];
   const openLeft = !cells[0].first;
@@ -154,7 +159,7 @@ function outline(x, width, cells, kind) {
   return `<path class="edge${kind}" d="${path}"/>`;
 }
 
-/** An arc from the middle of a code's cell to that of the next code's, or to the edge of the row. */
+/** Draws an arc from the middle of a code's cell to the middle of the next code's cell, or to the edge of the row. */
 function arcPath(arc, x, right) {
   const top = TOP + HEIGHT + 3;
   const kind = (arc.full ? " full" : "") + (arc.bad ? " bad" : "");
@@ -176,7 +181,7 @@ function overText(over, x) {
   return `<circle class="ring" cx="${x}" cy="${TOP - 16}" r="9"/><path class="stem" d="M${x} ${TOP - 7}v5"/><text class="zero" x="${x}" y="${TOP - 11}">${escaped(over.text)}</text>`;
 }
 
-/** A row of cells with its arcs, its first cell at `x`. A cell `{gap}` stands for bytes that are left out. */
+/** Draws a row of cells with its arcs. The first cell is at `x`. A cell `{gap}` is in the place of bytes that are left out. */
 export function row(cells, arcs, x = 0) {
   const out = [];
   const right = x + cells.length * CELL;
@@ -214,9 +219,9 @@ function cellText(cell, x) {
 }
 
 /**
- * A row of a stream as a whole SVG: `lead` sentinels, the bytes `from` up to `to` of a piece, `trail` sentinels. `label` is
- * written in front of it, in a margin of so many pixels. `zoom` is how much larger all of it is. With `stage` it is what is there
- * at a step of the encoder or the decoder.
+ * Returns a row of a stream as an SVG: `lead` sentinels, the bytes from `from` up to `to` of a piece, and `trail` sentinels. `label`
+ * is written to the left of the row, in a margin of `margin` pixels. The picture is enlarged by the factor `zoom`. With `stage` the
+ * row is drawn as it is at a step of the encoder or the decoder.
  */
 export function rowPicture(piece, places, from, to, { sentinel = 0, margin = 58, label = from, lead = 0, trail = 0, zoom = 1, stage = null } = {}) {
   const show = stage?.isPlain ? (byte) => hex(byte ^ sentinel) : hex;
@@ -231,8 +236,8 @@ export function rowPicture(piece, places, from, to, { sentinel = 0, margin = 58,
 }
 
 /**
- * The overhead of frames by the length of the message: the most that `most(length)` gives, as steps, and a dot for one message
- * of `length` bytes whose frame has `overhead` more.
+ * Draws the overhead of frames for each length of the message: the greatest overhead, `most(length)`, as steps, and a dot for a
+ * message of `length` bytes whose frame is `overhead` bytes longer.
  */
 export function curve({ most, length, overhead }) {
   const [width, height, left, base] = [560, 150, 34, 118];
@@ -241,7 +246,7 @@ export function curve({ most, length, overhead }) {
   const x = (bytes) => Math.round((left + (bytes / range) * (width - left - 30)) * 10) / 10;
   const y = (bytes) => Math.round((base - (bytes / (top + 1)) * (base - 12)) * 10) / 10;
   let path = `M${x(0)} ${y(most(0))}`;
-  const apart = Math.ceil(range / 254 / 200) * 254; // steps that are too many to be seen are drawn as fewer
+  const apart = Math.ceil(range / 254 / 200) * 254; // if there are too many steps to be seen, fewer are drawn
   for (let at = apart; at <= range; at += apart) path += `H${x(at)}${at < range ? `V${y(most(at + 1))}` : ""}`;
   const every = Math.ceil(range / 254 / 4) * 254;
   let marks = "";
@@ -252,10 +257,10 @@ export function curve({ most, length, overhead }) {
     + `<text class="at" x="${width / 2}" y="${height - 2}">bytes of the message; up, bytes that the frame has more</text></svg>`;
 }
 
-/** The place of the sentinel after a frame. */
+/** Returns the cell of the sentinel after a frame. */
 const sentinelCell = (text) => ({ text, first: true, last: true, ending: true, over: { text: "", kind: "over" } });
 
-/** `cells` and `arcs` without the cells `cut.from` up to `cut.to`, which one cell with their number stands for. */
+/** Returns `cells` and `arcs` with one cell, “…”, in the place of the cells from `cut.from` up to `cut.to`. */
 function elide({ cells, arcs }, cut) {
   if (!cut) return { cells, arcs };
   const shift = cut.to - cut.from - 1;
@@ -268,8 +273,8 @@ function elide({ cells, arcs }, cut) {
 }
 
 /**
- * A picture for a document: one line for each of `lines`, `{label, pieces, cut, note}`, where `pieces` are what
- * stands between sentinels. `cut` leaves out the bytes from `cut.from` up to `cut.to` of the first piece.
+ * Returns a picture for a document. Each of `lines` is a line of the picture: `{label, pieces, cut, note}`. `pieces` are the bytes
+ * between sentinels. `cut` leaves out the bytes from `cut.from` up to `cut.to` of the first piece.
  */
 export function figure({ title, lines, show = String, sentinel = 0 }) {
   const margin = 118;

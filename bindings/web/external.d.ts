@@ -1,2 +1,2 @@
-// The types of jcobs/external for module resolutions that don't read "exports", as `node` of TypeScript.
+// The types of jcobs/external for a module resolution that doesn't read "exports", such as TypeScript's `node`.
 export * from "./jcobs.js";

@@ -1,6 +1,6 @@
 // Draws the pictures of docs/FORMAT.md: node figures.mjs FOLDER
 //
-// The frames are those of the proved module; the drawing is the page's.
+// The proved module makes the frames, and the page's drawing code draws them.
 import { readFile, writeFile } from "node:fs/promises";
 import { join } from "node:path";
 import { figure } from "./draw.js";

@@ -1,7 +1,7 @@
-// Writes what the page shows before its scripts run, or without them: node first.mjs [FOLDER]
+// Writes the drawing that the page shows before its scripts run, or without scripts: node first.mjs [FOLDER]
 //
-// The drawing in index.html and the style of all drawings, page/picture.css, are made by the page's drawing code. With FOLDER
-// both are written there, for a comparison.
+// The page's drawing code makes the drawing in index.html, and page/picture.css, the style of all drawings. With FOLDER, both files are
+// written to FOLDER, so that they can be compared.
 import { mkdir, readFile, writeFile } from "node:fs/promises";
 import { join } from "node:path";
 import { fileURLToPath } from "node:url";

@@ -1,6 +1,7 @@
 /** Consistent Overhead Byte Stuffing (COBS), implemented by the proved code in cobs.wasm. */
 
-// These names aren't in every `lib`. The declarations add nothing to those of `dom`, of @types/node and of newer compilers.
+// Not every `lib` of TypeScript declares these names. If `dom`, @types/node or a newer compiler declares them too, the
+// declarations here add nothing.
 declare global {
   interface SymbolConstructor {
     readonly dispose: unique symbol;
@@ -41,7 +42,7 @@ export interface PieceOptions extends SentinelOptions {
 
 export interface DecoderOptions extends PieceOptions {
   /**
-   * Whether to begin after the first sentinel. This is right on a line that may be in the middle of a frame. Default false.
+   * Whether to begin after the first sentinel. Use this option on a line that may be in the middle of a frame. Default false.
    */
   skipFirst?: boolean;
 }
@@ -56,7 +57,7 @@ export type Outcome =
   | { tooLong: true; message?: undefined; broken?: undefined };
 
 /**
- * Why a call failed:
+ * The error of a call that failed. `kind` is the reason:
  * - "empty": `decode` was passed no bytes, or only sentinels;
  * - "broken": the frame breaks off inside a block;
  * - "unsupported": this engine is too old to run the module, or a content security policy forbids it.
@@ -72,8 +73,8 @@ export class CobsError extends Error {
 export function isSupported(): boolean;
 
 /**
- * Loads the module, which every other call needs. Without an argument, `load` takes the module that comes with this file. Once
- * the module is loaded, or is being loaded, a further call changes nothing and returns the same promise.
+ * Loads the module, which every call needs except `isSupported`. Without an argument, `load` takes the module that comes with
+ * this file. Once the module is loaded, or is being loaded, a further call changes nothing and returns the same promise.
  * @throws CobsError "unsupported"; or the error of the source, after which `load` can be called again
  */
 export function load(source?: Source): Promise<void>;
@@ -122,17 +123,17 @@ export class FrameDecoder {
   constructor(options?: DecoderOptions);
   /**
    * Calls `visit` for each piece that ends in the chunk; `end` is the index in the chunk after the sentinel of that piece.
-   * If a visit closes the decoder or throws an error, this push makes no more visits. An error that a visit throws is thrown by
-   * `push` once the whole chunk is taken, so the next chunk is decoded as if nothing had been thrown.
+   * If `visit` closes the decoder or throws an error, this push doesn't call `visit` again. `push` throws that error after it
+   * has taken the whole chunk, so the next chunk is decoded as if nothing had been thrown.
    */
   push(chunk: Bytes, visit: (outcome: Outcome, end: number) => void): void;
-  /** Whether a frame has begun that no sentinel has ended yet. */
+  /** Whether a frame has begun, and no sentinel has ended it yet. */
   get unfinished(): boolean;
-  /** How many bytes `skipFirst` has left out, the first sentinel among them. */
+  /** How many bytes `skipFirst` has skipped, including the first sentinel. */
   get skipped(): number;
   /** Frees the decoder's memory. Without this call, garbage collection frees the memory at some later time. */
   close(): void;
-  /** The same, for `using`. */
+  /** Does what `close` does, for `using`. */
   [Symbol.dispose](): void;
 }
 
@@ -150,25 +151,25 @@ export class FrameEncoder {
   finish(options?: { terminated?: boolean }): Uint8Array;
   /** Frees the encoder's memory. */
   close(): void;
-  /** The same, for `using`. */
+  /** Does what `close` does, for `using`. */
   [Symbol.dispose](): void;
 }
 
-/** Takes bytes, and returns outcomes. Bytes after the last sentinel of the stream have no outcome. */
+/** Turns a stream of bytes into a stream of outcomes. Bytes after the last sentinel of the stream have no outcome. */
 export class FrameDecoderStream {
   constructor(options?: DecoderOptions);
   readonly readable: ReadableStream<Outcome>;
   readonly writable: WritableStream<Bytes>;
   /**
-   * Whether a frame has begun that no sentinel has ended yet. At the end of the stream, this says whether the last frame was
+   * Whether a frame has begun, and no sentinel has ended it yet. At the end of the stream, the value says whether the last frame was
    * cut off.
    */
   get unfinished(): boolean;
-  /** How many bytes `skipFirst` has left out, the first sentinel among them. */
+  /** How many bytes `skipFirst` has skipped, including the first sentinel. */
   get skipped(): number;
 }
 
-/** Takes messages, and returns their frames, each with a sentinel after it. It is a `TransformStream`. */
+/** A `TransformStream` that turns messages into frames, each with a sentinel after it. */
 export class FrameEncoderStream {
   constructor(options?: SentinelOptions);
   readonly readable: ReadableStream<Uint8Array>;

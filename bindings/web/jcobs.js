@@ -5,8 +5,8 @@
 //     const frame = encode(Uint8Array.of(10, 11, 0, 12));            // 3 10 11 2 12
 //     const frames = port.readable.pipeThrough(new FrameDecoderStream({ maxLength: 4096 }));
 //
-// This file copies bytes into the module's memory and results out of it. Only the module decides which bytes a frame
-// has, and what a stream decodes to.
+// This file copies bytes into the module's memory, and results out of that memory. Only the module decides which bytes a
+// frame has, and which messages a stream has.
 import { BROKEN, CHUNK_SIZE, CobsError, KINDS, NEAR, OK, STATE_SIZE, TOO_SMALL, bytesOf, loaded, machineFor } from "./machine.js";
 
 export { CobsError, isSupported, load, loadSync } from "./machine.js";
@@ -48,8 +48,8 @@ export function maxEncodedLength(length) {
 }
 
 /**
- * Returns enough room for the frame of a message of `length` bytes: for a code, one more code for each 254 bytes, and
- * a sentinel.
+ * Returns a length that is enough for the frame of a message of `length` bytes and its sentinel. A frame is at least one byte
+ * longer than its message, and each 254 bytes of the message can add one byte. This length allows one byte for each 128 bytes.
  */
 const roomFor = (length) => length + Math.floor(length / 128) + 2;
 
@@ -64,7 +64,7 @@ export function encode(message, options) {
   return machine.read(at, length);
 }
 
-/** Encodes a message to the front of `dest` and returns the frame's length. If the frame doesn't fit, nothing is changed. */
+/** Encodes a message to the front of `dest` and returns the frame's length. If the frame doesn't fit, `dest` isn't changed. */
 export function encodeInto(message, dest, options) {
   const front = bytesOf(dest);
   const { sentinel, terminated } = optionsOf(options, ENCODING);
@@ -94,7 +94,7 @@ export function decode(frame, options) {
   throw new CobsError("empty", "there is no frame to decode: no bytes, or sentinels alone");
 }
 
-/** Returns "canonical" for an encoded frame, "longer" for one with a needless last block 01, "notAFrame" for all else. */
+/** Returns "canonical" for a frame that `encode` returns, "longer" for such a frame with a needless block 01 after it, else "notAFrame". */
 export function frameKind(frame, options) {
   const bytes = bytesOf(frame);
   const { sentinel } = optionsOf(options, DECODING);
@@ -106,8 +106,8 @@ export function frameKind(frame, options) {
 const abandoned = typeof FinalizationRegistry === "function" ? new FinalizationRegistry(({ arena, place }) => arena.give(place)) : null;
 
 /**
- * A place in the shared memory with a state, room for a chunk, and a buffer. `close` frees the place; garbage collection of
- * its owner does too.
+ * A place in the shared memory for a state, a chunk and a buffer. `close` frees the place. Garbage collection of the owner, a
+ * decoder or an encoder, also frees the place.
  */
 class Held {
   #place;
@@ -153,20 +153,20 @@ export class FrameDecoder {
     this.#decoder = this.#held.arena.machine.decoder(this.#held.state, this.#held.buffer, maxLength);
   }
 
-  /** Whether a frame has begun that no sentinel has ended yet. */
+  /** Whether a frame has begun, and no sentinel has ended it yet. */
   get unfinished() {
     return this.#held.isOpen ? !this.#decoder.isIdle() : this.#wasUnfinished;
   }
 
-  /** How many bytes `skipFirst` has left out, the first sentinel among them. */
+  /** How many bytes `skipFirst` has skipped, including the first sentinel. */
   get skipped() {
     return this.#skipped;
   }
 
   /**
    * Calls `visit(outcome, end)` for each piece that ends in `chunk`; `end` is the index in the chunk after the sentinel of that
-   * piece. If a visit closes the decoder or throws an error, this push makes no more visits. An error that a visit throws is
-   * thrown once the whole chunk is taken, so that the next chunk is decoded as if nothing had been thrown.
+   * piece. If `visit` closes the decoder or throws an error, this push doesn't call `visit` again. `push` throws that error after
+   * it has taken the whole chunk, so the next chunk is decoded as if nothing had been thrown.
    */
   push(chunk, visit) {
     if (!this.#held.isOpen || this.#isClosing) throw new Error("the decoder is closed");
@@ -288,7 +288,7 @@ export class FrameEncoder {
     this.#taken += bytes.length;
   }
 
-  /** Returns the frame of all bytes that were taken, with a sentinel after it if `terminated` is true. The next message begins. */
+  /** Returns the frame of all bytes that were taken, with a sentinel after it if `terminated` is true, and begins the next message. */
   finish(options) {
     this.#demandOpen();
     const { terminated } = optionsOf(options, { terminated: false });
@@ -316,15 +316,15 @@ export class FrameEncoder {
 
 /**
  * Makes the two ends of a stream, `readable` and `writable`, like those of a TransformStream. `take` is called with
- * each chunk, and with a function `give` for its results. `close` is called once, however the stream ends: engines
- * don't notify a TransformStream of every end.
+ * each chunk, and with a function `give`, to which it passes each result. `close` is called once, however the stream ends. A
+ * TransformStream would not do: engines don't notify it of every end.
  */
 function ends(take, close) {
   const link = { take, close, out: null, into: null, wake: () => {}, isWanted: false, isOver: false, reason: undefined };
   return { readable: readableOf(link), writable: writableOf(link) };
 }
 
-/** Makes the stream fail. `end` is the controller of one end, to which the reason is passed. */
+/** Makes the stream fail for this reason. `end` is the controller of the end that gets the reason. */
 function fail(link, end, reason) {
   if (link.isOver) return;
   link.isOver = true;
@@ -378,7 +378,7 @@ function writableOf(link) {
   });
 }
 
-/** Takes bytes, and returns outcomes: `{message}`, `{broken: n}` or `{tooLong: true}` for each piece that a sentinel ends. */
+/** Turns bytes into outcomes: `{message}`, `{broken: n}` or `{tooLong: true}` for each piece that a sentinel ends. */
 export class FrameDecoderStream {
   #decoder;
 
@@ -394,20 +394,20 @@ export class FrameDecoderStream {
   }
 
   /**
-   * Whether a frame has begun that no sentinel has ended yet. At the end of the stream, this says whether the last
+   * Whether a frame has begun, and no sentinel has ended it yet. At the end of the stream, the value says whether the last
    * frame was cut off.
    */
   get unfinished() {
     return this.#decoder.unfinished;
   }
 
-  /** How many bytes `skipFirst` has left out, the first sentinel among them. */
+  /** How many bytes `skipFirst` has skipped, including the first sentinel. */
   get skipped() {
     return this.#decoder.skipped;
   }
 }
 
-/** Takes messages, and returns their frames, each with a sentinel after it. */
+/** Turns messages into frames, each with a sentinel after it. */
 export class FrameEncoderStream extends TransformStream {
   constructor(options) {
     loaded();

@@ -1,5 +1,5 @@
-// The proved module, loaded: its calls over places in its memory, and which places are free. Nothing but this file knows
-// the module's names. jcobs.js has what a user calls.
+// Loads the proved module, makes its calls, and keeps track of the free places in its memory. Only this file uses the names that
+// the module exports. jcobs.js has the calls of a user.
 
 // enum jcobs_status and enum jcobs_kind of jcobs.h
 export const OK = 0;
@@ -8,15 +8,15 @@ export const BROKEN = 3;
 export const KINDS = ["notAFrame", "canonical", "longer"];
 
 const WASM_PAGE = 65536;
-const ANSWER_SIZE = 64;              // room for a jcobs_answer, at the front of the free memory
-const SCRATCH_SIZE = 1 << 22;        // for the bytes of a call; a call that needs more has a memory of its own
-export const STATE_SIZE = 64;        // room for a jcobs_decoder or a jcobs_encoder
+const ANSWER_SIZE = 64;              // bytes for a jcobs_answer, at the front of the free memory
+const SCRATCH_SIZE = 1 << 22;        // bytes of memory for a call; a call that needs more gets a separate memory
+export const STATE_SIZE = 64;        // bytes for a jcobs_decoder or a jcobs_encoder
 export const CHUNK_SIZE = 1 << 14;          // how many bytes of a stream are copied into the module at a time
-export const NEAR = 1024;             // bytes of a short call, whose result has a place that doesn't depend on their number
-const LONG = 4096;                   // bytes of a result that isn't copied by `slice`
-const MEMORY_LIMIT = 2 ** 32;        // no address from here on is given to the module: in 32 bits it would be another
+export const NEAR = 1024;             // a call of at most this many bytes is short; the results of short calls have a fixed place
+const LONG = 4096;                   // a result of at least this many bytes isn't copied by `slice`
+const MEMORY_LIMIT = 2 ** 32;        // the first address that doesn't fit in the module's 32 bits
 
-/** What a module must export to be cobs.wasm. */
+/** The names that cobs.wasm exports. */
 const CALLS = [
   "memory",
   "__heap_base",
@@ -33,7 +33,7 @@ const CALLS = [
   "jcobs_encoder_finish",
 ];
 
-/** Says why a call failed. `kind` is "empty", "broken" or "unsupported"; `decodedBytes` is how much a broken frame decodes to. */
+/** Says why a call failed. `kind` is "empty", "broken" or "unsupported"; `decodedBytes` is how many bytes a broken frame decodes to. */
 export class CobsError extends Error {
   constructor(kind, message, decodedBytes = 0) {
     super(message);
@@ -45,10 +45,10 @@ export class CobsError extends Error {
 
 const SMALL = Array.from({ length: NEAR + 64 }, (_, number) => BigInt(number));
 
-/** A number as the module takes it. Making one costs more than a short call itself, so small ones are kept. */
+/** Returns a number as a BigInt, for the module. Making a BigInt costs more than a short call, so those of small numbers are kept. */
 const word = (number) => (number < SMALL.length ? SMALL[number] : BigInt(number));
 
-/** An instance of the module: its calls over places in its memory. */
+/** An instance of the module, with calls whose arguments are addresses in its memory. */
 class Machine {
   #calls;
   #memory;
@@ -75,7 +75,7 @@ class Machine {
     this.#words = new Uint32Array(this.#memory.buffer, this.answerAt, 6);
   }
 
-  /** Makes the memory so long that `end` is its end or lies in it. */
+  /** Makes the memory at least `end` bytes long. */
   reach(end) {
     if (end > MEMORY_LIMIT) throw new RangeError(`this needs ${end} bytes of memory, and a module has at most ${MEMORY_LIMIT}`);
     const pages = Math.ceil((end - this.#memory.buffer.byteLength) / WASM_PAGE);
@@ -84,21 +84,21 @@ class Machine {
     this.#see();
   }
 
-  /** Puts bytes at a place, each changed for a sentinel. */
+  /** Copies bytes to an address, and XORs each with the sentinel. */
   write(bytes, at, sentinel = 0) {
     const memory = this.#bytes;
     memory.set(bytes, at);
     if (sentinel !== 0) for (let i = at; i < at + bytes.length; i++) memory[i] ^= sentinel;
   }
 
-  /** Returns a copy of the bytes at a place. */
+  /** Returns a copy of the bytes at an address. */
   read(at, length) {
-    // of many bytes the constructor makes a copy in half the time, since it doesn't clear them first as `slice` does
+    // the constructor copies many bytes in half the time of `slice`, because `slice` first clears the copy
     if (length < LONG) return this.#bytes.slice(at, at + length);
     return new Uint8Array(this.#bytes.subarray(at, at + length));
   }
 
-  /** Copies the bytes at a place to the front of `dest`. */
+  /** Copies the bytes at an address to the front of `dest`. */
   readInto(dest, at, length) {
     dest.set(this.#bytes.subarray(at, at + length));
   }
@@ -107,7 +107,7 @@ class Machine {
     return Number(this.#calls.jcobs_max_length(BigInt(length)));
   }
 
-  /** The place for the result of a call whose bytes are at the scratch place. */
+  /** Returns the address for the result of a call with `length` bytes, which are at `scratchAt`. */
   placeAfter(length) {
     return this.scratchAt + Math.max(length, NEAR);
   }
@@ -116,7 +116,7 @@ class Machine {
     return dest === this.scratchAt + NEAR ? this.#nearWord : BigInt(dest);
   }
 
-  /** Encodes bytes, over the scratch place. */
+  /** Copies bytes to `scratchAt`, and encodes them to the address `dest`. */
   encode(bytes, dest, room, sentinel, terminated) {
     this.write(bytes, this.scratchAt);
     const call = terminated ? this.#calls.jcobs_encode_terminated_with_sentinel : this.#calls.jcobs_encode_with_sentinel;
@@ -124,7 +124,7 @@ class Machine {
     return this.#answer();
   }
 
-  /** Decodes the bytes at the scratch place. */
+  /** Decodes the bytes at `scratchAt` to the address `dest`. */
   decode(sourceLength, dest, room) {
     this.#calls.jcobs_decode(this.#answerWord, this.#scratchWord, word(sourceLength), this.#destWord(dest), word(room));
     return this.#answer();
@@ -134,7 +134,7 @@ class Machine {
     return this.#calls.jcobs_frame_kind(this.#scratchWord, word(length));
   }
 
-  /** A decoder that has taken nothing, with its state and buffer at these places. */
+  /** Returns a decoder in the initial state, with its state and its buffer at these addresses. */
   decoder(state, buffer, room) {
     const calls = this.#calls;
     const [answerWord, stateWord, bufferWord, roomWord] = [this.answerAt, state, buffer, room].map(BigInt);
@@ -148,7 +148,7 @@ class Machine {
     };
   }
 
-  /** An encoder that has taken nothing, with its state and buffer at these places. */
+  /** Returns an encoder in the initial state, with its state and its buffer at these addresses. */
   encoder(state, buffer, room) {
     const calls = this.#calls;
     const [answerWord, stateWord, bufferWord, roomWord] = [this.answerAt, state, buffer, room].map(BigInt);
@@ -165,20 +165,20 @@ class Machine {
     };
   }
 
-  /** The jcobs_answer of the call just made: a 32-bit number, and two of 64 bits after it, low half first. */
+  /** Returns the jcobs_answer of the last call: a number of 32 bits, and after it two of 64 bits, each with its low half first. */
   #answer() {
     const words = this.#words;
     return { status: words[0], consumed: words[2] + words[3] * 0x100000000, length: words[4] + words[5] * 0x100000000 };
   }
 }
 
-/** A module with one memory and a function that copies within it: the newest of what cobs.wasm needs. */
+/** A small module with a function that copies within its memory, which is the newest feature of WebAssembly that cobs.wasm uses. */
 const PROBE = Uint8Array.of(
   ...[0, 0x61, 0x73, 0x6d, 1, 0, 0, 0, 1, 4, 1, 0x60, 0, 0, 3, 2, 1, 0, 5, 3, 1, 0, 1],
   ...[10, 14, 1, 12, 0, 0x41, 0, 0x41, 0, 0x41, 0, 0xfc, 10, 0, 0, 0x0b],
 );
 
-/** Why cobs.wasm doesn't run here; "" if it does. */
+/** Returns the reason why cobs.wasm doesn't run here, or "" if it does. */
 function obstacle() {
   const hasAll = typeof WebAssembly === "object" && typeof BigInt64Array === "function" && WebAssembly.validate(PROBE);
   if (!hasAll) return "this engine lacks the WebAssembly that cobs.wasm needs, which browsers have since 2021 and Node since 16";
@@ -190,7 +190,7 @@ function obstacle() {
   }
 }
 
-/** Whether cobs.wasm runs here. */
+/** Returns whether cobs.wasm runs here. */
 export const isSupported = () => obstacle() === "";
 
 let compiled;
@@ -198,11 +198,11 @@ let shared;
 let loading;
 
 /**
- * Loads the module: from the file beside this one, or from a URL, a Response, the file's bytes or a compiled module.
- * Every other call of this file needs it. Once it is loaded, or is being loaded, a further call changes nothing.
+ * Loads the module from the file next to this one, or from a URL, a Response, the file's bytes or a compiled module. Every call
+ * except `isSupported` needs the module. Once the module is loaded, or is being loaded, a further call changes nothing.
  */
 export function load(source) {
-  // made here and not in the parameter list: in dist/ it is the whole module, which is decoded once
+  // moduleAddress() isn't a default of the parameter: in dist/ it decodes the whole module, which should happen only once
   loading ??= loadFrom(source === undefined ? moduleAddress() : source).catch((error) => {
     loading = undefined;
     throw error;
@@ -210,7 +210,7 @@ export function load(source) {
   return loading;
 }
 
-/** Loads the module before it returns: from the file beside this one, in Node, or from bytes or a compiled module. */
+/** Loads the module before it returns: from the file next to this one (in Node), from bytes, or from a compiled module. */
 export function loadSync(source) {
   if (shared) return;
   demandSupport();
@@ -232,7 +232,7 @@ async function loadFrom(source) {
   demandSupport();
   const module = await moduleOf(source);
   demandCalls(module);
-  // not `new WebAssembly.Instance`: Chrome before version 115 doesn't allow that for a module of this size on its main thread
+  // not `new WebAssembly.Instance`, which Chrome before version 115 doesn't allow on its main thread for a module of this size
   const instance = await WebAssembly.instantiate(module, {});
   if (!shared) keep(module, instance);
 }
@@ -242,14 +242,14 @@ function demandCalls(module) {
   if (!CALLS.every((name) => names.has(name))) throw new TypeError("the module isn't this version's cobs.wasm");
 }
 
-/** Keeps the module and an instance of it, which all calls share from now on. */
+/** Keeps the module, and the instance that all calls share from now on. */
 function keep(module, instance) {
   shared = new Arena(new Machine(instance));
   compiled = module;
 }
 
 async function moduleOf(given) {
-  const source = await given; // as of `fetch`
+  const source = await given; // `given` may be a promise, for example that of `fetch`
   if (source instanceof WebAssembly.Module) return source;
   if (isBytes(source)) return WebAssembly.compile(bytesOf(source));
   if (typeof Response === "function" && source instanceof Response) return WebAssembly.compile(await bytesOfResponse(source));
@@ -261,10 +261,10 @@ async function moduleOf(given) {
   return WebAssembly.compile(files ? await files.promises.readFile(url) : await bytesOfResponse(await fetch(url)));
 }
 
-/** Returns what Node reads files by, for the address of a file. It isn't imported: bundlers for browsers would have to leave that alone. */
+/** Returns Node's module `fs` for the address of a file. The module isn't imported, because bundlers for browsers can't resolve it. */
 const filesFor = (url) => (url.protocol === "file:" ? globalThis.process?.getBuiltinModule?.("node:fs") : undefined);
 
-/** Returns the bytes of the file at an address, which only Node reads without a promise. */
+/** Returns the bytes of the file at an address. Only Node can read a file without a promise. */
 function fileAt(source) {
   const files = source instanceof URL ? filesFor(source) : undefined;
   if (!files) throw new TypeError("loadSync takes bytes or a compiled module; load fetches from an address");
@@ -276,9 +276,9 @@ async function bytesOfResponse(response) {
   return response.arrayBuffer();
 }
 
-/** The one memory that short calls and all streams share, and which of its places are free. */
+/** The memory that short calls and all streams share, with a list of its free places. */
 class Arena {
-  #free = []; // in the order of their addresses, and no two of them touch
+  #free = []; // the free places in the order of their addresses; no two of them are adjacent
 
   constructor(machine) {
     this.machine = machine;
@@ -286,7 +286,7 @@ class Arena {
     machine.reach(this.end);
   }
 
-  /** A place of this many bytes: one that was given back, or a new one at the memory's end. */
+  /** Returns a place of at least `size` bytes: a part of a free place, or a new place at the end of the memory. */
   take(size) {
     const wanted = Math.ceil(size / 64) * 64;
     const found = this.#free.findIndex((place) => place.size >= wanted);
@@ -302,7 +302,7 @@ class Arena {
     return place;
   }
 
-  /** Frees a place. Neighbouring free places become one, so that what was given back serves any size that fits in it. */
+  /** Frees a place. Adjacent free places become one, so that `take` can use all their bytes for one place. */
   give({ at, size }) {
     const free = this.#free;
     let next = this.#firstAfter(at);
@@ -316,7 +316,7 @@ class Arena {
     else free.splice(next, 0, { at, size });
   }
 
-  /** The number of the first free place after an address. */
+  /** Returns the index in `#free` of the first free place after an address. */
   #firstAfter(at) {
     let low = 0;
     let high = this.#free.length;
@@ -329,13 +329,13 @@ class Arena {
   }
 }
 
-/** The memory that all calls share. */
+/** Returns the memory that all calls share, or throws if the module isn't loaded. */
 export function loaded() {
   if (!shared) throw new Error("cobs.wasm is not loaded: await load() first");
   return shared;
 }
 
-/** A machine with `size` bytes free at its scratch place: the shared one, or for long bytes one that goes with the call. */
+/** Returns a machine with `size` free bytes at `scratchAt`: the shared machine, or a new one for a call that needs more bytes. */
 export function machineFor(size) {
   const { machine } = loaded();
   if (size <= SCRATCH_SIZE) return machine;
@@ -344,7 +344,7 @@ export function machineFor(size) {
   return own;
 }
 
-const isBuffer = (source) => /^\[object (Shared)?ArrayBuffer\]$/.test(Object.prototype.toString.call(source)); // of any realm
+const isBuffer = (source) => /^\[object (Shared)?ArrayBuffer\]$/.test(Object.prototype.toString.call(source)); // `instanceof` is false for an ArrayBuffer of another frame
 const isBytes = (source) => ArrayBuffer.isView(source) || isBuffer(source);
 
 /** Returns the bytes of an ArrayBuffer or of any view of one. */
@@ -358,7 +358,7 @@ export function bytesOf(source) {
   throw new TypeError("bytes are wanted: a Uint8Array, another view, or an ArrayBuffer");
 }
 
-/** Whether a view has lost its bytes. Its length is 0 then, as is that of an empty view. */
+/** Returns whether a view has lost its bytes. Its length is then 0, like the length of an empty view. */
 function isGone(view) {
   try {
     if ("length" in view && view.length === 0) Uint8Array.prototype.indexOf.call(view, 0); // throws for a view that is out of bounds

@@ -2,18 +2,18 @@
 //
 //     node pack.mjs FOLDER        # FOLDER/jcobs.js, FOLDER/jcobs.cjs, the types of the second, and the files below
 //
-// In Node `import` gets node.js, which is jcobs.cjs again, so that a program has one module however it gets it. auto.js,
-// auto.cjs and auto.node.js load by themselves. serialport.cjs is serialport.js for `require`. integrity.json has the sums
-// for a <script> from elsewhere.
+// In Node, `import` gets node.js, which exports jcobs.cjs, so a program has one module even if it uses `import` and `require`. auto.js,
+// auto.cjs and auto.node.js load the module themselves. serialport.cjs is serialport.js for `require`. integrity.json has the hashes
+// for a <script> from another host.
 //
-// Only the lines that import, export or find cobs.wasm change, and each must be there as this file knows it.
+// Only the lines that import, export or find cobs.wasm are changed. If one of these lines isn't as this script expects it, the script fails.
 import { createHash } from "node:crypto";
 import { copyFile, mkdir, readFile, writeFile } from "node:fs/promises";
 import { join } from "node:path";
 
 const read = (name, encoding = "utf8") => readFile(new URL(name, import.meta.url), encoding);
 
-/** `text` with the one place where `pattern` matches replaced. */
+/** Returns `text` with the match of `pattern` replaced. There must be exactly one match. */
 function replaced(text, pattern, by) {
   const found = text.match(new RegExp(pattern, "gm")) ?? [];
   if (found.length !== 1) throw new Error(`pack.mjs: ${pattern} matches ${found.length} times`);

@@ -1,16 +1,16 @@
 import { Transform } from "node:stream";
 import type { DecoderOptions, SentinelOptions } from "./jcobs.js";
 
-/** Takes bytes, and returns an `Outcome` for each piece that a sentinel ends. It loads the module itself. */
+/** Turns bytes into an `Outcome` for each piece that a sentinel ends. Loads the module itself. */
 export class FrameDecoderTransform extends Transform {
   constructor(options?: DecoderOptions);
-  /** Whether a frame has begun that no sentinel has ended yet. */
+  /** Whether a frame has begun, and no sentinel has ended it yet. */
   get unfinished(): boolean;
-  /** How many bytes `skipFirst` has left out, the first sentinel among them. */
+  /** How many bytes `skipFirst` has skipped, including the first sentinel. */
   get skipped(): number;
 }
 
-/** Takes messages, and returns their frames, each with a sentinel after it. */
+/** Turns messages into frames, each with a sentinel after it. Loads the module itself. */
 export class FrameEncoderTransform extends Transform {
   constructor(options?: SentinelOptions);
 }

@@ -4,7 +4,7 @@
 import { Transform } from "node:stream";
 import { FrameDecoder, encode, load } from "./dist/node.js";
 
-/** Takes bytes, and returns outcomes: `{message}`, `{broken: n}` or `{tooLong: true}` for each piece that a sentinel ends. */
+/** Turns bytes into outcomes: `{message}`, `{broken: n}` or `{tooLong: true}` for each piece that a sentinel ends. */
 export class FrameDecoderTransform extends Transform {
   #options;
   #decoder;
@@ -35,18 +35,18 @@ export class FrameDecoderTransform extends Transform {
     done(error);
   }
 
-  /** Whether a frame has begun that no sentinel has ended yet. */
+  /** Whether a frame has begun, and no sentinel has ended it yet. */
   get unfinished() {
     return this.#decoder?.unfinished ?? false;
   }
 
-  /** How many bytes `skipFirst` has left out, the first sentinel among them. */
+  /** How many bytes `skipFirst` has skipped, including the first sentinel. */
   get skipped() {
     return this.#decoder?.skipped ?? 0;
   }
 }
 
-/** Takes messages, and returns their frames, each with a sentinel after it. */
+/** Turns messages into frames, each with a sentinel after it. */
 export class FrameEncoderTransform extends Transform {
   #options;
 

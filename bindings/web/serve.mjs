@@ -1,4 +1,4 @@
-// Serves this folder, to this computer alone unless another address to listen on is given: node serve.mjs [PORT [HOST]]
+// Serves this folder: node serve.mjs [PORT [HOST]]. Without HOST, the folder is served to this computer only.
 import { createServer } from "node:http";
 import { readFile } from "node:fs/promises";
 import { extname, join, normalize } from "node:path";

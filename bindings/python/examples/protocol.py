@@ -1,6 +1,6 @@
-"""Frames by an asyncio.Protocol, over any transport: a socket, a pipe, or a serial port by pyserial-asyncio.
+"""Receives frames with an asyncio.Protocol, over a socket, a pipe, or a serial port with pyserial-asyncio.
 
-Send by `transport.write(jcobs.encode(message, terminated=True))`.
+To send, call `transport.write(jcobs.encode(message, terminated=True))`.
 """
 
 import asyncio
@@ -10,7 +10,7 @@ import jcobs
 
 
 class Frames(asyncio.Protocol):
-    """Passes the outcome of each frame on."""
+    """Passes the outcome of each frame to `received`."""
 
     def __init__(self, received: Callable[[jcobs.Outcome], None]) -> None:
         self._decoder = jcobs.Decoder()

@@ -1,4 +1,4 @@
-"""Frames in the background by pyserial's threads: serial.threaded.ReaderThread(port, lambda: Frames(received))."""
+"""Receives frames in a thread of pyserial: serial.threaded.ReaderThread(port, lambda: Frames(received))."""
 
 from typing import Callable
 
@@ -8,7 +8,7 @@ import jcobs
 
 
 class Frames(serial.threaded.Protocol):
-    """Passes the outcome of each frame on, in the thread that reads, and sends messages."""
+    """Passes the outcome of each frame to `received`, in the thread that reads, and sends messages."""
 
     def __init__(self, received: Callable[[jcobs.Outcome], None]) -> None:
         self._decoder = jcobs.Decoder()

@@ -1,6 +1,7 @@
-"""Frames from a stream of trio: a socket, a pipe, or a port by trio.lowlevel.FdStream.
+"""Receives frames from a stream of trio: a socket, a pipe, or a port with trio.lowlevel.FdStream.
 
-The reader has what came of a frame, so it is made once for a stream. A cancelled call loses nothing:
+The reader keeps the bytes of a frame that has begun, so make one reader for each stream. A cancelled call loses
+nothing:
 
     reader = jcobs.AsyncFrameReader(stream)
     with trio.move_on_after(5):
@@ -15,6 +16,6 @@ import jcobs
 
 
 async def receive(reader: jcobs.AsyncFrameReader, received: Callable[[jcobs.Outcome], None]) -> None:
-    """Passes the outcome of each frame on, until the stream ends."""
+    """Passes the outcome of each frame to `received`, until the stream ends."""
     async for outcome in reader:
         received(outcome)

@@ -1,4 +1,4 @@
-"""Settings of hypothesis, as a busy machine may be slow and no examples are kept; and a limit of time for each test."""
+"""Settings of Hypothesis for a machine that may be busy, without a database of examples; a time limit for each test."""
 
 import os
 import signal

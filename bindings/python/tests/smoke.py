@@ -1,4 +1,4 @@
-"""What any CPython from 3.9 on is to do, without pytest: python smoke.py"""
+"""Tests for any CPython from 3.9 on, without pytest: python smoke.py"""
 
 import concurrent.futures
 import socket
@@ -11,7 +11,7 @@ import plain
 
 import jcobs
 
-FAILED = []  # what threads raised
+FAILED = []  # the exceptions that threads raised
 threading.excepthook = FAILED.append
 MESSAGES = [b"\x01" * ones + bytes(zeros) + b"\x02" * 3 for ones in (0, 1, 253, 254, 255, 600) for zeros in range(3)]
 

@@ -1,4 +1,4 @@
-"""The extension and the plain fallback: which one is taken, and that both behave alike."""
+"""The extension and plain Python: which of them is used, and that their results are the same."""
 
 import inspect
 import os

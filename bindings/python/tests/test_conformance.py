@@ -1,8 +1,8 @@
-"""The cases of conformance/ of the repository, as far as the package has calls for them.
+"""The cases of conformance/ for which the package has calls. conformance/README.md describes the lines.
 
-Its README says what a line is. Left out are the calls that the package doesn't have (decoding in place, the state
-machines), cases in which a caller's buffer has too little room, and, of the calls with a sentinel, sources that begin
-with it: `jcobs.decode` skips it for every sentinel.
+These cases are left out: those of calls that the package doesn't have (decoding in place, the state machines), those in
+which the caller's buffer is too short, and those of a call with a sentinel whose source begins with the sentinel,
+because `jcobs.decode` skips leading sentinels.
 """
 
 import itertools
@@ -23,7 +23,7 @@ pytestmark = pytest.mark.skipif(not FOLDER.is_dir(), reason="conformance/ of the
 
 
 def written_out(word):
-    """A word without its parts: the digits of each as often as the number after the star says."""
+    """Expands a word in parts: repeats the digits of each part as often as the number after the star says."""
     parts = (part.partition("*") for part in word.split("+"))
     return "".join(digits * int(count or 1) for digits, _, count in parts)
 

@@ -1,4 +1,4 @@
-"""Allocations that fail, and memory that is given back."""
+"""Allocations that fail, and memory that is freed."""
 
 import gc
 import sys

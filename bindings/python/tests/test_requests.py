@@ -1,4 +1,4 @@
-"""Requests and replies: those that come late, damaged or never; `discard`, `with`, `close` and `repr`."""
+"""Requests, and replies that come late, damaged or never; `discard`, `with`, `close` and `repr`."""
 
 import asyncio
 import contextlib

@@ -1,4 +1,4 @@
-"""Messages that aren't written whole, and what the receiver makes of them."""
+"""Messages that aren't written whole, and the outcomes that the receiver reports for them."""
 
 import asyncio
 import io

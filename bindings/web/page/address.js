@@ -1,21 +1,21 @@
-// What the address says: `#VIEW&NAME=VALUE&..`, so that a link leads to a view with what is in it.
+// Reads and writes the page's address, `#VIEW&NAME=VALUE&..`, so that a link opens a view with its contents.
 
 export const VIEWS = ["message", "stream", "line"];
-const LONGEST = 4000; // signs of a value; browsers and those who pass links on take no link of any length
-const SETTLED = 300;  // milliseconds: the address is written after the last of some changes, since WebKit allows 100 in 10 s
-const AGAIN = 10_000; // and if it allowed no more
-const states = new Map(); // the values of each view, as they are in the address; null if they are too long for one
+const LONGEST = 4000; // characters of a value; browsers, and programs that pass links on, limit the length of a link
+const SETTLED = 300;  // milliseconds from the last change until the address is written: WebKit allows 100 writes in 10 s
+const AGAIN = 10_000; // milliseconds until the next try, if the browser rejected a write
+const states = new Map(); // the values of each view, as they are in the address; null if they are too long for an address
 let timer = 0;
-let ours = null; // the hash that was set here, until the browser says that it changed
+let ours = null; // the hash that this module has set, until the browser reports the change
 
-/** The view that the address names, its values, and the text that they are in. A “+” is itself, as one writes it by hand. */
+/** Returns the view that the address names, its values, and the text of the values. A “+” isn't a space, so links can be written by hand. */
 export function readAddress() {
   const [named, ...rest] = location.hash.slice(1).split("&");
   const text = VIEWS.includes(named) ? rest.join("&") : location.hash.slice(1);
   return { view: VIEWS.includes(named) ? named : VIEWS[0], values: new URLSearchParams(text.replaceAll("+", "%2B")), text };
 }
 
-/** Keeps the values of a view in the address as they are there, until the view has good ones. */
+/** Leaves the values of a view in the address unchanged, until the view has valid values. */
 export function holdAddress() {
   const { view, text } = readAddress();
   states.set(view, text);
@@ -23,14 +23,14 @@ export function holdAddress() {
 
 const hashOf = (view) => `#${[view, states.get(view)].filter((part) => part).join("&")}`;
 
-/** The address of a view with the values that it was last given and with others; null if they are too long for one. */
+/** Returns the address of a view with its last values and with other values, or null if they are too long for an address. */
 export function linkOf(view, others = {}) {
   if (states.get(view) === null) return null;
   const more = new URLSearchParams(others).toString();
   return new URL(more === "" ? hashOf(view) : `${hashOf(view)}&${more}`, location.href).href;
 }
 
-/** Gives a view its values, which are in the address soon while the view is shown, if all of them fit. */
+/** Keeps the values of a view. If all of them fit, and the view is shown, they are soon in the address. */
 export function keepState(view, values) {
   const fits = Object.values(values).every((value) => String(value).length <= LONGEST);
   states.set(view, fits ? new URLSearchParams(values).toString() : null);
@@ -52,7 +52,7 @@ function writeAddress() {
   }
 }
 
-/** Names another view in the address, which setting the hash would do with a jump of the page. */
+/** Names another view in the address. Setting the hash would also scroll the page. */
 export function nameView(view) {
   if (view === readAddress().view) return;
   writeAddress();
@@ -64,7 +64,7 @@ export function nameView(view) {
   }
 }
 
-/** Returns whether the change of the hash was made here. */
+/** Returns whether this module has changed the hash. */
 export function isOurChange() {
   const isOurs = location.hash === ours;
   ours = null;

@@ -1,5 +1,5 @@
-// Bytes as a developer has them at hand: hex digits, dumps, arrays and strings of programs, decimal numbers, base64. Each form
-// is that of the whole text: a part that doesn't belong to it is an error, never left out.
+// Reads bytes in the forms in which developers have them: hex digits, dumps, arrays and strings of programs, decimal numbers, base64.
+// The whole text must have one form: a part that doesn't belong to the form is an error, and is never left out.
 import { parseColumns } from "./columns.js";
 import { parseCan, parseDump } from "./dumps.js";
 import { parseHex } from "./hex.js";
@@ -9,7 +9,7 @@ import { choice } from "./readings.js";
 
 const INVISIBLE = /[\u200b-\u200d\u2060\ufeff]/g;
 
-/** The bytes of several lists, one after another. */
+/** Returns the bytes of several lists, one after another. */
 export function joined(parts) {
   const whole = new Uint8Array(parts.reduce((length, part) => length + part.length, 0));
   let at = 0;
@@ -24,8 +24,9 @@ const NODE_BUFFER = /^<(?:Buffer\b)?([^<>]*)>$/;
 const NODE_ARRAY_BUFFER = /^(?:Shared)?ArrayBuffer \{\s*\[Uint8Contents\]: <([^<>]*)>,?\s*byteLength: (\d+),?\s*\}$/;
 
 /**
- * Returns `{bytes, as}` of a text in any of these forms, with `as` the name of the form; else `{error}`, which says what is
- * wrong, perhaps with `as`. If the text has another reading too, `other` is its name: as `wanted` that one is chosen.
+ * Returns `{bytes, as}` for a text in one of these forms, with the name of the form as `as`. Otherwise returns `{error}`, which says
+ * what is wrong, perhaps with `as`. If the text can also be read in another form, `other` is the name of that form; pass this name as
+ * `wanted` to choose that form.
  */
 export function parseBytes(text, wanted) {
   const clean = text.replace(INVISIBLE, "").replace(/\r\n?/g, "\n");
@@ -41,7 +42,7 @@ function parsePlainHex(text) {
   return bytes && { bytes, as: "hex" };
 }
 
-/** A Buffer or an array as Node prints it or JSON has it: `<Buffer 03 0a>`, `{"type":"Buffer","data":[3,10]}`, `{"0":3,"1":10}`. */
+/** Reads a Buffer or an array as Node prints it or as it is in JSON: `<Buffer 03 0a>`, `{"type":"Buffer","data":[3,10]}`, `{"0":3,"1":10}`. */
 function parseBuffer(text) {
   const [, inside, length] = text.trim().match(NODE_BUFFER) ?? text.trim().match(NODE_ARRAY_BUFFER) ?? [];
   if (inside !== undefined) {
@@ -64,7 +65,7 @@ function parseBuffer(text) {
 
 const wordsOf = (text) => text.split(/[\s,;:]+/).filter((word) => word !== "");
 
-/** Numbers that say what they are: `$03`, `03h`, `0x3 0xA`, `0b101`. */
+/** Reads numbers whose spelling shows their base: `$03`, `03h`, `0x3 0xA`, `0b101`. */
 function parseWords(text, wanted) {
   if (!/[$hx]|0b[01]/i.test(text)) return undefined;
   const words = wordsOf(text);
@@ -73,13 +74,13 @@ function parseWords(text, wanted) {
   if (all(/^0b[01]{1,8}$/i)) {
     const binary = { bytes: Uint8Array.from(words, (word) => parseInt(word.slice(2), 2)), as: "binary numbers" };
     const hex = { ...parseHex(text), as: "hex" };
-    return choice(words.length > 1 || words[0].length === 10 ? [binary, hex] : [hex, binary], wanted); // 0b10 is two bytes rather
+    return choice(words.length > 1 || words[0].length === 10 ? [binary, hex] : [hex, binary], wanted); // 0b10 alone is rather two bytes
   }
   const prefixed = words.filter((word) => /^0x/i.test(word));
   return prefixed.length > 0 ? parsePrefixed(words, prefixed) : undefined;
 }
 
-/** Words of which some begin with `0x`. */
+/** Reads words of which some begin with `0x`. */
 function parsePrefixed(words, prefixed) {
   const long = prefixed.find((word) => /^0x[0-9a-f]{3,}$/i.test(word));
   if (words.length > 1 && long) return { error: `“${long}” has several bytes, whose order isn't known: write each byte by itself.` };
@@ -90,8 +91,9 @@ function parsePrefixed(words, prefixed) {
 }
 
 /**
- * Numbers of decimal digits alone, none with a 0 in front. With commas between them they are decimal, however many digits each
- * has, so that one that is changed doesn't change the others; with spaces they are hex. Either may be read the other way.
+ * Reads numbers that have only decimal digits and no leading 0. With commas between them the numbers are decimal, however many
+ * digits each has, so that a change of one number doesn't change the others. With spaces between them they are hex. The user may
+ * choose the other reading.
  */
 function parseNumbers(text, wanted) {
   if (!/^[\d\s,]+$/.test(text)) return undefined;

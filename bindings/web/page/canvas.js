@@ -1,5 +1,5 @@
-// A stream on a canvas: over each byte the byte of the message that it is for, under it the arcs from code to code. Each
-// byte is explained under the mouse and at the cursor, and can be written: in the message or in the frame.
+// Shows a stream: above each byte the byte of the message that corresponds to it, and below it the arcs from code to code. The byte
+// under the mouse or at the cursor is explained, and can be changed, in the message or in the frame.
 import { CELL, rowPicture } from "../draw.js";
 import { explainFrame, explainMessage } from "./explain.js";
 import { printHex } from "./hex.js";
@@ -10,8 +10,8 @@ import { lastAtOrBefore } from "./search.js";
 const LINE_HEIGHT = 93;   // pixels of a line of bytes
 const OUTCOME_HEIGHT = 36;
 const WIDTHS = [32, 28, 24, 20, 16, 14, 12, 10, 9, 8, 7, 6, 5, 4];
-const ZOOM = 1.5;        // how much larger a frame is drawn that has room for it in one line
-const FAR = 4096; // bytes that the cursor skips at most on the way to the next byte of a message
+const ZOOM = 1.5;        // the greatest factor by which a frame is enlarged that fits on one line
+const FAR = 4096; // how many bytes the cursor skips at most on the way to the next byte of a message
 const FRAME = "frame";
 const OVER = "over"; // the lane of the messages
 
@@ -33,9 +33,13 @@ export class Canvas {
   #stage = null;
 
   /**
-   * `on` has `name`, for the elements' ids; `outcome(element, at)`, which fills the row over a piece; `mark(i)`, a note on a byte
-   * that is marked; `act(i)`, for a click on a byte or Enter; `write(i, byte)` and `splice(at, index, removed, bytes)`, which
-   * change a byte of the stream and bytes of a piece's message, and return what is wrong if they can't.
+   * `on` has:
+   * - `name`, for the elements' ids;
+   * - `outcome(element, at)`, which fills the row above a piece;
+   * - `mark(i)`, which returns a note on a byte that is marked;
+   * - `act(i)`, which is called for a click on a byte and for Enter;
+   * - `write(i, byte)`, which changes a byte of the stream, and `splice(at, index, removed, bytes)`, which changes bytes of a piece's
+   *   message. They return the reason if they can't do so.
    */
   constructor(box, on) {
     this.#box = box;
@@ -59,7 +63,7 @@ export class Canvas {
     return document.getElementById(`${this.#on.name}-${name}`);
   }
 
-  /** Shows pieces, with a row over each that says what it decodes to, or without. */
+  /** Shows pieces. If `hasOutcomes` is true, a row above each piece says what it decodes to. */
   show(pieces, hasOutcomes = true) {
     const digit = this.#digit !== "" && pieces.stream.every((byte, i) => byte === this.#pieces.stream[i]) ? this.#digit : "";
     this.#pieces = pieces;
@@ -68,10 +72,10 @@ export class Canvas {
     this.#active = Math.max(0, Math.min(this.#active, pieces.stream.length - 1));
     if (this.#lane === OVER && !this.#isThere(this.#active)) this.#lane = FRAME;
     this.#layOut();
-    this.#begin(digit); // the first of two digits stays, if nothing changed since
+    this.#begin(digit); // the first of two digits stays if the stream hasn't changed
   }
 
-  /** Draws the first piece as it is at a step, as `rowPicture` takes it; null is the whole. Brings what is read into sight. */
+  /** Draws the first piece as it is at a step (see `rowPicture`), or whole if `stage` is null. Scrolls to the byte that is read. */
   stage(stage) {
     this.#stage = stage;
     this.#rows.refresh();
@@ -86,7 +90,7 @@ export class Canvas {
     this.#mark();
   }
 
-  /** Puts the cursor on a byte and brings it into sight, as a link does. */
+  /** Puts the cursor on a byte and scrolls to it, as a link does. */
   open(i) {
     if (!(i < this.#pieces.stream.length)) return;
     [this.#active, this.#lane] = [i, FRAME];
@@ -101,7 +105,7 @@ export class Canvas {
     const pieces = this.#pieces;
     if (!pieces) return;
     this.#margin = Math.max(30, String(pieces.stream.length).length * 7 + 10);
-    const fitting = Math.floor((this.#box.clientWidth - this.#margin) / CELL) - 1; // and the sentinel
+    const fitting = Math.floor((this.#box.clientWidth - this.#margin) / CELL) - 1; // one cell is for the sentinel
     this.#columns = WIDTHS.find((width) => width <= fitting) ?? 4;
     const needed = this.#margin + (pieces.stream.length + 1) * CELL;
     this.#zoom = this.#hasOutcomes ? 1 : Math.max(1, Math.min(ZOOM, this.#box.clientWidth / needed));
@@ -120,13 +124,13 @@ export class Canvas {
     this.#mark();
   }
 
-  /** How many rows the bytes of a piece take. The sentinel that ends it is beside its last byte. */
+  /** Returns how many lines the bytes of a piece need. The sentinel that ends the piece is on the line of its last byte. */
   #lines(at) {
     const { ends, ended } = this.#pieces;
     return Math.max(1, Math.ceil((ends[at] - this.#pieces.start(at) - (at < ended ? 1 : 0)) / this.#columns));
   }
 
-  /** The first byte of a piece's line, and the place after its last. */
+  /** Returns the index of the first byte of a piece's line, and the index after its last byte. */
   #range(at, line) {
     const from = this.#pieces.start(at) + line * this.#columns;
     return [from, line + 1 >= this.#lines(at) ? this.#pieces.ends[at] : from + this.#columns];
@@ -144,7 +148,7 @@ export class Canvas {
     return this.#tops[at] + (isBelow ? OUTCOME_HEIGHT - LINE_HEIGHT : 0) + inside * LINE_HEIGHT * this.#zoom;
   }
 
-  /** The piece and the line that a byte is in. */
+  /** Returns the piece of a byte, and the line in that piece. */
   #lineOf(i) {
     const at = this.#pieces.at(i);
     return [at, Math.min(this.#lines(at) - 1, Math.floor((i - this.#pieces.start(at)) / this.#columns))];
@@ -168,7 +172,7 @@ export class Canvas {
     element.innerHTML = rowPicture(pieces.piece(at), pieces.codes(at).places, first - front, last - front, {
       sentinel: pieces.sentinel, margin: this.#margin, label: from, lead: first - from, trail: to - last, zoom: this.#zoom, stage: at === 0 ? this.#stage : null,
     }) + `<span class="lane over" role="presentation">${this.#spots(from, to, OVER)}</span><span class="lane frame" role="presentation">${this.#spots(from, to, FRAME)}</span>`;
-    for (const lane of element.querySelectorAll(".lane")) lane.style.left = `${this.#margin * this.#zoom}px`; // a style attribute would be against the policy
+    for (const lane of element.querySelectorAll(".lane")) lane.style.left = `${this.#margin * this.#zoom}px`; // the content security policy forbids a style attribute
   }
 
   #spots(from, to, lane) {
@@ -228,7 +232,7 @@ export class Canvas {
     if (document.activeElement !== field) field.value = this.#digitsAt();
   }
 
-  /** The byte at the cursor as digits. */
+  /** Returns the byte at the cursor as digits. */
   #digitsAt() {
     const { stream } = this.#pieces;
     if (stream.length === 0) return "";
@@ -251,7 +255,7 @@ export class Canvas {
     else this.#mark();
   }
 
-  /** Explains the byte that the mouse was moved to, and not one that came under it when the bytes changed. */
+  /** Explains the byte to which the mouse was moved, but not a byte that came under the mouse when the bytes changed. */
   #hover(event) {
     const spot = event.target.closest("[data-at]");
     const isMoved = event.clientX !== this.#mouse.x || event.clientY !== this.#mouse.y;
@@ -264,7 +268,7 @@ export class Canvas {
     if (this.#edit(event.key) || this.#move(event.key)) event.preventDefault();
   }
 
-  /** Moves the cursor by a key, and says whether the key does. */
+  /** Moves the cursor if the key is one that moves it, and returns whether it is. */
   #move(key) {
     const length = this.#pieces.stream.length;
     const page = Math.max(1, Math.floor(this.#box.clientHeight / LINE_HEIGHT));
@@ -285,7 +289,7 @@ export class Canvas {
     this.#mark();
   }
 
-  /** To the byte before or after, of the same lane. */
+  /** Moves the cursor to the preceding or next byte of the same lane. */
   #step(by) {
     let i = this.#active + by;
     if (this.#lane === OVER) while (Math.abs(i - this.#active) < FAR && i >= 0 && i < this.#pieces.stream.length && !this.#isThere(i)) i += by;
@@ -293,7 +297,7 @@ export class Canvas {
     this.#active = i;
   }
 
-  /** To the lane above or below. */
+  /** Moves the cursor to the lane above or below. */
   #climb(by) {
     const isUp = by < 0;
     if (isUp ? this.#lane === FRAME && this.#isThere(this.#active) : this.#lane === OVER) {
@@ -306,7 +310,7 @@ export class Canvas {
     this.#lane = !isUp && this.#isThere(i) ? OVER : FRAME;
   }
 
-  /** The byte above or below the cursor, in the next line of bytes. */
+  /** Returns the byte above or below the cursor, in the adjacent line of bytes. */
   #beyond(by) {
     const [at, line] = this.#lineOf(this.#active);
     const column = this.#active - this.#range(at, line)[0];
@@ -318,7 +322,7 @@ export class Canvas {
     return Math.min(from + column, to - 1);
   }
 
-  /** Changes a byte by a key, and says whether the key does. */
+  /** Changes a byte if the key is one that does so, and returns whether it is. */
   #edit(key) {
     if (/^[0-9a-f]$/i.test(key)) {
       if (this.#digit === "") this.#begin(key.toLowerCase());
@@ -332,7 +336,7 @@ export class Canvas {
     return true;
   }
 
-  /** Shows the first of two digits, or takes it away. */
+  /** Shows the first of two digits, or removes it. */
   #begin(digit) {
     if (digit === this.#digit) return;
     this.#digit = digit;

@@ -1,5 +1,5 @@
-// Bytes as od prints them other than in hex: in columns, each byte as an octal number (-b), a decimal one (-t u1, -t d1) or a
-// character (-c), after an offset; and as gdb's x prints decimal ones.
+// Reads bytes as od prints them in columns after an offset: as octal numbers (-b), decimal numbers (-t u1, -t d1) or characters (-c);
+// and as the command x of gdb prints decimal numbers.
 import { unrolled } from "./dumps.js";
 import { choice } from "./readings.js";
 
@@ -7,7 +7,7 @@ const ESCAPES = { 0: 0, a: 7, b: 8, f: 12, n: 10, r: 13, t: 9, v: 11 };
 const octal = (cell) => parseInt(cell, 8);
 const character = (cell) => (/\d{3}/.test(cell) ? octal(cell) : cell[2] === "\\" ? ESCAPES[cell[3]] : cell.charCodeAt(3));
 
-/** What a column can hold, and its byte. */
+/** The forms that a column may have: the pattern of its cells, and the function that returns the byte of a cell. */
 const COLUMNS = [
   { as: "octal numbers of od", cell: / [0-3][0-7]{2}/g, width: 4, byteOf: octal },
   { as: "decimal numbers of od", cell: / (?: {2}\d| [1-9]\d|1\d\d|2[0-4]\d|25[0-5])/g, width: 4, byteOf: Number },
@@ -17,7 +17,7 @@ const COLUMNS = [
 
 const GDB = /^0x([0-9a-f]+)(?:[ \t]*<[^>]*>)?:((?:\t(?:0|-?[1-9]\d{0,2}))+)$/i;
 
-/** Returns the bytes of lines that begin with an offset of od, seven digits, or an address of gdb; undefined if the text is none. */
+/** Returns the bytes of lines that begin with an offset of od (seven digits) or an address of gdb, or undefined for another text. */
 export function parseColumns(text, wanted) {
   const lines = text.split("\n").filter((line) => line.trim() !== "");
   if (lines.length > 0 && lines.every((line) => GDB.test(line))) return parseGdb(lines);
@@ -26,13 +26,13 @@ export function parseColumns(text, wanted) {
   return readings.length > 0 ? choice(readings, wanted) : undefined;
 }
 
-/** The bytes of the lines if all of their columns are of a kind, and the offsets fit, be they octal or decimal. */
+/** Returns the bytes of the lines if all their columns have one form, and the offsets, octal or decimal, fit. */
 function readingsOf(lines, { as, cell, width, byteOf }) {
   const rows = [];
   for (const line of lines) {
     const digits = line.match(/^\d*/)[0];
     const columns = line.slice(digits.length);
-    const padded = columns.padEnd(Math.ceil(columns.length / width) * width); // a space at its end may have got lost
+    const padded = columns.padEnd(Math.ceil(columns.length / width) * width); // a space at the end of the line may be missing
     const groups = padded.match(cell) ?? [];
     if (line !== "*" && groups.join("") !== padded) return [];
     rows.push(line === "*" ? { isStar: true } : { digits, groups });

@@ -1,8 +1,8 @@
-// A serial port in use: one reader of it, one writer to it, for as long as it is open. It knows nothing of the page.
+// An open serial port with one reader and one writer. This module doesn't depend on the page.
 import { FrameDecoder, encode } from "../jcobs.js";
 import { joined } from "./bytes.js";
 
-const KEPT = 65_536; // bytes of a piece that are kept as they came
+const KEPT = 65_536; // how many bytes of a piece are kept as they arrived
 
 export class Connection {
   #port;
@@ -14,9 +14,10 @@ export class Connection {
   #writer = null;
 
   /**
-   * `port` is an open Web Serial port. `options` are those of a `FrameDecoder`, for each stream that the port has: a device's have
-   * `skipFirst`. `on.outcome` gets what each frame decodes to, with its bytes as they came if it is no
-   * message; `on.left` how many bytes were left out before the first sentinel; `on.fault` what the line reports.
+   * `port` is an open Web Serial port. `options` are those of a `FrameDecoder`, for each stream of the port; for a device they include
+   * `skipFirst`. `on.outcome` is called with the outcome of each frame; if this isn't a message, also with the bytes of the frame as
+   * they arrived. `on.left` is called with the number of bytes that were skipped before the first sentinel, and `on.fault` with each
+   * fault of the line.
    */
   constructor(port, options, on) {
     this.#port = port;
@@ -24,7 +25,7 @@ export class Connection {
     this.#on = on;
   }
 
-  /** Reads until the port closes. A fault of the line ends one stream, and the port then has another, in mid-frame. */
+  /** Reads until the port closes. A fault of the line ends a stream. The port then has another stream, which may begin inside a frame. */
   async receive() {
     while (this.#port.readable && !this.#isClosing) {
       this.#reading = this.#readAll();
@@ -35,7 +36,7 @@ export class Connection {
     }
   }
 
-  /** Reads one stream of the port to its end, and returns the fault that ended it, if one did. */
+  /** Reads one stream of the port to its end, and returns the fault that ended it, or null. */
   async #readAll() {
     const decoder = new FrameDecoder(this.#options);
     const take = this.#taker(decoder);
@@ -52,7 +53,7 @@ export class Connection {
     }
   }
 
-  /** A function that takes the chunks of a stream. */
+  /** Returns a function that takes the chunks of a stream. */
   #taker(decoder) {
     let given = 0;
     let isLeftSaid = false;
@@ -79,7 +80,7 @@ export class Connection {
     };
   }
 
-  /** Sends a message after those before it. */
+  /** Sends a message, after all earlier messages. */
   async send(message) {
     const frame = encode(message, { sentinel: this.#options.sentinel, terminated: true });
     this.#writer ??= this.#port.writable.getWriter();
@@ -87,7 +88,7 @@ export class Connection {
     try {
       await writer.write(frame);
     } catch (error) {
-      if (this.#writer === writer) this.#releaseWriter(); // the port has another stream
+      if (this.#writer === writer) this.#releaseWriter(); // the port then has another stream
       throw error;
     }
   }
@@ -97,12 +98,12 @@ export class Connection {
     this.#writer = null;
   }
 
-  /** Closes the port. Both of its streams must be unlocked before. */
+  /** Closes the port. First its two streams must be unlocked. */
   async close() {
     this.#isClosing = true;
     await this.#reader?.cancel().catch(() => {});
     await this.#reading;
-    await this.#writer?.abort(new Error("the line was closed")).catch(() => {}); // the reason why messages that wait aren't sent
+    await this.#writer?.abort(new Error("the line was closed")).catch(() => {}); // waiting messages fail with this error
     this.#releaseWriter();
     await this.#port.close();
   }
@@ -110,7 +111,7 @@ export class Connection {
 
 const lengthOf = (parts) => parts.reduce((sum, part) => sum + part.length, 0);
 
-/** A piece out of its parts, without the sentinels before it, if it isn't too long to be kept. */
+/** Joins the parts of a piece, without the sentinels before it. Returns undefined if the piece is too long to be kept. */
 function keptOf(parts, sentinel) {
   if (lengthOf(parts) > KEPT) return undefined;
   const bytes = joined(parts);

@@ -1,11 +1,11 @@
-// Bytes as text for a program, and the clipboard.
+// Converts bytes to text for a program, and copies text to the clipboard.
 import { figure } from "../draw.js";
 import { printHex } from "./hex.js";
 
 const DRAWN = 64; // a picture of more bytes is too wide for a document
 const listed = (bytes) => Array.from(bytes, (byte) => `0x${byte.toString(16).padStart(2, "0")}`).join(", ");
 
-/** What a frame or a stream is copied as, by the choice's name. Each returns text, or null if it can't. */
+/** The forms in which a frame or a stream is copied, by name. Each function returns text, or null if it can't. */
 export const FORMS = {
   hex: (bytes) => printHex(bytes),
   c: (bytes, { name = "frame" }) => `static const unsigned char ${name}[${bytes.length}] = {${listed(bytes)}};\n`,
@@ -19,7 +19,7 @@ export const FORMS = {
   link: (bytes, { link }) => link,
 };
 
-/** Puts text on the clipboard, and says whether the browser lets it. */
+/** Puts text on the clipboard, and returns whether the browser allowed it. */
 export async function toClipboard(text) {
   try {
     await navigator.clipboard.writeText(text);

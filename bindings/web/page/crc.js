@@ -1,4 +1,4 @@
-// Cyclic redundancy checks, which notice what COBS doesn't: those that cobs_watch knows, by its names.
+// Computes the cyclic redundancy checks of cobs_watch, under its names. They detect damage that COBS doesn't notice.
 
 export const KINDS = {
   "crc16-ccitt-false": { bits: 16, poly: 0x1021, init: 0xffff, isReflected: false, xorOut: 0 },
@@ -7,14 +7,14 @@ export const KINDS = {
   crc8: { bits: 8, poly: 0x07, init: 0, isReflected: false, xorOut: 0 },
 };
 
-/** The bits of a number in the other order. */
+/** Returns the bits of a number in reverse order. */
 function reversed(number, bits) {
   let other = 0;
   for (let i = 0; i < bits; i++) other |= ((number >>> i) & 1) << (bits - 1 - i);
   return other >>> 0;
 }
 
-/** The checksum of some bytes, its high byte first. */
+/** Returns the checksum of bytes, with its high byte first. */
 export function crcOf(bytes, kind) {
   const { bits, poly, init, isReflected, xorOut } = KINDS[kind];
   const top = 32 - bits;

@@ -1,23 +1,24 @@
-// Bytes as tools print them: hexdump, xxd, od, gdb and Wireshark, whose lines are an offset and the bytes from there, and candump.
+// Reads bytes as tools print them. Each line of hexdump, xxd, od, gdb and Wireshark has an offset and the bytes at this offset. The
+// frames that candump prints are read too.
 
 const LONGEST = 16 << 20;
 const LINE = /^\s*(?:0x)?([0-9a-f]{4,16})(?:[ \t]*<[^>]*>)?(:?)(?:([ \t]+)(.*))?$/i;
 const GROUP = /^(?:0x)?(?:[0-9a-f]{2}){1,8}$/i;
 
-/** A line as `{digits, colon, gap, groups, isPiped, isCut}`, `{isStar}` for lines that are left out, or null. */
+/** Returns a line as `{digits, colon, gap, groups, isPiped, isCut}`, or `{isStar}` if lines are left out here, or null. */
 function rowOf(line) {
   if (line === "*") return { isStar: true };
   const [, digits, colon, gap = "", rest = ""] = line.match(LINE) ?? [];
   if (digits === undefined) return null;
-  const piped = rest.match(/^(.*?)\s+(?:\|.*\||>.*<)$/); // the signs, as hexdump -C and od -z have them
+  const piped = rest.match(/^(.*?)\s+(?:\|.*\||>.*<)$/); // the characters, as hexdump -C and od -z print them
   const [first, ...others] = piped ? [piped[1].replace(/ {2}/g, " ")] : rest.replaceAll("\t", " ").split(/ {2,}/);
   const groups = first === "" ? [] : first.split(/[ -]/);
   if (!groups.every((group) => GROUP.test(group))) return null;
-  // what is after two spaces may be signs, or the second half of a line whose signs were cut off
+  // after two spaces there may be characters, or the second half of a line whose characters were cut off
   return { digits, colon, gap, groups, isPiped: piped !== null, isCut: colon === "" && /^[0-9a-f]{2}( [0-9a-f]{2})*$/i.test(others[0] ?? "") };
 }
 
-/** Lines that begin with offsets, or undefined if the text is none. */
+/** Reads lines that begin with offsets. Returns undefined for another text. */
 export function parseDump(text) {
   const lines = text.split("\n").map((line) => line.trimEnd()).filter((line) => line !== "");
   const first = lines.length > 0 ? rowOf(lines[0]) : null;
@@ -53,7 +54,7 @@ function readRows(rows) {
 const bytesOf = (groups) => groups.flatMap((group) => group.replace(/^0x/i, "").match(/../g).map((pair) => parseInt(pair, 16)));
 const wordsOf = (groups) => groups.flatMap((group) => [parseInt(group.slice(2), 16), parseInt(group.slice(0, 2), 16)]);
 
-/** The bytes of all lines, with those that a star leaves out; null if an offset doesn't fit. */
+/** Returns the bytes of all lines, with the bytes for which a star stands, or null if an offset doesn't fit. */
 export function unrolled(rows, base, read) {
   const place = ({ digits }) => (base === 16 || !/[a-f89]/i.test(base === 8 ? digits : digits.replace(/[89]/g, "0")) ? parseInt(digits, base) : NaN);
   const start = place(rows[0]);
@@ -81,7 +82,7 @@ export function unrolled(rows, base, read) {
 const CAN = /^\s*(?:\([\d.-]+\)\s+)?\S+\s+[0-9a-f]{3,8}\s+\[(\d+)\]((?:\s+[0-9a-f]{2})*)(?:\s+'.*')?\s*$/i;
 const CAN_LOG = /^\([\d.]+\)\s+\S+\s+[0-9a-f]{3,8}#(?:#[0-9a-f])?((?:[0-9a-f]{2})*)(?:\s+[RT])?\s*$/i;
 
-/** The data of the frames that candump prints or logs, one after another. */
+/** Returns the data of the frames that candump prints or logs, one after another. */
 export function parseCan(text) {
   const lines = text.split("\n").filter((line) => line.trim() !== "");
   if (!lines.some((line) => CAN.test(line) || CAN_LOG.test(line))) return undefined;

@@ -1,5 +1,5 @@
-// Runs before the page is drawn: hides what an embedded page or another view than Message doesn't show, and says why the page
-// doesn't start, if it doesn't. It is plain enough for the browsers that can't run the other files.
+// Runs before the page is drawn. Hides the parts that an embedded page, or a view other than Message, doesn't show. If the page can't
+// start, says why. This file uses only old JavaScript, so that browsers that can't run the other files can run it.
 (function () {
   var root = document.documentElement;
   if (/[?&]embed\b/.test(location.search)) root.classList.add("embed");

@@ -1,4 +1,4 @@
-// What a byte is for, in a sentence: a byte of the stream, or a byte of a message above it.
+// Explains in a sentence what a byte is for: a byte of the stream, or a byte of a message above the stream.
 import { printHex, printText } from "./hex.js";
 import { count, counted } from "./inputs.js";
 import { BADGES } from "./pieces.js";
@@ -14,7 +14,7 @@ const PAST = { broken: "the end of the piece, which is broken", unfinished: "wha
 
 const pair = (byte) => printHex([byte]);
 
-/** What byte `i` of a stream is for. */
+/** Returns a sentence about byte `i` of a stream. */
 export function explainFrame(pieces, i) {
   const { sentinel, stream } = pieces;
   const { at, value, role, isFirst, isAfterFull, isPast, index } = pieces.about(i);
@@ -26,7 +26,7 @@ export function explainFrame(pieces, i) {
   return `${name}: ${here}. ${value === 255 ? "It marks a full block: the" : "The"} next code, or the end, is ${counted(value, "byte")} on.`;
 }
 
-/** What is in the message above byte `i` of a stream. */
+/** Returns a sentence about the byte of the message above byte `i` of a stream. */
 export function explainMessage(pieces, i) {
   const { at, value, role, isFirst, index } = pieces.about(i);
   if (index < 0) {

@@ -1,5 +1,5 @@
-// A field for text that may be very long. What is pasted into it past LIMIT signs is held beside it, since a
-// browser lays out a whole field at once; the field shows how much is held.
+// A field for text that may be very long. A text of more than LIMIT characters is kept outside of the browser's field, because a browser
+// lays out a whole field at once. A note in its place shows how long the text is.
 
 const LIMIT = 20_000;
 
@@ -12,8 +12,8 @@ export class Field {
   #pasted;
 
   /**
-   * `changed(isTyped)` is called after each change, by a key or otherwise; `pasted(text, isWhole)` before one with what is pasted,
-   * whose line ends the field changes, and whether nothing else will be in the field.
+   * `changed(isTyped)` is called after each change; `isTyped` says whether a key made the change. `pasted(text, isWhole)` is called
+   * before text is pasted, because the field changes its line ends; `isWhole` says whether nothing else will be in the field.
    */
   constructor(area, changed, pasted) {
     this.#area = area;
@@ -29,7 +29,7 @@ export class Field {
     area.addEventListener("paste", (event) => this.#paste(event));
   }
 
-  /** All of the text, with line feeds for line ends, as a browser's field has them. */
+  /** Returns all of the text, with line feeds as line ends, as in a browser's field. */
   get text() {
     return this.#held ?? this.#area.value;
   }
@@ -75,7 +75,7 @@ export class Field {
     if (text !== null) this.#noteText.textContent = `${text.length.toLocaleString("en")} characters, which begin “${text.slice(0, 40)}…”`;
   }
 
-  /** Says what is wrong with the text, or with null that nothing is. */
+  /** Shows what is wrong with the text, or null if nothing is wrong. */
   complain(error, place) {
     place.textContent = error ?? "";
     place.hidden = error === null;

@@ -1,18 +1,18 @@
-// Bytes as hexadecimal digits, read and written.
+// Reads and writes bytes as hexadecimal digits.
 
 const DIGITS = Array.from({ length: 256 }, (_, byte) => byte.toString(16).padStart(2, "0"));
 
-/** The bytes `from` up to `to` as pairs of digits with spaces between. */
+/** Returns the bytes from `from` up to `to` as pairs of digits with spaces between them. */
 export function printHex(bytes, from = 0, to = bytes.length) {
   const pairs = new Array(to - from);
   for (let i = from; i < to; i++) pairs[i - from] = DIGITS[bytes[i]];
   return pairs.join(" ");
 }
 
-/** Bytes as text: UTF-8 if they are, else printable ASCII; all that has no sign as a middle dot. */
+/** Returns bytes as text: as UTF-8 if they are UTF-8, otherwise as printable ASCII. A middle dot replaces each character that can't be shown. */
 export function printText(bytes) {
   try {
-    // a sign that the end cuts is left out
+    // a character that is cut off at the end is left out
     return new TextDecoder("utf-8", { fatal: true, ignoreBOM: true }).decode(bytes, { stream: true }).replace(/\p{C}/gu, "·");
   } catch {
     let text = "";
@@ -29,21 +29,21 @@ for (let i = 0; i < 16; i++) {
 }
 for (const sign of " \t\r\n\f\v,;:-_") value[sign.charCodeAt(0)] = SEPARATOR;
 
-/** What the sign at a place is: a digit's value, SEPARATOR, or -1 for all else and after the end. */
+/** Returns the value of the digit at an index, SEPARATOR for a separator, or -1 for any other character and after the end. */
 function signAt(text, at) {
   const code = text.charCodeAt(at);
   return code < 128 ? value[code] : code === 0xa0 ? SEPARATOR : -1;
 }
 
-/** Describes a place in a text for a reader. */
+/** Describes a position in a text for the user. */
 function placeOf(text, at) {
   const before = text.slice(0, at).split("\n");
   return `line ${before.length}, column ${before[before.length - 1].length + 1}`;
 }
 
 /**
- * `{bytes}` of a text of digits, with or without `0x` and with spaces, commas, colons or line ends between bytes; else
- * `{error, at}` with what is wrong first, and where.
+ * Returns `{bytes}` for a text of digits, with or without `0x`, and with spaces, commas, colons or line ends between bytes. Otherwise
+ * returns `{error, at}` with the first error and its index.
  */
 export function parseHex(text) {
   const bytes = new Uint8Array(text.length >> 1);

@@ -1,16 +1,16 @@
-// Small inputs that several views have.
+// Small inputs that several views use.
 import { parseHex } from "./hex.js";
 
-/** The element with an id. */
+/** Returns the element with an id. */
 export const byId = (id) => document.getElementById(id);
 
-/** A whole number with commas. */
+/** Returns a whole number as text, with commas. */
 export const count = (number) => number.toLocaleString("en");
 
-/** A number and its noun, as "1 byte" or "2 bytes". */
+/** Returns a number and its noun, such as "1 byte" or "2 bytes". */
 export const counted = (number, noun) => `${count(number)} ${noun}${number === 1 ? "" : "s"}`;
 
-/** Shows or takes away what is wrong with an input. */
+/** Shows what is wrong with an input, or removes this text. */
 export function complain(input, error, place) {
   place.textContent = error ?? "";
   place.hidden = error === null;
@@ -18,7 +18,7 @@ export function complain(input, error, place) {
   else input.setAttribute("aria-invalid", "true");
 }
 
-/** The byte that a sentinel's input holds, or null with a complaint. */
+/** Returns the byte in a sentinel's input. If it isn't a byte, says so and returns null. */
 export function readSentinel(input, place) {
   const { bytes } = parseHex(input.value);
   const isByte = bytes?.length === 1;
@@ -26,7 +26,7 @@ export function readSentinel(input, place) {
   return isByte ? bytes[0] : null;
 }
 
-/** The buffer's length that an input holds, or null with a complaint. */
+/** Returns the buffer's length in an input. If it isn't a length, says so and returns null. */
 export function readRoom(input, place) {
   const room = input.valueAsNumber;
   const isRoom = Number.isInteger(room) && room >= 0 && room <= 1 << 20;
@@ -34,7 +34,7 @@ export function readRoom(input, place) {
   return isRoom ? room : null;
 }
 
-/** Calls `act` once before the next frame is painted, however often it was asked. */
+/** Returns a function that, however often it is called, calls `act` once before the next frame is painted. */
 export function once(act) {
   let isAsked = false;
   return () => {
@@ -48,13 +48,13 @@ export function once(act) {
 }
 
 /**
- * A view's status: `show(text)` sets it in sight at once, and `speak(text)` says it, or another text, to those who hear the page.
- * Of texts that follow each other faster than `milliseconds` the last is spoken, or one after five times as long, since a live
+ * Makes the status of a view: `show(text)` shows a text at once, and `speak(text)` passes that or another text to screen readers. If
+ * texts follow each other faster than `milliseconds`, only the last one is spoken, or one after five times as long, because a live
  * region would speak at each key.
  */
 export function statusOf(view, milliseconds) {
   let timer = 0;
-  let since = 0; // when the first text came that waits
+  let since = 0; // when the first waiting text came
   const speak = (text) => {
     clearTimeout(timer);
     since ||= Date.now();
@@ -71,7 +71,7 @@ export function statusOf(view, milliseconds) {
   return { show, speak };
 }
 
-/** Offers a text as a file. */
+/** Offers a text to the user as a file. */
 export function save(name, text, type = "text/plain") {
   const link = document.createElement("a");
   link.href = URL.createObjectURL(new Blob([text], { type }));

@@ -1,4 +1,4 @@
-// The view of a line: a device by Web Serial, or the loop; what comes in, and what is sent.
+// The view of a line, which is a device with Web Serial or the loop: the messages that are received and sent.
 import { keepState } from "./address.js";
 import { parseBytes } from "./bytes.js";
 import { Connection } from "./connection.js";
@@ -12,7 +12,7 @@ import { setLog } from "./stream.js";
 const SHOWN_BYTES = 64;
 const OPENED_BYTES = 4096;
 const ROW_HEIGHT = 30;
-const PORT_BUFFER = 65_536; // of Web Serial, whose own 255 bytes are few at high rates
+const PORT_BUFFER = 65_536; // bytes of Web Serial's buffer; its default of 255 bytes is too short at high baud rates
 const SETTINGS = ["line-baud", "line-data", "line-parity", "line-stop", "line-flow", "line-room", "line-sentinel", "line-known"];
 
 const NAMES = { baud: "line-baud", data: "line-data", parity: "line-parity", stop: "line-stop", flow: "line-flow", room: "line-room", sentinel: "line-sentinel" }; // in the address
@@ -22,10 +22,10 @@ const log = new Log();
 let rows;
 let connection = null;
 let connectedPort = null;
-let lostPort = null; // that of a device which went away, not by Disconnect
+let lostPort = null; // the port of a device that was unplugged without Disconnect
 let isBusy = false;
 let isPaused = false;
-let chosen = -1; // the number of the row that the keyboard is at
+let chosen = -1; // the number of the row that the keyboard has selected
 let known = [];
 
 const status = statusOf("line", 800);
@@ -55,9 +55,9 @@ function add(entry) {
   const box = byId("line-log");
   const isAtEnd = box.scrollTop + box.clientHeight >= box.scrollHeight - ROW_HEIGHT;
   const dropped = log.add(entry);
-  if (dropped > 0 && !isAtEnd && !isPaused) box.scrollTop -= dropped * ROW_HEIGHT; // the rows in sight stay where they are
+  if (dropped > 0 && !isAtEnd && !isPaused) box.scrollTop -= dropped * ROW_HEIGHT; // the visible rows stay at their places
   paint();
-  if (connection) status.speak(`Connected. ${counted(totals.messages, "message")}, ${count(totals.broken)} broken, ${count(totals.tooLong)} too long.`); // which the counters show
+  if (connection) status.speak(`Connected. ${counted(totals.messages, "message")}, ${count(totals.broken)} broken, ${count(totals.tooLong)} too long.`); // as the counters show
 }
 
 function receive({ message, broken, tooLong }, raw) {
@@ -92,7 +92,7 @@ function fillRow(element, index) {
   element.setAttribute("aria-label", `${way === "out" ? "sent" : "received"} ${kind}, ${message ? `${what.textContent}, ${digits}` : digits}`);
 }
 
-/** Shows all of a row below the log. */
+/** Shows a whole row below the log. */
 function open(number) {
   chosen = number;
   const at = log.entries.findIndex((entry) => entry.number === number);
@@ -174,7 +174,7 @@ async function disconnect() {
   setConnected(true);
   const closed = connection;
   const wasHere = document.activeElement === byId("line-close") || document.activeElement === document.body;
-  // a device that was pulled out is closed already, and its fault is in sight
+  // a device that was unplugged is already closed, and its fault is shown
   await closed.close().catch((error) => byId("line-error").hidden && fault(`The device could not be closed: ${error.message}`));
   connection = null;
   connectedPort = null;
@@ -218,7 +218,7 @@ function pause() {
   paint();
 }
 
-/** Shows what came in, or if nothing did what was sent, in Stream. */
+/** Shows the received messages in Stream, or the sent messages if none was received. */
 function toStream() {
   dispatchEvent(new CustomEvent("jcobs-open", { detail: "stream" }));
   setLog(log.entries, { sentinel: byId("line-sentinel").value, room: byId("line-room").value });
@@ -234,7 +234,7 @@ async function loadLog(file) {
   status.show(`${counted(entries.length, "row")} of ${file.name}.`);
 }
 
-/** Lists the devices that were chosen before, which need no question. */
+/** Lists the devices that were chosen before: for these the browser doesn't ask the user again. */
 async function listKnown() {
   known = (await navigator.serial?.getPorts?.()) ?? [];
   const hex4 = (number) => number.toString(16).padStart(4, "0");
@@ -244,7 +244,7 @@ async function listKnown() {
   byId("line-known").closest("label").hidden = known.length === 0;
 }
 
-/** Whether a port is that of the same device: browsers may make another one for a device that comes back. */
+/** Returns whether two ports are of the same device: browsers may make a new port for a device that is plugged in again. */
 function isSamePort(port, other) {
   if (!other || port === other) return port === other;
   const [a, b] = [port.getInfo(), other.getInfo()];
@@ -260,7 +260,7 @@ const setSignal = (name, isOn) => connectedPort?.setSignals?.({ [name]: isOn }).
 
 const keepSettings = () => keepState("line", Object.fromEntries(Object.entries(NAMES).map(([name, id]) => [name, byId(id).value])));
 
-/** Sets what a link says of the port and the frames; a value that a setting can't have leaves it as it is. */
+/** Applies a link's settings of the port and the frames. An invalid value leaves its setting unchanged. */
 export function setLine(values) {
   if (connection || isBusy) return;
   for (const [name, id] of Object.entries(NAMES)) {

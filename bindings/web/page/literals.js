@@ -1,40 +1,40 @@
-// Bytes as a program has them: arrays of C, Go, Java, JavaScript, Rust and Python, as declared, as printed and in JSON; strings
-// with escapes; and calls that make bytes of hex digits or base64. A text is read once, from its front to its end.
+// Reads bytes as programs contain them: arrays of C, Go, Java, JavaScript, Rust and Python, as they are declared, printed or written in
+// JSON; strings with escapes; and calls that decode hex digits or base64. A text is read once, from its start to its end.
 import { parseBase64 } from "./base64.js";
 import { parseHex } from "./hex.js";
 import { choice } from "./readings.js";
 import { ESCAPED, Unreadable, demandOneReading, unescaped } from "./strings.js";
 import { typesIn, wideFault } from "./types.js";
 
-const LONGEST = 1 << 20;   // of a value that is repeated
-const DEEPEST = 16;        // brackets in brackets
-const LONGEST_FRONT = 500; // letters of a declaration that are looked at
+const LONGEST = 1 << 20;   // bytes of a value that is repeated
+const DEEPEST = 16;        // nested brackets
+const LONGEST_FRONT = 500; // how many characters of a declaration are read
 const ENDED = " with a final 00";
 const NONE = "This is no list of bytes, no string, and no call that gives bytes.";
-const COMMENT = /("(?:\\[\s\S]|[^"\\])*"|'(?:\\[\s\S]|[^'\\])*')|\/\*[\s\S]*?\*\/|\/\/[^\n]*|#[^\n]*/g; // or a string
+const COMMENT = /("(?:\\[\s\S]|[^"\\])*"|'(?:\\[\s\S]|[^'\\])*')|\/\*[\s\S]*?\*\/|\/\/[^\n]*|#[^\n]*/g; // a string is matched too, so that no comment begins inside it
 
-// What each place of the text may hold, with the space after it. No pattern matches a text in more than one way, so none is slow.
+// The patterns of the parts of a text, each with the space after it. No pattern can match a text in two ways, so no pattern is slow.
 const SPACE = /\s*/y;
 const FRONT = /([\w\s$.,:;&*<>[\]]*)=(?!=)\s*/y; // a declaration, up to its “=”
 const NAME = String.raw`[A-Za-z_$][\w.]*(?:::\w+)*!?`; // Uint8Array.of, std::vector, vec!
 const OF = String.raw`(?:<[\w,<>*&:\s]*>\s*(?:\w+\s*)?)?`; // <uint8_t, 2> f
 const SIZE = String.raw`(?:\[\d*\]\s*|\(\d*\)\s*)?`; // [2], or (2) as Node prints it
 const TYPE = String.raw`\([\w\s]+\[\d*\]\s*\)\s*`; // (uint8_t[])
-const BEFORE = new RegExp(String.raw`(${TYPE}|&*(?:(?:\[\d*\]\s*)?${NAME}(?:\s+${NAME})*\s*${OF}${SIZE})?)([[({])\s*`, "y"); // a bracket, and what is before it
+const BEFORE = new RegExp(String.raw`(${TYPE}|&*(?:(?:\[\d*\]\s*)?${NAME}(?:\s+${NAME})*\s*${OF}${SIZE})?)([[({])\s*`, "y"); // a bracket and the text before it
 const CAST = /\((\w+(?:\s+\w+)*)\)\s*(?=[-\d'"(])/y;
 const NUMBER = /(-?)(?:0x([0-9a-f][0-9a-f_]*)|0b([01][01_]*)|(\d[\d_]*))(?:_?(?:[ui]8|ul{0,2}|ll?))?(?![\w.])\s*/iy;
-const SIGN = /'(?:\\[\s\S]|[^'\\])+'\s*/y; // after a number that gdb prints
+const SIGN = /'(?:\\[\s\S]|[^'\\])+'\s*/y; // the character that gdb prints after a number
 const STRING = /(u8|br|rb|[bruL]?)("(?:\\[\s\S]|[^"\\])*"|'(?:\\[\s\S]|[^'\\])*')\s*/iy;
 const AS = /as\s+(\w+)\s*/y;
-const REPEATS = /(?:<repeats (\d+) times>|;\s*(\d+)(?=\s*\]))\s*/y; // as gdb and as Rust have it
+const REPEATS = /(?:<repeats (\d+) times>|;\s*(\d+)(?=\s*\]))\s*/y; // in the form of gdb, and in that of Rust
 const CODING = /,\s*['"](\w+)['"]\s*/y;
-const ARRAY = /['"](\w)['"]\s*,\s*/y; // the type in front of the list of Python's array
+const ARRAY = /['"](\w)['"]\s*,\s*/y; // the type code before the list of a Python array
 const DTYPE = /,\s*dtype\s*=\s*['"]?(?:np\.|numpy\.)?(\w+)['"]?\s*/y;
 const COMMA = /,\s*/y;
 const CLOSING = { "[": /\]\s*/y, "(": /\)\s*/y, "{": /\}\s*/y };
 const END = /[;,]?\s*(?:unsigned int \w+_len = (\d+);\s*)?$/y; // with the length that `xxd -i` prints
 
-/** Returns an array, a string or a call, or undefined if the text is none. `wanted` is the name of the reading that is chosen. */
+/** Reads an array, a string or a call. Returns undefined for another text. `wanted` is the name of the reading that the user chose. */
 export function parseLiteral(text, wanted) {
   const bare = text.trim();
   const isUnquoted = !/["'`]/.test(bare.replace(/\\["']/g, "")) && /^[^[\](){}]*\\(x[0-9a-f]{2}|[0-7])/i.test(bare);
@@ -49,7 +49,7 @@ export function parseLiteral(text, wanted) {
   }
 }
 
-/** The bytes of the inside of a string, without its quotes. */
+/** Returns the bytes of a string's contents, without its quotes. */
 function insideOf(text) {
   demandOneReading([{ prefix: "b", quote: '"', content: text }], false);
   return { bytes: unescaped(text, { isBytes: true }), as: ESCAPED };
@@ -62,8 +62,8 @@ class Reader {
   #bytes = [];
   #kinds = new Set();
   #strings = [];
-  #isJoined = false; // whether there are strings in a row
-  #isOfGdb;          // which prints strings that repeat, with commas between them
+  #isJoined = false; // whether several strings follow one another
+  #isOfGdb;          // whether the text is from gdb, which puts commas between strings that repeat
 
   constructor(text) {
     this.#text = text.replaceAll("'static", "").replace(COMMENT, (all, string) => string ?? " ");
@@ -71,7 +71,7 @@ class Reader {
     this.#take(SPACE);
   }
 
-  /** Takes what a pattern matches at this place, and returns its groups, or none. */
+  /** Takes the text that a pattern matches here, and returns the groups of the match, or none. */
   #take(pattern) {
     pattern.lastIndex = this.#at;
     const found = pattern.exec(this.#text);
@@ -84,7 +84,7 @@ class Reader {
     if (fault) throw new Unreadable(fault);
   }
 
-  /** What is at this place, for a sentence. */
+  /** Returns the text at this place, for an error message. */
   #rest() {
     return `“${this.#text.slice(this.#at).match(/^[^,\])}]*/)[0].trim().slice(0, 40)}”`;
   }
@@ -103,7 +103,7 @@ class Reader {
     return this.#declared(front, wanted);
   }
 
-  /** The bytes as they are declared. A string fills an array of C with 00; one without a length has one at its end, perhaps. */
+  /** Returns the bytes as they are declared. In C, 00 fills the array after a string; without a length, the string may end with one 00. */
   #declared(front, wanted) {
     const as = nameOf(this.#kinds);
     const isString = as === ESCAPED || as === "a string";
@@ -116,7 +116,7 @@ class Reader {
     return choice([{ bytes, as }, { bytes: Uint8Array.of(...bytes, 0), as: as + ENDED }], wanted);
   }
 
-  /** Takes strings in a row, as C joins them, or as gdb prints those that repeat; returns whether there are any. */
+  /** Takes strings that follow one another, which C joins, or which gdb prints if they repeat. Returns whether there are any. */
   #stringsHere() {
     const before = this.#strings.length;
     for (let [, prefix, quoted] = this.#take(STRING); quoted; [, prefix, quoted] = this.#take(STRING)) {
@@ -132,7 +132,7 @@ class Reader {
     return this.#strings.length > before;
   }
 
-  /** Repeats the bytes from a place on, if the text says how often. */
+  /** Repeats the bytes from `from` on, if the text says how often. */
   #repeated(from) {
     const [, byGdb, byRust] = this.#take(REPEATS);
     if (byGdb ?? byRust) this.#repeat(this.#bytes.splice(from), Number(byGdb ?? byRust));
@@ -143,7 +143,7 @@ class Reader {
     for (let i = 0; i < times; i++) this.#bytes.push(...bytes);
   }
 
-  /** Takes a list in brackets or a call, with what may be before it. */
+  /** Takes a list in brackets or a call, with the type or name before it. */
   #value() {
     const [, before, open] = this.#take(BEFORE);
     if (open === undefined || ++this.#depth > DEEPEST) throw new Unreadable(open === undefined && this.#at < this.#text.length ? `${this.#rest()} is no byte, no string, and no list of bytes.` : NONE);
@@ -157,7 +157,7 @@ class Reader {
     if (Number(size) !== this.#bytes.length - from) throw new Unreadable(`${size} bytes are named, and ${this.#bytes.length - from} are here.`);
   }
 
-  /** Takes what is between brackets, up to the closing one, and returns how many things that is. */
+  /** Takes the items up to the closing bracket, and returns how many there are. */
   #items(open) {
     for (let count = 0; ; count++) {
       if (this.#take(CLOSING[open]).length > 0) return count;
@@ -176,13 +176,13 @@ class Reader {
     else if (!this.#stringsHere()) this.#value();
     else if (!isGroup && this.#bytes.length - from !== 1 && !/b/i.test(this.#strings.at(-1).prefix)) throw new Unreadable(`“${this.#strings.at(-1).content.slice(0, 40)}” is no byte.`);
     this.#demandBytes(cast);
-    if (",)]}".includes(this.#text[this.#at])) return; // as most items end, in long lists
+    if (",)]}".includes(this.#text[this.#at])) return; // most items of long lists end here
     if (number.length > 0) this.#take(SIGN);
     this.#demandBytes(this.#take(AS)[1]);
     this.#repeated(from);
   }
 
-  /** Takes the arguments of a call: digits or base64 in quotes, a list as Python prints it, or one that is passed on. */
+  /** Takes the arguments of a call: digits or base64 in quotes, a list as Python prints it, or another call. */
   #call(name) {
     if (this.#decoded(name)) return;
     if (/(^|\.)array$/.test(name) && /['"[]/.test(this.#text[this.#at])) {
@@ -200,7 +200,7 @@ class Reader {
     if (!isAny && count > 1) throw new Unreadable(`${name}() with ${count} arguments can't be read.`);
   }
 
-  /** Takes the arguments of a call that decodes hex digits or base64; returns whether it is one. */
+  /** Takes the arguments of a call if the call decodes hex digits or base64, and returns whether it does. */
   #decoded(name) {
     const start = this.#at;
     let inside = "";
@@ -220,7 +220,7 @@ class Reader {
   }
 }
 
-/** Throws if a whole text is a string of digits or base64, which perhaps stand for bytes. */
+/** Throws an error if the text is only a string of digits or base64, because these may mean bytes. */
 function demandCharacters(strings) {
   const inside = strings.map(({ content }) => content).join("");
   const mayBeDigits = !inside.includes("\\") && !strings.some(({ prefix }) => /b/i.test(prefix)) && (parseHex(inside).bytes?.length > 0 || parseBase64(inside));
@@ -242,7 +242,7 @@ function byteOf([whole, minus, hex, binary, decimal], kinds) {
   return minus ? (256 - number) & 255 : number;
 }
 
-/** Says why a word that begins like a number is no byte. */
+/** Returns why a word that begins like a number isn't a byte. */
 function faultOf(word) {
   if (word === "") return "Between two commas is nothing.";
   return wideFault(word.replace(/^-?\d[\d_]*/, "")) ?? `“${word}” is no number: in a list, hexadecimal numbers begin with 0x.`;

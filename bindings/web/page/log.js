@@ -1,4 +1,4 @@
-// What came in and went out on a line: the entries that are kept, and a log as text.
+// The log of a line: the entries of received and sent messages, and the log as text.
 import { encode } from "../jcobs.js";
 import { joined } from "./bytes.js";
 import { parseHex, printHex } from "./hex.js";
@@ -14,7 +14,7 @@ export class Log {
   #bytes = 0;
   #number = 0;
 
-  /** Adds `{way, kind, message, note, raw}` with a number and the time, and returns how many of the oldest it drops. */
+  /** Adds the entry `{way, kind, message, note, raw}` with a number and the time, and returns how many of the oldest entries were dropped. */
   add(entry) {
     this.entries.push({ number: ++this.#number, time: new Date(), ...entry });
     this.#bytes += sizeOf(entry);
@@ -33,18 +33,18 @@ export class Log {
 }
 
 /**
- * A log as text: a line for each entry, its time, `in` or `out`, and the message's bytes or what else it was, with the bytes of
- * the piece as they came.
+ * Returns a log as text. The line of an entry has its time, `in` or `out`, and the bytes of the message. If the entry isn't a message, the
+ * line has its kind, and the bytes of the piece as they arrived.
  */
 export function writeLog(entries) {
   const what = ({ message, kind, note, raw }) => (message ? printHex(message) || "-" : `# ${kind}: ${note}${raw ? `: ${printHex(raw)}` : ""}`);
   return entries.map((entry) => `${entry.time.toISOString()} ${entry.way} ${what(entry)}\n`).join("");
 }
 
-/** Whether a text begins as a log does. */
+/** Returns whether a text begins like a log. */
 export const isLog = (text) => /^\s*\d{4}-\d\d-\d\dT\S+ (in|out) /.test(text.slice(0, 200));
 
-/** The entries of such a text, or `{error}` with the first line that isn't one. */
+/** Returns the entries of a log's text, or `{error}` for the first line that isn't an entry. */
 export function readLog(text) {
   const entries = [];
   for (const [at, line] of text.split(/\r?\n/).entries()) {
@@ -60,8 +60,8 @@ export function readLog(text) {
 }
 
 /**
- * `{bytes, said}`: the frames of a log's messages that came in, each with its sentinel, and the other pieces as they came; if
- * nothing came in, of those that were sent. `said` says how many rows have no bytes.
+ * Returns `{bytes, said}`. `bytes` are the frames of the received messages of a log, each with its sentinel, and the other pieces as they
+ * arrived; or the frames of the sent messages if nothing was received. `said` says how many rows have no bytes.
  */
 export function streamOf(entries, sentinel) {
   const way = entries.some((entry) => entry.way === "in") ? "in" : "out";

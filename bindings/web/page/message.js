@@ -16,30 +16,30 @@ import { ZERO, bytesOfText, endsOf, isBytes, mayBeBytes, textOf } from "./text.j
 import { Undo } from "./undo.js";
 
 const HEX_SHOWN = 2048;
-const EDITED = 4096;      // bytes of a frame in its field
-const LINKED = 2000;      // bytes of a message in a link
-const OFFERED = 1 << 20;  // bytes that are looked at for a frame or a stream
-const ASKED = 1 << 16;    // letters of a text that are looked at for bytes
-const SUMMED = 1 << 20;   // bytes whose CRC is shown
+const EDITED = 4096;      // bytes of the longest frame that its field shows
+const LINKED = 2000;      // bytes of the longest message in a link
+const OFFERED = 1 << 20;  // at most this many bytes are tried as a frame or a stream
+const ASKED = 1 << 16;    // a text of at most this many characters is tried as bytes
+const SUMMED = 1 << 20;   // bytes of the longest message whose CRC is shown
 
 let frame = new Uint8Array();
-let typed = null; // what was written in place of the frame: no frame, several pieces, or the message's longer frame
+let typed = null; // the bytes that the user wrote in place of the frame: no frame, several pieces, or the message's longer frame
 let pieces;
 let sentinel = 0;
 let message = new Uint8Array();
 let readAs = "";
 let endsNote = "";
-let asKind = "text"; // the kind that the field's text is of
-let reading;         // the reading that was chosen for the field's bytes, if they have several
-let frameReading;    // the same for the frame's
+let asKind = "text"; // the kind of the field's text
+let reading;         // the reading that the user chose for the field's bytes, if there are several
+let frameReading;    // the reading that the user chose for the bytes in the frame's field
 let field;
 let canvas;
 let undo;
-let isTyped = false; // whether the change under way is by a key in the field
+let isTyped = false; // whether the present change was made with a key in the field
 
 const kind = () => document.querySelector('input[name="message-kind"]:checked').value;
 
-/** The message, or null with a complaint. */
+/** Returns the message. If the field has no message, says so and returns null. */
 function readMessage() {
   const isText = kind() === "text";
   byId("message-ends").closest("label").hidden = !isText || !field.text.includes("\n");
@@ -58,7 +58,7 @@ function readMessage() {
   return bytes ?? null;
 }
 
-/** Finds out what is pasted: bytes in some form, if nothing else is in the field; else text, whose line ends the field changes. */
+/** Finds out whether the pasted text is bytes in some form, if nothing else is in the field. Otherwise notes the line ends of the text, because the field changes them. */
 function notePasted(text, isWhole) {
   reading = undefined;
   if (kind() === "text" && isWhole && isBytes(text, parseBytes(text).as)) choose("hex");
@@ -83,10 +83,10 @@ function say() {
     : `${counted(message.length, "byte")} in a frame of ${counted((typed ?? frame).length, "byte")}: ${blocks === "1" ? "one block" : `${count(Number(blocks))} blocks`}`;
   const more = `${readAs}${sentinel === 0 ? "" : ` Each byte of the frame is XORed with ${printHex([sentinel])}, so that ${printHex([sentinel])} is in no frame.`}`;
   status.show(`${what}.${more}`);
-  byId("message-status").classList.toggle("spoken", more === "" && !fault); // the line above the drawing says the same
+  byId("message-status").classList.toggle("spoken", more === "" && !fault); // the line above the drawing already says this
 }
 
-/** The numbers of the frame that is shown. Bytes that are no frame have none. */
+/** Shows the figures of the frame that is shown. For bytes that aren't a frame, no figures are shown. */
 function showFacts(shown, isFrame) {
   byId("message-length").dataset.bytes = message.length;
   byId("message-length").textContent = isFrame ? counted(message.length, "byte") : "–";
@@ -99,7 +99,7 @@ function showFacts(shown, isFrame) {
 }
 
 
-/** Reads the fields. `wanted` is shown in place of the frame; null is the frame itself. */
+/** Reads the fields. The bytes `wanted` are shown in place of the frame; null means the frame itself. */
 function update(wanted) {
   const read = readMessage();
   const byte = readSentinel(byId("message-sentinel"), byId("message-sentinel-error"));
@@ -115,7 +115,7 @@ function update(wanted) {
   showFrame();
 }
 
-/** The overhead on its curve, and the CRC. */
+/** Shows the curve of the overhead, and the CRC. */
 function showExtras() {
   byId("message-curve").innerHTML = curve({ most: (length) => maxEncodedLength(length) - length, length: message.length, overhead: frame.length - message.length });
   const isShort = message.length <= SUMMED;
@@ -130,7 +130,7 @@ function appendCrc(isHighFirst) {
 
 const digitsOf = (bytes) => printHex(bytes.subarray(0, LINKED + 1)).replaceAll(" ", "");
 
-/** Shows the frame, or what was written in its place. */
+/** Shows the frame, or the bytes that were written in its place. */
 function showFrame() {
   const shown = typed ?? frame;
   undo.note({ kind: asKind, text: field.text, reading, ends: byId("message-ends").value, sentinel, frame: typed ? printHex(typed) : "" }, isTyped);
@@ -148,10 +148,10 @@ function showFrame() {
   showFacts(shown, fault === null);
   say();
   canvas.show(pieces, pieces.ended !== 1 || pieces.kinds[0] !== MESSAGE);
-  setSteps(typed ? null : message, frame, sentinel); // bytes that are in place of the frame have none
+  setSteps(typed ? null : message, frame, sentinel); // there are no steps for bytes that aren't the message's frame
 }
 
-/** What is wrong with bytes that are no frame; null for the longer frame of a message. */
+/** Returns what is wrong with bytes that aren't a frame, or null for the longer frame of a message. */
 function faultOf(bytes) {
   if (frameKind(bytes, { sentinel }) !== "notAFrame") return null;
   if (bytes.length === 0) return "A frame has at least one byte.";
@@ -165,7 +165,7 @@ function complainFrame(error, isStream = false) {
   byId("message-frame-stream").hidden = !isStream;
 }
 
-/** Takes bytes in place of the frame. If they are one, its message is that of the field above. */
+/** Takes bytes in place of the frame. If the bytes are a frame, its message is put into the field above. */
 function takeFrame(bytes) {
   const kindOfFrame = frameKind(bytes, { sentinel });
   if (kindOfFrame !== "notAFrame") setBytes(decode(bytes, { sentinel }));
@@ -173,7 +173,7 @@ function takeFrame(bytes) {
   byId("message-copied").textContent = kindOfFrame === "longer" ? "This is the longer of two frames of the message: encoders leave out its last 01." : "";
 }
 
-/** Takes what is in the frame's field: a frame, as it is or with sentinels around it as it came over a line, or several. */
+/** Takes the bytes of the frame's field: a frame, a frame with sentinels around it (as it came over a line), or several frames. */
 function editFrame() {
   const { bytes, error, as, other } = parseBytes(byId("message-frame-edit").value, frameReading);
   if (bytes) takeFrame(onlyPiece(bytes, sentinel) ?? bytes);
@@ -182,7 +182,7 @@ function editFrame() {
   byId("message-frame-read").textContent = other && bytes ? `Read as ${as}.` : "";
 }
 
-/** Shows the button for the other reading of bytes, if they have one. */
+/** Shows the button for the other reading of bytes, if there is one. */
 function showOther(button, other) {
   button.hidden = other === undefined;
   button.dataset.as = other ?? "";
@@ -195,7 +195,7 @@ function forgetFrameReading() {
   byId("message-frame-other").hidden = true;
 }
 
-/** Back from what was written in place of the frame. */
+/** Shows the message's frame again, instead of the bytes that were written in its place. */
 function mend() {
   typed = null;
   byId("message-frame-edit").value = "";
@@ -203,7 +203,7 @@ function mend() {
   byId("message-drawing").focus();
 }
 
-/** Writes a byte of the frame, or one after it. */
+/** Changes a byte of the frame, or appends one. */
 function write(i, byte) {
   const shown = typed ?? frame;
   takeFrame(joined([shown.subarray(0, i), [byte], shown.subarray(i + 1)]));
@@ -217,7 +217,7 @@ function splice(at, index, removed, bytes) {
   return undefined;
 }
 
-/** Offers to read bytes that are a frame, or a stream of frames, as such; as text what is no bytes (null); and as bytes what is text. */
+/** Offers another reading: for bytes that are a frame or a stream, as a frame or a stream; if there are no bytes (null), as text; for text, as bytes. */
 function offer(bytes) {
   const isHex = kind() === "hex";
   const isOffered = isHex && bytes?.length > 1 && bytes.length <= OFFERED;
@@ -232,7 +232,7 @@ function offer(bytes) {
   byId("message-offer-text").textContent = isFrame ? "These bytes are a frame themselves." : isStream ? "These bytes are a stream of frames." : form ? `This could be bytes (${form}).` : "";
 }
 
-/** The form of bytes that the field's text may have, if it does. */
+/** Returns the form in which the field's text may be bytes, or undefined. */
 function formOfText() {
   if (field.text.length > ASKED) return undefined;
   const { bytes, as } = parseBytes(field.text);
@@ -248,7 +248,7 @@ function isAllMessages() {
   return count > 0;
 }
 
-/** Shows what a link holds: bytes or text, how they are shown, and the sentinel. */
+/** Shows the contents of a link: bytes or text, how they are shown, and the sentinel. */
 export function setMessage(values) {
   byId("message-sentinel").value = values.get("sentinel") ?? "00";
   const { bytes } = values.has("hex") ? parseHex(values.get("hex")) : { bytes: values.has("text") && bytesOfText(values.get("text"), "LF") };
@@ -259,7 +259,7 @@ export function setMessage(values) {
   if (values.has("at")) canvas.open(Number(values.get("at")));
 }
 
-/** Shows what the view held before. */
+/** Shows an earlier state of the view. */
 function restore({ kind: wanted, text, reading: chosen, ends, sentinel: byte, frame: written }) {
   byId("message-sentinel").value = printHex([byte]);
   byId("message-ends").value = ends;
@@ -268,7 +268,7 @@ function restore({ kind: wanted, text, reading: chosen, ends, sentinel: byte, fr
   update(written === "" ? null : parseHex(written).bytes);
 }
 
-/** Puts bytes into the field as text, and says whether that can be done. */
+/** Puts bytes into the field as text, and returns whether this is possible. */
 function setText(bytes) {
   const found = textOf(bytes);
   if (found === null) return false;
@@ -277,12 +277,12 @@ function setText(bytes) {
   return true;
 }
 
-/** Puts a message into the field, as text if the field is text and the message can be. */
+/** Puts a message into the field: as text if the field has text and the message can be shown as text, and otherwise as hex. */
 function setBytes(bytes) {
   if (kind() !== "text" || !setText(bytes)) setInput("hex", printHex(bytes));
 }
 
-/** The other kind of input: what is in the field is written so, if it can be. */
+/** Changes the kind of input. The contents of the field are converted to the other kind, if this is possible. */
 function changeKind() {
   if (kind() === asKind) return;
   if (kind() === "hex") {
@@ -325,7 +325,7 @@ function sample({ hex, text, run, zeros }) {
   else setInput("hex", printHex(new Uint8Array(Number(zeros))));
 }
 
-/** Says what a stream of the frame decodes to, if it isn't the message alone. */
+/** Says what a stream with only the frame decodes to, if this isn't just the message. */
 function fillOutcome(element, at) {
   const kindOfPiece = BADGES[pieces.kinds[at]];
   const badge = Object.assign(document.createElement("span"), { className: `badge ${kindOfPiece.replace(" ", "-")}`, textContent: kindOfPiece });
@@ -367,17 +367,17 @@ export function startMessage() {
   byId("message-sentinel").addEventListener("input", asked);
   byId("message-copy").addEventListener("click", copy);
   byId("message-frame-edit").addEventListener("input", editFrame);
-  // a press on these leaves the focus in the field: what the field shows when it loses it would move them from under the mouse
+  // a press on these buttons leaves the focus in the field: if the field lost the focus, its new text would move the buttons away
   for (const id of ["message-frame-other", "message-frame-stream", "message-back"]) byId(id).addEventListener("mousedown", (event) => event.preventDefault());
   byId("message-frame-edit").addEventListener("paste", forgetFrameReading);
   byId("message-frame-edit").addEventListener("blur", ({ relatedTarget }) => {
-    if (relatedTarget?.id === "message-frame-other") return; // which reads the field once more
+    if (relatedTarget?.id === "message-frame-other") return; // this button reads the field again
     forgetFrameReading();
     showFrame();
   });
   byId("message-back").addEventListener("click", mend);
   byId("message-decode").addEventListener("click", () => {
-    setInput("hex", printHex(decode(message, { sentinel }))); // with sentinels around it too
+    setInput("hex", printHex(decode(message, { sentinel }))); // this also works for a frame with sentinels around it
     byId("message-input").focus();
   });
   const toStream = (bytes) => {

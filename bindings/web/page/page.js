@@ -1,4 +1,4 @@
-// The page: it loads the module, and then shows one of three views at a time.
+// Starts the page: loads the module, and then shows one of three views at a time.
 import { load } from "../jcobs.js";
 import { VIEWS, holdAddress, isOurChange, nameView, readAddress } from "./address.js";
 import { setLine, startLine } from "./line.js";
@@ -51,8 +51,8 @@ function startTabs() {
 }
 
 /**
- * With `?embed` in its address the page is a drawing for another page, with a link to the whole of it. It posts its height to that
- * page whenever it changes, which can then make the frame as high: `{ jcobs: "height", height: pixels }`.
+ * With `?embed` in its address, the page is only a drawing for another page, with a link to the whole page. Whenever its height changes,
+ * it posts `{ jcobs: "height", height: pixels }` to the other page, which can then give the frame this height.
  */
 function startEmbedded() {
   if (!document.documentElement.classList.contains("embed")) return;
@@ -79,7 +79,7 @@ function complain(text) {
   place.hidden = false;
 }
 
-/** Loads the module, and returns whether that went well. */
+/** Loads the module, and returns whether it was loaded. */
 async function isLoaded() {
   try {
     await load();

@@ -1,4 +1,4 @@
-// A stream cut into pieces by its sentinels, what the module makes of each, and what each byte is for.
+// Cuts a stream into pieces at its sentinels, and computes the outcome of each piece and the purpose of each byte.
 import { CobsError, FrameDecoder, decode } from "../jcobs.js";
 import { codePlaces, partOf } from "../draw.js";
 import { count, counted } from "./inputs.js";
@@ -18,7 +18,7 @@ function kindOf({ message, broken, tooLong, isIdle }) {
   return isIdle ? IDLE : UNFINISHED;
 }
 
-/** Returns the only piece of some bytes, without the sentinels around it; null if there are several. */
+/** Returns the only piece of these bytes, without the sentinels around it, or null if there are several pieces. */
 export function onlyPiece(bytes, sentinel) {
   const front = bytes.findIndex((byte) => byte !== sentinel);
   if (front < 0) return bytes.subarray(0, 0);
@@ -27,7 +27,7 @@ export function onlyPiece(bytes, sentinel) {
   return end < 0 || bytes.subarray(end).every((byte) => byte === sentinel) ? piece : null;
 }
 
-/** What a stream decodes to: for each piece where it begins, its first byte that is no sentinel, its end, and its outcome. */
+/** The pieces of a stream: for each piece its start, its first byte that isn't a sentinel, its end, and its outcome. */
 export class Pieces {
   #codes = { at: -1 };
 
@@ -71,18 +71,18 @@ export class Pieces {
     return at === 0 ? 0 : this.ends[at - 1];
   }
 
-  /** The end of the bytes of a piece: before its sentinel, if it has one. */
+  /** Returns the end of the bytes of a piece, before its sentinel if it has one. */
   back(at) {
     const end = at >= this.ended ? this.ends[at] : this.ends[at] - 1;
     return Math.max(end, this.fronts[at]);
   }
 
-  /** The bytes of a piece without the sentinels around it. */
+  /** Returns the bytes of a piece without the sentinels around it. */
   piece(at) {
     return this.stream.subarray(this.fronts[at], this.back(at));
   }
 
-  /** The message of a piece, or no bytes if it has none. */
+  /** Returns the message of a piece, or no bytes if the piece has no message. */
   message(at) {
     try {
       return decode(this.piece(at), { sentinel: this.sentinel });
@@ -98,12 +98,12 @@ export class Pieces {
     return found;
   }
 
-  /** The last piece that begins at or before a byte. */
+  /** Returns the number of the last piece that begins at or before a byte. */
   at(byte) {
     return lastAtOrBefore((piece) => this.start(piece), byte, this.count);
   }
 
-  /** Whether a piece has the same bytes at the same place in `other`, by the rising list of the bytes that differ. */
+  /** Returns whether `other` has the same piece at the same place. `differing` is the list, in ascending order, of the bytes that differ. */
   isIn(other, at, differing) {
     const there = other.at(this.fronts[at]);
     if (there >= other.ended || other.ends[there] !== this.ends[at] || other.fronts[there] !== this.fronts[at]) return false;
@@ -111,13 +111,13 @@ export class Pieces {
     return first === differing.length || differing[first] >= this.ends[at];
   }
 
-  /** How many ended pieces aren't in `other`: only those near a byte that differs are looked at. */
+  /** Returns the ended pieces that aren't in `other`. Only pieces near a byte that differs are compared. */
   changedFrom(other, differing) {
     const near = new Set(differing.flatMap((byte) => [this.at(byte), this.at(byte) + 1]));
     return [...near].filter((at) => at < this.ended && !this.isIn(other, at, differing));
   }
 
-  /** The places of a piece's codes, and how many full blocks are before each; kept for the next question about the piece. */
+  /** Returns the indices of a piece's codes, and the number of full blocks before each code. The result is kept for the next call. */
   codes(at) {
     if (this.#codes.at === at) return this.#codes;
     const piece = this.piece(at);
@@ -129,9 +129,10 @@ export class Pieces {
   }
 
   /**
-   * What a byte is: `at`, its piece; `value`, the byte XORed with the sentinel; `role`, "sentinel", "code" or "data"; for a code
-   * `isFirst`, `isAfterFull`, `isPast` (it leads past the piece's end). `index` is that of the message's byte which it is or
-   * stands for, and after a message the message's length; -1 if there is none.
+   * Returns the purpose of a byte: `at`, its piece; `value`, the byte XORed with the sentinel; `role`, which is "sentinel", "code" or
+   * "data"; and for a code `isFirst`, `isAfterFull` and `isPast` (the code leads past the piece's end). `index` is the index of the
+   * message's byte that corresponds to this byte. For the sentinel after a message it is the message's length. If no byte of the
+   * message corresponds to this byte, it is -1.
    */
   about(byte) {
     const at = this.at(byte);
@@ -150,7 +151,7 @@ export class Pieces {
     return { at, value, role: "code", isFirst: part === 0, isAfterFull, isPast, index: part === 0 || isAfterFull ? -1 : index };
   }
 
-  /** The outcome of a piece in words, without its badge. */
+  /** Returns the outcome of a piece in words, without its badge. */
   words(at) {
     const kind = this.kinds[at];
     if (kind === MESSAGE) return counted(this.lengths[at], "byte");
@@ -159,7 +160,7 @@ export class Pieces {
     return kind === IDLE ? "sentinels with nothing between them" : "no sentinel yet";
   }
 
-  /** The name of a piece for a sentence, from 1 on. */
+  /** Returns the name of a piece for a sentence. The first piece has the number 1. */
   name(at) {
     return `piece ${count(at + 1)}`;
   }

@@ -1,8 +1,8 @@
-// A text that may be read in more than one way.
+// Chooses how to read a text that can be read in more than one way.
 
 /**
- * Chooses one of some readings, each `{bytes, as}` or `{error, as}`: the one called `wanted` if it has bytes, else the first.
- * `other` names another one that has bytes, if it has other bytes.
+ * Chooses one of several readings, each `{bytes, as}` or `{error, as}`: the reading with the name `wanted` if it has bytes, otherwise the
+ * first one. `other` is the name of another reading, if that reading has bytes and its bytes are different.
  */
 export function choice(readings, wanted) {
   const chosen = readings.find(({ bytes, as }) => bytes && as === wanted) ?? readings[0];

@@ -1,8 +1,8 @@
-// A list of rows, of which only those in sight are in the document.
+// A list of rows. Only the visible rows are in the document.
 import { lastAtOrBefore } from "./search.js";
 
-const LONGEST = 8_000_000; // browsers draw no element much higher than this, so a longer list scrolls faster
-const MARGIN = 3;          // rows kept above and below those in sight
+const LONGEST = 8_000_000; // pixels; browsers draw no element that is much higher, so a higher list scrolls faster
+const MARGIN = 3;          // rows that are kept above and below the visible rows
 
 export class Rows {
   #box;
@@ -13,7 +13,7 @@ export class Rows {
   #fill;
   #isAsked = false;
 
-  /** `fill(element, index)` writes row `index` into an element. Its top is `topOf(index)` pixels below that of the first. */
+  /** `fill(element, index)` writes row `index` into an element. The top of the row is `topOf(index)` pixels below the top of the first row. */
   constructor(box, { topOf, fill }) {
     this.#box = box;
     this.#topOf = topOf;
@@ -26,7 +26,7 @@ export class Rows {
     new ResizeObserver(() => this.#ask()).observe(box);
   }
 
-  /** This many rows from now on, each drawn anew. */
+  /** Sets the number of rows, and draws all visible rows again. */
   reset(count) {
     this.#count = count;
     this.#spacer.style.height = `${Math.min(this.#total(), LONGEST)}px`;
@@ -35,12 +35,12 @@ export class Rows {
     this.#draw();
   }
 
-  /** The same rows, filled anew where they are in sight. */
+  /** Fills the visible rows again. */
   refresh() {
     for (const [index, element] of this.#shown) this.#fill(element, index);
   }
 
-  /** Scrolls as little as brings a row into sight. */
+  /** Scrolls no further than needed to make a row visible. */
   reveal(index) {
     const [top, bottom] = [this.#topOf(index), this.#topOf(index + 1)];
     const seen = this.#box.clientHeight;
@@ -54,7 +54,7 @@ export class Rows {
     return this.#topOf(this.#count);
   }
 
-  /** How far the list is scrolled, in pixels of the whole list. */
+  /** Returns how far the list is scrolled, in pixels of the whole list. */
   #offset() {
     const seen = this.#box.clientHeight;
     const most = Math.min(this.#total(), LONGEST) - seen;

@@ -1,6 +1,6 @@
-// Places in rising lists, by halving.
+// Binary search in lists in ascending order.
 
-/** The first place in a rising list whose number is `wanted` or more. */
+/** Returns the index of the first number in an ascending list that is `wanted` or more. */
 export function firstFrom(list, wanted) {
   let low = 0;
   let high = list.length;
@@ -12,7 +12,7 @@ export function firstFrom(list, wanted) {
   return low;
 }
 
-/** The last of `count` things that begins at or before a place, by the rising list of their beginnings. */
+/** Returns the last of `count` items that begins at or before `wanted`. `startOf` returns the start of an item; the starts ascend. */
 export function lastAtOrBefore(startOf, wanted, count) {
   let low = 0;
   let high = count;

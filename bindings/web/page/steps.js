@@ -1,10 +1,10 @@
-// Encoder and decoder step by step on the drawing, with ten lines of code that do the same. These lines explain the format;
-// what the page encodes and decodes elsewhere goes through the module, and the tests hold these to it.
+// Shows the encoder and the decoder step by step on the drawing, with a few lines of code that do the same. These lines explain the format.
+// The other parts of the page encode and decode with the module, and the tests compare these lines with the module.
 import { printHex } from "./hex.js";
 import { byId, count } from "./inputs.js";
 
 const LONGEST = 300;
-const PACE = 900; // milliseconds of a step that plays
+const PACE = 900; // milliseconds of a step while the steps are played
 
 const ENCODER = [
   "out = [0]; at = 0; code = 1",
@@ -27,13 +27,13 @@ const DECODER = [
   "    out.push(0)",
 ];
 
-/** The lines of both, with one more for another sentinel than 0. */
+/** The lines of the encoder and of the decoder, with one more line for a sentinel other than 0. */
 export const encoderLines = (sentinel) => (sentinel === 0 ? ENCODER : [...ENCODER, "out = each byte of out XOR the sentinel"]);
 export const decoderLines = (sentinel) => (sentinel === 0 ? DECODER : ["frame = each byte of frame XOR the sentinel", ...DECODER]);
 
 /**
- * Each step of the encoder: its line, what is out so far, a sentence, and `stage`, which `rowPicture` draws: the open block's code
- * is counted at its place, and gets its arc once the block is closed.
+ * Returns the steps of the encoder. Each has its line of code, the output so far, a sentence, and `stage`, which `rowPicture` draws: the
+ * code of the open block is counted at its place, and gets its arc when the block is closed.
  */
 export function encoderSteps(message, sentinel = 0) {
   const steps = [];
@@ -67,7 +67,7 @@ export function encoderSteps(message, sentinel = 0) {
   return steps;
 }
 
-/** Each step of the decoder of a whole frame, as of the encoder: the message comes out over the frame. */
+/** Returns the steps of the decoder of a whole frame, in the form of the encoder's. The message appears above the frame. */
 export function decoderSteps(given, sentinel = 0) {
   const steps = [];
   const out = [];
@@ -115,7 +115,7 @@ function show(to) {
   if (now === steps.length - 1) pause();
 }
 
-/** Takes a message and its frame; the message is null if what is drawn isn't its frame. While steps are shown, the first one is. */
+/** Sets the message and its frame. The message is null if the drawing doesn't show its frame. If steps are shown, the first one is shown. */
 export function setSteps(message, frame, sentinel) {
   given = { message, frame, sentinel };
   if (isShown()) begin();

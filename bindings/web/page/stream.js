@@ -1,4 +1,4 @@
-// The view of a stream: its pieces, what each decodes to, and what damage does to them.
+// The view of a stream: its pieces, their outcomes, and the effect of damage on them.
 import { encode } from "../jcobs.js";
 import { keepState, linkOf } from "./address.js";
 import { joined, parseBytes } from "./bytes.js";
@@ -12,26 +12,26 @@ import { BADGES, BROKEN, MESSAGE, Pieces, TOO_LONG } from "./pieces.js";
 import { Undo } from "./undo.js";
 
 const SHOWN_BYTES = 24;
-const LINKED = 1900; // bytes of a stream in a link
+const LINKED = 1900; // bytes of the longest stream in a link
 const FILE_LIMIT = 16 << 20;
-const LINES = 2000; // pieces that are written on a line each
+const LINES = 2000; // up to this number of pieces, each piece is written on a separate line
 
 let original = new Uint8Array();
 let stream = new Uint8Array();
 let damage = new Map();
-let hurt = []; // the places of the damage, rising
+let hurt = []; // the indices of the damaged bytes, in ascending order
 let before;
 let pieces;
 let canvas;
 let field;
 let undo;
-let placeholder; // of the field while no file is shown
-let isTyped = false; // whether the change under way is by a key in the field
+let placeholder; // the field's placeholder while no file is shown
+let isTyped = false; // whether the present change was made with a key in the field
 let fromFile = null; // `{bytes}`, or `{entries}` of a log
 let readAs = "";
-let reading; // the reading that was chosen for the field's bytes, if they have several
+let reading; // the reading that the user chose for the field's bytes, if there are several
 
-/** The bytes of the field or the file, or null with a complaint. A log of Line stands for the frames of its rows. */
+/** Returns the bytes of the field or the file; for a log of Line, the frames of its rows. If there are no bytes, says so and returns null. */
 function readStream(sentinel) {
   const log = fromFile ? fromFile.entries && fromFile : isLog(field.text) && readLog(field.text);
   const { bytes, error, said, as, other } = log ? (log.error ? log : streamOf(log.entries, sentinel)) : (fromFile ?? parseBytes(field.text, reading));
@@ -44,7 +44,7 @@ function readStream(sentinel) {
   return bytes ?? null;
 }
 
-/** Reads the fields, and returns whether all of them are good. */
+/** Reads the fields, and returns whether all of them are valid. */
 function update() {
   const maxLength = readRoom(byId("stream-room"), byId("stream-room-error"));
   const sentinel = readSentinel(byId("stream-sentinel"), byId("stream-sentinel-error"));
@@ -61,7 +61,7 @@ function update() {
   return true;
 }
 
-/** The places of at most `most` damaged bytes, each with what is there. */
+/** Returns the indices of at most `most` damaged bytes, each with its byte. */
 const damageText = (most) => hurt.slice(0, most).map((at) => `${at}:${printHex(stream, at, at + 1)}`).join();
 
 function setDamage(text) {
@@ -70,7 +70,7 @@ function setDamage(text) {
   applyDamage();
 }
 
-/** Shows what the view held before. */
+/** Shows an earlier state of the view. */
 function restore({ text, reading: chosen, file, sentinel, room, damage: changes }) {
   byId("stream-sentinel").value = printHex([sentinel]);
   byId("stream-room").value = room;
@@ -104,7 +104,7 @@ function applyDamage() {
   say();
 }
 
-/** Shows what a link holds: a stream, the sentinel, the buffer, and the damaged bytes. */
+/** Shows the contents of a link: a stream, the sentinel, the buffer's length, and the damaged bytes. */
 export function setStream(values) {
   byId("stream-sentinel").value = values.get("sentinel") ?? "00";
   byId("stream-room").value = values.get("room") ?? "64";
@@ -194,7 +194,7 @@ function damagedByte(byte) {
   return byte ^ 1;
 }
 
-/** Writes a byte on the way: damage, unless it is the byte that was sent. */
+/** Changes a byte on its way. This is damage, unless the new byte is the byte that was sent. */
 function write(at, byte) {
   if (byte === original[at]) damage.delete(at);
   else damage.set(at, byte);
@@ -206,7 +206,7 @@ function toggle(at) {
   write(at, damage.has(at) ? original[at] : damagedByte(original[at]));
 }
 
-/** Changes the message of a piece that was sent. The damage of the other pieces stays where it is in them. */
+/** Changes the message of a piece that was sent. The damage of the other pieces stays at its place in them. */
 function splice(at, index, removed, bytes) {
   if (!pieces.isIn(before, at, hurt)) return `What came of ${pieces.name(at)} isn't what was sent: mend its bytes first.`;
   const message = pieces.message(at);
@@ -222,7 +222,7 @@ function splice(at, index, removed, bytes) {
   return undefined;
 }
 
-/** A stream as hex, with a line for each piece unless there are many. */
+/** Returns a stream as hex, with a line for each piece unless there are many pieces. */
 function asLines(of) {
   if (of.count > LINES) return printHex(of.stream);
   return Array.from({ length: of.count }, (_, at) => printHex(of.stream, of.start(at), of.ends[at])).join("\n");
@@ -241,7 +241,7 @@ async function takeFile(file) {
   else setFile(log, `${file.name}, ${counted(bytes.length, "byte")}`);
 }
 
-/** Some messages, a frame that breaks off, and one that has no end yet. */
+/** Returns an example: several messages, a frame that breaks off, and a frame that has no end yet. */
 function example(sentinel) {
   const messages = ["temp=21.5", "temp=21.6", "", "a\0b\0c", "x".repeat(80), "temp=21.7"].map((text) => new TextEncoder().encode(text));
   const broken = [5, 0x6c, 0x6f, 0].map((byte) => byte ^ sentinel);

@@ -1,11 +1,11 @@
-// Strings of programs: the bytes that escapes stand for.
+// Reads the strings of programs: returns the bytes for which escapes stand.
 
 const ESCAPES = { a: 7, b: 8, e: 27, f: 12, n: 10, r: 13, t: 9, v: 11, "\\": 92, "'": 39, '"': 34 };
 const PART = /\\x([0-9a-f]{2})|\\([0-7]{1,3})|\\u(?:\{([0-9a-f]{1,6})\}|([0-9a-f]{4}))|\\(\n\s*)|\\(.)|([^\\]+)/giu;
 
 export const ESCAPED = "a string with escapes";
 
-/** Why a text isn't read, with `as`, the form that it has nevertheless, if it surely has one. */
+/** The reason why a text can't be read. `as` is the form of the text, if the form is certain. */
 export class Unreadable extends Error {
   constructor(message, as) {
     super(message);
@@ -13,7 +13,7 @@ export class Unreadable extends Error {
   }
 }
 
-/** Returns the bytes of what is between quotes. A string of bytes, `isBytes`, has no escapes for characters. */
+/** Returns the bytes of the text between quotes. A string of bytes (`isBytes`) has no escapes for characters. */
 export function unescaped(text, { isBytes = false, isRaw = false } = {}) {
   if (isRaw || !text.includes("\\")) return new TextEncoder().encode(text);
   if (!isBytes && /\\x[0-9a-f]{3}/i.test(text)) throw new Unreadable("After \\x C takes all digits, other languages two: write the next one as an escape too.", ESCAPED);
@@ -29,8 +29,8 @@ export function unescaped(text, { isBytes = false, isRaw = false } = {}) {
 }
 
 /**
- * Throws for `\0` before an octal digit, which is one byte in C and Python, and two in Rust, unless something isn't Rust's:
- * `isOctal`, another escape, or several strings in a row. Each string is `{prefix, quote, content}`.
+ * Throws an error for `\0` before an octal digit, which is one byte in C and Python, and two bytes in Rust. There is no error if the text
+ * can't be Rust: because of `isOctal`, another escape, or several strings in a row. Each string is `{prefix, quote, content}`.
  */
 export function demandOneReading(strings, isOctal) {
   const escapes = strings.flatMap(({ content }) => content.match(/\\[\s\S][0-7]{0,2}/g) ?? []);

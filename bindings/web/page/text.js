@@ -1,19 +1,19 @@
-// A message as text in a field: UTF-8, with line ends of one kind, and the sign ∅ for a byte 00, which no keyboard writes.
+// Converts a message to the text of a field and back: UTF-8, with line ends of one kind, and ∅ for a byte 00, which no keyboard writes.
 
 export const ZERO = "∅";
 const ENDS = { LF: "\n", CRLF: "\r\n", CR: "\r" };
 
-/** Which line ends a text has: a name, "" if there are none, null if they are of several kinds. */
+/** Returns the name of the line ends of a text, "" if there are none, or null if there are several kinds. */
 export function endsOf(text) {
   const found = new Set(text.match(/\r\n|\r|\n/g));
   if (found.size > 1) return null;
   return Object.keys(ENDS).find((name) => found.has(ENDS[name])) ?? "";
 }
 
-/** The bytes of a field's text. */
+/** Returns the bytes of a field's text. */
 export const bytesOfText = (text, ends) => new TextEncoder().encode(text.replaceAll("\n", ENDS[ends]).replaceAll(ZERO, "\0"));
 
-/** Bytes as `{text, ends}`, which give these bytes again, or null. */
+/** Returns bytes as `{text, ends}`, from which `bytesOfText` returns these bytes again, or null if this isn't possible. */
 export function textOf(bytes) {
   try {
     const given = new TextDecoder("utf-8", { fatal: true, ignoreBOM: true }).decode(bytes);
@@ -26,13 +26,13 @@ export function textOf(bytes) {
   }
 }
 
-/** Whether a text that is pasted is surely bytes in the form `as`, and no text to be sent as such. */
+/** Returns whether a pasted text is certainly bytes in the form `as`, and not a text to send. */
 export function isBytes(text, as) {
   if (as === "hex") return /^(0x)?[0-9a-f]{2}([\s,:-]+(0x)?[0-9a-f]{2}){2,}$/i.test(text.trim().replace(/,$/, "").trimEnd()) || /0x|fromhex/i.test(text);
   return as !== undefined && !["base64", "a string", "decimal numbers"].includes(as) || (as === "decimal numbers" && /[[{(]/.test(text));
 }
 
-/** Whether a text may be bytes in the form `as`, `length` of them, so that it is worth to ask. */
+/** Returns whether a text may be `length` bytes in the form `as`, so that the page should ask. */
 export function mayBeBytes(text, as, length) {
   return length > 1 && (as !== "base64" || (length > 4 && /[\d+/=]/.test(text)));
 }

@@ -1,4 +1,4 @@
-// What a view held before each of its changes, for its Undo.
+// Keeps the states of a view before each of its changes, for Undo.
 
 const KEPT = 100;
 
@@ -8,7 +8,7 @@ export class Undo {
   #now = null;
   #isTyped = false;
 
-  /** `restore(state)` shows a state again. The button, and Ctrl+Z outside of text fields, do so. */
+  /** `restore(state)` shows a state again. It is called for the button, and for Ctrl+Z outside of text fields. */
   constructor(view, button, restore) {
     this.#button = button;
     const back = () => {
@@ -26,7 +26,7 @@ export class Undo {
     });
   }
 
-  /** Notes what the view holds, an object of plain values. Letters that are typed one after another are one change. */
+  /** Keeps the state of the view, an object of plain values. Characters that are typed one after another are one change. */
   note(state, isTyped) {
     const now = this.#now;
     if (now && Object.keys(state).every((name) => state[name] === now[name])) return;

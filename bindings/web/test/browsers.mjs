@@ -1,17 +1,17 @@
-// The least versions of browsers that README.md, PAGE.md and the page name are those that the code needs. Each method, global and
-// piece of syntax of it is looked up below: in COMMON, which browsers had before 2020, or with the first versions that have it,
-// as the compatibility tables of MDN say. A name that is nowhere below is an error, so that no newer one comes in unseen.
+// Checks that README.md, PAGE.md and the page name the oldest versions of browsers that can run the code. Each method, global and form
+// of syntax that the code uses is listed below: in COMMON, if browsers had it before 2020, or with the first versions that have it,
+// from the compatibility tables of MDN. A name that isn't listed is an error, so that nobody uses a newer name unnoticed.
 import { execFileSync } from "node:child_process";
 import { readFile, readdir } from "node:fs/promises";
 import { check, equal, holds } from "./tally.mjs";
 
-/** The first versions of Chrome, Firefox and Safari with a method or a global. */
+/** The first versions of Chrome, Firefox and Safari that have a method or a global. */
 const SINCE = {
   at: [92, 90, 15.4], replaceAll: [85, 77, 13.1], replaceChildren: [86, 78, 14], instantiate: [57, 52, 11], matchAll: [73, 67, 13],
   BigInt64Array: [67, 68, 15], BigInt: [67, 68, 14], ReadableStream: [52, 65, 10.1], WritableStream: [59, 100, 14.1], TransformStream: [67, 102, 14.1], ResizeObserver: [64, 69, 13.1],
 };
 
-/** Syntax: what it looks like, and its first versions. */
+/** Forms of syntax: their pattern, and the first versions that have them. */
 const SYNTAX = {
   "logical assignment": [/(\?\?|\|\||&&)=/, [85, 79, 14]],
   "optional chaining": [/\?\.[\w[(]/, [80, 74, 13.1]],
@@ -31,10 +31,10 @@ const SYNTAX = {
   "layers and nesting": [/@layer|^\s*&/m, [120, 117, 17.2]],
 };
 
-/** What cobs.wasm needs: numbers of 64 bits from JavaScript and back, and memory.copy. */
+/** The features that cobs.wasm needs: 64-bit numbers from and to JavaScript, and memory.copy. */
 const MODULE = [[85, 78, 15], [75, 79, 15]];
 
-/** Used only if it is there. */
+/** Names that the code uses only if the browser has them. */
 const GUARDED = "FinalizationRegistry getBuiltinModule unregister register dispose requestPort getPorts getInfo setSignals";
 
 const COMMON = `Array ArrayBuffer Blob Boolean CustomEvent DataView Date Error Float64Array Infinity Int8Array JSON Map Math NaN Number Object Option Promise RangeError RegExp
@@ -47,7 +47,7 @@ const COMMON = `Array ArrayBuffer Blob Boolean CustomEvent DataView Date Error F
   resolve reverse revokeObjectURL round scrollIntoView select selectAllChildren set setAttribute setProperty shift slice some sort splice split startsWith endsWith subarray test text toISOString toLocaleString
   toLowerCase toString toTimeString toUpperCase toggle trim trimEnd validate values write writeText close call apply concat then reject`;
 
-/** Methods of this code's own objects, and of the module and of Node. */
+/** Methods of this code's own objects, of the module and of Node. */
 const OWN = `about act back changedFrom codes complain countOf decoder encoder changed fault finish frameKind give goTo grow isAll isIdle isIn isNoisy isThere item left loop maxLength
   mark message name note on outcome open piece placeAfter reach readFile readFileSync readInto receive refresh reset reveal send setLine show speak stage start take topOf wake whole words
   splice write jcobs_decode jcobs_decoder_is_idle jcobs_decoder_push jcobs_decoder_reset jcobs_encoder_finish jcobs_encoder_push jcobs_encoder_reset jcobs_frame_kind jcobs_max_length
@@ -58,7 +58,7 @@ const known = new Set([...listed(COMMON), ...listed(OWN), ...listed(GUARDED), ..
 const read = (name) => readFile(new URL(`../${name}`, import.meta.url), "utf8");
 const bare = (text) => text.replace(/\/\*[\s\S]*?\*\//g, "").replace(/(^|\s)\/\/[^\n]*/g, "$1").replace(/"(?:\\.|[^"\\\n])*"/g, '""');
 
-/** The methods that are called, and the globals that are used, whose names are of several words or begin with a capital. */
+/** Returns the methods and globals that the code uses and whose names have several words or begin with a capital letter. */
 function namesIn(text) {
   const called = [...text.matchAll(/\.([A-Za-z_$][\w$]*)(?=\??\.?\(|\.call\()/g)].map(([, name]) => name);
   const made = [...text.matchAll(/(?<![.\w$#"'`-])(?:new |extends |instanceof |typeof )([A-Za-z]\w*)/g)].map(([, name]) => name);

@@ -1,14 +1,14 @@
-// The vectors of conformance/ through the module, in any engine: by its calls as they are, and if a line fits by jcobs.js too.
+// Runs the cases of conformance/ with the module, in any engine: with the module's own calls, and if a case fits also with jcobs.js.
 //
-// conformance/README.md says what a line is. Left out are the calls that the module lacks, since machine.js makes none of
-// them: decoding in place, `next_frame` and the two state machines. If this library returns something else than the crate's
-// own names say, the comment at the call has it.
+// conformance/README.md describes the lines. The calls that the module doesn't have, because machine.js doesn't make them, are left
+// out: decoding in place, `next_frame` and the two state machines. If the module's result has another name or another form than that of
+// the line, the comment at the call says so.
 import { CobsError, FrameDecoderStream, FrameEncoder, FrameEncoderStream, decode, encode, frameKind, load, maxEncodedLength } from "../jcobs.js";
 import { Raw } from "./raw.mjs";
 
 let raw;
 
-/** A word without its parts: the digits of each as often as the number after the star says. */
+/** Expands a word that is written in parts: repeats the digits of each part as often as the number after the star says. */
 const writtenOut = (word) => word.split("+").map((part) => part.split("*")).map(([digits, count = "1"]) => digits.repeat(Number(count))).join("");
 
 const bytesOf = (word) => (word === "-" ? new Uint8Array() : Uint8Array.from(word.match(/../g), (pair) => parseInt(pair, 16)));
@@ -17,7 +17,7 @@ const joined = (parts) => Uint8Array.from(parts.flatMap((part) => [...part]));
 const sentinelOf = (word) => ({ byte: bytesOf(word)[0] });
 const ZERO = { byte: 0 };
 
-/** What encoding into a buffer answers: the length where it fits, and all of the buffer. */
+/** Returns the results of encoding into a buffer: the length, if the frame fits, and the whole buffer. */
 function encoded(call, message, room, sentinel) {
   const buffer = raw.place(room);
   const { status, consumed, length } = raw.answer(call, raw.place(message), buffer, sentinel);
@@ -25,7 +25,7 @@ function encoded(call, message, room, sentinel) {
   return { status, length: status === "ok" ? String(length) : "-", after: wordOf(raw.read(buffer)) };
 }
 
-/** A sentinel in front by hand, as no call of the module writes one. */
+/** Puts a sentinel before the frame, because no call of the module writes one there. */
 function wrapped(message, room) {
   if (room.length === 0) return { status: "too_small", length: "-", after: "-" };
   const { status, length, after } = encoded("jcobs_encode_terminated_with_sentinel", message, room.subarray(1), ZERO);
@@ -33,7 +33,7 @@ function wrapped(message, room) {
   return { status, length: String(Number(length) + 1), after: `00${after === "-" ? "" : after}` };
 }
 
-/** In `decode` zeros alone are `empty` here, and a refused frame of 0 bytes by the crate's names. */
+/** For a source with only zeros, the module's `decode` returns `empty`; the cases have a broken frame of 0 decoded bytes. */
 const named = (status, source) => (status === "empty" && source.length > 0 ? "invalid" : status);
 const countWord = (status, length) => (status === "ok" || status === "invalid" ? String(length) : "-");
 
@@ -44,7 +44,7 @@ function decoded(source, room) {
   return { status, length: countWord(status, answer.length), consumed: status === "ok" ? String(answer.consumed) : "-", after: wordOf(raw.read(buffer)), message: wordOf(raw.read(buffer, answer.length)) };
 }
 
-/** What `decode` of jcobs.js answers, in the words of the vectors. */
+/** Returns the results of `decode` of jcobs.js in the words of the cases. */
 function decodedByModule(source, sentinel = 0) {
   try {
     const message = decode(source, { sentinel });
@@ -56,7 +56,7 @@ function decodedByModule(source, sentinel = 0) {
   }
 }
 
-/** The answers of a streaming decoder of the module's calls: the buffer at the end, and three words for each piece. */
+/** Returns the results of a streaming decoder of the module: the buffer at the end, and three words for each piece. */
 function decodedByPieces(room, pieces) {
   const buffer = raw.place(room);
   const state = { state: raw.place(new Uint8Array(16).fill(0x77)) };
@@ -79,7 +79,7 @@ function decodedByPieces(room, pieces) {
   return { after: wordOf(raw.read(buffer)), said };
 }
 
-/** The crate answers `too_small` to each byte from the overflow on; the module once, at the zero. */
+/** The crate returns `too_small` for each byte from the overflow on. The module returns it once, for the zero. */
 function withoutRepeats(wanted, pieces) {
   const stream = joined(pieces.filter((piece) => piece !== "reset").map(bytesOf));
   const kept = [];
@@ -104,7 +104,7 @@ async function throughStream(stream, chunks) {
 
 const outcomeWords = ({ message, broken }) => (message ? ["message", wordOf(message)] : broken !== undefined ? ["broken", String(broken)] : ["too_long", "-"]);
 
-/** The results of a streaming encoder of the module's calls: the length of the frame, the buffer, and a word for each piece. */
+/** Returns the results of a streaming encoder of the module: the length of the frame, the buffer, and a word for each piece. */
 function encodedByPieces(room, pieces) {
   const buffer = raw.place(room);
   const state = { state: raw.place(new Uint8Array(16).fill(0x77)) };
@@ -114,7 +114,7 @@ function encodedByPieces(room, pieces) {
   return { status, length: String(length), after: wordOf(raw.read(buffer)), said };
 }
 
-/** The frame of pieces by jcobs.js. */
+/** Returns the frame that jcobs.js makes from pieces. */
 function encodedByModule(pieces) {
   const given = pieces.map(bytesOf);
   const encoder = new FrameEncoder({ maxLength: given.reduce((sum, piece) => sum + piece.length, 0) });
@@ -124,7 +124,7 @@ function encodedByModule(pieces) {
   return frame;
 }
 
-/** For each call, all answers that are to be the line's: one for each way to make it. None: the line is left out. */
+/** For each call, returns all results that must equal those of the line, one for each way to make the call. If there are none, the line is left out. */
 const calls = {
   max_encoding_length: ([length]) => [[String(maxEncodedLength(Number(length)))], [String(raw.call("jcobs_max_length", Number(length)))]],
   max_encoding_overhead: ([length]) => [[String(maxEncodedLength(Number(length)) - Number(length))]],
@@ -193,13 +193,13 @@ const calls = {
   },
 };
 
-/** Whether an answer is the one that a line wants. `refused` is any refusal, and what stands after it is free. */
+/** Returns whether results are those of a line. `refused` means any error, and the words after it may be any words. */
 function agrees(found, wanted) {
   if (found.length !== wanted.length) return false;
   return wanted.every((word, i) => word === "?" || word === found[i] || (word === "refused" && found[i] !== "ok" && found[i] !== "message"));
 }
 
-/** Runs the cases of these texts, and returns how many there were, how many differ, and what is to be said of both. */
+/** Runs the cases of these texts, and returns how many there were, how many differ, and the lines to print. */
 export async function runCases(module, texts) {
   await load(module);
   raw = new Raw(module);
@@ -220,7 +220,7 @@ export async function runCases(module, texts) {
   return counts;
 }
 
-/** The difference that a line shows, or "" if it shows none, or undefined if it is left out. */
+/** Returns the difference that a line shows, "" if there is none, or undefined if the line is left out. */
 async function runCase(line) {
   const [left, right] = line.split(" ").map(writtenOut).join(" ").split(" ->").map((words) => words.trim());
   const [name, level, call, ...args] = left.split(" ");
@@ -239,7 +239,7 @@ async function runCase(line) {
   return wrong ? `${name}: ${call} ${short(args, 200)}\n  gave   ${short(wrong, 300)}\n  wanted ${short(wanted, 300)}` : "";
 }
 
-/** The same in a page: the module and the vectors from addresses. */
+/** Runs the cases in a page, which loads the module and the cases from addresses. */
 export async function runServed(module, vectors) {
   const texts = await Promise.all(vectors.map(async (address) => (await fetch(address)).text()));
   return runCases(await WebAssembly.compile(await (await fetch(module)).arrayBuffer()), texts);

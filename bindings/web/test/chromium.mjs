@@ -1,4 +1,4 @@
-// Chromium driven by the DevTools protocol over a pipe, with nothing but Node. Input goes the way of a user's.
+// Controls Chromium with the DevTools protocol over a pipe, using only Node. Input is sent as if a user made it.
 import { spawn } from "node:child_process";
 import { mkdtemp, rm, writeFile } from "node:fs/promises";
 import { tmpdir } from "node:os";
@@ -85,7 +85,7 @@ export class Browser {
     return (await this.send("Browser.getVersion")).product;
   }
 
-  /** A page of its own at an address. `before` is run in it before its own scripts. */
+  /** Opens a new page at an address. The script `before` runs in the page before its own scripts. */
   async open(address, { width = 1100, height = 900, isDark = false, isPhone = false, scale = isPhone ? 2 : 1, before } = {}) {
     const { browserContextId } = await this.send("Target.createBrowserContext");
     const { targetId } = await this.send("Target.createTarget", { url: "about:blank", browserContextId });
@@ -112,7 +112,7 @@ export class Browser {
 }
 
 export class Page {
-  /** What the page said that it should not have: errors on its console, and exceptions. */
+  /** The errors on the page's console, and its exceptions. */
   faults = [];
 
   constructor(send, close) {
@@ -131,7 +131,7 @@ export class Page {
     await this.until("document.readyState === 'complete'");
   }
 
-  /** The value of an expression in the page. */
+  /** Returns the value of an expression in the page. */
   async value(expression) {
     const { result, exceptionDetails } = await this.send("Runtime.evaluate", { expression, awaitPromise: true, returnByValue: true, userGesture: true });
     if (exceptionDetails) throw new Error(exceptionDetails.exception?.description ?? exceptionDetails.text);
@@ -142,7 +142,7 @@ export class Page {
     return until(() => this.value(expression), expression);
   }
 
-  /** Waits until the page was drawn, with what a change of size makes it do. */
+  /** Waits until the page is drawn, including its reaction to a change of size. */
   drawn() {
     return this.value("new Promise((done) => requestAnimationFrame(() => requestAnimationFrame(() => done())))");
   }
@@ -151,7 +151,7 @@ export class Page {
     return this.value(`document.querySelector(${JSON.stringify(selector)}).textContent`);
   }
 
-  /** The middle of an element, scrolled into view, once it no longer moves: the page may still take what was typed before. */
+  /** Scrolls to an element, and returns its middle once it doesn't move any more: the page may still be handling earlier input. */
   async placeOf(selector) {
     const find = `document.querySelector(${JSON.stringify(selector)})`;
     await this.until(`${find}?.getClientRects().length > 0`);
@@ -167,7 +167,7 @@ export class Page {
     })()`);
   }
 
-  /** A click with the mouse on the middle of an element. */
+  /** Clicks with the mouse on the middle of an element. */
   async click(selector) {
     await this.clickAt(await this.placeOf(selector));
   }
@@ -176,7 +176,7 @@ export class Page {
     for (const type of ["mousePressed", "mouseReleased"]) await this.send("Input.dispatchMouseEvent", { type, ...place, button: "left", clickCount: 1 });
   }
 
-  /** Text as typed at the place of the focus, key by key. */
+  /** Types text into the focused element, key by key. */
   async type(text) {
     for (const sign of text) {
       await this.send("Input.dispatchKeyEvent", { type: "keyDown", key: sign, text: sign });
@@ -195,14 +195,14 @@ export class Page {
     await this.send("Input.dispatchKeyEvent", { type: "keyUp", key: "a", code: "KeyA", modifiers: CONTROL });
   }
 
-  /** Puts text on the clipboard and pastes it at the place of the focus. */
+  /** Puts text on the clipboard, and pastes it into the focused element. */
   async paste(text) {
     await this.value(`navigator.clipboard.writeText(${JSON.stringify(text)})`);
     await this.send("Input.dispatchKeyEvent", { type: "keyDown", key: "v", code: "KeyV", windowsVirtualKeyCode: 86, modifiers: CONTROL, commands: ["paste"] });
     await this.send("Input.dispatchKeyEvent", { type: "keyUp", key: "v", code: "KeyV", modifiers: CONTROL });
   }
 
-  /** Clicks into a field and puts text in the place of what it holds: at once, as an input method does. */
+  /** Clicks into a field, and replaces its contents at once, as an input method does. */
   async fill(selector, text) {
     await this.click(selector);
     await this.selectAll();

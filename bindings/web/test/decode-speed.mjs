@@ -1,13 +1,13 @@
-// Whether `decode` is at least as fast as plain JavaScript (plain.js), at each share of zeros: node decode-speed.mjs
+// Checks that `decode` is at least as fast as plain JavaScript (plain.js), for each share of zeros: node decode-speed.mjs
 //
-// A figure is the processor time of a call, the least of ROUNDS runs of a few milliseconds, in which both decoders take turns. Other
-// work on the machine makes runs longer, but not all of them. Processor time counts every thread of a process, and V8's garbage
-// collector has threads that free results of more than 64 bytes at any time. So this file runs itself in a process in which all work
-// of V8 is on one thread (`--single-threaded`), and measures there. A case that seems slower is measured in a new process, since
-// chance decides where the memory of a process is and when its code is compiled. It counts as slower if it is slower in PROCESSES.
+// A figure is the processor time of a call: the least of ROUNDS runs of a few milliseconds, in which the two decoders take turns. Other
+// work on the machine makes some runs longer, but not all. Processor time counts every thread of a process, and V8's garbage collector
+// has threads that free results of more than 64 bytes at any time. So this script runs itself in a process in which V8 uses only one
+// thread (`--single-threaded`), and measures there. A case that seems slower is measured again in a new process, because chance decides
+// where the memory of a process is and when its code is compiled. A case counts as slower if it is slower in PROCESSES processes.
 //
-// Messages of more than 64 bytes without zeros are left out. For plain JavaScript they are one search and a few copies, which the
-// engine does in vectors. The module has none: it is faster at 250 bytes, and slower from 1,500 bytes on, as PAGE.md says.
+// Messages of more than 64 bytes without zeros are left out. Plain JavaScript decodes them with one search and a few copies, for which
+// the engine uses vectors. The module uses no vectors: it is faster at 250 bytes, and slower from 1,500 bytes on, as PAGE.md says.
 import { execFile } from "node:child_process";
 import { readFile } from "node:fs/promises";
 import { fileURLToPath } from "node:url";
@@ -23,7 +23,7 @@ const RUN = 1_000; // microseconds of a run, at least
 const ROUNDS = 50;
 const PROCESSES = 3;
 
-/** The same bytes at each run; a share of them is zero. */
+/** Returns the same bytes in each run. A share of them is zero. */
 function messageOf(length, share) {
   let state = 3;
   return Uint8Array.from({ length }, () => {
@@ -38,7 +38,7 @@ const cases = LENGTHS.flatMap((length) => [
   [`${length} bytes, every second one zero`, Uint8Array.from({ length }, (_, at) => (at % 2) * 7)],
 ]);
 
-/** The processor time of so many calls, in microseconds. */
+/** Returns the processor time of this number of calls, in microseconds. */
 function timeOf(act, frame, times) {
   const begun = process.cpuUsage();
   for (let i = 0; i < times; i++) act(frame);
@@ -46,14 +46,14 @@ function timeOf(act, frame, times) {
   return user + system;
 }
 
-/** How many calls take at least RUN. One run may be long by chance, so the least of three counts. */
+/** Returns how many calls take at least RUN. One run may be long by chance, so the shortest of three counts. */
 function timesFor(act, frame) {
   let times = 1;
   while (Math.min(...[1, 2, 3].map(() => timeOf(act, frame, times))) < RUN) times *= 2;
   return times;
 }
 
-/** How many times as fast as plain JavaScript the module is, over as many calls: then both leave as much to the garbage collector. */
+/** Returns the module's speed divided by that of plain JavaScript. Each makes the same number of calls, and so leaves the same work to the garbage collector. */
 function ratioOf(frame) {
   const acts = [decode, plain.decode];
   for (const act of acts) for (let spent = 0; spent < WARM_UP; ) spent += timeOf(act, frame, 16);
@@ -63,13 +63,13 @@ function ratioOf(frame) {
   return least[1] / least[0];
 }
 
-/** Measures the cases of these numbers in a new process, and returns the ratio of each. */
+/** Measures the cases with these numbers in a new process, and returns the ratio of each. */
 async function measured(numbers) {
   const args = ["--single-threaded", fileURLToPath(import.meta.url), ...numbers];
   return JSON.parse((await promisify(execFile)(process.execPath, args)).stdout);
 }
 
-/** The ratios of each case: that of a further process only if it was slower in all before. */
+/** Returns the ratios of each case. A further process measures the case only if it was slower in all earlier processes. */
 async function measuredAll() {
   const found = cases.map(() => []);
   for (let round = 0, left = [...cases.keys()]; round < PROCESSES && left.length > 0; round++) {

@@ -1,6 +1,6 @@
-// How much memory the modules that are made in a call take.
+// Finds out how much memory the modules need that are made during a call.
 
-/** Calls `act` with two functions: the pages of the memory of the module that was made last, and how many were made. */
+/** Calls `act` with two functions. One returns the number of pages of the last module's memory, the other the number of modules made. */
 export async function memoryOf(act) {
   const { Instance, instantiate } = WebAssembly;
   let last;

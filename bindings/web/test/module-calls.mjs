@@ -1,4 +1,4 @@
-// The loading of the module, and the calls that take whole bytes.
+// Tests loading the module, and the calls for whole messages and frames.
 import { createServer } from "node:http";
 import { pathToFileURL } from "node:url";
 import { runInNewContext } from "node:vm";

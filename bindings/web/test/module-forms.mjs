@@ -1,4 +1,4 @@
-// The forms of bytes that the page takes: each is read right and said how, or is an error.
+// Tests the forms of bytes that the page accepts: each is read correctly and named, or is an error.
 import { parseBytes } from "../page/bytes.js";
 import { isBytes, mayBeBytes } from "../page/text.js";
 import { check, equal, holds } from "./tally.mjs";
@@ -147,7 +147,7 @@ const READ = [
   ["(1436509052.249713) can0 123#030A0B02", CAN, "030a0b02"],
 ];
 
-/** What is no form, or more than one, and a word of the complaint. */
+/** Texts that have no form, or more than one form, with a word of the error message. */
 const WRONG = [
   ["0a 0b\n00 0g", "line 2, column 5"],
   ["0a 1", "01"],

@@ -1,4 +1,4 @@
-// The memory that calls, decoders and streams share.
+// Tests the memory that calls, decoders and streams share.
 import * as cobs from "../jcobs.js";
 import { memoryOf } from "./memory.mjs";
 import { FRAME, MESSAGE, all, bytes, fresh, randomBytes, source, wasm } from "./module-setup.mjs";

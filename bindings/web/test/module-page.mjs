@@ -1,4 +1,4 @@
-// What the page does by itself, without a browser.
+// Tests the functions of the page that need no browser.
 import { curve } from "../draw.js";
 import * as cobs from "../jcobs.js";
 import { FORMS } from "../page/copy.js";

@@ -1,4 +1,4 @@
-// What the tests of jcobs.js share.
+// The functions and values that the tests of jcobs.js share.
 import { rmSync } from "node:fs";
 import { copyFile, mkdir, mkdtemp, readFile, writeFile } from "node:fs/promises";
 import { tmpdir } from "node:os";
@@ -14,7 +14,7 @@ const copies = await mkdtemp(join(tmpdir(), "jcobs-copies-"));
 process.on("exit", () => rmSync(copies, { recursive: true }));
 let count = 0;
 
-/** jcobs.js anew, with nothing loaded: a copy of its files. */
+/** Imports a copy of jcobs.js, in which no module is loaded. */
 export async function fresh() {
   const folder = join(copies, String(count++));
   await mkdir(folder);
@@ -23,7 +23,7 @@ export async function fresh() {
   return import(pathToFileURL(join(folder, "jcobs.js")));
 }
 
-/** The same bytes at each run. */
+/** Returns the same bytes in each run. */
 export function randomBytes(length, zeros, seed) {
   let state = seed;
   return Uint8Array.from({ length }, () => {

@@ -1,4 +1,4 @@
-// Streams, and the decoder below them.
+// Tests the streams, and the decoder that they use.
 import * as cobs from "../jcobs.js";
 import { FRAME, MESSAGE, all, bytes, randomBytes, source } from "./module-setup.mjs";
 import * as plain from "./plain.js";

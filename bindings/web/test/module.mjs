@@ -1,4 +1,4 @@
-// What jcobs.js adds to the module's calls: node --expose-gc module.mjs COBS.WASM
+// Tests the parts of jcobs.js that aren't calls of the module: node --expose-gc module.mjs COBS.WASM
 import { report } from "./tally.mjs";
 
 for (const part of ["calls", "streams", "memory", "page", "forms"]) await import(`./module-${part}.mjs`);

@@ -1,4 +1,4 @@
-// The package as its users get it: installed, imported, required, bundled, and its examples: node package.mjs
+// Tests the package as users get it: installed, imported, required and bundled, with its examples: node package.mjs
 import { execFileSync, spawn } from "node:child_process";
 import { createHash } from "node:crypto";
 import { createReadStream, createWriteStream, existsSync } from "node:fs";
@@ -26,7 +26,7 @@ const TOP = ["LICENSE-APACHE", "LICENSE-MIT", "README.md", "auto.d.ts", "example
 const PACKED = [...TOP, ...DIST.map((name) => `dist/${name}`)].sort();
 const SAID = "3 10 11 2 12\n10 11 0 12\n3 10 11 2 12 0\n9 0 1 8 6\n";
 
-/** Messages through the transforms of jcobs/serialport, written to one end of a pseudo-terminal and read at the other. */
+/** Sends messages through the transforms of jcobs/serialport: writes them to one end of a pseudo-terminal, and reads them at the other. */
 async function overTerminal(there) {
   const { FrameDecoderTransform, FrameEncoderTransform } = createRequire(join(there, "program.cjs"))("jcobs/serialport");
   const [left, right] = ["left", "right"].map((name) => join(there, name));

@@ -1,4 +1,4 @@
-// The canvas of the views of a message and of a stream, in Chromium: what its bytes are for, and how they are changed.
+// Tests the canvas of the views Message and Stream in Chromium: the explanations of bytes, and changes of bytes.
 import { equal, holds } from "./tally.mjs";
 import { STREAM, badges, check, chooseHex, chooseText, fillStream, on, summary } from "./page-setup.mjs";
 
@@ -7,14 +7,14 @@ const cursor = (page, box) => page.value(`document.getElementById("${box}").getA
 const isFrame = (page, digits) => page.until(`document.getElementById("message-frame").textContent === "${digits}"`);
 const isMessage = (page, text) => page.until(`document.getElementById("message-input").value === ${JSON.stringify(text)}`);
 
-/** Puts the mouse on the middle of an element, and says where that is. */
+/** Moves the mouse to the middle of an element, and returns this position. */
 async function point(page, selector) {
   const place = await page.placeOf(selector);
   await page.send("Input.dispatchMouseEvent", { type: "mouseMoved", ...place });
   return place;
 }
 
-/** Where an element is in the page, however that is scrolled. */
+/** Returns the position of an element in the page, independent of scrolling. */
 const boxOf = (page, id) => page.value(`(({ left, top, width, height }) => [left + scrollX, top + scrollY, width, height])(document.getElementById("${id}").getBoundingClientRect())`);
 
 for (const [sentinel, over, code] of [["00", "0b: the frame has it as it is.", "Byte 3, 02: a code"], ["aa", "0b: the frame has it XORed with the sentinel, as a1.", "Byte 3, a8 (02 XORed with the sentinel): a code"]]) {

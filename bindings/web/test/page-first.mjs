@@ -1,4 +1,4 @@
-// What the page is at first sight, and what leads to it: links, other pages, pastes.
+// Tests the page as a user first sees it, and the ways to it: links, other pages, pastes.
 import { mkdtemp, readFile, rm, writeFile } from "node:fs/promises";
 import { tmpdir } from "node:os";
 import { join } from "node:path";

@@ -1,4 +1,4 @@
-// The view of a line, in Chromium.
+// Tests the view Line in Chromium.
 import { mkdtemp, readFile, rm, writeFile } from "node:fs/promises";
 import { tmpdir } from "node:os";
 import { join } from "node:path";
@@ -8,7 +8,7 @@ import { badges, check, fillStream, on, summary } from "./page-setup.mjs";
 const counter = (page, name, wanted) => page.until(`document.getElementById("line-${name}").textContent === "${wanted}"`);
 const logged = (page) => page.value('[...document.querySelectorAll("#line-log .row")].map((row) => [...row.children].slice(1).map((each) => each.textContent))');
 
-/** The rows of the log that came in, each as what it is and its digits. */
+/** Returns the received rows of the log, each with its kind and its digits. */
 const cameIn = async (page) => (await logged(page)).filter(([, way]) => way === "←").map(([, , ...rest]) => rest);
 
 await check("line: the loop gives back what is sent, as text and hex", () => on("line", async (page) => {
@@ -61,7 +61,7 @@ const isNotConnected = 'document.getElementById("line-status").textContent === "
 const said = (page) => page.text("#line-error");
 const xored = (bytes, sentinel) => bytes.map((byte) => byte ^ sentinel).join();
 
-/** test/port.js in the page, as the port that Web Serial gives. */
+/** Puts test/port.js into the page as the port of Web Serial. */
 const DEVICE = (await readFile(new URL("port.js", import.meta.url), "utf8")).replace("export class", "class") + `
   const port = (globalThis.port = new FakePort());
   Object.defineProperty(navigator, "serial", { value: { requestPort: async () => port, getPorts: async () => [port], addEventListener: (name, act) => (globalThis["serial_" + name] = act) }, configurable: true });

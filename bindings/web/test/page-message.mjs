@@ -1,4 +1,4 @@
-// The view of a message, in Chromium.
+// Tests the view Message in Chromium.
 import { encode as plainEncode } from "./plain.js";
 import { equal, holds } from "./tally.mjs";
 import { BY_HAND, READY, browser, check, chooseHex, chooseText, hex, number, on, summary, timed } from "./page-setup.mjs";

@@ -1,4 +1,4 @@
-// The three pictures of the page: each is made, and shows what the kept one does, but for fonts.
+// Tests the three pictures of the page: each is taken again, and must show the same as the stored picture, apart from fonts.
 import { mkdtemp, rm } from "node:fs/promises";
 import { tmpdir } from "node:os";
 import { join } from "node:path";

@@ -1,4 +1,4 @@
-// The browser, the server and what the tests of the page share.
+// Starts the browser and the server, and has the functions that the tests of the page share.
 import { readFile } from "node:fs/promises";
 import { fileURLToPath } from "node:url";
 import { load } from "../jcobs.js";
@@ -18,10 +18,10 @@ export const READY = "document.documentElement.dataset.ready === 'yes'";
 export const hex = (bytes) => Buffer.from(bytes).toString("hex").replace(/..(?=.)/g, "$& ");
 export const number = (text) => Number(text.replace(/[^0-9]/g, ""));
 
-/** What most tests of Message begin with. */
+/** The message with which most tests of Message begin. */
 const SAMPLE = "&hex=0a0b000c&as=hex&sentinel=00";
 
-/** A page on a view, closed when `act` is done; it must have said nothing on its console. */
+/** Opens a page on a view, and closes it when `act` is done. The page must have written nothing to its console. */
 export async function on(view, act, options = {}) {
   const page = await browser.open(`${address}#${view}${view === "message" ? SAMPLE : ""}`, options);
   try {
@@ -36,8 +36,8 @@ export async function on(view, act, options = {}) {
 }
 
 /**
- * Milliseconds of `act`: `pause`, the longest time between two frames, and `busy`, the processor time of the page's thread, which
- * doesn't grow with what else the machine does.
+ * Returns the milliseconds of `act`: `pause`, the longest time between two frames, and `busy`, the processor time of the page's thread,
+ * which doesn't depend on other work of the machine.
  */
 export async function timed(page, act) {
   await page.send("Performance.enable", { timeDomain: "threadTicks" });
@@ -58,7 +58,7 @@ export async function timed(page, act) {
   return { pause: await page.value("(watch.isOn = false, watch.longest)"), busy: (await busy()) - before };
 }
 
-/** Holds back what the page does later until `doLater` is called, so that no clock decides what comes before it. */
+/** Delays the page's timers until `doLater` is called, so that the order of events doesn't depend on a clock. */
 export const BY_HAND = `{
   const later = new Map();
   let number = 0;

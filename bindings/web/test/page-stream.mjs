@@ -1,4 +1,4 @@
-// The view of a stream, in Chromium.
+// Tests the view Stream in Chromium.
 import { mkdtemp, rm, writeFile } from "node:fs/promises";
 import { tmpdir } from "node:os";
 import { join } from "node:path";

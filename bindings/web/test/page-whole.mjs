@@ -1,4 +1,4 @@
-// The page as a whole, in Chromium.
+// Tests the page as a whole in Chromium.
 import { execFileSync, spawnSync } from "node:child_process";
 import { existsSync } from "node:fs";
 import { cp, mkdtemp, readFile, readdir, rm, stat, writeFile } from "node:fs/promises";

@@ -1,4 +1,4 @@
-// The page in Chromium, driven by keys, clicks and pastes: node page.mjs [FILE,.. [PART OF A NAME]]
+// Tests the page in Chromium with keys, clicks and pastes: node page.mjs [FILE,.. [PART OF A NAME]]
 import { browser, server } from "./page-setup.mjs";
 import { report } from "./tally.mjs";
 

@@ -1,10 +1,10 @@
-// COBS in plain JavaScript, written for speed: the figures of PAGE.md compare the module with it. A run is found by `indexOf` and
-// copied by `set` if it is long, and byte by byte if it is short. A result is a copy of its own, as the module's are.
+// COBS in plain JavaScript, written for speed. The figures of PAGE.md compare the module with this code. It finds runs with `indexOf`,
+// copies long runs with `set` and short runs byte by byte, and returns a copy, as the module does.
 
 const SHORT = 24; // bytes of a run that a loop copies faster
 const BLOCK = 254;
 
-/** The frame of a message, without a sentinel. */
+/** Returns the frame of a message, without a sentinel. */
 export function encode(message) {
   const { length } = message;
   const frame = new Uint8Array(length + Math.floor(length / BLOCK) + 2);
@@ -23,7 +23,7 @@ export function encode(message) {
   return frame.slice(0, at);
 }
 
-/** Writes the blocks of a run, and returns the place after them. */
+/** Writes the blocks of a run, and returns the index after them. */
 function copyRun(message, from, end, frame, start, isLast) {
   let at = start;
   let i = from;
@@ -40,7 +40,7 @@ function copyRun(message, from, end, frame, start, isLast) {
   return at + rest;
 }
 
-/** The message of a frame without sentinels; null for a broken one. */
+/** Returns the message of a frame without sentinels, or null for a broken frame. */
 export function decode(frame) {
   const message = new Uint8Array(frame.length);
   let length = 0;
@@ -58,7 +58,7 @@ export function decode(frame) {
   return message.slice(0, length);
 }
 
-/** The same outcomes as `FrameDecoderStream`'s, by a loop over the runs. */
+/** A decoder with the outcomes of `FrameDecoderStream`, with a loop over the runs. */
 export class PlainDecoder {
   #buffer;
   #written = 0;
@@ -112,7 +112,7 @@ export class PlainDecoder {
   }
 }
 
-/** A stream over it, to be used as `FrameDecoderStream` is. */
+/** A stream that uses this decoder, with the interface of `FrameDecoderStream`. */
 export class PlainDecoderStream extends TransformStream {
   constructor({ maxLength }) {
     const decoder = new PlainDecoder(maxLength);

@@ -1,6 +1,6 @@
-// A serial port without a device, with Web Serial's interface and its rules: a stream is made when it is asked for,
-// `close` rejects while either stream is locked, `cancel` and writes take time, and a fault of the line ends one stream
-// after which there is another.
+// A serial port without a device, with the interface and the rules of Web Serial: a stream is made when it is first read or written,
+// `close` rejects while a stream is locked, `cancel` and writes take time, and after a fault of the line has ended a stream, the port
+// has a new stream.
 
 export class FakePort {
   opened = null;
@@ -66,13 +66,13 @@ export class FakePort {
     return { usbVendorId: 0x2341, usbProductId: 0x43 };
   }
 
-  /** Bytes from the device. */
+  /** Receives bytes from the device. */
   give(...bytes) {
     if (this.#readable) this.#controller.enqueue(Uint8Array.from(bytes));
     else this.#waiting.push(Uint8Array.from(bytes));
   }
 
-  /** A fault of the line: "FramingError", "BreakError", or "NetworkError" when the device is pulled out. */
+  /** Reports a fault of the line: "FramingError", "BreakError", or "NetworkError" if the device is unplugged. */
   fail(name) {
     const controller = this.#controller;
     this.#readable = null;

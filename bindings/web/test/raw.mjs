@@ -1,4 +1,4 @@
-// The module's calls with nothing between: each buffer stands between guard bytes, which a call must leave alone.
+// Makes the module's calls directly. Each buffer is between guard bytes, which no call may change.
 const GUARD = 64;
 const GUARD_BYTE = 0xa5;
 const STATUS = ["ok", "more", "too_small", "invalid", "empty"];
@@ -21,7 +21,7 @@ export class Raw {
     this.end = this.answerAt + 128;
   }
 
-  /** A place with these bytes, between guards. */
+  /** Returns a place in the memory that has these bytes, between guard bytes. */
   place(bytes) {
     const place = { at: this.end + GUARD, length: bytes.length };
     this.end = Math.ceil((place.at + bytes.length + GUARD) / 16) * 16;
@@ -37,7 +37,7 @@ export class Raw {
     return this.#bytes.slice(at, at + count);
   }
 
-  /** Makes a call that answers a jcobs_answer. A place stands for its pointer and length, `{state}` for its pointer alone. */
+  /** Makes a call that returns a jcobs_answer. A place is passed as a pointer and a length, `{state}` only as a pointer. */
   answer(name, ...words) {
     this.#bytes.fill(0xee, this.answerAt, this.answerAt + 24);
     this.call(name, this.answerAt, ...words);

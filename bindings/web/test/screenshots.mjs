@@ -1,12 +1,12 @@
-// The pictures of the page: node screenshots.mjs
+// Takes the pictures of the page: node screenshots.mjs
 //
-// preview.png is what a link to the page shows; the others are in docs/images.
+// preview.png is the picture that a link to the page shows. The other pictures are in docs/images.
 import { join } from "node:path";
 import { fileURLToPath, pathToFileURL } from "node:url";
 import { serve } from "../serve.mjs";
 import { Browser } from "./chromium.mjs";
 
-/** A clock that goes on by 37 ms each time it is read, so that the pictures are the same at each run. */
+/** A clock that advances by 37 ms each time it is read, so that the pictures are the same in each run. */
 const CLOCK = "{ let now = Date.UTC(2026, 10, 23, 10); const Clock = Date; Date = class extends Clock { constructor(...given) { super(...(given.length > 0 ? given : [(now += 37)])); } }; }";
 
 async function stream(page) {
@@ -28,7 +28,7 @@ async function line(page) {
   }
 }
 
-/** Each picture: its view, the window, and what is done before it is taken. */
+/** The pictures: the view, the window, and the actions before the picture is taken. */
 export const PICTURES = {
   "preview.png": ["message", { width: 1200, height: 630 }, (page) => page.click("#message-byte-6")],
   "page-stream-dark.png": ["stream", { width: 1000, height: 700, isDark: true }, stream],
@@ -49,7 +49,7 @@ export async function take(browser, address, name, folder) {
   await page.close();
 }
 
-/** The folder that a picture is kept in. */
+/** Returns the folder in which a picture is stored. */
 export const folderOf = (name) => fileURLToPath(new URL(name === "preview.png" ? ".." : "../../../docs/images", import.meta.url));
 
 if (process.argv[1] && import.meta.url === pathToFileURL(process.argv[1]).href) {

@@ -1,8 +1,8 @@
-// The figures of PAGE.md for Node: node speed-node.mjs [--write]
+// Measures the figures of PAGE.md for Node: node speed-node.mjs [--write]
 //
-// A figure is how many times as fast as plain JavaScript (plain.js) a call is, in processor time. Each way is gone as often as takes
-// LEAST seconds, and the best of some rounds counts, in which the two take turns. All work of V8 is on one thread: the threads of its
-// garbage collector make figures vary by chance. With --write the table of PAGE.md is written.
+// A figure is the speed of a call divided by the speed of plain JavaScript (plain.js), in processor time. Each is repeated for LEAST
+// seconds, and the best of several rounds counts, in which the two take turns. V8 uses only one thread, because the threads of its
+// garbage collector make the figures vary by chance. With --write the table of PAGE.md is written.
 import { spawnSync } from "node:child_process";
 import { readFile, writeFile } from "node:fs/promises";
 import { decode, encode, load } from "../jcobs.js";
@@ -18,7 +18,7 @@ if (!process.execArgv.includes("--single-threaded")) {
   process.exit(spawnSync(process.execPath, ["--single-threaded", ...process.argv.slice(1)], { stdio: "inherit" }).status ?? 1);
 }
 
-/** The microseconds of a call, over LEAST seconds at least. */
+/** Returns the microseconds of a call, measured for at least LEAST seconds. */
 function timeOf(act, bytes) {
   let times = 0;
   const begun = process.cpuUsage();
@@ -30,7 +30,7 @@ function timeOf(act, bytes) {
   }
 }
 
-/** How many times as fast as the second way the first one is. */
+/** Returns the speed of the first function divided by that of the second one. */
 function ratioOf(acts, bytes) {
   const least = acts.map((act) => timeOf(act, bytes)); // by then they are compiled, too
   for (let round = 0; round < ROUNDS; round++) acts.forEach((act, i) => (least[i] = Math.min(least[i], timeOf(act, bytes))));

@@ -1,4 +1,4 @@
-// What speed.mjs measures: streams and whole messages, by the module and by plain JavaScript.
+// The measurements of speed.mjs: streams and whole messages, with the module and with plain JavaScript.
 import { FrameDecoder, FrameDecoderStream, decode, encode, load } from "../jcobs.js";
 import { memoryOf } from "./memory.mjs";
 import * as plain from "./plain.js";
@@ -8,7 +8,7 @@ const STREAM = 16 * MIB;
 const CALL = 200; // what a call costs, in bytes: how often short ones are made
 const MAX_LENGTH = 65536;
 
-/** The same bytes at each run: `zeros` of a thousand are zero. */
+/** Returns the same bytes in each run. `zeros` of a thousand bytes are zero. */
 function bytes(length, zeros, seed) {
   let state = seed;
   return Uint8Array.from({ length }, () => {
@@ -17,7 +17,7 @@ function bytes(length, zeros, seed) {
   });
 }
 
-/** About 1 MiB of frames of messages of `length` bytes. */
+/** Returns about 1 MiB of frames, of messages of `length` bytes. */
 function framesOf(length, zeros) {
   const frames = [];
   let size = 0;
@@ -31,7 +31,7 @@ function framesOf(length, zeros) {
   return all;
 }
 
-/** 16 MiB of the frames again and again, in chunks of `size` bytes, or for "mixed" of 64 to 4096. */
+/** Returns 16 MiB of the frames, repeated, in chunks of `size` bytes, or for "mixed" in chunks of 64 to 4,096 bytes. */
 function* chunksOf(frames, size) {
   let state = 7;
   for (let done = 0; done < STREAM; ) {
@@ -76,7 +76,7 @@ function throughDecoder(decoder, frames, size) {
   return seen;
 }
 
-/** What is measured: each takes a kind of frames or messages and the chunks' size, and gives what it saw, for a comparison. */
+/** The measurements. Each takes a kind of frames or messages and the size of the chunks, and returns its result, so that results can be compared. */
 const ways = {
   stream: (kind, size) => throughStream(new FrameDecoderStream({ maxLength: MAX_LENGTH }), frames[kind], size),
   plainStream: (kind, size) => throughStream(new plain.PlainDecoderStream({ maxLength: MAX_LENGTH }), frames[kind], size),
@@ -93,7 +93,7 @@ const messages = {};
 const encoded = {};
 const encodedOnce = (kind) => (encoded[kind] ??= encode(messages[kind]));
 
-/** Makes a call about as often as takes as long as that of 1 MiB, and gives what it returned and how many bytes that was of. */
+/** Repeats a call for about 1 MiB, where each call counts as CALL more bytes. Returns the sum of the results' lengths, and the number of bytes. */
 function called(kind, act, bytes) {
   const times = Math.ceil(MIB / (messages[kind].length + CALL));
   let sum = 0;
@@ -103,20 +103,20 @@ function called(kind, act, bytes) {
 
 let pages;
 
-/** Goes a way so often, and returns what it saw each time. */
+/** Runs a measurement `times` times, and returns its last result. */
 globalThis.run = async (way, kind, size, times = 1) => {
   let seen;
   for (let i = 0; i < times; i++) seen = await ways[way](kind, size);
   return seen;
 };
 
-/** The memory of the module and of JavaScript, in bytes. */
+/** Returns the memory of the module and of JavaScript, in bytes. */
 globalThis.memory = () => {
   globalThis.gc?.();
   return { module: pages() * 65536, heap: performance.memory?.usedJSHeapSize ?? 0 };
 };
 
-/** Memory is looked at while this runs. */
+/** The memory is measured while this function runs. */
 memoryOf(async (pagesNow) => {
   pages = pagesNow;
   await load();

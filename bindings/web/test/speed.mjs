@@ -1,9 +1,9 @@
-// The figures of PAGE.md, measured in Chromium: node speed.mjs [--write] [messages]
+// Measures the figures of PAGE.md in Chromium: node speed.mjs [--write] [messages]
 //
-// A figure is megabytes for each second of the page's processor time, so that other work on the machine counts little. The clock
-// of that time has ticks of 10 ms, so each way is gone as often as takes LEAST seconds. The figure is the best of some rounds,
-// in which the ways take turns. Ways that are compared must have seen the same. With --write the tables of PAGE.md are written;
-// with "messages" that of whole messages is measured alone.
+// A figure is in megabytes per second of the page's processor time, so that other work on the machine has little effect. The clock for
+// this time has ticks of 10 ms, so each measurement is repeated for LEAST seconds. The figure is the best of several rounds, in which the
+// implementations take turns. Implementations that are compared must have the same results. With --write the tables of PAGE.md are
+// written. With "messages" only the table for whole messages is measured.
 import { readFile, writeFile } from "node:fs/promises";
 import { cpus } from "node:os";
 import { serve } from "../serve.mjs";
@@ -20,20 +20,20 @@ const STREAMS = "| messages | chunks | `FrameDecoderStream` | plain stream | `Fr
 const { server, address } = await serve();
 const browser = await Browser.start(process.env.CHROMIUM ?? "chromium", ["--js-flags=--expose-gc", "--enable-precise-memory-info"]);
 
-/** The processor time that pages have taken, in seconds. */
+/** Returns the processor time that pages have used, in seconds. */
 async function processorTime() {
   const { processInfo } = await browser.send("SystemInfo.getProcessInfo");
   return processInfo.filter(({ type }) => type === "renderer").reduce((sum, { cpuTime }) => sum + cpuTime, 0);
 }
 
-/** Goes a way so often, and returns the seconds that it took and what it saw. */
+/** Runs a measurement this number of times, and returns the seconds that it took and its result. */
 async function run(page, times, ...how) {
   const begun = await processorTime();
   const seen = await page.value(`run(${[...how, times].map((each) => JSON.stringify(each) ?? "undefined").join()})`);
   return { seconds: (await processorTime()) - begun, seen };
 }
 
-/** The best megabytes a second of each way. */
+/** Returns the best speed of each measurement, in megabytes per second. */
 async function compare(page, ways, kind, size) {
   const best = ways.map(() => 0);
   const times = ways.map(() => 1);
@@ -57,7 +57,7 @@ const printed = (figures) => figures.map((figure) => (figure < 10 ? figure.toFix
 const isWriting = process.argv.includes("--write");
 const isAll = !process.argv.includes("messages");
 
-/** Prints a table as its rows are measured, and returns its lines. */
+/** Prints each row of a table when it is measured, and returns the lines of the table. */
 async function table(header, rows) {
   const lines = [header, header.replace(/[^|]+/g, "---")];
   console.log(`\n${lines.join("\n")}`);
@@ -85,7 +85,7 @@ async function* wholes(page, kinds) {
   }
 }
 
-/** A document with the lines of a table in place of those below the same header. */
+/** Returns a document in which these lines replace the table that has the same header. */
 function withTable(text, lines) {
   const at = text.indexOf(`${lines[0]}\n`);
   if (at < 0) throw new Error(`PAGE.md has no table ${lines[0]}`);
@@ -110,7 +110,7 @@ try {
     tables.push(await table(STREAMS, streams(page, frames)));
   }
   if (isWriting) {
-    const text = (await readFile(PAGE, "utf8")).replace(/in Chrome\/[\d.]+ on an .*? that others/, `in ${where} that others`);
+    const text = (await readFile(PAGE, "utf8")).replace(/in Chrome\/[\d.]+ on an .*? that other programs/, `in ${where} that other programs`);
     await writeFile(PAGE, tables.reduce(withTable, text));
   }
 } finally {

@@ -15,7 +15,7 @@ export async function check(name, act) {
   }
 }
 
-/** Counts checks that were made elsewhere. */
+/** Adds the counts of checks that other code made. */
 export function count(good, bad) {
   passed += good;
   failed += bad;
@@ -43,7 +43,7 @@ export async function throws(act, matches, what) {
 
 const PATIENCE = Number(process.env.PATIENCE ?? 120) * 1000; // a loaded machine is slow
 
-/** Waits until `act` gives something true, which it may promise, and returns it. An error of its own is the end only when time is up. */
+/** Waits until `act` returns a true value, or a promise of one, and returns this value. An error of `act` is thrown only when the time is over. */
 export async function until(act, what = act) {
   for (const end = Date.now() + PATIENCE; ; await new Promise((done) => setTimeout(done, 25))) {
     const found = await Promise.resolve().then(act).catch((error) => {

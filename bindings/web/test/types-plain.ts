@@ -1,4 +1,4 @@
-// Without the types of a browser or of Node, as `lib` without `dom` has it.
+// Uses the package without the types of a browser or of Node, that is, with a `lib` that has no `dom`.
 import { FrameDecoder, FrameEncoder, type Outcome, decode, encode, load, loadSync } from "../jcobs.js";
 
 export async function use(bytes: Uint8Array): Promise<number> {

@@ -1,4 +1,4 @@
-// What a user of the types may write; tests/web.sh has the TypeScript compiler read it.
+// Code that users of the types may write. tests/web.sh checks it with the TypeScript compiler.
 import { CobsError, FrameDecoder, FrameDecoderStream, FrameEncoder, FrameEncoderStream, type Outcome, decode, encode, encodeInto, frameKind, frames, isSupported, load, maxEncodedLength } from "../jcobs.js";
 
 export async function use(port: { readable: ReadableStream<Uint8Array>; writable: WritableStream<Uint8Array> }): Promise<number> {

@@ -1,4 +1,4 @@
-// The vectors of conformance/ in Node: node vectors.mjs COBS.WASM VECTORS
+// Runs the cases of conformance/ in Node: node vectors.mjs COBS.WASM CASES
 import { readFile, readdir } from "node:fs/promises";
 import { join } from "node:path";
 import { runCases } from "./cases.js";

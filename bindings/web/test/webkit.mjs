@@ -1,6 +1,6 @@
-// The vectors, the streams and the page in a WebKit engine, driven by WebDriver: node webkit.mjs MINIBROWSER CONFORMANCE
+// Tests the conformance cases, the streams and the page in a WebKit engine, with WebDriver: node webkit.mjs MINIBROWSER CONFORMANCE
 //
-// It needs a display: xvfb-run gives one.
+// The engine needs a display, for example that of xvfb-run.
 import { spawn } from "node:child_process";
 import { readdir } from "node:fs/promises";
 import { request } from "node:http";
@@ -22,7 +22,7 @@ const driver = spawn("WebKitWebDriver", [`--port=${port}`], { env, stdio: "ignor
 
 const LONGEST = 1_800_000; // milliseconds of a script, on a machine that is busy with other work
 
-/** The value that the driver replies with. `fetch` would give up after five minutes without a reply. */
+/** Returns the value in the driver's reply. `fetch` isn't used, because it would give up after five minutes without a reply. */
 async function call(method, path, body) {
   const response = await new Promise((done, failed) => {
     const options = { host: "127.0.0.1", port, path, method, agent: false, signal: AbortSignal.timeout(LONGEST + 60_000) };
@@ -34,16 +34,16 @@ async function call(method, path, body) {
 }
 
 let session;
-/** The value of an expression in the page, which may be a promise. */
+/** Returns the value of an expression in the page. The value may be a promise. */
 const value = (expression) => call("POST", `/session/${session}/execute/async`, {
   script: `const done = arguments[0]; Promise.resolve().then(() => (${expression})).then(done, (error) => done({ threw: String(error) }))`,
   args: [],
 });
-/** Keys as a user presses them, at the place of the focus. */
+/** Presses keys as a user does, in the focused element. */
 const type = (keys) => call("POST", `/session/${session}/actions`, {
   actions: [{ type: "key", id: "keys", actions: [...keys].flatMap((key) => [{ type: "keyDown", value: key }, { type: "keyUp", value: key }]) }],
 });
-/** The mouse to the middle of an element that is in sight and no longer moves, and a click if it is wanted. */
+/** Moves the mouse to the middle of an element, once the element is visible and doesn't move any more, and clicks if this is asked for. */
 async function point(id, isClick = false) {
   let last;
   const [x, y] = await until(async () => {

@@ -78,8 +78,8 @@ void restore(PyThreadState *thread);
 PyObject *room_of(size_t len);
 
 /* Shortens a bytes object that room_of returned, and returns it. The stable ABI has no call that shortens a bytes
- * object, but it lets the size of an object be set. The memory after the new end stays unused: at most 1 byte in 254
- * of a frame. */
+ * object, but it lets the size of an object be set. The memory after the new end stays unused; for a frame this is at
+ * most 1 byte in 254. */
 PyObject *cut(PyObject *bytes, size_t len);
 
 /* Writes bytes from `from` to `to`, each XORed with the sentinel. `to` may be `from`. */
@@ -109,7 +109,7 @@ int buffer_make(Buffer *buffer, size_t len);
  * */
 int buffer_take(Buffer *buffer, const char *coder);
 
-/* Returns a new object of a class for data, or NULL with an error. */
+/* Returns a new object of an outcome's class, with this data, or NULL with an error. */
 PyObject *outcome_of(PyObject *class, PyObject *data);
 
 extern PyType_Spec outcome_spec;

@@ -64,10 +64,10 @@ static int decoder_append(Decoder *self, PyObject *list, PyObject *classes, jcob
     return done;
 }
 
-/* Runs signal handlers, or returns -1 with the error that one raised. Lets other threads run if 10 ms have passed since
- * `turn`. A waiting thread asks for the GIL after 5 ms (sys.getswitchinterval), and again 5 ms after each release of
- * the GIL. If this thread released the GIL more often, no other thread would have asked for it, and this thread would
- * get it back at once. */
+/* Runs signal handlers, and returns -1 with the error if a handler raised one. Lets other threads run if 10 ms have
+ * passed since `turn`. A waiting thread asks for the GIL after 5 ms (sys.getswitchinterval), and again 5 ms after each
+ * release of the GIL. If this thread released the GIL more often, no other thread would have asked for it, and this
+ * thread would get it back at once. */
 static int have_turn(clock_t *turn)
 {
     clock_t now = clock();
@@ -83,7 +83,7 @@ static int have_turn(clock_t *turn)
 static PyObject *decoder_outcomes(Decoder *self, PyObject *chunk, PyObject *classes)
 {
     size_t at = 0, stop = TURN, len = (size_t)PyBytes_Size(chunk);
-    clock_t turn = len > TURN ? clock() : 0; /* a system call, which a shorter chunk needn't pay */
+    clock_t turn = len > TURN ? clock() : 0; /* clock() is a system call; a shorter chunk doesn't need it */
     const unsigned char *bytes = start_of(chunk);
     PyObject *list = PyList_New(0);
 

@@ -7,7 +7,7 @@
 
 #include "core.h"
 
-/* Decodes a frame that has no sentinels around it, for any sentinel. The room always suffices. */
+/* Decodes a frame that has no sentinels around it, for any sentinel. The buffer is always long enough. */
 static jcobs_answer decode_frame(const unsigned char *frame, size_t len, unsigned char *message, size_t room,
                                  unsigned char sentinel)
 {
@@ -184,7 +184,7 @@ static PyObject *core_max_length(PyObject *module, PyObject *const *args, Py_ssi
 }
 
 /* The documentation of the functions. The first line of each text has the arguments for inspect.signature. The
- * functions of _plain.py have the same documentation; the tests compare the two. */
+ * functions of _plain.py have the same documentation; the tests compare the two texts. */
 static const char encode_document[] =
     "encode(data, *, sentinel=0, terminated=False)\n--\n\n"
     "Encodes a message, and returns its frame, with the sentinel after it if `terminated` is true.\n\n"
@@ -204,7 +204,7 @@ static const char decode_document[] =
     "b'hello'";
 static const char frame_kind_document[] =
     "frame_kind(frame, *, sentinel=0)\n--\n\n"
-    "Returns whether bytes are a frame without sentinels around it, and whether `encode` returns that frame.\n\n"
+    "Returns whether bytes, without sentinels around them, are a frame, and whether `encode` returns that frame.\n\n"
     "\"canonical\" is the frame that `encode` returns for its message. \"longer\" is that frame with one needless "
     "block\n"
     "after it, which decoders accept too. Anything else is \"not_a_frame\".\n\n"
@@ -238,8 +238,8 @@ static int add_type(PyObject *module, const char *name, PyType_Spec *spec)
     return 0;
 }
 
-/* The code behind the calls: "prebuilt" is libjcobs, which Rattle's compiler built from the proved source; "compiled" is
- * jcobs.c, compiled here. */
+/* The code that encodes and decodes: "prebuilt" is libjcobs, which Rattle's compiler built from the proved source;
+ * "compiled" is jcobs.c, compiled here. */
 #ifdef JCOBS_COMPILED
 #define BACKEND "compiled"
 #else

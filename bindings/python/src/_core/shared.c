@@ -129,7 +129,7 @@ int length_of(PyObject *number, const char *name, size_t *result)
         wrong_type(name, "an integer", number, "cannot be interpreted as an integer");
         return 0;
     }
-    value = PyNumber_AsSsize_t(index, NULL); /* the nearest one */
+    value = PyNumber_AsSsize_t(index, NULL); /* the nearest value that fits */
     if (value < 0)
         PyErr_Format(PyExc_ValueError, "%s must not be negative", name);
     else if (value == PY_SSIZE_T_MAX && PyNumber_AsSsize_t(index, PyExc_OverflowError) < 0)

@@ -1,7 +1,7 @@
 """Consistent Overhead Byte Stuffing (COBS), with proved code if `jcobs.backend` is "prebuilt".
 
-A message is turned into a frame that never contains one byte value, the sentinel, so that the sentinel can mark where
-frames end on a serial line, in a stream or in a file:
+`encode` turns a message into a frame that never contains a certain byte value: the sentinel, which is 0 unless you pass
+another. So the sentinel can mark the end of each frame on a serial line, in a stream or in a file:
 
 >>> import jcobs
 >>> jcobs.encode(b"hello\\0world", terminated=True)
@@ -16,7 +16,7 @@ b'\\x06hello\\x06world\\x00'
 mmap. Each function and method raises TypeError for other objects, and BufferError if the bytes aren't contiguous.
 """
 
-__version__ = "1.0.0"  # which the modules below compare with the extension's
+__version__ = "1.0.0"  # the modules below compare this version with that of the extension
 
 from jcobs._async import AsyncFrameReader
 from jcobs._backend import backend

@@ -25,16 +25,18 @@ class Fault(Exception):
 def arguments() -> argparse.ArgumentParser:
     common = argparse.ArgumentParser(add_help=False)
     common.add_argument(
-        "--port", metavar="P", help="a serial port, as /dev/ttyUSB0, instead of standard input or output"
+        "--port", metavar="P", help="a serial port, such as /dev/ttyUSB0, instead of standard input or output"
     )
-    common.add_argument("--baud", metavar="N", type=int, default=115200, help="its speed (default: %(default)s)")
+    common.add_argument(
+        "--baud", metavar="N", type=int, default=115200, help="the baud rate of the port (default: %(default)s)"
+    )
     common.add_argument("--sentinel", metavar="B", type=int, default=0, help="the byte that ends frames (default: 0)")
     style = common.add_mutually_exclusive_group()
-    style.add_argument("--hex", action="store_true", help="messages as hexadecimal digits")
-    style.add_argument("--json", action="store_true", help="a JSON object a line, with the digits as its member hex")
+    style.add_argument("--hex", action="store_true", help="show or read messages as hexadecimal digits")
+    style.add_argument("--json", action="store_true", help="show or read JSON objects, with these digits as hex")
     parser = argparse.ArgumentParser("python -m jcobs", description=__doc__, parents=[common])
     parser.add_argument("--version", action="version", version=f"jcobs {jcobs.__version__}, backend {jcobs.backend}")
-    parser.add_argument("--length", metavar="N", type=int, default=65536, help="the longest message that is shown")
+    parser.add_argument("--length", metavar="N", type=int, default=65536, help="the longest message shown, in bytes")
     parser.add_argument("--max-length", dest="length", metavar="N", type=int, help=argparse.SUPPRESS)
     parser.add_argument("command", nargs="?", choices=["show", "send"], default="show", help="(default: %(default)s)")
     return parser
@@ -121,7 +123,7 @@ def run(options: argparse.Namespace) -> None:
         send(sys.stdin.buffer, port or sys.stdout.buffer, options)
     else:
         if isinstance(sys.stdout, io.TextIOWrapper):
-            sys.stdout.reconfigure(errors="backslashreplace")  # what the terminal has no characters for
+            sys.stdout.reconfigure(errors="backslashreplace")  # for characters that the terminal can't show
         if port is None and sys.stdin.isatty():
             print(f"jcobs {jcobs.__version__}, backend {jcobs.backend}: waits for frames, as typed", file=sys.stderr)
         show(port or cast("Readable", sys.stdin.buffer), sys.stdout, options)

@@ -1,4 +1,4 @@
-"""A lock for methods, without waiting: a second call at the same time raises an error."""
+"""A lock for methods. The lock never waits: a call raises an error if another call is running."""
 
 from __future__ import annotations
 
@@ -10,7 +10,7 @@ from typing import Any, Callable, Dict, List, Optional, TypeVar, cast
 
 _Method = TypeVar("_Method", bound=Callable[..., Any])
 
-# The calls of an object that have begun and not ended, by their use, each by its frame.
+# For each use of an object, the stack frames of the calls that have begun and not ended.
 Calls = Dict[str, List[FrameType]]
 
 
@@ -30,8 +30,8 @@ def begins(calls: List[FrameType], mine: FrameType) -> bool:
     """Adds the stack frame of a call to `calls`, and returns whether no other call in `calls` is running.
 
     If another call is running, the stack frame is removed again. The stack frame of a call that has ended may still be
-    there, if a signal handler raised an exception before the call could remove it. Only such a stack frame is removed
-    by another call.
+    there, if a signal handler raised an exception before the call could remove it. Another call removes only such a
+    stack frame.
     """
     calls.append(mine)
     while (first := calls[0]) is not mine:
@@ -67,9 +67,9 @@ def alone(what: str, use: Optional[str] = None) -> Callable[[_Method], _Method]:
                 try:
                     if calls[0] is mine:
                         del calls[0]
-                except IndexError:  # not begun, and the other call has just ended
+                except IndexError:  # this call hasn't begun, and the other call has just ended
                     pass
-                del mine  # or the frame would refer to itself
+                del mine  # otherwise the stack frame would refer to itself
 
         return cast(_Method, call)
 

@@ -17,7 +17,8 @@ if TYPE_CHECKING:
 
     from _typeshed import ReadableBuffer
 
-# The shortest wait in seconds for a stream of trio or anyio. Both look for a cancellation before they look for bytes.
+# The shortest wait in seconds for a stream of trio or anyio. These libraries look for a cancellation before they look
+# for bytes, so with a wait of 0 they would return no bytes.
 SHORTEST = 0.01
 
 
@@ -93,7 +94,7 @@ class AsyncFrameReader(Frames):
         await self.close()
 
     async def close(self) -> None:
-        """Closes the stream, or the writer if there is one. `async with` does so at its end."""
+        """Closes the writer if there is one, and the stream if it has `aclose`. `async with` does so at its end."""
         if hasattr(self._writer, "aclose"):
             await self._writer.aclose()
         elif self._writer is not None:
@@ -224,7 +225,7 @@ class AsyncFrameReader(Frames):
         self._sent()
 
     async def request(self, message: ReadableBuffer, timeout: Optional[float], *, discard: bool = False) -> bytes:
-        """Sends a message, and returns the next message that is received, as its reply.
+        """Sends a message, and returns the reply: the next message that arrives.
 
         Raises TimeoutError if no message has arrived after `timeout` seconds, and `DecodeError` if the reply is damaged
         or too long. If `discard` is true, the bytes that have arrived so far, such as a late reply to an earlier
@@ -238,7 +239,7 @@ class AsyncFrameReader(Frames):
 
 
 class AsyncMessages:
-    """The messages of a reader. A generator would end when it is cancelled; this iterator doesn't."""
+    """The messages of a reader. A generator would end when it is cancelled; this iterator continues."""
 
     def __init__(self, reader: AsyncFrameReader) -> None:
         self._reader = reader

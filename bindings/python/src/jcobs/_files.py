@@ -11,12 +11,13 @@ import sys
 from typing import Any, Callable, Deque, Iterable, Optional, Protocol
 
 CHUNK = 65536
-# Stands for bytes that were read and are lost. It differs from other bytes by its identity.
+# Stands for bytes that were read and are lost. Code recognizes this object by its identity.
 GAP = bytes(bytearray(b"gap"))
 
 Kept = Deque[bytes]
-# Reads the bytes that a file has, or waits for some, and keeps them: none at the end of the stream. Returns False if it has
-# kept nothing because none has arrived in time: in this number of seconds, or in the file's own timeout if it is None.
+# A function that reads the bytes that a file has, or waits for some, and keeps them. At the end of the stream it keeps
+# empty bytes. The second parameter is the timeout in seconds; None means the file's own timeout. The function returns
+# False if no bytes have arrived before the timeout.
 Read = Callable[[Any, Optional[float], Kept], bool]
 
 
@@ -37,9 +38,9 @@ class Receivable(Protocol):
 def keep(kept: Kept, read: Callable[[int], Optional[bytes]], size: int, in_python: bool = False) -> bool:
     """Reads bytes and keeps them, unless the file has none now.
 
-    If `read` is a function in C, no bytecode runs after the read and before the bytes are kept. So an exception that a
-    signal handler raises can't lose bytes that were read. A `read` that is written in Python (`in_python`) may have
-    lost bytes if it is interrupted: then a GAP is kept.
+    If `read` is a function in C, no bytecode runs after the read and before the bytes are kept. So no byte that was
+    read is lost if a signal handler raises an exception. If a `read` that is written in Python (`in_python`) is
+    interrupted, it may have lost bytes: then a GAP is kept.
     """
     try:
         kept.extend(map(read, (size,)))  # type: ignore[arg-type]
@@ -82,7 +83,7 @@ def is_ready(file: Any, timeout: float) -> bool:
     if descriptor is None:
         return True  # bytes in memory
     if hasattr(file, "pending") and file.pending():
-        return True  # a socket of pyOpenSSL has decrypted some already
+        return True  # a socket of pyOpenSSL has decrypted some bytes already
     return wait([descriptor], timeout)
 
 
@@ -133,7 +134,7 @@ def read_port_at_a_socket(port: Any, timeout: Optional[float], kept: Kept) -> bo
 def keep_some(kept: Kept, port: Any, waiting: int) -> bool:
     """Reads the `waiting` bytes, or waits for 1 byte, and keeps them.
 
-    If there is none, the port has timed out, since a port has no end.
+    A port has no end. So if no byte was read, the port's timeout has passed.
     """
     keep(kept, port.read, min(max(waiting, 1), CHUNK), in_python=True)
     if kept[-1]:
@@ -190,7 +191,8 @@ def read_file(file: Any, timeout: Optional[float], kept: Kept) -> bool:
     of_socket = isinstance(getattr(file, "raw", file), socket.SocketIO)
     found = keep(kept, getattr(file, "read1", file.read), CHUNK, in_python=of_socket)
     if (not found or not kept[-1]) and hasattr(file, "raw") and not waits(file):
-        # if `read1` returns no bytes, it is the end, or up to Python 3.13 there are none now; the buffer is then empty
+        # If `read1` returns empty bytes, the file is at its end. Up to Python 3.13 they may also mean that no bytes
+        # have arrived. In both cases the file's own buffer is empty.
         if found:
             kept.pop()
         return keep(kept, file.raw.read, CHUNK)

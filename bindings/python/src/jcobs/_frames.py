@@ -19,7 +19,7 @@ class DecodeError(ValueError):
 
     `kind` is "broken" if the frame breaks off inside a block, or "empty" if there are no bytes, or only sentinels. If a
     reader raises the error, `kind` may also be "too_long": the message is longer than `max_length`. `data` is the bytes
-    that the frame decodes to before it breaks off, at most `max_length` of them.
+    that the frame decodes to before it breaks off. If a reader raises the error, `data` has at most `max_length` bytes.
 
     >>> try:
     ...     jcobs.decode(b"\\x06hel")
@@ -54,8 +54,8 @@ def encode_in_place(buffer: WriteableBuffer, length: int, *, sentinel: int = 0) 
     """Encodes a message in place in `buffer`, and returns the length of its frame.
 
     Before the call the message, which has `length` bytes, begins at index `max_length(length) - length` of `buffer`; the
-    bytes before it don't matter. Afterwards `buffer` begins with the frame, and the bytes after the frame are as they
-    were.
+    bytes before this index have no effect. After the call `buffer` begins with the frame, and the bytes after the frame
+    are as they were.
 
     This function is no faster than `encode`, which it calls for a copy of the message. It remains for scripts that
     already use it.

@@ -27,7 +27,7 @@ FULL = 254
 
 
 def bytes_of(data: ReadableBuffer, name: str) -> bytes:
-    """Returns an argument as bytes. Anything but bytes is copied."""
+    """Returns an argument as bytes. An object of another type is copied."""
     if isinstance(data, bytes):
         return data
     if isinstance(data, bytearray):
@@ -36,7 +36,7 @@ def bytes_of(data: ReadableBuffer, name: str) -> bytes:
         view = memoryview(data)
     except TypeError as error:
         if hasattr(type(data), "__buffer__") and "a bytes-like object is required" not in str(error):
-            raise  # by the object's own method
+            raise  # the object's own method raised this error
         raise TypeError(f"{name} must be a bytes-like object, not {type(data).__name__}") from None
     with view:
         if not view.c_contiguous:
@@ -49,7 +49,7 @@ def index_of(number: Any, name: str) -> int:
         return operator.index(number)
     except TypeError as error:
         if "cannot be interpreted as an integer" not in str(error) and hasattr(number, "__index__"):
-            raise  # by the object's own method
+            raise  # the object's own method raised this error
         raise TypeError(f"{name} must be an integer, not {type(number).__name__}") from None
 
 
@@ -143,7 +143,7 @@ def decode(frame: ReadableBuffer, *, sentinel: int = 0) -> bytes:
 
 
 def frame_kind(frame: ReadableBuffer, *, sentinel: int = 0) -> FrameKind:
-    """Returns whether bytes are a frame without sentinels around it, and whether `encode` returns that frame.
+    """Returns whether bytes, without sentinels around them, are a frame, and whether `encode` returns that frame.
 
     "canonical" is the frame that `encode` returns for its message. "longer" is that frame with one needless block
     after it, which decoders accept too. Anything else is "not_a_frame".
@@ -222,7 +222,7 @@ class Decoder:
         self._begun = self._joint = self._too_long = False
 
     def _take(self, piece: bytes) -> None:
-        """Takes bytes of a piece, and writes the decoded bytes, as far as there is room."""
+        """Takes bytes of a piece, and writes as many of the decoded bytes as fit the buffer."""
         data, at = bytearray(), 0
         missing, joint = self._missing, self._joint
         while at < len(piece) and not self._too_long:

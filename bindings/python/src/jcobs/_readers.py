@@ -24,18 +24,20 @@ if TYPE_CHECKING:
 # A wait in seconds that every system accepts.
 LONGEST = 2_000_000.0
 IN_USE = "the reader is in use by another call"
-# How long `discard` takes at most, in seconds, on a line that never rests.
+# The longest time in seconds that `discard` takes, if bytes never stop arriving.
 LONGEST_DISCARD = 1.0
 
 
 def closing(count: int, sentinel: int) -> bytes:
-    """Returns bytes that end a frame which was cut off, such that no decoder takes the result for a message.
+    """Returns bytes that end a frame that was cut off. With these bytes, no decoder takes the frame for a message.
 
     A single sentinel isn't enough: a frame that was cut off between two of its blocks is the frame of a shorter
     message. If k bytes of a block are missing (k is less than `count`), the first k of the returned bytes complete that
-    block. The next byte is a code of 255 with fewer than 254 bytes after it, so the frame is broken. Up to 254 bytes of
-    a block can be missing. So for a `count` of 255 the first returned byte is 1, the code of an empty block: if it were
-    255 and no byte of a block were missing, 254 bytes would follow it and make a full block.
+    block. The next byte is a code of 255 with fewer than 254 bytes after it, so the frame is broken.
+
+    At most 254 bytes of a block can be missing, so `count` is at most 255. If `count` is 255, the first returned byte
+    is 1, the code of an empty block. If that byte were 255 and no byte of a block were missing, the 254 bytes after it
+    would make a full block.
     """
     spoiling = b"\xff" * count if count < 255 else b"\x01" + b"\xff" * 254
     return bytes(byte ^ sentinel for byte in spoiling + b"\0")
@@ -74,14 +76,14 @@ class Frames(Coder):
         self._pending: Deque[Outcome] = deque()
         self._arrived: Deque[bytes] = deque()  # a chunk that was read and isn't decoded
         self._headless = False  # whether the next bytes are the rest of a frame whose beginning is lost
-        self._lead = bytes([self._sentinel]) if sync else b""  # what is sent in front of the first frame
-        self._cut = 0  # how many bytes it takes to end a frame that was cut, or none
+        self._lead = bytes([self._sentinel]) if sync else b""  # the bytes to send before the first frame
+        self._cut = 0  # how many bytes to send before a sentinel, to end a frame that was cut; 0 if none was
 
     @property
     def unfinished(self) -> bool:
         """Whether a frame has begun and not ended.
 
-        At the end of a file, this says whether the last frame was cut off.
+        At the end of a file, the value says whether the last frame was cut off.
         """
         return self._headless or self._decoder.unfinished
 
@@ -94,7 +96,7 @@ class Frames(Coder):
         self._headless = self._headless or begun
 
     def _check_arrived(self) -> None:
-        """Drops the empty bytes, or the GAP, that a read left when an exception ended it."""
+        """Drops b"" or the GAP, if a read that an exception ended has left one of them."""
         if self._arrived and (not self._arrived[0] or self._arrived[0] is GAP):
             if self._arrived.popleft() is GAP:
                 self._lose(True)
@@ -137,7 +139,8 @@ class Frames(Coder):
         """
         frame = encode(message, sentinel=self._sentinel, terminated=True)
         lead = closing(self._cut, self._sentinel) if self._cut else self._lead
-        # fewer bytes of a block are missing than the frame has; if an earlier frame was cut, any number up to 254
+        # If this frame is cut, fewer bytes of a block are missing than the frame has. If an earlier frame was cut too,
+        # up to 254 may be missing.
         self._cut = 255 if lead else min(len(frame), 255)
         return lead + frame
 
@@ -153,15 +156,15 @@ class FrameReader(Frames):
     as its frame ends, until the stream ends or a timeout of the port or socket passes. After a timeout reading can
     continue. No byte is lost if the read of the file raises an exception.
 
-    If a signal handler raises an exception, no byte of a socket, a pipe or a file is lost, with the extension and
-    CPython 3.11 or later. Bytes may be lost in plain Python, on an older CPython, in pyserial and in the `makefile` of
-    a socket: then the frames that these bytes belong to are reported as one `Broken`.
+    With the extension and CPython 3.11 or later, no byte of a socket, a pipe or a file is lost if a signal handler
+    raises an exception. Bytes may be lost in plain Python, on an older CPython, in pyserial and in the `makefile` of a
+    socket: then the frames that these bytes belong to are reported as one `Broken`.
 
     If `sync` is true, a sentinel is sent before the first frame, so that bytes left by an earlier sender or by noise
     don't become part of that frame.
 
     One thread at a time may read, and at the same time one thread may write. A call raises RuntimeError while another
-    call of the same kind is at work.
+    call of the same kind is running.
 
     >>> import io
     >>> reader = jcobs.FrameReader(io.BytesIO(b"\\x03hi\\x00\\x06hello\\x00\\x05by"))
@@ -174,8 +177,8 @@ class FrameReader(Frames):
 
     A reader never waits for further bytes if some have arrived. From a serial port it reads `in_waiting` bytes, or 1
     byte if none are waiting. For a socket it calls `recv`, for a buffered file `read1`, and for any other object
-    `read`, each with 65536 as the size. Such a call must return the bytes that have arrived, no bytes at the end, or
-    None if there are none now.
+    `read`, each with 65536 as the size. This method of the object must return the bytes that have arrived, no bytes at
+    the end of the input, or None if no bytes have arrived.
     """
 
     def __init__(
@@ -217,13 +220,12 @@ class FrameReader(Frames):
     def read(self, timeout: Optional[float] = None) -> Optional[Outcome]:
         """Returns the outcome of the next frame, or None if it hasn't ended after `timeout` seconds.
 
-        Without `timeout` the call waits as long as the object itself waits. In that case, None means that the object's
-        own timeout has passed, or that the object never waits and has no bytes now. Raises EOFError at the end of the
-        stream.
+        Without `timeout` the call waits as long as the object itself waits. Then it returns None if the object's own
+        timeout has passed, or if the object never waits and has no bytes now. Raises EOFError at the end of the stream.
 
-        With a timeout, bytes that other code such as `readline` has left in a file's own buffer aren't seen: open the file
-        with `buffering=0`, or give such bytes to a `Decoder`. If a socket has a timeout, pass the socket itself: its
-        `makefile` raises TimeoutError, and after that can't be read any more.
+        With `timeout` the call doesn't see bytes that other code, such as `readline`, has left in a file's own buffer.
+        Open the file with `buffering=0`, or give such bytes to a `Decoder`. If a socket has a timeout, pass the socket
+        itself: its `makefile` raises TimeoutError, and after that can't be read any more.
 
         On Windows only serial ports and sockets can have a timeout.
 
@@ -235,7 +237,7 @@ class FrameReader(Frames):
         EOFError: the stream ended
         """
         deadline = Deadline(timeout)
-        # as `alone` does it; `alone` itself would make the outcome the value of a call, which can be lost: see below
+        # This is the code of `alone`. With `alone`, the outcome would be a call's value, which can be lost: see below.
         calls, mine = self._calls.setdefault("reader", []), sys._getframe()
         try:
             if not begins(calls, mine):
@@ -247,7 +249,7 @@ class FrameReader(Frames):
                     return None
                 if not chunk and not self._pending:
                     raise self._end()
-            # not by `popleft`: after a call a signal handler may raise an exception, which drops the call's value
+            # `popleft` isn't used: after a call a signal handler may raise an exception, and then the value is lost
             outcome = self._pending[0]
             del self._pending[0]
             return outcome
@@ -336,7 +338,7 @@ class FrameReader(Frames):
 
     @alone("reader", "request")
     def request(self, message: ReadableBuffer, timeout: Optional[float], *, discard: bool = False) -> bytes:
-        """Sends a message, and returns the next message that arrives, as its reply.
+        """Sends a message, and returns the reply: the next message that arrives.
 
         Raises TimeoutError if no message has arrived after `timeout` seconds, and `DecodeError` if the reply is damaged
         or too long. After such an error the reply, or the rest of it, may still arrive. If `discard` is true, the bytes
@@ -357,7 +359,7 @@ def frames(
 ) -> FrameReader:
     """Returns an iterator over the outcomes of the frames in bytes, or in a binary file such as a log.
 
-    The bytes are read and decoded in chunks of up to 65536 bytes, as the outcomes are asked for. The iterator is a
+    The bytes are read and decoded in chunks of up to 65536 bytes, when the outcomes are needed. The iterator is a
     `FrameReader`: at the end its `unfinished` says whether the last frame was cut off, and its `messages` skips damaged
     frames.
 

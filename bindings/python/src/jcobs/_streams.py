@@ -39,7 +39,7 @@ class Broken(core.Outcome):
 
 
 class TooLong(core.Outcome):
-    """A frame that decodes to more than `max_length` bytes. `data` is the first `max_length` of these."""
+    """A frame that decodes to more than `max_length` bytes. `data` is the first `max_length` of these bytes."""
 
     __slots__ = ()
     __match_args__ = ("data",)
@@ -50,7 +50,7 @@ Outcome = Union[Message, Broken, TooLong]
 
 
 class Coder:
-    """An object with a state of its own, which can't be copied."""
+    """An object that can't be copied, because it has a state."""
 
     __slots__ = ()
 
@@ -61,10 +61,10 @@ class Coder:
 class Decoder(Coder):
     """Decodes a stream of frames that comes in chunks of any size.
 
-    `max_length` is the length of the longest message; this much memory is allocated when the decoder is created. A
-    broken or too long frame never affects the next one.
+    `max_length` is the length of the longest message in bytes. The decoder allocates `max_length` bytes when it is
+    created. A broken or too long frame never affects the next one.
 
-    A decoder is for one thread at a time: while a call is at work, each method raises RuntimeError in other threads, and
+    A decoder is for one thread at a time: while a call is running, each method raises RuntimeError in other threads and
     in signal handlers.
     """
 
@@ -77,8 +77,7 @@ class Decoder(Coder):
         """Decodes the next bytes of the stream, and returns the outcome of each frame that ends in them, in order.
 
         Raises MemoryError if there isn't enough memory for these outcomes. Then these outcomes are lost, and the
-        decoder is reset. Outcomes are also lost, and the decoder reset, if a signal handler raises an exception, as the
-        one for Ctrl-C does.
+        decoder is reset. This also happens if a signal handler raises an exception, as the handler for Ctrl-C does.
 
         >>> decoder = jcobs.Decoder(max_length=5)
         >>> for outcome in decoder.feed(b"\\x03hi\\x00\\x06hel\\x00\\x07hello!\\x00"):
@@ -91,8 +90,9 @@ class Decoder(Coder):
 
     @property
     def unfinished(self) -> bool:
-        """Whether a frame has begun and not ended. At the end of a stream, this says whether the last frame was cut
-        off.
+        """Whether a frame has begun and not ended.
+
+        At the end of a stream, the value says whether the last frame was cut off.
 
         >>> decoder = jcobs.Decoder()
         >>> decoder.feed(b"\\x06hel")
@@ -103,7 +103,7 @@ class Decoder(Coder):
         return self._core.unfinished
 
     def reset(self) -> None:
-        """Forgets the frame that has begun: the next byte begins another one.
+        """Discards the frame that has begun. The next byte begins another frame.
 
         >>> decoder = jcobs.Decoder()
         >>> decoder.feed(b"\\x06hel")
@@ -118,8 +118,9 @@ class Decoder(Coder):
 class Encoder(Coder):
     """Encodes messages that come in pieces.
 
-    `max_length` is the length of the longest message; memory for such a message or its frame is allocated when the
-    encoder is created. An encoder is for one thread at a time, like a `Decoder`.
+    `max_length` is the length of the longest message in bytes. When the encoder is created, it allocates memory for
+    the frame of a message of this length, or in plain Python for the message. An encoder is for one thread at a time,
+    like a `Decoder`.
 
     >>> encoder = jcobs.Encoder()
     >>> encoder.feed(b"hel")
@@ -136,7 +137,7 @@ class Encoder(Coder):
     def feed(self, data: ReadableBuffer) -> None:
         """Takes the next bytes of the message.
 
-        Raises ValueError if the message would be longer than `max_length`; none of the bytes are taken then.
+        Raises ValueError if the message would be longer than `max_length`. Then none of the bytes are taken.
         """
         self._core.feed(data)
 
@@ -148,5 +149,5 @@ class Encoder(Coder):
         return self._core.finish(terminated)
 
     def reset(self) -> None:
-        """Forgets the message that has begun."""
+        """Discards the message that has begun."""
         self._core.reset()
