@@ -6,13 +6,22 @@ const SETTLED = 300;  // milliseconds from the last change until the address is 
 const AGAIN = 10_000; // milliseconds until the next try, if the browser rejected a write
 const states = new Map(); // the values of each view, as they are in the address; null if they are too long for an address
 let timer = 0;
-let ours = null; // the hash that this module has set, until the browser reports the change
+let known = null; // the hash that the page has last taken or set
 
 /** Returns the view that the address names, its values, and the text of the values. A “+” isn't a space, so links can be written by hand. */
 export function readAddress() {
   const [named, ...rest] = location.hash.slice(1).split("&");
   const text = VIEWS.includes(named) ? rest.join("&") : location.hash.slice(1);
   return { view: VIEWS.includes(named) ? named : VIEWS[0], values: new URLSearchParams(text.replaceAll("+", "%2B")), text };
+}
+
+/** Returns whether the address names contents that the page hasn't taken yet, as when the user has just followed a link. */
+export const isNewAddress = () => location.hash !== known;
+
+/** Reads the address, as `readAddress` does, for a page that then shows these contents. */
+export function takeAddress() {
+  known = location.hash;
+  return readAddress();
 }
 
 /** Leaves the values of a view in the address unchanged, until the view has valid values. */
@@ -42,11 +51,16 @@ function writeLater(milliseconds) {
   timer = setTimeout(writeAddress, milliseconds);
 }
 
-/** Writes the values of the view that is shown into the address. */
+/**
+ * Writes the values of the view that is shown into the address. An address that the page hasn't taken yet stays: the browser changes the
+ * address first and reports the change later, and a timer can end between the two.
+ */
 function writeAddress() {
   clearTimeout(timer);
+  if (isNewAddress()) return;
   try {
     history.replaceState(null, "", hashOf(readAddress().view));
+    known = location.hash;
   } catch {
     writeLater(AGAIN);
   }
@@ -60,13 +74,6 @@ export function nameView(view) {
     history.pushState(null, "", hashOf(view));
   } catch {
     location.hash = hashOf(view);
-    ours = location.hash;
   }
-}
-
-/** Returns whether this module has changed the hash. */
-export function isOurChange() {
-  const isOurs = location.hash === ours;
-  ours = null;
-  return isOurs;
+  known = location.hash;
 }

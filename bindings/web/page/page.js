@@ -1,6 +1,6 @@
 // Starts the page: loads the module, and then shows one of three views at a time.
 import { load } from "../jcobs.js";
-import { VIEWS, holdAddress, isOurChange, nameView, readAddress } from "./address.js";
+import { VIEWS, holdAddress, isNewAddress, nameView, readAddress, takeAddress } from "./address.js";
 import { setLine, startLine } from "./line.js";
 import { setMessage, startMessage } from "./message.js";
 import { setStream, startStream } from "./stream.js";
@@ -35,13 +35,13 @@ function startTabs() {
     });
   }
   const take = () => {
-    const { view, values, text } = readAddress();
+    const { view, values, text } = takeAddress();
     show(view);
     if (text !== "") holdAddress();
     if (view === "line") setLine(values);
     else if (text !== "") ({ message: setMessage, stream: setStream })[view](values);
   };
-  addEventListener("hashchange", () => isOurChange() || take());
+  addEventListener("hashchange", () => isNewAddress() && take());
   addEventListener("popstate", () => show(readAddress().view));
   addEventListener("jcobs-open", ({ detail: view }) => {
     goTo(view);

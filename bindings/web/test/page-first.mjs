@@ -280,6 +280,11 @@ await check("first: a faulty link stays in the address until what it leads to is
   }
 });
 
+await check("first: a link is taken even if the page is about to write its own address", () => on("stream&hex=020700&sentinel=00&room=64", async (page) => {
+  await page.value('location.hash = "#stream&hex=030a0b00&sentinel=00&room=64", doLater()');
+  await page.until('document.getElementById("stream-input").value === "03 0a 0b 00"');
+}, { before: BY_HAND }));
+
 await check("first: what is too long for a link isn't said to be copied", () => on(`stream&hex=${"020700".repeat(600)}&sentinel=00&room=64`, async (page) => {
   await summary(page, "600 pieces");
   await page.value('document.getElementById("stream-form").value = "link", document.getElementById("stream-damage").value = "ff"');
