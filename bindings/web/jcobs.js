@@ -317,7 +317,7 @@ export class FrameEncoder {
 /**
  * Makes the two ends of a stream, `readable` and `writable`, like those of a TransformStream. `take` is called with
  * each chunk, and with a function `give`, to which it passes each result. `close` is called once, however the stream ends. A
- * TransformStream would not do: engines don't notify it of every end.
+ * TransformStream isn't enough: in some engines it doesn't learn that the stream was cancelled or aborted.
  */
 function ends(take, close) {
   const link = { take, close, out: null, into: null, wake: () => {}, isWanted: false, isOver: false, reason: undefined };
