@@ -838,37 +838,28 @@ void jcobs_encoder_reset(jcobs_encoder *encoder)
     jcobs_encoder_init(encoder);
 }
 
-/* Returns whether the state is possible in a buffer of this size. */
-static JCOBS_INLINE int jcobs_encoder_is_valid(const jcobs_encoder *encoder, size_t buffer_size)
-{
-    /* An open block has at most 253 bytes: other numbers don't come from these calls. */
-    if (encoder->taken >= JCOBS_FULL_BLOCK_BYTES || buffer_size < encoder->index) {
-        return 0;
-    }
-    return encoder->full != 0 || encoder->taken < buffer_size - encoder->index;
-}
-
 /* Takes the next bytes of the message, for which there is room, one at a time. There is at least one byte. */
 static JCOBS_INLINE void jcobs_encoder_append_bytes(jcobs_encoder *encoder, unsigned char *buffer,
                                                     const unsigned char *bytes, size_t len)
 {
     size_t index = encoder->index;
     size_t next = index + encoder->taken + 1;
-    /* The index after the open block's 254th byte. If the sum wraps, no index is equal to it. */
-    size_t limit = index + JCOBS_FULL_CODE;
+    /* The number of bytes for which the open block has room. */
+    size_t left = JCOBS_FULL_BLOCK_BYTES - (size_t)encoder->taken;
 
     for (size_t i = 0; i < len; i++) {
         unsigned char byte = bytes[i];
         if (byte != 0) {
             buffer[next] = byte;
             next++;
+            left--;
         }
         /* A zero ends the block, and so does its 254th byte. */
-        if (byte == 0 || next == limit) {
+        if (byte == 0 || left == 0) {
             buffer[index] = (unsigned char)(next - index);
             index = next;
-            limit = index + JCOBS_FULL_CODE;
             next++;
+            left = JCOBS_FULL_BLOCK_BYTES;
         }
     }
 
@@ -884,13 +875,21 @@ static JCOBS_INLINE void jcobs_encoder_append_bytes(jcobs_encoder *encoder, unsi
 static int jcobs_encoder_try_append(jcobs_encoder *encoder, unsigned char *buffer, size_t buffer_size,
                                     const unsigned char *bytes, size_t len)
 {
-    if (!jcobs_encoder_is_valid(encoder, buffer_size)) {
+    /* An open block has at most 253 bytes: other numbers don't come from these calls. */
+    if (encoder->taken >= JCOBS_FULL_BLOCK_BYTES || buffer_size < encoder->index) {
         return 0;
     }
+
+    size_t room = buffer_size - encoder->index;
+
     if (len == 0) {
-        return 1;
+        if (encoder->full != 0 || encoder->taken < room) {
+            return 1;
+        }
+        return 0;
     }
-    if (!jcobs_has_room(encoder->taken, bytes, len, buffer_size - encoder->index)) {
+    /* If the bytes fit, the open block without them fits too. */
+    if (!jcobs_has_room(encoder->taken, bytes, len, room)) {
         return 0;
     }
     jcobs_encoder_append_bytes(encoder, buffer, bytes, len);
@@ -940,6 +939,16 @@ static jcobs_answer jcobs_encoder_feed_byte(jcobs_encoder *encoder, unsigned cha
 jcobs_answer jcobs_encoder_feed(jcobs_encoder *encoder, void *buffer, size_t buffer_size, unsigned char byte)
 {
     return jcobs_encoder_feed_byte(encoder, (unsigned char *)buffer, buffer_size, byte);
+}
+
+/* Returns whether the state is possible in a buffer of this size. */
+static JCOBS_INLINE int jcobs_encoder_is_valid(const jcobs_encoder *encoder, size_t buffer_size)
+{
+    /* An open block has at most 253 bytes: other numbers don't come from these calls. */
+    if (encoder->taken >= JCOBS_FULL_BLOCK_BYTES || buffer_size < encoder->index) {
+        return 0;
+    }
+    return encoder->full != 0 || encoder->taken < buffer_size - encoder->index;
 }
 
 /* Ends the message, if the state is possible in a buffer of this size, and returns the length of its encoded frame

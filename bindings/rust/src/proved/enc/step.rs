@@ -136,13 +136,19 @@ impl UnbufferedEncoder {
     /// ```
     #[inline]
     pub fn push_each(&mut self, dest: &mut [u8], bytes: &[u8]) -> Result<(), DestBufTooSmallError> {
-        if !self.is_within(dest.len()) {
+        // An open block has at most 253 bytes: other numbers don't come from these calls.
+        if 253 < self.taken || dest.len() < self.index {
             return Err(DestBufTooSmallError);
         }
+        let room = dest.len() - self.index;
         if bytes.is_empty() {
-            return Ok(());
+            if self.full != 0 || (self.taken as usize) < room {
+                return Ok(());
+            }
+            return Err(DestBufTooSmallError);
         }
-        if !has_room(self.taken, bytes, dest.len() - self.index) {
+        // If the bytes fit, the open block without them fits too.
+        if !has_room(self.taken, bytes, room) {
             return Err(DestBufTooSmallError);
         }
         self.append_each(dest, bytes);
@@ -156,20 +162,21 @@ impl UnbufferedEncoder {
     fn append_each(&mut self, dest: &mut [u8], bytes: &[u8]) {
         let mut index = self.index;
         let mut next = index + self.taken as usize + 1;
-        // The index after the open block's 254th byte. If the sum wraps, no index is equal to it.
-        let mut limit = index.wrapping_add(FULL_CODE);
+        // The number of bytes for which the open block has room.
+        let mut left = FULL_BLOCK_BYTES - self.taken as usize;
         for i in 0..bytes.len() {
             let byte = bytes[i];
             if byte != 0 {
                 dest[next] = byte;
                 next += 1;
+                left -= 1;
             }
             // A zero ends the block, and so does its 254th byte.
-            if byte == 0 || next == limit {
+            if byte == 0 || left == 0 {
                 dest[index] = (next - index) as u8;
                 index = next;
-                limit = index.wrapping_add(FULL_CODE);
                 next += 1;
+                left = FULL_BLOCK_BYTES;
             }
         }
         let code = next - index;

@@ -7,7 +7,7 @@ use Rattle.cobs.specs.OpenBlock.{Reached, end_after, place_at}
 use Rattle.cobs.proofs.encoding.ByteLemmas.{byte-fills, byte-joins, byte-zero}
 use Rattle.cobs.proofs.encoding.OpenLenLemmas.{open_len-least}
 use Rattle.cobs.proofs.encoding.TakingLemmas.{front-next}
-use Rattle.cobs.proofs.enc.unbuffered.UnbufferedEncoder.append_each.Goals.{then-byte-ne0, else-byte-ne0, then-byte-eq0, then-byte-eq0-via-then-byte-eq0, then-byte-eq0-via-else-byte-eq0+then-next-limit, else-byte-eq0+else-next-limit}
+use Rattle.cobs.proofs.enc.unbuffered.UnbufferedEncoder.append_each.Goals.{then-byte-ne0, else-byte-ne0, then-byte-eq0, then-byte-eq0-via-then-byte-eq0, then-byte-eq0-via-else-byte-eq0+then-left-eq0, else-byte-eq0+else-left-eq0}
 use Rattle.cobs.proofs.enc.unbuffered.UnbufferedEncoder.append_each.Goals as goal
 
 -- the same slice, by another name
@@ -33,17 +33,17 @@ by_byte-preserved c =
       | then-byte-ne0 a ↦ elim c.if-byte-eq0.branch [
         | then-byte-eq0 w ↦ elim w.then-byte-eq0.branch [
           | then-byte-eq0-via-then-byte-eq0 v ↦ absurd (a.if-byte-ne0.true v.if-byte-eq0.true)
-          | then-byte-eq0-via-else-byte-eq0+then-next-limit v ↦ record {
+          | then-byte-eq0-via-else-byte-eq0+then-left-eq0 v ↦ record {
             ordered = omega arith;
             short = omega arith;
-            limit = grind arith;
+            left = omega arith;
             taken = (true, λ lt. grind arith, front-next c.by_byte.i refl t 1 (named (grind arith) (byte-fills {source = left} t.place fits some at (λ e. a.if-byte-ne0.true (sym is ∙ e)) (omega arith) (grind arith))));
           }
         ]
-        | else-byte-eq0+else-next-limit w ↦ record {
+        | else-byte-eq0+else-left-eq0 w ↦ record {
           ordered = omega arith;
           short = omega arith;
-          limit = grind arith;
+          left = omega arith;
           taken = (false, λ lt. grind arith, front-next c.by_byte.i refl t 1 (named (grind arith) (byte-joins {source = left} t.place fits some at {code = c.if-byte-eq0.next - c.if-byte-eq0.index} (λ e. a.if-byte-ne0.true (sym is ∙ e)) (omega arith) (omega arith) (grind arith))));
         }
       ]
@@ -51,9 +51,9 @@ by_byte-preserved c =
         | then-byte-eq0 w ↦ record {
           ordered = omega arith;
           short = omega arith;
-          limit = grind arith;
+          left = omega arith;
           taken = (false, λ lt. grind arith, front-next c.by_byte.i refl t 1 (named (grind arith) (byte-zero {source = left} t.place fits some at (is ∙ a.if-byte-ne0.false) refl (grind arith))));
         }
-        | else-byte-eq0+else-next-limit w ↦ absurd (w.if-byte-eq0.false a.if-byte-ne0.false)
+        | else-byte-eq0+else-left-eq0 w ↦ absurd (w.if-byte-eq0.false a.if-byte-ne0.false)
       ]
     ]

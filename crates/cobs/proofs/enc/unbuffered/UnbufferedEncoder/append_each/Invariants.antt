@@ -1,6 +1,6 @@
 -- The first `i` bytes are taken. If there are any, the last block is full exactly if the open one is empty and the last of these
 -- bytes isn't a zero.
-use Rattle.std.proofs.Common.{◌≡◌, ◌<◌, ◌+◌, ◌-◌, ◌%◌, ◌^◌, ◌==◌, Bool, false, get_or}
+use Rattle.std.proofs.Common.{◌≡◌, ◌<◌, ◌+◌, ◌-◌, ◌==◌, Bool, false, get_or}
 use Rattle.std.specs.Prelude.{if◌then◌else◌, not}
 use Rattle.cobs.specs.Fields.Progress.{reached_by}
 use Rattle.cobs.specs.Internal.Taking.{TakesFront}
@@ -11,7 +11,7 @@ abbrev pub invariant-by_byte : goal.invariant-by_byte
 invariant-by_byte l = record {
   ordered : l.index < l.next;
   short : l.next < l.index + 255;
-  limit : l.limit ≡ (l.index + 255) % 2 ^ 64;
+  left : l.next + l.left ≡ l.index + 255;
   taken : (full : Bool) × (0 < l.i → full ≡ (if l.next - l.index == 1 then not (get_or l.bytes (l.i - 1) 0 == 0) else false))
       × TakesFront l.fn.dest (reached_by l.fn.self) l.bytes l.i l.dest (place_at l.index (l.next - l.index) full);
 }

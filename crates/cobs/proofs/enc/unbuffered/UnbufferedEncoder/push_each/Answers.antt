@@ -1,20 +1,28 @@
 -- Only the clause `fits` is proved here, as for `push`: the length of the frame of all bytes so far is `end_after`
--- (`after-end`), and `has_room` compares that index with the slice (`end-with`).
-use Rattle.std.proofs.Common.{append-nil, [], ◌≡◌, ◌≢◌, ◌+◌, length, refl, sym, ◌∙◌, arith}
+-- (`after-end`), and `has_room` compares that index with the slice (`end-with`). An encoder that has taken a message has a
+-- possible state (`after-place`), so it takes a push of no bytes.
+use Rattle.std.proofs.Common.{append-nil, [], ◌≡◌, ◌≢◌, length, refl, sym, ◌∙◌, arith}
 use Rattle.std.proofs.lemmas.Bool.{eqb-false}
 use Rattle.std.proofs.lemmas.Grind.{common_steps}
-use Rattle.cobs.proofs.encoding.OpenLenLemmas.{open_len-least}
 use Rattle.cobs.proofs.encoding.StepLemmas.{end-with, place-short}
 use Rattle.cobs.proofs.encoding.AfterLemmas.{after-end, after-fits, after-place}
+use Rattle.cobs.proofs.encoding.TakingLemmas.{all-end}
 use Rattle.cobs.proofs.enc.unbuffered.UnbufferedEncoder.push_each.Goals as goal
+use Rattle.cobs.proofs.enc.unbuffered.UnbufferedEncoder.push_each.Goals.{then-self-gt253-via-then-self-gt253}
 
-pub returns-then-not-is_within-clause-fits : goal.returns-then-not-is_within-clause-fits
-returns-then-not-is_within-clause-fits c = λ m h. let yes = c.is_within.ensures.1 (after-place h) in (λ t. cc, λ le. cc)
+pub returns-then-self-gt253-clause-fits : goal.returns-then-self-gt253-clause-fits
+returns-then-self-gt253-clause-fits c = λ m h.
+    let place = after-place h in
+    let short = place-short c.args.self.now _ place in
+    grind (arith, then-self-gt253-via-then-self-gt253)
 
-pub returns-then-is_empty-clause-fits : goal.returns-then-is_empty-clause-fits
-returns-then-is_empty-clause-fits c = λ m h.
+pub returns-then-self-ne0-clause-fits : goal.returns-then-self-ne0-clause-fits
+returns-then-self-ne0-clause-fits c = λ m h.
     let none : c.args.bytes.now ≡ [] = grind (arith, common_steps) in
     rw (none, append-nil) (λ t. after-fits h, λ le. refl)
+
+pub returns-then-is_empty-clause-fits : goal.returns-then-is_empty-clause-fits
+returns-then-is_empty-clause-fits c = λ m h. let place = after-place h in grind arith
 
 pub returns-then-not-has_room-clause-fits : goal.returns-then-not-has_room-clause-fits
 returns-then-not-has_room-clause-fits c = λ m h.
@@ -26,8 +34,7 @@ returns-then-not-has_room-clause-fits c = λ m h.
 pub returns-clause-fits : goal.returns-clause-fits
 returns-clause-fits c = λ m h.
     let e = after-end h c.args.bytes.now in
-    let some : length c.args.bytes.now ≢ 0 = eqb-false _ 0 (sym c.is_empty.ensures ∙ c.if-is_empty.false) in
-    let end = end-with c.args.self.now c.args.bytes.now (place-short c.args.self.now _ (after-place h)) (omega arith) in
-    let least = open_len-least (c.args.self.now.taken + 1) c.args.bytes.now (omega arith) in
-    let enough = c.has_room.ensures.fits.0 c.if-not-has_room.false in
+    let end = all-end c.append_each.ensures in
+    let fits = c.append_each.ensures.place.fits in
+    let long = c.append_each.auto.dest in
     (λ t. omega arith, λ le. refl)
