@@ -187,10 +187,11 @@ size_t jcobs_max_length(size_t message_len)
 /* Returns whether `spare` bytes cover the overhead of every message of `len` bytes, that is, whether `len` is at
  * most 254 times `spare`. The function compares half of `len`, rounded up, with 127 times `spare`, after adding
  * `spare` to both sides. So it divides only by 2 and by 128, because small processors have no instruction for
- * other divisions, and nothing overflows. */
+ * other divisions, and nothing overflows. For up to 254 bytes one spare byte is enough, and a single comparison
+ * decides. */
 static JCOBS_INLINE int jcobs_covers_overhead(size_t len, size_t spare)
 {
-    return (len - len / 2 + spare - 1) / 128 < spare;
+    return len <= JCOBS_FULL_BLOCK_BYTES || (len - len / 2 + spare - 1) / 128 < spare;
 }
 
 /* Counts the blocks that become full and are followed by another byte, if the open block, which has `taken` bytes,

@@ -37,14 +37,14 @@ fn fits_each(taken: u8, bytes: &[u8], spare: usize) -> bool
 /// Returns whether `spare` bytes cover the overhead of every message of `len` bytes, that is, whether `len` is at most
 /// 254 times `spare`. The function compares half of `len`, rounded up, with 127 times `spare`, after adding `spare` to
 /// both sides. So it divides only by 2 and by 128, because small processors have no instruction for other divisions,
-/// and nothing overflows.
+/// and nothing overflows. For up to 254 bytes one spare byte is enough, and a single comparison decides.
 #[inline(always)]
 fn covers_overhead(len: usize, spare: usize) -> bool
     requires some { 0 < spare }
     requires room { len + spare < 2 ^ 64 }
     ensures { IsTrue result ↔ (max_encoded_len len ≤ len + spare) }
 {
-    (len - len / 2 + spare - 1) / 128 < spare
+    len <= FULL_BLOCK_BYTES || (len - len / 2 + spare - 1) / 128 < spare
 }
 
 /// Returns whether `room` bytes, counted from the code of an open block that has `taken` bytes, are enough for the frame
