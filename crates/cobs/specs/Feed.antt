@@ -27,8 +27,9 @@ result_for p byte n =
 abbrev pub fed : List ℕ → ℕ → List ℕ
 fed p byte = if byte == 0 then [] else p ++ byte ∷ []
 
--- the phase of a decoder: no piece has begun; or it is in a block, full or not, of which `left` bytes are missing, and
--- `count` bytes are written; or the output was too long for the buffer
+-- the phase of a decoder: no piece has begun (`Idle`), the output was too long for the buffer (`Overlong`), or the
+-- decoder is in a block, full or not, of which `left` bytes are missing, and `count` bytes of output are written
+-- (`Within`)
 pub data Phase : Type 0 where
   Idle : Phase
   Within : (full : Bool) (left count : ℕ) → Phase
@@ -46,8 +47,8 @@ pub record PhaseAfter (n : ℕ) (phase : Phase) (p : List ℕ) : Type 0 where
   pub piece : HasNoZero p
   pub phase_is : phase ≡ phase_after p n
 
--- the phase shows this, and the buffer begins with the output of p; if the output is longer than the buffer, the buffer
--- is filled with the first bytes of the output
+-- the phase is that after the front p of a piece (`PhaseAfter`), and the buffer begins with the output of p. If the
+-- output is longer than the buffer, the buffer is filled with the first bytes of the output.
 pub record DecoderAfter (buffer : List ℕ) (phase : Phase) (p : List ℕ) : Type 0 where
   pub phased : PhaseAfter (length buffer) phase p
   pub begins : take (length (output p)) buffer ≡ take (length buffer) (output p)

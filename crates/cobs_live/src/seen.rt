@@ -12,7 +12,7 @@ pub enum Kind {
     /// A piece that decodes to more bytes than the buffer holds.
     TooLong,
 
-    /// A frame of a message that doesn't end with the right checksum.
+    /// A frame whose message doesn't end with the right checksum.
     BadCrc,
 }
 

@@ -1,4 +1,4 @@
-//! Sends lines as frames.
+//! Sends lines of text as frames.
 ghost use Rattle.std.specs.Prelude.{◌≡◌, ◌≢◌, ◌↔◌, List, [], OnOk, IfOk, IfErr, IsOk, IsTrue, ℕ, Some, true};
 ghost use Rattle.std.specs.Io.Buffered.{writer_buffer, writer_inner};
 ghost use Rattle.std.specs.Io.KnownBytes.{Appends, Keeps};
@@ -16,7 +16,7 @@ use hex::FromHexError;
 use std::alloc::{AllocError, Global};
 use std::io::{BufWriter, Write};
 
-/// How lines are sent.
+/// How lines of text are sent.
 #[derive(Debug, PartialEq, Eq, Drop)]
 pub struct Settings {
     /// Whether each line contains a message as hexadecimal digits. Otherwise the line itself is the message.

@@ -39,8 +39,8 @@ const NEAREST: usize = 16;
 /// A zero is searched for in at most this many bytes before all bytes are passed to the decoder.
 const NEAR: usize = 64;
 
-/// The most bytes that one read can return, 64 KiB. If a read returns fewer bytes, they are shown before more bytes are
-/// read.
+/// The most bytes that one read can return, 64 KiB. If a read returns fewer bytes, the pieces that end in them are
+/// shown before more bytes are read.
 pub const CHUNK_LEN: usize = 65_536;
 
 /// Shows each piece of the input when its sentinel arrives. At the end of the input, shows `unfinished` if another

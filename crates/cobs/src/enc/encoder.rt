@@ -63,9 +63,9 @@ impl<'a> CobsEncoder<'a> {
     /// An empty push always succeeds, and changes nothing. The bytes of the slice after the frame are never written.
     ///
     /// # Errors
-    /// `DestBufTooSmallError` exactly if the encoded frame of the message so far, these bytes included, is longer than
-    /// the slice. This error changes neither the encoder nor the slice, so the caller may end the frame, or push fewer
-    /// bytes. That an error changes nothing is a choice of this library.
+    /// `DestBufTooSmallError` exactly if the slice is shorter than the encoded frame of the bytes taken so far and
+    /// these bytes. Then neither the encoder nor the slice has changed, so the caller may end the frame, or push fewer
+    /// bytes. (A choice of this library.)
     ///
     /// ```
     /// let mut dest = [170; 4];

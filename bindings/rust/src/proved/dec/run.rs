@@ -179,8 +179,8 @@ impl UnbufferedDecoder {
     }
 
     /// Takes the bytes of one step, and returns their number, which is 0 only if there is no room for the output of the
-    /// first byte. A step takes one of three things: a block that begins the piece, follows a full block, or has at
-    /// least 64 bytes after its code; rows of 32 blocks 01; or a span.
+    /// first byte. A step takes a block if this block begins the piece, follows a full block, or has at least 64 bytes
+    /// after its code. Otherwise it takes rows of 32 blocks 01 if the next bytes are such rows, or else a span.
     #[inline(always)]
     fn take_part(&mut self, dest: &mut [u8], bytes: &[u8], sentinel: u8) -> usize {
         if self.missing == 0 {

@@ -40,7 +40,7 @@ impl UnbufferedEncoder {
     /// `feed` does what [`push`](UnbufferedEncoder::push) of this one byte does.
     ///
     /// # Errors
-    /// `DestBufTooSmallError` if the byte doesn't fit. This error changes neither the encoder nor the buffer.
+    /// `DestBufTooSmallError` if the byte doesn't fit. Then neither the encoder nor the buffer has changed.
     ///
     /// ```
     /// use jcobs::{DestBufTooSmallError, UnbufferedEncoder};
@@ -78,8 +78,8 @@ impl UnbufferedEncoder {
     pub fn feed_len(&mut self, dest: &mut [u8], byte: u8) -> Result<usize, DestBufTooSmallError> {
         let room = dest.len();
         let code = self.taken as usize + 1;
-        // A block with a greater code isn't open: such a number doesn't come from these calls. The tests read the field,
-        // and not a copy of it: so rustc sees that no index of the step is out of bounds.
+        // An open block has a code of at most 254: a greater number doesn't come from these calls. The tests read the
+        // field, and not a copy of it, so that rustc sees that no index of the step is out of bounds.
         if FULL_BLOCK_BYTES < code || room < self.index || room - self.index <= code {
             return Err(DestBufTooSmallError);
         }
@@ -156,8 +156,8 @@ impl UnbufferedEncoder {
     }
 
     /// Takes the next bytes of the message, for which there is room, one at a time.
-    // The loop changes variables, which stay in registers, and one line closes every block. On a small processor `append_byte`
-    // in the loop would need more instructions and more flash.
+    // The loop changes local variables, which stay in registers, and every block is closed by the same lines. On a
+    // small processor `append_byte` in the loop would need more instructions and more flash.
     #[inline(always)]
     fn append_each(&mut self, dest: &mut [u8], bytes: &[u8]) {
         let mut index = self.index;
