@@ -349,9 +349,9 @@ pub fn law_11()
 /// A stream's first piece, and its last.
 ///
 /// If a stream begins with a nonzero byte, its first piece is the bytes before the first zero. In a buffer of the stream's
-/// length, the first piece is decoded as a message exactly if it reads as that message. Zeros before the first piece are
-/// skipped: the first piece after them ends at the next zero. A stream that has only zeros, or is empty, has no piece. If the
-/// first n bytes contain no zero, and a zero or the end of the stream follows them, these n bytes are all bytes before the
+/// length, the outcome of the first piece is a message exactly if the piece reads as that message. Zeros before the first piece
+/// are skipped: the first piece after them ends at the next zero. A stream that has only zeros, or is empty, has no piece. If
+/// the first n bytes contain no zero, and a zero or the end of the stream follows them, these n bytes are all bytes before the
 /// first zero. The same holds for any sentinel. As long as no piece has ended, the unended bytes are the last piece, and the
 /// next zero ends this piece.
 ///

@@ -5,9 +5,9 @@
 //! serial line, in a stream or in a file, so after damage a receiver finds the next frame after the next sentinel. A
 //! frame is a list of blocks. A block is a code, which counts the block's bytes including itself, followed by up to 254
 //! nonzero bytes. Between two blocks the message has a zero, unless the first of the two is a full block, whose code is
-//! 255. So the frame of a message of up to 254 bytes is one byte longer than the message. If a message has more than
-//! 254 bytes, its frame has at most one more byte for every 254 bytes of the message, rounded up. The format is that of
-//! the paper "Consistent Overhead Byte Stuffing" by Stuart Cheshire and Mary Baker.
+//! 255. So the frame of a message of up to 254 bytes is one byte longer than the message. The frame of a longer message
+//! has at most one extra byte for every 254 bytes of the message, rounded up. The format is that of the paper
+//! "Consistent Overhead Byte Stuffing" by Stuart Cheshire and Mary Baker.
 //!
 //! This example encodes a message, and decodes it again:
 //!

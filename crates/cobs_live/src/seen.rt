@@ -16,7 +16,7 @@ pub enum Kind {
     BadCrc,
 }
 
-/// A piece of a stream, as it can be shown.
+/// A piece of a stream, with the facts and bytes of it that can be shown.
 #[derive(Clone, Copy)]
 pub struct Sight<'a> {
     /// The kind of the piece.

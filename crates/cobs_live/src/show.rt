@@ -141,7 +141,7 @@ impl<'a> Watch<'a> {
     }
 
     /// Reads bytes once into `chunk`, shows each piece that ends in them, flushes the output, and returns whether the
-    /// input continues. At the end of the input, after a failed read and after a hang-up, shows `unfinished` if a piece
+    /// input continues. At the end of the input, after a failed read or after a hang-up, shows `unfinished` if a piece
     /// has begun and not ended. After a hang-up, shows `hung up` too.
     ///
     /// Nothing is written before the read. When the read begins, all output has been passed on (`flushed`), so all
@@ -376,7 +376,7 @@ fn front(bytes: &[u8]) -> &[u8]
     bytes
 }
 
-/// Returns the index after the first zero among the first `most` bytes, if they have a zero.
+/// Returns the index after the first zero if this zero is among the first `most` bytes.
 #[inline(always)]
 fn end_within(bytes: &[u8], most: usize) -> Option<usize>
     requires few { most ≤ 64 }

@@ -14,7 +14,7 @@ use crate::dec::unbuffered::UnbufferedDecoder;
 use crate::error::{DecodeError, DecodeReport, PushError};
 use std::alloc::{AllocError, Global};
 
-/// Decodes a stream of frames, each ended by a zero, into a slice that it borrows.
+/// Decodes a stream of frames, each ended by a zero, into a slice that the decoder borrows.
 ///
 /// `feed` takes one byte of the stream, and `push` takes any number of bytes. When a frame ends, its message is at the
 /// front of the slice, and stays there until the decoder takes the next nonzero byte. A piece of the stream is the

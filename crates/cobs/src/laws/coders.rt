@@ -200,10 +200,10 @@ pub fn law_20()
 
 /// A loop over the pieces of a stream.
 ///
-/// If an idle decoder reads a piece with `feed_piece`, the outcomes of the stream are the outcome of that piece, and
-/// then the outcomes of the bytes after the piece. The unended bytes of the stream (those after its last zero, or all
-/// bytes if it has no zero) are the unended bytes of the bytes after that piece and its zero. If no piece ends, the
-/// stream has no outcome, and the decoder has taken the unended bytes.
+/// If an idle decoder reads the first piece of a stream with `feed_piece`, the outcomes of the stream are the outcome
+/// of that piece, and then the outcomes of the bytes after the piece. The unended bytes of the stream (those after its
+/// last zero, or all bytes if it has no zero) are the unended bytes of the bytes after that piece and its zero. If no
+/// piece ends, the stream has no outcome, and the decoder has taken the unended bytes.
 ///
 /// So a loop over `feed_piece` is proved by one equation: the outcomes found so far, followed by those of the remaining
 /// bytes, are the outcomes of the stream.

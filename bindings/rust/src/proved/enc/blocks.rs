@@ -237,8 +237,8 @@ pub(crate) fn append_rest(
 /// Continues the frame of `encoder` in `dest` with `source`, and returns the encoder's state after `source`. [`close`]
 /// writes the code of the open block later; until then the byte at the place of the code doesn't matter.
 ///
-/// [`append_windows`] takes most bytes. Usually few bytes are left; [`append_rest`] takes them if there are more of
-/// them than a window holds, or if they may fill the open block.
+/// [`append_windows`] takes most bytes. Usually few bytes are left, and [`append_short`] takes them. [`append_rest`]
+/// takes them if they are more than a window holds, or if they may fill the open block.
 #[inline(always)]
 pub(crate) fn append(
     source: &[u8],
