@@ -876,7 +876,7 @@ static JCOBS_INLINE void jcobs_encoder_append_bytes(jcobs_encoder *encoder, unsi
 static int jcobs_encoder_try_append(jcobs_encoder *encoder, unsigned char *buffer, size_t buffer_size,
                                     const unsigned char *bytes, size_t len)
 {
-    /* An open block has at most 253 bytes: other numbers don't come from these calls. */
+    /* An open block has at most 253 bytes: a greater number doesn't come from these calls. */
     if (encoder->taken >= JCOBS_FULL_BLOCK_BYTES || buffer_size < encoder->index) {
         return 0;
     }
@@ -945,7 +945,7 @@ jcobs_answer jcobs_encoder_feed(jcobs_encoder *encoder, void *buffer, size_t buf
 /* Returns whether the state is possible in a buffer of this size. */
 static JCOBS_INLINE int jcobs_encoder_is_valid(const jcobs_encoder *encoder, size_t buffer_size)
 {
-    /* An open block has at most 253 bytes: other numbers don't come from these calls. */
+    /* An open block has at most 253 bytes: a greater number doesn't come from these calls. */
     if (encoder->taken >= JCOBS_FULL_BLOCK_BYTES || buffer_size < encoder->index) {
         return 0;
     }

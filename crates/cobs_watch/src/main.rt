@@ -37,8 +37,8 @@ use std::io::{self, BufReader, BufWriter, ErrorKind, IsTerminal, Read, Write};
 use std::process::ExitCode;
 use values::wrong;
 
-/// How many bytes of output are collected before they are written, 128 KiB: as many as a chunk of input has hexadecimal
-/// digits.
+/// How many bytes of output are collected before they are written: 128 KiB, the number of hexadecimal digits of a chunk
+/// of input.
 const OUTPUT_LEN: usize = 131_072;
 
 /// The system's error number of the last read or write that failed, if there is one.

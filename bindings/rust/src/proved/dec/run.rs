@@ -17,10 +17,10 @@ use crate::proved::find::zero_or_len;
 /// code after that block isn't in the span.
 pub(crate) const SPAN_MAX: usize = FULL_BLOCK_BYTES - 1;
 
-/// Takes rows of 32 bytes from the front of `bytes`, as long as each byte of a row is `byte`. For each row it writes a
-/// row of zeros to `dest`; the first of these zeros is at index `at`. The function stops if `dest` has no room for
-/// another row. It also stops after seven rows, because the caller treats the rows as one span, and eight rows would be
-/// too long for a span. Returns how many zeros it wrote.
+/// Takes rows of 32 bytes from the front of `bytes`, as long as each byte of a row is `byte`. Writes as many zeros to
+/// `dest` as it took bytes, from index `at` on. The function stops if `dest` has no room for another row. It also stops
+/// after seven rows, because the caller treats the rows as one span, and eight rows would be too long for a span.
+/// Returns how many zeros it wrote.
 #[inline(always)]
 fn write_rows(dest: &mut [u8], at: usize, bytes: &[u8], byte: u8) -> usize {
     let most = bytes.len().min(dest.len().saturating_sub(at)).min(SPAN_MAX);

@@ -1,5 +1,5 @@
 // Made by bindings/rust/translate.py from `crates/cobs/src/enc/step.rt`: change that file, and run it again.
-//! The encoder, byte by byte: the step for one byte of the message, and a loop over the bytes of a piece.
+//! The encoder, byte by byte: the step for one byte of the message, and a loop over the bytes of a push.
 
 use crate::proved::block::{FULL_BLOCK_BYTES, FULL_CODE};
 use crate::proved::enc::UnbufferedEncoder;
@@ -10,8 +10,8 @@ use crate::proved::error::DestBufTooSmallError;
 impl UnbufferedEncoder {
     /// Takes the next byte of the message, for which there is room, and returns the length that the frame has if the
     /// message ends with this byte.
-    // This function calls no other function, so that the loop of `encode_in_place` stays in registers. In each case the
-    // frame ends after the byte at index `next`.
+    // This function calls no other function, so that the variables of the loop of `encode_in_place` stay in registers.
+    // In each case the frame ends after the byte at index `next`.
     #[inline(always)]
     pub(crate) fn append_byte(&mut self, dest: &mut [u8], byte: u8) -> usize {
         let index = self.index;
@@ -136,7 +136,7 @@ impl UnbufferedEncoder {
     /// ```
     #[inline]
     pub fn push_each(&mut self, dest: &mut [u8], bytes: &[u8]) -> Result<(), DestBufTooSmallError> {
-        // An open block has at most 253 bytes: other numbers don't come from these calls.
+        // An open block has at most 253 bytes: a greater number doesn't come from these calls.
         if 253 < self.taken || dest.len() < self.index {
             return Err(DestBufTooSmallError);
         }

@@ -87,7 +87,7 @@ impl UnbufferedEncoder {
     /// Returns whether the encoder's state is possible in a buffer of `len` bytes.
     #[inline(always)]
     pub(crate) fn is_within(&self, len: usize) -> bool {
-        // An open block has at most 253 bytes: other numbers don't come from these calls.
+        // An open block has at most 253 bytes: a greater number doesn't come from these calls.
         if 253 < self.taken || len < self.index {
             return false;
         }
