@@ -145,7 +145,7 @@ impl<'a> CobsDecoder<'a> {
     /// Writing in the middle of a piece doesn't change the results for this piece, but the bytes of its message are
     /// then unspecified. A proof about a caller of `dest_mut` can use the bytes of the slice while the returned
     /// reference is in use, but not the decoder's state after the write. If the caller writes with
-    /// [`write_dest`](crate::WriteBuffer::write_dest) instead, the proof can use the state too.
+    /// [`write_dest`](crate::WriteBuffer::write_dest) instead, the proof can use that state too.
     ///
     /// ```
     /// let mut buffer = [7; 2];
