@@ -72,8 +72,8 @@ pub extern "C" fn jcobs_encode(message: &[u8], frame: &mut [u8]) -> Answer
     }
 }
 
-/// Writes the frame of the message for this sentinel to the front of the buffer `frame`, if it fits. Otherwise nothing is
-/// written.
+/// Writes the frame of the message for this sentinel to the front of the buffer `frame`, if it fits. Otherwise nothing
+/// is written.
 #[unsafe(no_mangle)]
 pub extern "C" fn jcobs_encode_with_sentinel(
     message: &[u8],

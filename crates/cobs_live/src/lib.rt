@@ -1,8 +1,8 @@
 //! Shows the frames of a serial line as they arrive, and sends each line of a text as a frame, over any reader and
 //! writer.
 //!
-//! This crate is the program `cobs_watch` without its command line. `show::run_show` reads a stream of frames, and shows
-//! each piece when its sentinel arrives. `send::run_send` sends each line of an input as a frame.
+//! This crate is the program `cobs_watch` without its command line. `show::run_show` reads a stream of frames, and
+//! shows each piece when its sentinel arrives. `send::run_send` sends each line of an input as a frame.
 //!
 //! `seen` has the type of a piece that is going to be shown: the piece's kind and its bytes. `shown` has the settings
 //! that say which pieces are shown, and in which style. `line`, `json`, `dump`, `capture`, `escape` and `composed`

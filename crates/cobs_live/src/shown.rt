@@ -148,8 +148,8 @@ fn message_sight<'a>(checksum: &Option<Checksum>, message: &'a [u8]) -> Sight<'a
     }
 }
 
-/// A message that is sent with a checksum is shown as the sender had it, without the checksum. (A law: this function does
-/// nothing when it runs.)
+/// A message that is sent with a checksum is shown as the sender had it, without the checksum. (A law: this function
+/// does nothing when it runs.)
 pub fn sum_law()
     ensures back { (checksum : Checksum) (message : List ℕ)
         → seen_message (Some checksum) (with_sum (Some checksum) message)

@@ -14,8 +14,8 @@ use crate::enc::UnbufferedEncoder;
 use crate::find::position_or_len;
 use cobs_bytes::window::{WINDOW, copy_at, copy_window, has_vectors, write_row, zeros_at};
 
-/// Fewer bytes than this are appended one by one, because in the Rust crate that is faster than copying a window.
-/// `push_few` takes up to this number of bytes.
+/// Fewer bytes than this number are appended one by one, because in the Rust crate that is faster than copying a
+/// window. `push_few` takes up to this number of bytes.
 pub(crate) const APPEND_EACH_BELOW: usize = 8;
 
 /// The mask of a window that has only zeros.

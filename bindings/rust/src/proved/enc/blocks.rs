@@ -10,8 +10,8 @@ use crate::proved::cobs_bytes::window::{
 use crate::proved::enc::UnbufferedEncoder;
 use crate::proved::find::position_or_len;
 
-/// Fewer bytes than this are appended one by one, because in the Rust crate that is faster than copying a window.
-/// `push_few` takes up to this number of bytes.
+/// Fewer bytes than this number are appended one by one, because in the Rust crate that is faster than copying a
+/// window. `push_few` takes up to this number of bytes.
 pub(crate) const APPEND_EACH_BELOW: usize = 8;
 
 /// The mask of a window that has only zeros.
