@@ -193,9 +193,9 @@ static JCOBS_INLINE int jcobs_covers_overhead(size_t len, size_t spare)
     return (len - len / 2 + spare - 1) / 128 < spare;
 }
 
-/* Counts full blocks, as if these bytes were appended to an open block of `taken` bytes. A block counts if it
+/* Counts full blocks, as if these bytes were appended to an open block of `taken` bytes. A block is counted if it
  * becomes full before the last byte: it makes the frame one byte longer, because the next block needs a code.
- * Returns whether fewer than `spare` blocks count. */
+ * Returns whether fewer than `spare` blocks were counted. */
 static int jcobs_extra_codes_fit(unsigned char taken, const unsigned char *bytes, size_t len, size_t spare)
 {
     size_t left = spare;

@@ -14,8 +14,8 @@ pub enum WatchFault {
     #[error("read failed")]
     ReadFailed,
 
-    /// A write failed. It wasn't interrupted, and the reason isn't that nobody reads the output any more. Some of the
-    /// bytes may have been written.
+    /// A write failed for a reason other than an interruption. (If nobody reads the output any more, the fault is
+    /// `OutputClosed`.) Some of the bytes may have been written.
     #[error("write failed")]
     WriteFailed,
 

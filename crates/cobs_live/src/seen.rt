@@ -16,7 +16,7 @@ pub enum Kind {
     BadCrc,
 }
 
-/// A piece of a stream, with the facts and bytes of it that can be shown.
+/// The kind, length and bytes of a piece, as far as they can be shown.
 #[derive(Clone, Copy)]
 pub struct Sight<'a> {
     /// The kind of the piece.

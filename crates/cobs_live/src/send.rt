@@ -139,8 +139,8 @@ fn is_digit(byte: u8) -> bool
     !(byte == b' ' || byte == b'\t' || byte == b'\r')
 }
 
-/// Writes the frame of a message and the sentinel, and flushes the output. If a checksum is set, it follows the message
-/// in the frame.
+/// Writes the frame of a message, followed by the sentinel, and flushes the output. If a checksum is set, it follows
+/// the message in the frame.
 fn send_message<W: Write + Drop>(
     alloc: Global,
     settings: &Settings,

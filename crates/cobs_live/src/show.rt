@@ -112,7 +112,7 @@ pub struct Watch<'a> {
     /// The times at which the last piece and the last bytes were read.
     clock: Times,
 
-    /// Whether bytes are skipped, up to the next sentinel.
+    /// Whether all bytes up to the next sentinel are skipped.
     skipping: bool,
 }
 

@@ -1,4 +1,4 @@
-//! The state of an encoder for a message that comes in pieces. Its buffer is passed to each call.
+//! The state of an encoder for a message that comes in pieces. The encoder's buffer is passed to each call.
 ghost use Rattle.std.specs.Prelude.{◌≡◌, ◌<◌, ◌↔◌, [], ℕ, List, length, IsTrue, false};
 ghost use Rattle.cobs.specs.OpenBlock.{CobsEncoderAfter, IsPlaceIn};
 ghost use Rattle.cobs.specs.Fields.Progress.{reached_by};

@@ -128,9 +128,9 @@ fn write_codes_of_zeros(source: &[u8], dest: &mut [u8], at: usize) -> usize {
 ///
 /// Each window is copied to the place of the next byte. If the window fills the open block before a zero comes, the
 /// block is closed, and the caller copies the next bytes as slices, because a run that fills one block often fills more
-/// blocks. Otherwise the code of the next block is written over each zero of the window, and the last block stays open
-/// for the next window. If the window has only zeros, the rows of 32 zeros after it aren't copied: their codes are
-/// written 32 at a time. No byte after the frame is written.
+/// blocks. Otherwise a code is written over each zero of the window, and the last block stays open for the next window.
+/// If the window has only zeros, the rows of 32 zeros after it aren't copied: their codes are written 32 at a time. No
+/// byte after the frame is written.
 #[inline(always)]
 fn append_windows(
     source: &[u8],

@@ -1,5 +1,5 @@
 // Made by bindings/rust/translate.py from `crates/cobs/src/enc/unbuffered.rt`: change that file, and run it again.
-//! The state of an encoder for a message that comes in pieces. Its buffer is passed to each call.
+//! The state of an encoder for a message that comes in pieces. The encoder's buffer is passed to each call.
 
 /// Encodes a message that comes in pieces, straight into a buffer that the caller passes to each call.
 ///
