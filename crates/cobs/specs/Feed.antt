@@ -8,7 +8,8 @@ use Rattle.cobs.specs.Decode.{outcome_result}
 use Rattle.cobs.specs.declared.error.DecodeError.{DecodeError}
 use Rattle.cobs.specs.declared.error.DecodeError.TheVariants.{TargetBufTooSmall}
 
--- how a streaming decoder reports an outcome: as the calls for whole frames do, in an option
+-- the result of a streaming decoder for an outcome: that of the calls for whole frames (`outcome_result`), with the
+-- message's length in a `Some`
 abbrev pub fed_result : Outcome → Result (Option ℕ) DecodeError
 fed_result outcome = result_map_both Some (λ error. error) (outcome_result outcome)
 
@@ -23,7 +24,7 @@ result_for p byte n =
     if byte == 0 then result_at_end p n
     else (if nat_le (length (output (p ++ byte ∷ []))) n then Ok None else Err TargetBufTooSmall)
 
--- the front of the piece after a byte was fed; a zero ends the piece
+-- the front of the piece after a byte was fed: the empty list after a zero, because a zero ends the piece
 abbrev pub fed : List ℕ → ℕ → List ℕ
 fed p byte = if byte == 0 then [] else p ++ byte ∷ []
 
