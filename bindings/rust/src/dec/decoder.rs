@@ -123,8 +123,8 @@ macro_rules! decoder_methods {
 
         /// Returns the buffer to which messages are decoded, for writing.
         ///
-        /// You may change the buffer while no frame is open. If you change the buffer while a frame is open, the result
-        /// of this frame and the contents of the buffer are unspecified.
+        /// You may change the buffer between two frames. If you change the buffer after a frame has begun and before the
+        /// zero that ends it, the result of this frame and the contents of the buffer are unspecified.
         #[inline]
         pub fn dest_mut(&mut self) -> &mut [u8] {
             &mut self.dest[..]
