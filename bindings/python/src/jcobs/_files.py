@@ -160,7 +160,7 @@ def read_socket(sock: Any, timeout: Optional[float], kept: Kept) -> bool:
 def read_ssl(sock: Any, timeout: Optional[float], kept: Kept) -> bool:
     """Reads the bytes that an SSL socket has, or waits for some.
 
-    The socket may be readable because of a record without data.
+    The socket may be readable because of a record without data. So the timeout of the socket itself is used.
     """
     from ssl import SSLWantReadError
 
@@ -191,8 +191,8 @@ def read_file(file: Any, timeout: Optional[float], kept: Kept) -> bool:
     of_socket = isinstance(getattr(file, "raw", file), socket.SocketIO)
     found = keep(kept, getattr(file, "read1", file.read), CHUNK, in_python=of_socket)
     if (not found or not kept[-1]) and hasattr(file, "raw") and not waits(file):
-        # If `read1` returns empty bytes, the file is at its end. Up to Python 3.13 they may also mean that no bytes
-        # have arrived. In both cases the file's own buffer is empty.
+        # If `read1` returns empty bytes, the file is at its end. Up to Python 3.13 empty bytes may also mean that no
+        # bytes have arrived. In both cases the file's own buffer is empty.
         if found:
             kept.pop()
         return keep(kept, file.raw.read, CHUNK)

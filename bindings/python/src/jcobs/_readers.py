@@ -21,7 +21,7 @@ if TYPE_CHECKING:
 
     from _typeshed import ReadableBuffer
 
-# A wait in seconds that every system accepts.
+# The longest wait in seconds that is passed to the system. Every system accepts a wait of this length.
 LONGEST = 2_000_000.0
 IN_USE = "the reader is in use by another call"
 # The longest time in seconds that `discard` takes, if bytes never stop arriving.
@@ -96,7 +96,7 @@ class Frames(Coder):
         self._headless = self._headless or begun
 
     def _check_arrived(self) -> None:
-        """Drops b"" or the GAP, if a read that an exception ended has left one of them."""
+        """Drops b"" or the GAP. A read may have left one of them, if an exception ended the read."""
         if self._arrived and (not self._arrived[0] or self._arrived[0] is GAP):
             if self._arrived.popleft() is GAP:
                 self._lose(True)
@@ -153,7 +153,7 @@ class FrameReader(Frames):
     """Reads frames from a serial port, a socket, a pipe or a file, and sends messages to it.
 
     `read` returns the outcome of one frame: a `Message`, `Broken` or `TooLong`. Iterating yields each outcome as soon
-    as its frame ends, until the stream ends or a timeout of the port or socket passes. After a timeout reading can
+    as its frame ends, until the stream ends or a timeout of the port or socket passes. After a timeout, reading can
     continue. No byte is lost if the read of the file raises an exception.
 
     With the extension and CPython 3.11 or later, no byte of a socket, a pipe or a file is lost if a signal handler
