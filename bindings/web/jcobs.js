@@ -134,7 +134,7 @@ class Held {
 
 const DISPOSE = Symbol.dispose ?? Symbol("dispose");
 
-/** Decodes a stream in chunks of any size, with messages of up to `maxLength` bytes. */
+/** Decodes a stream that comes in chunks of any size, with messages of up to `maxLength` bytes. */
 export class FrameDecoder {
   #held;
   #decoder;

@@ -353,8 +353,8 @@ class sender
     // finish ends the message and returns its frame, for the given sentinel. finish_terminated also writes the sentinel
     // after the frame, and returns the frame with the sentinel. The returned bytes are in the buffer until the next push
     // or feed. If the frame, or the frame with the sentinel, doesn't fit the buffer, the result is an empty view, and
-    // nothing has changed; reset then drops the message. Pushes always leave room for the frame, so the result of finish
-    // is empty only if the size of the buffer is 0.
+    // nothing has changed. To drop the message after that, call reset. Pushes always leave room for the frame, so the
+    // result of finish is empty only if the size of the buffer is 0.
     [[nodiscard]] view finish(unsigned char sentinel = 0) noexcept
     {
         return for_sentinel(jcobs_encoder_finish(&encoder_, buffer_.data(), buffer_.size()), sentinel);

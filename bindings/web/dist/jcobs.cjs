@@ -507,7 +507,7 @@ class Held {
 
 const DISPOSE = Symbol.dispose ?? Symbol("dispose");
 
-/** Decodes a stream in chunks of any size, with messages of up to `maxLength` bytes. */
+/** Decodes a stream that comes in chunks of any size, with messages of up to `maxLength` bytes. */
 class FrameDecoder {
   #held;
   #decoder;

@@ -83,7 +83,7 @@ export function load(source?: Source): Promise<void>;
  * Loads the module before it returns, for a program that can't wait for a promise. Without an argument, `loadSync` takes the
  * module that comes with this file. Once the module is loaded, a further call changes nothing. On a page, outside of a worker,
  * Chrome allows this call from version 115 on.
- * @throws CobsError "unsupported"; or the error of the source
+ * @throws CobsError "unsupported", or the error of the source
  */
 export function loadSync(source?: Bytes | WebAssembly.Module): void;
 

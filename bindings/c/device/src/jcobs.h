@@ -89,10 +89,10 @@
  * - consumed is the number of bytes that the call has taken from the message, the source or the pushed bytes;
  * - length is the number of bytes at the front of the buffer that belong to the result.
  *
- * A call doesn't change the bytes of the buffer after the result. The only exception is
+ * A call doesn't change the bytes of the buffer that follow the result. The only exception is
  * jcobs_decode_in_place_with_sentinel. If several calls with a jcobs_decoder decode one frame, or several calls with a
- * jcobs_encoder encode one message, the bytes after the result are as they were before the first of these calls. But if
- * a call with a jcobs_encoder returns TOO_SMALL, the whole buffer is as it was before this call.
+ * jcobs_encoder encode one message, the bytes that follow the result are as they were before the first of these calls.
+ * But if a call with a jcobs_encoder returns TOO_SMALL, the whole buffer is as it was before this call.
  *
  * A frame is a sequence of blocks. A block is a code, from 1 to 255, followed by code - 1 nonzero bytes. A block with
  * the code 255 is full. The output of a frame or of blocks is the bytes that they decode to: the bytes of the blocks,

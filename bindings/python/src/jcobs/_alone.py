@@ -46,7 +46,7 @@ def begins(calls: List[FrameType], mine: FrameType) -> bool:
 def alone(what: str, use: Optional[str] = None) -> Callable[[_Method], _Method]:
     """Makes a method raise RuntimeError while another call is running on its object, in any thread or signal handler.
 
-    Methods with different uses may run at the same time. The object must have a dictionary `_calls`, which is empty at
+    Methods with different values of `use` may run at the same time. The object must have a dictionary `_calls`, which is empty at
     first.
 
     The finally clause calls nothing, because CPython from 3.11 on runs signal handlers after calls. In older versions,

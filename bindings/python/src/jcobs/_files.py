@@ -25,7 +25,7 @@ class Readable(Protocol):
     """An object with `read`, such as a binary file or a `serial.Serial`."""
 
     def read(self, size: int, /) -> Optional[bytes]:
-        """Returns at most `size` bytes: no bytes at the end of the file, or None if there are none now."""
+        """Returns at most `size` bytes: no bytes at the end of the file, or None if no bytes have arrived."""
 
 
 class Receivable(Protocol):
@@ -119,7 +119,7 @@ def read_port_by_its_timeout(port: Any, timeout: Optional[float], kept: Kept) ->
 def read_port_at_a_socket(port: Any, timeout: Optional[float], kept: Kept) -> bool:
     """Reads the bytes that a port of socket:// has, or waits for some.
 
-    The port's `in_waiting` is 1 for any number of waiting bytes above 0.
+    The port's `in_waiting` is 1 for any number of waiting bytes above 0, so it isn't used.
     """
     own = port.timeout
     if not wait([port.fileno()], own if timeout is None else timeout):

@@ -177,7 +177,7 @@ class FrameReader(Frames):
 
     A reader never waits for further bytes if some have arrived. From a serial port it reads `in_waiting` bytes, or 1
     byte if none are waiting. For a socket it calls `recv`, for a buffered file `read1`, and for any other object
-    `read`, each with 65536 as the size. This method of the object must return the bytes that have arrived, no bytes at
+    `read`, each with 65536 as the size. The method that is called must return the bytes that have arrived, no bytes at
     the end of the input, or None if no bytes have arrived.
     """
 
@@ -220,8 +220,9 @@ class FrameReader(Frames):
     def read(self, timeout: Optional[float] = None) -> Optional[Outcome]:
         """Returns the outcome of the next frame, or None if it hasn't ended after `timeout` seconds.
 
-        Without `timeout` the call waits as long as the object itself waits. Then it returns None if the object's own
-        timeout has passed, or if the object never waits and has no bytes now. Raises EOFError at the end of the stream.
+        Without `timeout` the call waits as long as the object itself waits. In this case the call returns None if the
+        object's own timeout has passed, or if the object never waits and has no bytes now. Raises EOFError at the end
+        of the stream.
 
         With `timeout` the call doesn't see bytes that other code, such as `readline`, has left in a file's own buffer.
         Open the file with `buffering=0`, or give such bytes to a `Decoder`. If a socket has a timeout, pass the socket
