@@ -36,8 +36,8 @@ def closing(count: int, sentinel: int) -> bytes:
     block. The next byte is a code of 255 with fewer than 254 bytes after it, so the frame is broken.
 
     At most 254 bytes of a block can be missing, so `count` is at most 255. If `count` is 255, the first returned byte
-    is 1, the code of an empty block. If that byte were 255 and no byte of a block were missing, the 254 bytes after it
-    would make a full block.
+    is 1, the code of a block that has only its code. If that byte were 255 and no byte of a block were missing, the 254
+    bytes after it would make a full block.
     """
     spoiling = b"\xff" * count if count < 255 else b"\x01" + b"\xff" * 254
     return bytes(byte ^ sentinel for byte in spoiling + b"\0")
