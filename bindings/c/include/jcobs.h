@@ -95,11 +95,11 @@
  * But if a call with a jcobs_encoder returns TOO_SMALL, the whole buffer is as it was before this call.
  *
  * A frame is a sequence of blocks. A block is a code, from 1 to 255, followed by code - 1 nonzero bytes. A block with
- * the code 255 is full. The output of a frame or of blocks is the bytes that they decode to: the bytes of the blocks,
- * with a zero between two blocks, unless the first of the two is full. A broken frame is cut off inside its last block.
- * If there is a zero before this block, the zero is part of the output even without the block. For example, the broken
- * frame 02 41 05 42 is cut off inside the block 05 42. The frame's output is 41 00 without this block, and 41 00 42
- * including this block.
+ * the code 255 is full. The output of a frame or of blocks is the bytes that they decode to: the bytes after the code of
+ * each block, and a zero between two blocks unless the first of the two is full. A broken frame is cut off inside its
+ * last block. If the output has a zero before the bytes of this block, the zero stays even without the block. For
+ * example, the broken frame 02 41 05 42 is cut off inside the block 05 42. The frame's output is 41 00 without this
+ * block, and 41 00 42 including this block.
  *
  * jcobs_decode, jcobs_decode_in_place and their forms with a sentinel don't need a sentinel after the frame. Without a
  * sentinel the frame ends at the end of the source, and consumed is the source's length. So a frame that was cut off

@@ -83,9 +83,9 @@
 //! The functions of `src/proved/` are translated from the crates `cobs` and `cobs_bytes` in Rattle, which is Rust with
 //! contracts. In Rattle each function is proved to return the right result, not to panic, and to end, for a `usize` of
 //! 64 bits. The other files of `src/` are tested, not proved. These files have the signatures of the crate `cobs`,
-//! choose between the proved functions for a push of one byte and of more bytes, and add the types for `std::io` and
-//! tokio. Memory safety depends on rustc, on `memchr`, and on the `unsafe` code of `src/simd.rs`. No other file of this
-//! crate has `unsafe` code, and with the feature `small` that file has none either.
+//! choose the proved function for each push, and add the types for `std::io` and tokio. Memory safety depends on rustc,
+//! on `memchr`, and on the `unsafe` code of `src/simd.rs`. No other file of this crate has `unsafe` code, and with the
+//! feature `small` that file has none either.
 //!
 //! # Features
 //!

@@ -144,8 +144,8 @@ impl<R> MessageReader<R> {
         &self.inner
     }
 
-    /// Returns the source as a mutable reference, for example to set its timeout. Bytes that you read from it directly
-    /// are missing from the next message.
+    /// Returns the source as a mutable reference, for example to set its timeout. Bytes that you read directly from the
+    /// source are missing from the next message.
     pub fn get_mut(&mut self) -> &mut R {
         &mut self.inner
     }

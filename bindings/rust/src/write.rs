@@ -93,7 +93,8 @@ impl<W> MessageWriter<W> {
         &self.inner
     }
 
-    /// Returns the inner writer as a mutable reference. Bytes that you write to it directly come between two frames.
+    /// Returns the inner writer as a mutable reference. Bytes that you write directly to the inner writer come between
+    /// two frames.
     pub fn get_mut(&mut self) -> &mut W {
         &mut self.inner
     }
