@@ -80,6 +80,14 @@ pub record HasRoomFor (n : ℕ) (reached : Reached) (bytes : List ℕ) : Type 0 
   pub place : IsPlaceIn n reached
   pub fits : end_after reached bytes ≤ n
 
+-- these are 1 to 8 bytes, and an encoder with this progress takes them in a buffer of n bytes without filling its open
+-- block, whatever the bytes are
+pub record IsFewFor (n : ℕ) (reached : Reached) (bytes : List ℕ) : Type 0 where
+  pub some : 0 < length bytes
+  pub few : length bytes ≤ 8
+  pub open_block : reached.block.code + length bytes < 255
+  pub fits : next_of reached + length bytes ≤ n
+
 -- A `CobsEncoder` with this progress over this slice has taken m: the slice begins with the encoded frame of m, except
 -- for the byte at the open block's index, and the progress says whether that frame ends in a full block.
 pub record CobsEncoderAfter (slice : List ℕ) (reached : Reached) (m : List ℕ) : Type 0 where

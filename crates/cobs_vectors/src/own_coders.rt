@@ -36,6 +36,18 @@ pub fn end_with(
     encoder.finalize(buffer)
 }
 
+/// Encodes a field of four bytes. A new encoder takes so few bytes at once if the buffer has room for five bytes.
+pub fn encode_field(field: &[u8], buffer: &mut [u8]) -> Result<usize, DestBufTooSmallError>
+    requires four { length field.now ≡ 4 }
+    requires room { 5 ≤ length buffer.old }
+    ensures ended { IsOk result }
+    ensures frame { IfOk result (λ n. IsEncodedFrame (take n buffer.new) field.now) }
+{
+    let mut encoder = UnbufferedEncoder::new();
+    encoder.push_few(buffer, field);
+    encoder.finalize(buffer)
+}
+
 /// Writes the frame for a link's sentinel. For 0 no byte is XORed.
 pub fn encode_for_link(message: &[u8], dest: &mut [u8], sentinel: u8) -> usize
     requires { encoded_len message.now ≤ length dest.old }

@@ -1,7 +1,7 @@
 //! The encoder, byte by byte: the step for one byte of the message, and a loop over the bytes of a push.
 ghost use Rattle.std.specs.Prelude.{◌≡◌, ◌<◌, ◌≤◌, ◌+◌, ◌++◌, ◌↔◌, [], ◌∷◌, ℕ, List, length, drop, IsOk, IsTrue, IfOk, OnOk, OnErr, false};
 ghost use Rattle.cobs.specs.Length.{encoded_len};
-ghost use Rattle.cobs.specs.OpenBlock.{CobsEncoderAfter, HasRoomFor, IsPlaceIn, end_after, end_of};
+ghost use Rattle.cobs.specs.OpenBlock.{CobsEncoderAfter, HasRoomFor, IsFewFor, IsPlaceIn, end_after, end_of};
 ghost use Rattle.cobs.specs.Fields.Progress.{reached_by};
 ghost use Rattle.cobs.specs.Internal.Taking.{TakesFront};
 
@@ -136,6 +136,7 @@ impl UnbufferedEncoder {
     #[inline(always)]
     #[tactic(auto, using(crate::proofs::encoding::TakingLemmas::few_steps))]
     pub fn push_few(&mut self, dest: &mut [u8], bytes: &[u8]) -> bool
+        ensures few { IsTrue result ↔ IsFewFor (length dest.old) (reached_by self.old) bytes.now }
         ensures taken { IsTrue result → (m : List ℕ)
             → CobsEncoderAfter dest.old (reached_by self.old) m
             → CobsEncoderAfter dest.new (reached_by self.new) (m ++ bytes.now) }
