@@ -47,7 +47,7 @@ export interface DecoderOptions extends PieceOptions {
   skipFirst?: boolean;
 }
 
-/** The outcome of a piece of a stream that a sentinel ended. */
+/** The outcome of a piece of a stream. A piece is the bytes up to a sentinel. */
 export type Outcome =
   /** The piece is a frame, and this is its message. */
   | { message: Uint8Array; broken?: undefined; tooLong?: undefined }
@@ -75,7 +75,7 @@ export function isSupported(): boolean;
 /**
  * Loads the module, which every call needs except `isSupported`. Without an argument, `load` takes the module that comes with
  * this file. Once the module is loaded, or is being loaded, a further call changes nothing and returns the same promise.
- * @throws CobsError "unsupported"; or the error of the source, after which `load` can be called again
+ * @throws CobsError "unsupported", or the error of the source; after this error `load` can be called again
  */
 export function load(source?: Source): Promise<void>;
 
@@ -83,7 +83,7 @@ export function load(source?: Source): Promise<void>;
  * Loads the module before it returns, for a program that can't wait for a promise. Without an argument, `loadSync` takes the
  * module that comes with this file. Once the module is loaded, a further call changes nothing. On a page, outside of a worker,
  * Chrome allows this call from version 115 on.
- * @throws CobsError "unsupported"; or the error of the source
+ * @throws CobsError "unsupported", or the error of the source
  */
 export function loadSync(source?: Bytes | WebAssembly.Module): void;
 
@@ -113,8 +113,8 @@ export function decode(frame: Bytes, options?: SentinelOptions): Uint8Array;
 export function frameKind(frame: Bytes, options?: SentinelOptions): "canonical" | "longer" | "notAFrame";
 
 /**
- * Iterates over the outcomes of all pieces of `bytes` that a sentinel ends; `end` is the index after that sentinel. Bytes after
- * the last sentinel have no outcome.
+ * Iterates over the outcomes of all pieces of `bytes` that a sentinel ends. The member `end` of an outcome is the index after that
+ * sentinel. Bytes after the last sentinel have no outcome.
  */
 export function frames(bytes: Bytes, options?: DecoderOptions): IterableIterator<Outcome & { end: number }>;
 
@@ -137,7 +137,7 @@ export class FrameDecoder {
   [Symbol.dispose](): void;
 }
 
-/** Encodes a message that comes in pieces. */
+/** Encodes a message that comes in chunks. */
 export class FrameEncoder {
   constructor(options?: PieceOptions);
   /**

@@ -47,7 +47,7 @@
  *     if (answer.status == JCOBS_OK)
  *         transmit(frame, answer.length);
  *
- * To send a message that comes in pieces:
+ * To send a message that comes in chunks:
  *
  *     jcobs_encoder encoder = JCOBS_ENCODER_INIT;
  *     unsigned char frame[JCOBS_MAX_LENGTH(1024) + 1];
@@ -83,23 +83,23 @@
  *
  * Results
  *
- * The comment below a prototype lists each status that the call can return, without JCOBS_, and for each status the
- * values of the members consumed and length:
+ * The comment below a prototype lists each status that the call can return, without the prefix JCOBS_. For each status
+ * the comment gives the values of the members consumed and length:
  *
  * - consumed is the number of bytes that the call has taken from the message, the source or the pushed bytes;
  * - length is the number of bytes at the front of the buffer that belong to the result.
  *
- * A call doesn't change the bytes of the buffer after the result. The only exception is
+ * A call doesn't change the bytes of the buffer that follow the result. The only exception is
  * jcobs_decode_in_place_with_sentinel. If several calls with a jcobs_decoder decode one frame, or several calls with a
- * jcobs_encoder encode one message, the bytes after the result are as they were before the first of these calls. But if
- * a call with a jcobs_encoder returns TOO_SMALL, the whole buffer is as it was before this call.
+ * jcobs_encoder encode one message, the bytes that follow the result are as they were before the first of these calls.
+ * But if a call with a jcobs_encoder returns TOO_SMALL, the whole buffer is as it was before this call.
  *
  * A frame is a sequence of blocks. A block is a code, from 1 to 255, followed by code - 1 nonzero bytes. A block with
- * the code 255 is full. The output of a frame or of blocks is the bytes that they decode to: the bytes of the blocks,
- * with a zero between two blocks, unless the first of the two is full. A broken frame is cut off inside its last block.
- * If there is a zero before this block, the zero is part of the output even without the block. For example, the broken
- * frame 02 41 05 42 is cut off inside the block 05 42. The frame's output is 41 00 without this block, and 41 00 42
- * including this block.
+ * the code 255 is full. The output of a frame or of blocks is the bytes that they decode to: the bytes after the code of
+ * each block, and a zero between two blocks unless the first of the two is full. A broken frame is cut off inside its
+ * last block. If the output has a zero before the bytes of this block, the zero stays even without the block. For
+ * example, the broken frame 02 41 05 42 is cut off inside the block 05 42. The frame's output is 41 00 without this
+ * block, and 41 00 42 including this block.
  *
  * jcobs_decode, jcobs_decode_in_place and their forms with a sentinel don't need a sentinel after the frame. Without a
  * sentinel the frame ends at the end of the source, and consumed is the source's length. So a frame that was cut off
@@ -167,20 +167,20 @@ typedef struct jcobs_answer {
     size_t length;       /* how many bytes at the front of the buffer belong to the result */
 } jcobs_answer;
 
-/* The results of jcobs_frame_kind. A result says whether bytes, without sentinels around them, are a frame, and whether
- * that frame is the one that encoders write. */
+/* The results of jcobs_frame_kind. Pass the bytes without the sentinels before and after them. The result says whether
+ * the bytes are a frame, and whether that frame is the one that encoders write. */
 enum jcobs_kind {
     JCOBS_NOT_A_FRAME = 0, /* there are no bytes, a byte is 0, or the bytes break off inside a block */
     JCOBS_CANONICAL = 1,   /* the frame that encoders write for its message */
-    JCOBS_LONGER = 2       /* the frame that encoders write, followed by a 1, which doesn't change the message */
+    JCOBS_LONGER = 2       /* the frame that encoders write, and a byte 1 after it, which doesn't change the message */
 };
 
 /* The state of a streaming decoder. Only the library uses the members. */
 typedef struct jcobs_decoder {
-    size_t written;         /* how many bytes of the open message are in the buffer */
-    unsigned char missing;  /* how many bytes of the open block are missing */
-    unsigned char joint;    /* whether the message has a zero after the open block, if another block follows */
-    unsigned char too_long; /* whether the open message was too long for the buffer */
+    size_t written;         /* how many bytes of the message so far are in the buffer */
+    unsigned char missing;  /* how many bytes of the current block are missing */
+    unsigned char joint;    /* whether the message has a zero after the current block, if another block follows */
+    unsigned char too_long; /* whether the message so far was too long for the buffer */
 } jcobs_decoder;
 
 /* The initial state, in which no frame has begun. All members are 0, as after jcobs_decoder_reset. */
@@ -188,7 +188,8 @@ typedef struct jcobs_decoder {
 #define JCOBS_DECODER_INIT {0, 0, 0, 0}
 /* clang-format on */
 
-/* The state of a streaming encoder. Only the library uses the members. */
+/* The state of a streaming encoder. Only the library uses the members. The open block is the block that the encoder has
+ * begun but not finished; its code isn't written yet. */
 typedef struct jcobs_encoder {
     size_t index;        /* the index in the buffer at which the code of the open block belongs */
     unsigned char taken; /* how many bytes the open block has so far, without its code */
@@ -253,7 +254,7 @@ JCOBS_API jcobs_answer jcobs_encode_terminated(const void *message, size_t messa
  *   */
 
 /* Do what jcobs_encode and jcobs_encode_terminated do, for another sentinel. Each byte of the frame is XORed with the
- * sentinel. The second call writes the sentinel after the frame. */
+ * sentinel. The second function also writes the sentinel after the frame. */
 JCOBS_API jcobs_answer jcobs_encode_with_sentinel(const void *message, size_t message_len, void *frame,
                                                   size_t frame_size, unsigned char sentinel) JCOBS_READS(1, 2)
     JCOBS_WRITES(3, 4) JCOBS_CHECKED;
@@ -281,7 +282,8 @@ JCOBS_API jcobs_answer jcobs_decode(const void *source, size_t source_len, void 
 /* returns:
  * - OK: consumed counts the leading zeros, the frame and the zero after it; length is the length of the message;
  * - BROKEN: consumed is as for OK; length is the length of the frame's output, including the block that is cut off;
- * - TOO_SMALL: consumed is as for OK; length is message_size. The output is longer, and the buffer has its first bytes;
+ * - TOO_SMALL: consumed is as for OK; length is message_size. The output is longer than the buffer, and the buffer has
+ *   the first bytes of the output;
  * - EMPTY, if the source has no bytes or only zeros: consumed is source_len, and length is 0. */
 
 /* Decodes the frame at the front of the source, for the given sentinel, to the front of the buffer `message`. The frame
@@ -294,8 +296,8 @@ JCOBS_API jcobs_answer jcobs_decode_with_sentinel(const void *source, size_t sou
 /* returns:
  * - OK: consumed counts the frame and the sentinel after it; length is the length of the message;
  * - BROKEN: consumed is as for OK; length is the length of the frame's output, without the block that is cut off;
- * - TOO_SMALL: consumed is as for OK; length is message_size. The message, or the output that BROKEN counts, is longer,
- *   and the buffer has its first bytes;
+ * - TOO_SMALL: consumed is as for OK; length is message_size. The frame's output, without a block that is cut off, is
+ *   longer than the buffer, and the buffer has the first bytes of the output;
  * - EMPTY, if the source has no bytes: consumed and length are 0. */
 
 /* Decodes the frame at the front of the buffer in place. The frame ends at the first zero or at the end of the buffer.
@@ -327,15 +329,17 @@ JCOBS_API void jcobs_decoder_reset(jcobs_decoder *decoder) JCOBS_STATE;
  * is reported once, at the zero that ends it. Zeros between frames are skipped. A frame that is broken, or whose
  * message is too long for the buffer, never affects the next frame.
  *
- * While a frame is open, pass the same buffer with the same size, and don't change its contents between two calls.
- * Otherwise the status of that frame and the contents of the buffer are unspecified. */
+ * From the first byte of a frame to the zero that ends it, pass the same buffer with the same size, and don't change the
+ * buffer's contents between two calls. Otherwise the status of that frame and the contents of the buffer are
+ * unspecified. */
 JCOBS_API jcobs_answer jcobs_decoder_push(jcobs_decoder *decoder, void *buffer, size_t buffer_size, const void *bytes,
                                           size_t len) JCOBS_STATE JCOBS_WRITES(2, 3) JCOBS_READS(4, 5) JCOBS_CHECKED;
 /* returns:
  * - OK: consumed counts the bytes through the zero that ends the frame; length is the length of the message;
  * - BROKEN: consumed is as for OK; length is the length of the frame's output, including the block that is cut off;
- * - TOO_SMALL: consumed is as for OK; length is buffer_size. The output is longer, and the buffer has its first bytes;
- * - MORE: consumed is len; length is the length of the part of an unfinished message that is in the buffer. */
+ * - TOO_SMALL: consumed is as for OK; length is buffer_size. The output is longer than the buffer, and the buffer has
+ *   the first bytes of the output;
+ * - MORE: consumed is len; length is the number of bytes of an unfinished message that are in the buffer. */
 
 /* Does what jcobs_decoder_push does with one byte, and is faster. */
 JCOBS_API jcobs_answer jcobs_decoder_feed(jcobs_decoder *decoder, void *buffer, size_t buffer_size,
@@ -361,8 +365,8 @@ JCOBS_API void jcobs_encoder_reset(jcobs_encoder *encoder) JCOBS_STATE;
 /* Takes the next bytes of a message, and encodes them to the buffer. If they don't fit, you can push fewer bytes,
  * finish the message without them, or drop the message with jcobs_encoder_reset.
  *
- * From the first push to the finish of a message, pass the same buffer with the same size, and don't change its
- * contents between two calls. Otherwise the contents of the buffer are unspecified. */
+ * From the first push of a message until the message is finished, pass the same buffer with the same size, and don't
+ * change the buffer's contents between two calls. Otherwise the contents of the buffer are unspecified. */
 JCOBS_API jcobs_answer jcobs_encoder_push(jcobs_encoder *encoder, void *buffer, size_t buffer_size, const void *bytes,
                                           size_t len) JCOBS_STATE JCOBS_WRITES(2, 3) JCOBS_READS(4, 5) JCOBS_CHECKED;
 /* returns:
@@ -382,8 +386,8 @@ JCOBS_API jcobs_answer jcobs_encoder_finish(jcobs_encoder *encoder, void *buffer
     JCOBS_WRITES(2, 3) JCOBS_CHECKED;
 /* returns:
  * - OK: consumed is 0, and length is the length of the frame;
- * - TOO_SMALL, only if the buffer is empty, or isn't the buffer of the pushes: consumed and length are 0, and the state
- *   and the buffer are as they were. */
+ * - TOO_SMALL, only if buffer_size is 0, or if the buffer isn't that of the pushes: consumed and length are 0, and the
+ *   state and the buffer are as they were. */
 
 /* Does what jcobs_encoder_finish does, and writes a zero after the frame. The zero needs one more byte in
  * the buffer. */
@@ -395,8 +399,8 @@ JCOBS_API jcobs_answer jcobs_encoder_finish_terminated(jcobs_encoder *encoder, v
  *   they were. */
 
 /* Do what jcobs_encoder_finish and jcobs_encoder_finish_terminated do, for another sentinel. Each byte of the frame is
- * XORed with the sentinel. The second call writes the sentinel after the frame. Push the bytes of the message as for
- * the sentinel 0. */
+ * XORed with the sentinel. The second function also writes the sentinel after the frame. Push the bytes of the message
+ * as for the sentinel 0. */
 JCOBS_API jcobs_answer jcobs_encoder_finish_with_sentinel(jcobs_encoder *encoder, void *buffer, size_t buffer_size,
                                                           unsigned char sentinel) JCOBS_STATE
     JCOBS_WRITES(2, 3) JCOBS_CHECKED;

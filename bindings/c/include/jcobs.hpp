@@ -23,7 +23,7 @@
 //     if (answer.status == JCOBS_OK)
 //         transmit(frame.data(), answer.length);
 //
-// To send a message that comes in pieces:
+// To send a message that comes in chunks:
 //
 //     std::array<std::byte, jcobs::max_length(1024) + 1> room;
 //     jcobs::sender sender(room);
@@ -50,7 +50,7 @@
 #include <type_traits>
 #include <utility>
 
-// With this attribute Clang warns if a view outlives the temporary object that owns its bytes.
+// With this attribute Clang warns if a view outlives the temporary object that owns the bytes of the view.
 #if defined(__has_cpp_attribute)
 #if __has_cpp_attribute(gsl::Pointer)
 #define JCOBS_POINTER [[gsl::Pointer]]
@@ -82,8 +82,8 @@ struct is_bytes<
 };
 
 // Says whether a range is a temporary object that owns its bytes, so that the bytes are destroyed with the object. A
-// container owns its bytes: if the container is const, its bytes are const too. A view to write to owns no bytes: even
-// if the view is const, its bytes aren't.
+// container owns its bytes, so the bytes of a const container are const. A view for writing owns no bytes, so the bytes
+// of a const view for writing aren't const.
 template <class Range, class = void> struct is_temporary : std::false_type {
 };
 template <class Range>
@@ -219,7 +219,7 @@ constexpr std::size_t max_overhead(std::size_t message_len) noexcept
     return static_cast<jcobs_kind>(jcobs_frame_kind(bytes.data(), bytes.size()));
 }
 
-// Decodes a stream of frames to a buffer. The sentinel follows each frame, and the stream may be passed in pieces of
+// Decodes a stream of frames to a buffer. The sentinel follows each frame, and the stream may be passed in chunks of
 // any size. The buffer must outlive the receiver. A receiver can be moved, but not in a callback of its own push. A
 // receiver that was moved from is idle, and has no buffer.
 class receiver
@@ -282,7 +282,7 @@ class receiver
         return jcobs_decoder_feed(&decoder_, buffer_.data(), buffer_.size(), fed);
     }
 
-    // Returns whether no frame is open.
+    // Returns whether no frame is open. A frame is open from its first byte until the sentinel that ends it.
     [[nodiscard]] bool is_idle() const noexcept
     {
         return jcobs_decoder_is_idle(&decoder_) == 1;
@@ -317,7 +317,7 @@ class receiver
     unsigned char sentinel_;
 };
 
-// Encodes messages that come in pieces, one message after another, to the front of a buffer. The buffer must outlive
+// Encodes messages that come in chunks, one message after another, to the front of a buffer. The buffer must outlive
 // the sender. A sender can be moved. A sender that was moved from has taken no bytes, and has no buffer.
 class sender
 {
@@ -350,10 +350,11 @@ class sender
         return jcobs_encoder_feed(&encoder_, buffer_.data(), buffer_.size(), byte).status == JCOBS_OK;
     }
 
-    // finish ends the message and returns its frame, for the given sentinel. finish_terminated also writes the sentinel after
-    // the frame, and returns the frame with the sentinel. The returned bytes are in the buffer until the next push or
-    // feed. If the frame, or the frame with the sentinel, doesn't fit the buffer, the result is an empty view, and
-    // nothing has changed; reset drops the message. The result of finish is empty only if the buffer is empty.
+    // finish ends the message and returns its frame, for the given sentinel. finish_terminated also writes the sentinel
+    // after the frame, and returns the frame with the sentinel. The returned bytes are in the buffer until the next push
+    // or feed. If the frame, or the frame with the sentinel, doesn't fit the buffer, the result is an empty view, and
+    // nothing has changed. To drop the message after that, call reset. Pushes always leave room for the frame, so the
+    // result of finish is empty only if the size of the buffer is 0.
     [[nodiscard]] view finish(unsigned char sentinel = 0) noexcept
     {
         return for_sentinel(jcobs_encoder_finish(&encoder_, buffer_.data(), buffer_.size()), sentinel);

@@ -185,17 +185,18 @@ size_t jcobs_max_length(size_t message_len)
 }
 
 /* Returns whether `spare` bytes cover the overhead of every message of `len` bytes, that is, whether `len` is at
- * most 254 times `spare`. The function compares half of `len`, rounded up, with 127 times `spare`, after adding
- * `spare` to both sides. So it divides only by 2 and by 128, because small processors have no instruction for
- * other divisions, and nothing overflows. */
+ * most 254 times `spare`. This is so exactly if half of `len`, rounded up, is at most 127 times `spare`. The
+ * function adds `spare` to both sides of this comparison, so that it divides only by 2 and by 128, and nothing
+ * overflows. Small processors have no instruction for other divisions. For up to 254 bytes, one spare byte is
+ * always enough. */
 static JCOBS_INLINE int jcobs_covers_overhead(size_t len, size_t spare)
 {
-    return (len - len / 2 + spare - 1) / 128 < spare;
+    return len <= JCOBS_FULL_BLOCK_BYTES || (len - len / 2 + spare - 1) / 128 < spare;
 }
 
-/* Counts the blocks that become full and are followed by another byte, if the open block, which has `taken` bytes,
- * takes these bytes too. Returns whether there are fewer than `spare` such blocks. Each of these blocks makes the
- * frame one byte longer, because the next block needs a code. */
+/* Counts full blocks, as if these bytes were appended to an open block of `taken` bytes. A block is counted if it
+ * becomes full before the last byte: it makes the frame one byte longer, because the next block needs a code.
+ * Returns whether fewer than `spare` blocks were counted. */
 static int jcobs_extra_codes_fit(unsigned char taken, const unsigned char *bytes, size_t len, size_t spare)
 {
     size_t left = spare;
@@ -213,8 +214,8 @@ static int jcobs_extra_codes_fit(unsigned char taken, const unsigned char *bytes
     return 1;
 }
 
-/* Returns whether `room` bytes, counted from the code of an open block that has `taken` bytes, are enough for the
- * frame if the block takes these bytes too. The bytes are read only if their number doesn't decide whether the
+/* Returns whether the frame fits if these bytes are appended to an open block of `taken` bytes. The buffer has
+ * `room` bytes from the code of this block on. The bytes are read only if their number doesn't decide whether the
  * frame fits. data_len is the number of bytes of the message in the open block and the blocks after it, with these
  * bytes. */
 static JCOBS_INLINE int jcobs_has_room(unsigned char taken, const unsigned char *bytes, size_t len, size_t room)
@@ -424,8 +425,8 @@ static JCOBS_APART size_t jcobs_find_end(const unsigned char *source, size_t sou
     return end;
 }
 
-/* Returns the result of jcobs_decode_piece for a piece with `written` bytes of output, if `missing` bytes of its
- * last block are missing and `consumed` bytes of the source were consumed. */
+/* Returns the result of jcobs_decode_piece for a piece with `written` bytes of output. `missing` bytes of the
+ * piece's last block are missing, and `consumed` bytes of the source were consumed. */
 static JCOBS_INLINE jcobs_piece jcobs_ended_piece(size_t written, size_t missing, size_t consumed)
 {
     if (missing == 0) {
@@ -522,7 +523,7 @@ static JCOBS_APART size_t jcobs_length_to_zero(const unsigned char *bytes, size_
     return len - rest_len;
 }
 
-/* Decodes the frame in the first frame_len bytes of the buffer, in place and one byte after another, and returns
+/* Decodes the first frame_len bytes of the buffer as one frame, in place and one byte after another, and returns
  * the message's length. Every byte after the message is as it was. No byte of the frame is a zero. If the last
  * block is cut off, it returns JCOBS_END_BROKEN, with the length of the output of the blocks before it. */
 static JCOBS_APART jcobs_end jcobs_decode_blocks(unsigned char *buffer, size_t frame_len)
@@ -639,8 +640,8 @@ static JCOBS_INLINE unsigned char jcobs_joint_after(unsigned char code)
     return code == JCOBS_FULL_CODE ? 0 : 1;
 }
 
-/* Takes a byte of a piece, writes its output to the buffer, and returns how many bytes of the open message the
- * buffer then holds. If the output is too long for the buffer, this is the buffer's length. */
+/* Takes a byte of a piece, writes its output to the buffer, and returns how many decoded bytes of the piece the
+ * buffer then holds. If the output is too long for the buffer, this number is the buffer's length. */
 static JCOBS_INLINE size_t jcobs_decoder_take_byte(jcobs_decoder *decoder, unsigned char *buffer, size_t buffer_size,
                                                    unsigned char byte)
 {
@@ -648,8 +649,8 @@ static JCOBS_INLINE size_t jcobs_decoder_take_byte(jcobs_decoder *decoder, unsig
         return buffer_size;
     }
 
-    /* `written` is read once here, because compilers would read it again after each write to the buffer. Each
-     * case has a write of its own: that is faster than choosing a byte first and writing it in one place. */
+    /* `written` is read only once, here: otherwise compilers would read it again after each write to the buffer.
+     * Each case has a write of its own: that is faster than choosing a byte first and writing it in one place. */
     size_t at = decoder->written;
 
     if (decoder->missing != 0) {
@@ -751,8 +752,9 @@ static JCOBS_INLINE size_t jcobs_decoder_length(const jcobs_decoder *decoder, si
     return jcobs_min(decoder->written, buffer_size);
 }
 
-/* Returns the result of a call that decoded `len` bytes into a buffer of buffer_size bytes. If a piece has ended,
- * `piece` says how it ended, and how many bytes there are through its end. */
+/* Returns the result of a call that got `len` bytes of the stream, and has a buffer of buffer_size bytes. If a
+ * piece has ended, `piece` says how it ended, and how many bytes the call took, up to and including the zero that
+ * ended the piece. */
 static JCOBS_INLINE jcobs_answer jcobs_decoder_answer(const jcobs_decoder *decoder, jcobs_piece piece, size_t len,
                                                       size_t buffer_size)
 {
@@ -875,7 +877,7 @@ static JCOBS_INLINE void jcobs_encoder_append_bytes(jcobs_encoder *encoder, unsi
 static int jcobs_encoder_try_append(jcobs_encoder *encoder, unsigned char *buffer, size_t buffer_size,
                                     const unsigned char *bytes, size_t len)
 {
-    /* An open block has at most 253 bytes: other numbers don't come from these calls. */
+    /* An open block has at most 253 bytes: a greater number doesn't come from these calls. */
     if (encoder->taken >= JCOBS_FULL_BLOCK_BYTES || buffer_size < encoder->index) {
         return 0;
     }
@@ -924,8 +926,8 @@ static jcobs_answer jcobs_encoder_feed_byte(jcobs_encoder *encoder, unsigned cha
 {
     size_t code = (size_t)encoder->taken + 1;
 
-    /* A block with a greater code isn't open: such a number doesn't come from these calls. The tests read the
-     * field, and not a copy of it: so rustc sees that no index of the step is out of bounds. */
+    /* An open block has a code of at most 254: a greater number doesn't come from these calls. The tests read
+     * the field, and not a copy of it, so that rustc sees that no index of the step is out of bounds. */
     if (code > JCOBS_FULL_BLOCK_BYTES || buffer_size < encoder->index || buffer_size - encoder->index <= code) {
         return jcobs_too_small_answer();
     }
@@ -944,7 +946,7 @@ jcobs_answer jcobs_encoder_feed(jcobs_encoder *encoder, void *buffer, size_t buf
 /* Returns whether the state is possible in a buffer of this size. */
 static JCOBS_INLINE int jcobs_encoder_is_valid(const jcobs_encoder *encoder, size_t buffer_size)
 {
-    /* An open block has at most 253 bytes: other numbers don't come from these calls. */
+    /* An open block has at most 253 bytes: a greater number doesn't come from these calls. */
     if (encoder->taken >= JCOBS_FULL_BLOCK_BYTES || buffer_size < encoder->index) {
         return 0;
     }

@@ -14,7 +14,8 @@ use crate::dec::{DecodeError, UnbufferedDecoder};
 /// The codec decodes the bytes as they arrive. So it keeps at most `max_len` bytes, however long a frame is.
 ///
 /// An item of the stream is a message, or the error that [`MessageReader`](crate::MessageReader) would return for a
-/// damaged frame. A damaged frame never affects another frame. The stream ends at an error of its source, or with
+/// frame that is damaged or too long. Such a frame never affects another frame. The stream ends at an error of its
+/// source, or with
 /// [`UnexpectedEof`](ErrorKind::UnexpectedEof) if the source ends inside a frame. Each message is sent as its frame and
 /// a zero. The crate `cobs` doesn't have this type.
 ///

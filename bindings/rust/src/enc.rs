@@ -95,8 +95,8 @@ pub fn try_encode_including_sentinels(
 }
 
 /// Writes the frame of `source` for the given sentinel to the front of `dest`, and returns the frame's length in bytes.
-/// This frame is the frame for the sentinel 0 with each byte XORed with `sentinel`. The bytes after the frame stay as
-/// they are.
+/// Each byte of this frame is a byte of the frame for the sentinel 0, XORed with `sentinel`. The bytes after the frame
+/// stay as they are.
 ///
 /// ```
 /// let mut dest = [0; 4];

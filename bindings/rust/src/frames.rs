@@ -11,11 +11,12 @@ use crate::{enc::encode, max_encoding_length, memory, memory::AllocError};
 #[cfg(feature = "alloc")]
 use alloc::vec::Vec;
 
-/// Returns an iterator over the frames of a recorded stream, in order. Each item is a nonempty piece that a zero ends,
-/// still encoded, and without that zero.
+/// Returns an iterator over the frames of a recorded stream, in order. The frames are still encoded. A zero ends each
+/// frame, and isn't part of the item. Two zeros in a row have no item between them, and the bytes after the last zero
+/// aren't an item.
 ///
-/// A piece may be damaged: if it isn't a frame, [`decode`](crate::decode) returns an error for it. The crate `cobs`
-/// doesn't have this call.
+/// A frame may be damaged. Then [`decode`](crate::decode) may return an error for its item. The crate `cobs` doesn't
+/// have this call.
 ///
 /// ```
 /// use jcobs::frames;
@@ -90,8 +91,8 @@ const fn most_frames(stream: &[u8]) -> (usize, Option<usize>) {
 /// Returns an iterator over the messages of a recorded stream. Each message is decoded in place, over its frame, so no
 /// other memory is used.
 ///
-/// Each item is the message of a nonempty piece that a zero ends, or the error for this piece. A broken piece never
-/// affects another piece. The crate `cobs` doesn't have this call.
+/// Each item is the message of a frame that a zero ends, or the error if this frame is broken. A broken frame never
+/// affects another frame. The crate `cobs` doesn't have this call.
 ///
 /// ```
 /// use jcobs::decode_stream_in_place;
@@ -109,8 +110,8 @@ const fn most_frames(stream: &[u8]) -> (usize, Option<usize>) {
 ///
 /// # Errors
 ///
-/// An item is [`DecodeError::InvalidFrame`] if its piece breaks off inside a block. Then `decoded_bytes` is the number
-/// that [`decode_in_place`](crate::decode_in_place) returns for this piece.
+/// An item is [`DecodeError::InvalidFrame`] if its frame breaks off inside a block. Then `decoded_bytes` is the number
+/// that the error of [`decode_in_place`](crate::decode_in_place) has for this frame.
 #[inline]
 pub const fn decode_stream_in_place(stream: &mut [u8]) -> DecodeStreamInPlace<'_> {
     DecodeStreamInPlace { rest: stream }
@@ -124,7 +125,7 @@ pub struct DecodeStreamInPlace<'a> {
 }
 
 impl<'a> DecodeStreamInPlace<'a> {
-    /// Returns the rest of the stream: the bytes after the zero that ends the last decoded piece. Once `next` has
+    /// Returns the rest of the stream: the bytes after the zero that ends the last decoded frame. Once `next` has
     /// returned `None`, the result is the bytes after the last zero of the stream, unchanged.
     #[inline]
     #[must_use]
@@ -201,8 +202,8 @@ pub(crate) fn append_frame(stream: &mut Vec<u8>, message: &[u8]) -> Result<(), A
     memory::append(stream, room, |zeros| encode(message, zeros) + 1)
 }
 
-/// Returns the greatest length of the stream that [`encode_frames`] makes of messages with these lengths: the sum, over
-/// all messages, of [`max_encoding_length`] plus 1. Returns `None` if this sum doesn't fit a `usize`.
+/// Returns the length of the longest stream that [`encode_frames`] could make of messages as long as these: the sum,
+/// over all messages, of [`max_encoding_length`] plus 1. Returns `None` if this sum doesn't fit a `usize`.
 ///
 /// ```
 /// assert_eq!(jcobs::encode_frames_room(["hi", ""]), Some(6));

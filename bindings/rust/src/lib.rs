@@ -24,7 +24,7 @@
 //! # Ok::<(), jcobs::DecodeError>(())
 //! ```
 //!
-//! A streaming decoder decodes the bytes of a serial line as they arrive, in pieces of any size:
+//! A streaming decoder decodes the bytes of a serial line as they arrive, in chunks of any size:
 //!
 //! ```
 //! # #[cfg(feature = "alloc")] {
@@ -65,7 +65,7 @@
 //! | a program has | it calls |
 //! |---|---|
 //! | a message | [`encode`] into a slice, [`try_encode`] if the frame may not fit the slice, [`encode_vec`], [`encode_in_place`] in the message's own buffer; for any sentinel [`encode_with_sentinel`] |
-//! | a message in pieces | [`CobsEncoder`]; [`UnbufferedEncoder`], whose buffer is passed to each call; [`EncoderState`], if the program has a container of its own for the frame |
+//! | a message in chunks | [`CobsEncoder`]; [`UnbufferedEncoder`], whose buffer is passed to each call; [`EncoderState`], if the program has a container of its own for the frame |
 //! | a frame | [`decode`], [`decode_vec`], [`decode_in_place`]; for any sentinel [`decode_with_sentinel`]; [`frame_kind`] to check the frame |
 //! | bytes from a line, an interrupt, a channel | [`CobsDecoder`] over a slice, [`CobsDecoderHeapless`] with its buffer inside, [`CobsDecoderOwned`]; [`UnbufferedDecoder`], whose buffer is passed to each call |
 //! | a [`Read`](std::io::Read) or [`Write`](std::io::Write) | [`MessageReader`], [`MessageWriter`] |
@@ -73,7 +73,7 @@
 //! | another source, without `std` | [`FrameReader`] over a [`FrameSource`] |
 //! | a recorded stream | [`frames`], [`decode_stream_in_place`], [`decode_stream`] |
 //! | messages to record as a stream | [`encode_frames`] |
-//! | a message, and needs a buffer for the frame | [`max_encoding_length`] |
+//! | the length of a message, and needs a buffer for the frame | [`max_encoding_length`] |
 //!
 //! The folder `bindings/rust/examples` of the repository has a program for a serial line with tokio, a receiver over
 //! embedded-io, and a receiver whose bytes arrive in an interrupt handler.
@@ -83,9 +83,9 @@
 //! The functions of `src/proved/` are translated from the crates `cobs` and `cobs_bytes` in Rattle, which is Rust with
 //! contracts. In Rattle each function is proved to return the right result, not to panic, and to end, for a `usize` of
 //! 64 bits. The other files of `src/` are tested, not proved. These files have the signatures of the crate `cobs`,
-//! choose a proved function for a push of one byte, and add the types for `std::io` and tokio. Memory safety depends on
-//! the compiler and on `memchr`: in this crate only `src/simd.rs` has `unsafe` code, and with the feature `small` no
-//! file has `unsafe` code.
+//! choose the proved function for each push, and add the types for `std::io` and tokio. Memory safety depends on rustc,
+//! on `memchr`, and on the `unsafe` code of `src/simd.rs`. No other file of this crate has `unsafe` code, and with the
+//! feature `small` that file has none either.
 //!
 //! # Features
 //!

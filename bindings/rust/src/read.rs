@@ -1,4 +1,4 @@
-//! Reads messages from a port: the frames of any buffered reader.
+//! Reads messages from a port, or from any other buffered reader.
 
 use std::boxed::Box;
 use std::io::{self, BufRead, ErrorKind};
@@ -83,7 +83,7 @@ impl<R: BufRead> MessageReader<R> {
     /// - `Ok(Some(Err(error)))`: a frame that is damaged ([`DecodeError::InvalidFrame`], with the number of bytes it
     ///   decoded to), or whose message is longer than `max_len` ([`DecodeError::TargetBufTooSmall`]). Call again: this
     ///   frame never affects another frame.
-    /// - `Ok(None)`: the source has ended, and no frame is open. If the source grows, call again.
+    /// - `Ok(None)`: the source has ended, and not inside a frame. If the source grows, call again.
     ///
     /// Zeros without a frame between them are skipped. The call reads the source until a zero ends a frame, however
     /// many bytes come before the zero. The bytes of a message that is too long are dropped.
@@ -144,8 +144,8 @@ impl<R> MessageReader<R> {
         &self.inner
     }
 
-    /// Returns the source as a mutable reference, for example to set its timeout. Bytes that you read from it directly
-    /// are missing from the next message.
+    /// Returns the source as a mutable reference, for example to set its timeout. Bytes that you read directly from the
+    /// source are missing from the next message.
     pub fn get_mut(&mut self) -> &mut R {
         &mut self.inner
     }

@@ -10,7 +10,8 @@ use crate::frames::append_frame;
 /// A single zero isn't enough: a frame that was cut off between two blocks would be decoded as a shorter message. If
 /// bytes of a block are missing (at most 254), the first bytes of `CLOSING` complete that block. The next byte is the
 /// code 255, with fewer than 254 bytes before the zero, so the frame is broken. If no byte of a block is missing, the
-/// first byte of `CLOSING`, 1, is the code of a block without bytes, and fewer than 254 bytes follow the code 255.
+/// first byte of `CLOSING`, 1, is a whole block, which has only its code. The code 255 after this block has fewer than
+/// 254 bytes before the zero, so the frame is broken in this case too.
 const CLOSING: [u8; 256] = {
     let mut bytes = [255; 256];
     bytes[0] = 1;
@@ -92,7 +93,8 @@ impl<W> MessageWriter<W> {
         &self.inner
     }
 
-    /// Returns the inner writer as a mutable reference. Bytes that you write to it directly come between two frames.
+    /// Returns the inner writer as a mutable reference. Bytes that you write directly to the inner writer come between
+    /// two frames.
     pub fn get_mut(&mut self) -> &mut W {
         &mut self.inner
     }

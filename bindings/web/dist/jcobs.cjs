@@ -507,7 +507,7 @@ class Held {
 
 const DISPOSE = Symbol.dispose ?? Symbol("dispose");
 
-/** Decodes a stream in chunks of any size, with messages of up to `maxLength` bytes. */
+/** Decodes a stream that comes in chunks of any size, with messages of up to `maxLength` bytes. */
 class FrameDecoder {
   #held;
   #decoder;
@@ -605,8 +605,8 @@ class FrameDecoder {
 }
 
 /**
- * Returns an iterator over the outcomes of all pieces of `bytes` that a sentinel ends. `end` of an outcome is the index after
- * that sentinel.
+ * Returns an iterator over the outcomes of all pieces of `bytes` that a sentinel ends. The member `end` of an outcome is the
+ * index after that sentinel.
  */
 function frames(bytes, options) {
   const view = bytesOf(bytes);
@@ -625,7 +625,7 @@ function* outcomesOf(bytes, decoder) {
   }
 }
 
-/** Encodes a message that comes in pieces. The message has up to `maxLength` bytes. */
+/** Encodes a message that comes in chunks. The message has up to `maxLength` bytes. */
 class FrameEncoder {
   #held;
   #encoder;
@@ -689,15 +689,15 @@ class FrameEncoder {
 
 /**
  * Makes the two ends of a stream, `readable` and `writable`, like those of a TransformStream. `take` is called with
- * each chunk, and with a function `give`, to which it passes each result. `close` is called once, however the stream ends. A
- * TransformStream would not do: engines don't notify it of every end.
+ * each chunk, and with a function `give`; `take` passes each result to `give`. `close` is called once, however the stream ends.
+ * A TransformStream isn't enough: some engines don't tell its transformer that the stream was cancelled or aborted.
  */
 function ends(take, close) {
   const link = { take, close, out: null, into: null, wake: () => {}, isWanted: false, isOver: false, reason: undefined };
   return { readable: readableOf(link), writable: writableOf(link) };
 }
 
-/** Makes the stream fail for this reason. `end` is the controller of the end that gets the reason. */
+/** Makes the stream fail for this reason. `end` is the controller of the stream's end (readable or writable) that gets the reason. */
 function fail(link, end, reason) {
   if (link.isOver) return;
   link.isOver = true;
@@ -723,7 +723,7 @@ function writableOf(link) {
   return new WritableStream({
     start(controller) {
       link.into = controller;
-      // `abort` below waits for the write under way, which may wait for a reader
+      // the engine calls `abort` below only after the write under way, which may be waiting for a reader
       const { signal } = controller;
       signal?.addEventListener("abort", () => fail(link, link.out, signal.reason));
     },

@@ -8,7 +8,7 @@ const states = new Map(); // the values of each view, as they are in the address
 let timer = 0;
 let known = null; // the hash that the page has last taken or set
 
-/** Returns the view that the address names, its values, and the text of the values. A “+” isn't a space, so links can be written by hand. */
+/** Returns the view that the address names, its values, and the text of the values. A “+” in a value means a plus sign, not a space, so that links can be written by hand. */
 export function readAddress() {
   const [named, ...rest] = location.hash.slice(1).split("&");
   const text = VIEWS.includes(named) ? rest.join("&") : location.hash.slice(1);

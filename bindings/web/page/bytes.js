@@ -74,7 +74,7 @@ function parseWords(text, wanted) {
   if (all(/^0b[01]{1,8}$/i)) {
     const binary = { bytes: Uint8Array.from(words, (word) => parseInt(word.slice(2), 2)), as: "binary numbers" };
     const hex = { ...parseHex(text), as: "hex" };
-    return choice(words.length > 1 || words[0].length === 10 ? [binary, hex] : [hex, binary], wanted); // 0b10 alone is rather two bytes
+    return choice(words.length > 1 || words[0].length === 10 ? [binary, hex] : [hex, binary], wanted); // 0b10 alone more likely means the two bytes 0b and 10
   }
   const prefixed = words.filter((word) => /^0x/i.test(word));
   return prefixed.length > 0 ? parsePrefixed(words, prefixed) : undefined;

@@ -15,9 +15,9 @@ export class Connection {
 
   /**
    * `port` is an open Web Serial port. `options` are those of a `FrameDecoder`, for each stream of the port; for a device they include
-   * `skipFirst`. `on.outcome` is called with the outcome of each frame; if this isn't a message, also with the bytes of the frame as
-   * they arrived. `on.left` is called with the number of bytes that were skipped before the first sentinel, and `on.fault` with each
-   * fault of the line.
+   * `skipFirst`. `on.outcome` is called with the outcome of each frame; if the outcome isn't a message, also with the bytes of the
+   * frame as they arrived. `on.left` is called with the number of bytes that were skipped before the first sentinel, and `on.fault`
+   * with each fault of the line.
    */
   constructor(port, options, on) {
     this.#port = port;

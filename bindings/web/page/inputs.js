@@ -48,9 +48,9 @@ export function once(act) {
 }
 
 /**
- * Makes the status of a view: `show(text)` shows a text at once, and `speak(text)` passes that or another text to screen readers. If
- * texts follow each other faster than `milliseconds`, only the last one is spoken, or one after five times as long, because a live
- * region would speak at each key.
+ * Makes the status of a view: `show(text)` shows a text at once, and `speak(text)` passes that or another text to screen readers. A
+ * text is spoken after `milliseconds`, unless another text comes before that: then only the later text is spoken. If texts keep coming,
+ * one is spoken after five times `milliseconds`. Otherwise a screen reader would speak at each key.
  */
 export function statusOf(view, milliseconds) {
   let timer = 0;

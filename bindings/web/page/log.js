@@ -60,8 +60,9 @@ export function readLog(text) {
 }
 
 /**
- * Returns `{bytes, said}`. `bytes` are the frames of the received messages of a log, each with its sentinel, and the other pieces as they
- * arrived; or the frames of the sent messages if nothing was received. `said` says how many rows have no bytes.
+ * Returns `{bytes, said}`. `bytes` are the frames of the received messages of a log, each with its sentinel, and the received pieces that
+ * aren't messages, as they arrived. If nothing was received, `bytes` are the frames of the sent messages. `said` says how many rows were
+ * read, and how many have no bytes.
  */
 export function streamOf(entries, sentinel) {
   const way = entries.some((entry) => entry.way === "in") ? "in" : "out";

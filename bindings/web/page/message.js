@@ -217,7 +217,10 @@ function splice(at, index, removed, bytes) {
   return undefined;
 }
 
-/** Offers another reading: for bytes that are a frame or a stream, as a frame or a stream; if there are no bytes (null), as text; for text, as bytes. */
+/**
+ * Offers another reading of the field: bytes that are a frame or a stream can be decoded, digits that are no bytes (null) can be read as
+ * text, and text can be read as bytes.
+ */
 function offer(bytes) {
   const isHex = kind() === "hex";
   const isOffered = isHex && bytes?.length > 1 && bytes.length <= OFFERED;

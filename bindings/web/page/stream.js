@@ -206,7 +206,7 @@ function toggle(at) {
   write(at, damage.has(at) ? original[at] : damagedByte(original[at]));
 }
 
-/** Changes the message of a piece that was sent. The damage of the other pieces stays at its place in them. */
+/** Changes the message of a piece that was sent. The damaged bytes of the other pieces stay damaged. */
 function splice(at, index, removed, bytes) {
   if (!pieces.isIn(before, at, hurt)) return `What came of ${pieces.name(at)} isn't what was sent: mend its bytes first.`;
   const message = pieces.message(at);

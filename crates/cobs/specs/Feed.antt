@@ -8,7 +8,8 @@ use Rattle.cobs.specs.Decode.{outcome_result}
 use Rattle.cobs.specs.declared.error.DecodeError.{DecodeError}
 use Rattle.cobs.specs.declared.error.DecodeError.TheVariants.{TargetBufTooSmall}
 
--- how a streaming decoder reports an outcome: as the calls for whole frames do, in an option
+-- the result of a streaming decoder for an outcome: that of the calls for whole frames (`outcome_result`), with the
+-- message's length in a `Some`
 abbrev pub fed_result : Outcome → Result (Option ℕ) DecodeError
 fed_result outcome = result_map_both Some (λ error. error) (outcome_result outcome)
 
@@ -23,12 +24,13 @@ result_for p byte n =
     if byte == 0 then result_at_end p n
     else (if nat_le (length (output (p ++ byte ∷ []))) n then Ok None else Err TargetBufTooSmall)
 
--- the front of the piece after a byte was fed; a zero ends the piece
+-- the front of the piece after a byte was fed: the empty list after a zero, because a zero ends the piece
 abbrev pub fed : List ℕ → ℕ → List ℕ
 fed p byte = if byte == 0 then [] else p ++ byte ∷ []
 
--- the phase of a decoder: no piece has begun; or it is in a block, full or not, of which `left` bytes are missing, and
--- `count` bytes are written; or the output was too long for the buffer
+-- the phase of a decoder: no piece has begun (`Idle`), the output was too long for the buffer (`Overlong`), or the
+-- decoder is in a block, full or not, of which `left` bytes are missing, and `count` bytes of output are written
+-- (`Within`)
 pub data Phase : Type 0 where
   Idle : Phase
   Within : (full : Bool) (left count : ℕ) → Phase
@@ -46,8 +48,8 @@ pub record PhaseAfter (n : ℕ) (phase : Phase) (p : List ℕ) : Type 0 where
   pub piece : HasNoZero p
   pub phase_is : phase ≡ phase_after p n
 
--- the phase shows this, and the buffer begins with the output of p; if the output is longer than the buffer, the buffer
--- is filled with the first bytes of the output
+-- the phase is that after the front p of a piece (`PhaseAfter`), and the buffer begins with the output of p. If the
+-- output is longer than the buffer, the buffer is filled with the first bytes of the output.
 pub record DecoderAfter (buffer : List ℕ) (phase : Phase) (p : List ℕ) : Type 0 where
   pub phased : PhaseAfter (length buffer) phase p
   pub begins : take (length (output p)) buffer ≡ take (length buffer) (output p)

@@ -42,7 +42,8 @@ pub record TakesBytes (buffer : List ℕ) (phase : Phase) (bytes : List ℕ) (gi
   pub feeds : FeedsEach buffer phase bytes buffer' phase'
   pub after : (p : List ℕ) → DecoderAfter buffer phase p → DecoderAfter buffer' phase' (unended (p ++ bytes))
   pub outcomes : (p : List ℕ) → DecoderAfter buffer phase p → given ≡ stream_outcomes (p ++ bytes) (length buffer)
-  -- if the buffer was written to inside p, the same holds except for the bytes of the first message
+  -- if the caller wrote to the buffer before all of p was fed, the same holds, except for the bytes of the first
+  -- message
   pub phased : (p : List ℕ) → PhaseAfter (length buffer) phase p → PhaseAfter (length buffer) phase' (unended (p ++ bytes))
   pub alike : (p : List ℕ) → PhaseAfter (length buffer) phase p → AreAlikeAtFirst given (stream_outcomes (p ++ bytes) (length buffer))
   pub after_zero : (p : List ℕ) → PhaseAfter (length buffer) phase p → Contains bytes 0 → DecoderAfter buffer' phase' (unended (p ++ bytes))

@@ -20,7 +20,7 @@ abbrev pub bytes_of : List ℕ → List ℕ
 bytes_of [] = []
 bytes_of (code ∷ bytes) = bytes
 
--- whether a block has the greatest code
+-- whether a block is full: whether it has the greatest code, 255
 abbrev pub is_full : List ℕ → Bool
 is_full block = code_of block == 255
 

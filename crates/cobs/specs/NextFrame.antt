@@ -38,7 +38,7 @@ Runs step from [] to = from ≡ to
 Runs {S} step from (read ∷ reads) to = (next : S) × step from read next × Runs step next reads to
 
 -- a read from a reader that has the bytes `before` left before the read, and the bytes `after` left after it, if they
--- are known. The read fails, or returns at most 64 bytes, exactly those that the reader returned.
+-- are known. If the read doesn't fail, it returns at most 64 bytes, the first ones of `before`.
 abbrev pub IsReadOf : Option (List ℕ) → Read → Option (List ℕ) → Type 0
 IsReadOf before None after = Unit {0}
 IsReadOf before (Some bytes) after = (length bytes ≤ 64) × Consumes before after bytes
@@ -99,7 +99,7 @@ pub record AtStreamEnd (t : List ℕ) (reader : ReaderState) : Type 0 where
   pub after : ReaderAfter reader (unended t)
   pub nothing_kept : reader.kept ≡ []
 
--- the meaning of a result for the reads and the stream t of their bytes, and the state of the reader after it
+-- the meaning of a result, given the reads of the call, the stream t, and the state of the reader after the call
 abbrev pub Reports : Result Next ReadFault → List Read → List ℕ → ReaderState → Type 0
 Reports (Ok (nexts.Message n)) reads t reader =
     AtPieceEnd t (Message (take n reader.buffer)) reader × (n ≤ length reader.buffer)
@@ -126,6 +126,6 @@ pub record ReadsNext {S : Type 0} (step : S → Read → S → Type 0) (source s
   pub runs : Runs step source reads source'
   pub failed : (result ≡ Err faults.Io) ↔ EndsIn reads None
   -- if the decoder had taken the front p of a piece, the stream is p, the kept bytes, and the bytes that the reads
-  -- returned; so nothing is read if p and the kept bytes end a piece
+  -- returned; so nothing is read if a piece ends in the kept bytes
   pub called_for : (p : List ℕ) → ReaderAfter reader p → EachCalledFor (p ++ reader.kept) (length reader.buffer) reads
   pub result_says : (p : List ℕ) → ReaderAfter reader p → Reports result reads (p ++ reader.kept ++ all_given reads) reader'

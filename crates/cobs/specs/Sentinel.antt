@@ -1,4 +1,4 @@
--- Frames for another sentinel than 0, and frames between sentinels.
+-- Frames for a sentinel other than 0, and frames between sentinels.
 use Rattle.std.specs.Prelude.{◌≡◌, ◌≢◌, ◌-◌, ℕ, List, [], ◌∷◌, ◌++◌, length, All}
 use Rattle.std.specs.List.{slice_range}
 use Rattle.cobs.specs.Grammar.{IsEncodedFrame}

@@ -43,7 +43,7 @@ end_result n (Within full zero count) = if nat_le count n then Ok (Some count) e
 abbrev pub next_result : ℕ → Phase → ℕ → Result (Option ℕ) DecodeError
 next_result n phase byte = if byte == 0 then end_result n phase else error_if_overlong (next_phase n phase byte)
 
--- how many bytes of the open message are in a buffer of n bytes
+-- how many decoded bytes of the open piece are in a buffer of n bytes
 abbrev pub held : ℕ → Phase → ℕ
 held n Idle = 0
 held n (Within full left count) = min count n

@@ -68,7 +68,7 @@ written_in phases.Idle = 0
 written_in (phases.Within full left count) = count
 written_in phases.Overlong = 0
 
--- the result of a decoder that has written n bytes, for a result of that table
+-- the result of a decoder that has written n bytes, given the result in that table
 abbrev pub counted : ℕ → Result DecodeResult DecodeError → Result (Option ℕ) DecodeError
 counted n (Ok NoData) = Ok None
 counted n (Ok DataStart) = Ok None

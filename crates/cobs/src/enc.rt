@@ -71,8 +71,8 @@ pub fn encode(source: &[u8], dest: &mut [u8]) -> usize
     encode_long(source, dest)
 }
 
-/// Does what [`encode`] does, for any length. This is a separate function, so that encoding a short message doesn't
-/// save registers for the loop.
+/// Does what [`encode`] does, for a message of any length. This is a separate function, so that `encode` doesn't save
+/// registers for the loop when it encodes a short message.
 #[inline(never)]
 #[tactic(auto, using(crate::proofs::encoding::TakingLemmas::from_start))]
 fn encode_long(source: &[u8], dest: &mut [u8]) -> usize
@@ -91,8 +91,8 @@ fn encode_long(source: &[u8], dest: &mut [u8]) -> usize
 /// Does what [`encode`] does, if the frame fits `dest`.
 ///
 /// # Errors
-/// `DestBufTooSmallError` exactly if the frame is longer than `dest`. This error changes no byte of `dest`. (A choice
-/// of this library.)
+/// `DestBufTooSmallError` exactly if the frame is longer than `dest`. Then no byte of `dest` has changed. (A choice of
+/// this library.)
 ///
 /// ```
 /// let mut dest = [170; 5];
@@ -119,7 +119,7 @@ pub fn try_encode(source: &[u8], dest: &mut [u8]) -> Result<usize, DestBufTooSma
     try_encode_any(source, dest)
 }
 
-/// Does what [`try_encode`] does, for any length.
+/// Does what [`try_encode`] does, for a message of any length.
 #[tactic(auto, using(crate::proofs::format::LengthLemmas::bounds))]
 fn try_encode_any(source: &[u8], dest: &mut [u8]) -> Result<usize, DestBufTooSmallError>
     ensures fits { IsOk result ↔ (encoded_len source.now ≤ length dest.old) }

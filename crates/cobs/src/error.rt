@@ -29,7 +29,7 @@ pub enum DecodeError {
     #[error("empty input frame")]
     EmptyFrame,
 
-    /// The frame breaks off inside a block, or the source has no frame.
+    /// The frame breaks off inside a block, or the source has only zeros.
     #[error("frame with invalid format, written {decoded_bytes} to decoded buffer")]
     InvalidFrame {
         /// How many bytes were decoded. The decoded bytes are at the front of the buffer, if the caller passed a
@@ -37,7 +37,7 @@ pub enum DecodeError {
         decoded_bytes: usize,
     },
 
-    /// The buffer is shorter than the frame's output.
+    /// The frame decodes to more bytes than the buffer holds.
     #[error("target buffer too small")]
     TargetBufTooSmall,
 }

@@ -58,9 +58,9 @@ pub fn law_1()
 /// Each message has one encoded frame.
 ///
 /// Each message has exactly one encoded frame. So two encoded frames can be compared byte by byte, for example to find a
-/// message in a store or to check a signature. In the clauses, messages and frames are lists of numbers: if each number of the
-/// message is less than 256, so is each number of its encoded frame. All encoders that follow the definition write the encoded
-/// frame. The length of this frame decides whether `try_encode` and `CobsEncoder` accept the message.
+/// message in a store or to check a signature. In the clauses, messages and frames are lists of numbers. If each number of a
+/// message is less than 256, so is each number of its encoded frame. All encoders that write an encoded frame of a message
+/// write the same bytes. The length of the encoded frame decides whether `try_encode` and `CobsEncoder` accept the message.
 ///
 /// ```
 /// fn encode_again(message: &[u8], frame: &[u8], dest: &mut [u8]) -> usize
@@ -89,8 +89,8 @@ pub fn law_2()
 ///
 /// One frame of a message is its encoded frame. There is a second frame only if the message ends in a full run, that is, a run
 /// of nonzero bytes whose length is a positive multiple of 254. The second frame is one byte longer: it is the encoded frame
-/// followed by 01. A receiver that may accept only one frame for each message, for example because its protocol compares
-/// frames, rejects the longer frame: [`frame_kind`](crate::frame_kind) distinguishes the two frames.
+/// followed by 01. A protocol may allow only one frame for each message, for example because it compares frames. Then a
+/// receiver rejects the longer frame: [`frame_kind`](crate::frame_kind) distinguishes the two frames.
 ///
 /// ```
 /// fn is_frame_for(piece: &[u8], message: &[u8], buffer: &mut [u8]) -> bool
@@ -188,8 +188,8 @@ pub fn law_6()
 /// A front of a frame is its first bytes, any number of them. A front that isn't empty is a frame exactly if it ends at the end
 /// of a block. The front's message is then a front of the frame's message.
 ///
-/// So a frame that was cut short, for example because a connection was lost, is noticed unless it was cut between two blocks. A
-/// receiver reads a frame that was cut between two blocks as the beginning of the message that was sent.
+/// So if a frame was cut short, for example because a connection was lost, a receiver notices this, unless the frame was cut
+/// between two blocks. A receiver reads a frame that was cut between two blocks as the beginning of the message that was sent.
 ///
 /// ```
 /// fn is_begun(received: &[u8], message: &[u8], buffer: &mut [u8]) -> bool
@@ -250,7 +250,7 @@ pub fn law_8()
 /// The unended bytes of a stream are the bytes after its last zero. Cut a stream into two parts, and put the unended bytes of
 /// the first part before the second part. Then the pieces and the outcomes of the whole stream are those of the first part,
 /// followed by those of the extended second part. The unended bytes of the whole stream are those of the extended second part.
-/// A stream that ends in a zero has no unended bytes. In a stream without a zero all bytes are unended, and there is no
+/// A stream that ends in a zero has no unended bytes. In a stream without a zero, all bytes are unended, and there is no
 /// outcome. One or more nonzero bytes with a zero after them are one piece.
 ///
 /// So a receiver may get a stream in parts of any length, as reads return them. The joined results are those of one call over
@@ -322,9 +322,9 @@ pub fn law_10()
 
 /// A frame in a stream is decoded as its message.
 ///
-/// A frame is decoded as its message in each buffer that has room for the message. So messages that were sent as frames, with a
-/// sentinel after each frame, are decoded as exactly these messages. No frame is reported as broken or too long, not even the
-/// longer frame of a message that has two frames.
+/// A frame is decoded as its message in each buffer that has room for the message. So if messages were sent as frames, with a
+/// sentinel after each frame, a decoder with room for each message returns exactly these messages. It reports no frame as
+/// broken or too long, not even the longer frame of a message that has two frames.
 ///
 /// ```
 /// fn encode_for_stream(message: &[u8], dest: &mut [u8]) -> usize
@@ -349,13 +349,14 @@ pub fn law_11()
 /// A stream's first piece, and its last.
 ///
 /// If a stream begins with a nonzero byte, its first piece is the bytes before the first zero. In a buffer of the stream's
-/// length, the first piece is decoded as a message exactly if it reads as that message. Zeros before the first piece are
-/// skipped: the first piece after them ends at the next zero. A stream that has only zeros, or is empty, has no piece. If the
-/// first n bytes contain no zero, and a zero or the end of the stream follows, these n bytes are the bytes before the first
-/// zero; the same holds for any sentinel. As long as no piece has ended, the unended bytes are the last piece, and the next
-/// zero ends this piece.
+/// length, the outcome of the first piece is a message exactly if the piece reads as that message. Zeros before the first piece
+/// are skipped: the first piece after them ends at the next zero. A stream that has only zeros, or is empty, has no piece. If
+/// the first n bytes contain no zero, and a zero or the end of the stream follows them, these n bytes are all bytes before the
+/// first zero. The same holds for any sentinel. As long as no piece has ended, the unended bytes are the last piece, and the
+/// next zero ends this piece.
 ///
-/// So `decode`, into a buffer as long as its source, and `decode_in_place` return the same message, or both return an error.
+/// So if a source begins with a nonzero byte, `decode` into a buffer as long as the source and `decode_in_place` return the
+/// same message, or both return an error.
 ///
 /// ```
 /// fn begins_with_piece(stream: &[u8]) -> bool
@@ -395,8 +396,7 @@ pub fn law_12()
 /// message. This law says at which index the frame so far ends, and how the open frame differs from the encoded frame.
 ///
 /// So if a caller carries out each [`PushResult`](crate::PushResult), the byte reserved for the next code (the placeholder) is
-/// always within the output. The caller's frame is the encoded frame, unless the message ends in a full run: then it is the
-/// encoded frame followed by 01.
+/// always within the output. The caller's frame is the encoded frame, followed by 01 if the message ends in a full run.
 ///
 /// ```
 /// fn as_encoded<'a>(frame: &'a [u8], message: &[u8], index: usize, code: u8) -> &'a [u8]
@@ -426,8 +426,8 @@ pub fn law_13()
 
 /// A decoder has been fed nothing of a piece exactly if it is idle.
 ///
-/// So [`FrameReader::new`](crate::FrameReader::new) accepts a decoder that was last fed a zero, and `push` of a new decoder
-/// reads a frame and its zero.
+/// So [`FrameReader::new`](crate::FrameReader::new) accepts a decoder that was last fed a zero, and a new decoder reads a frame
+/// and its zero in one `push`.
 ///
 /// ```
 /// fn reader_after_zero(mut decoder: CobsDecoderOwned) -> FrameReader<CobsDecoderOwned>

@@ -1,4 +1,4 @@
-//! Consistent Overhead Byte Stuffing (COBS), after the crate `cobs` 0.5.1.
+//! Consistent Overhead Byte Stuffing (COBS), with calls modelled on those of the crate `cobs` 0.5.1.
 //!
 //! COBS turns a message, which may be any bytes, into a frame that never contains a chosen byte value, usually 0. This
 //! byte value is the delimiter; this library calls it the sentinel. The sentinel marks the end of each frame on a
@@ -6,8 +6,8 @@
 //! frame is a list of blocks. A block is a code, which counts the block's bytes including itself, followed by up to 254
 //! nonzero bytes. Between two blocks the message has a zero, unless the first of the two is a full block, whose code is
 //! 255. So the frame of a message of up to 254 bytes is one byte longer than the message. The frame of a longer message
-//! is longer than the message by at most one byte for every 254 bytes of the message, rounded up. The format is that of
-//! the paper "Consistent Overhead Byte Stuffing" by Stuart Cheshire and Mary Baker.
+//! has at most one extra byte for every 254 bytes of the message, rounded up. The format is that of the paper
+//! "Consistent Overhead Byte Stuffing" by Stuart Cheshire and Mary Baker.
 //!
 //! This example encodes a message, and decodes it again:
 //!
@@ -53,8 +53,8 @@
 //!   allocated once, [`CobsDecoderHeapless`] with its buffer inside, [`UnbufferedDecoder`] with a buffer that you pass
 //!   to each call, or [`DecoderState`] with a container of your own. [`FrameReader`] reads frames from any reader.
 //! - To decode a recorded stream, call [`decode_stream`]. To make a stream, call [`encode_frames`].
-//! - [`max_encoding_length`] returns how long a buffer for a frame has to be. [`frame_kind`] returns whether bytes are
-//!   a frame.
+//! - [`max_encoding_length`] returns the length of a buffer that has room for the frame of any message of a given
+//!   length. [`frame_kind`] returns whether bytes are a frame, and of which kind.
 //! - [`laws`] has facts that a proof of your own can cite.
 //!
 //! A call that allocates has an allocator as its first argument and returns a `Result`. Each call is proved to meet its

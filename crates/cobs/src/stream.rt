@@ -1,4 +1,5 @@
-//! Whole streams: one call decodes all pieces that end in a part of a stream, and one call encodes several messages.
+//! Whole streams: one call decodes all pieces that end in the next bytes of a stream, and one call encodes several
+//! messages.
 //!
 //! A stream is cut at its zeros. The bytes between two zeros are a piece, unless the zeros are adjacent. Each piece is
 //! decoded separately: a piece is a frame, breaks off inside a block, or decodes to more bytes than the buffer holds.
@@ -48,19 +49,19 @@ fn frame_outcome(alloc: Global, end: PieceEnd, buffer: &[u8]) -> Result<FrameOut
     }
 }
 
-/// Decodes a part of a stream, and returns one outcome for each piece that ends in it, in order.
+/// Decodes the next bytes of a stream, and returns one outcome for each piece that ends in these bytes, in order.
 ///
 /// The first piece may have begun in an earlier call. The next call continues a piece that hasn't ended, because the
-/// decoder keeps its state. So a stream can be passed in parts, cut anywhere, and the joined results of the calls are
-/// those of the whole stream. Leading and repeated zeros make no piece.
+/// decoder keeps its state. So a stream may be cut anywhere, and each call gets the next bytes: the joined results of
+/// the calls are those of the whole stream. Leading and repeated zeros make no piece.
 ///
 /// If the caller wrote to the decoder's buffer while a piece was open, only the first outcome is affected, and only if
 /// it is a message: the bytes of this message are unspecified, but its length isn't affected.
 ///
 /// # Errors
-/// `AllocError` if memory for an outcome runs out. Then the outcomes are lost, and the decoder is idle, so the next
-/// nonzero byte begins a new piece. Only messages and the list of outcomes need memory: if no piece ends, the result is
-/// `Ok`.
+/// `AllocError` if memory for an outcome runs out. Then the outcomes of this call are lost, and the decoder is idle, so
+/// the next nonzero byte begins a new piece. Only messages and the list of outcomes need memory: if no piece ends, the
+/// result is `Ok`.
 ///
 /// ```
 /// let mut buffer = [0; 4];
@@ -154,8 +155,8 @@ pub fn encode_frames(alloc: Global, messages: &[Vec<u8>]) -> Result<Vec<u8>, All
 /// a sum over all messages: [`max_encoding_length`](crate::max_encoding_length) of the message's length, plus 1.
 /// Returns `None` if the sum doesn't fit a `usize`.
 ///
-/// [`encode_frames`] requires that this function returns `Some(n)`, and allocates n bytes. This function allocates
-/// nothing.
+/// Call [`encode_frames`] only if this function returns `Some(n)`; `encode_frames` then allocates n bytes. This
+/// function allocates nothing.
 ///
 /// ```
 /// let messages = [b"hi".to_vec(alloc)?, Vec::new(alloc)];

@@ -7,7 +7,7 @@ use cobs::DecodeError;
 /// The call succeeded.
 pub const OK: u32 = 0;
 
-/// All bytes were taken, and no frame has ended in them.
+/// All bytes were taken, and no piece has ended in them.
 pub const MORE: u32 = 1;
 
 /// The buffer is too short.

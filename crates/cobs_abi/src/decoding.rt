@@ -23,8 +23,9 @@ fn held(decoder: &UnbufferedDecoder, room: usize) -> usize
     }
 }
 
-/// Returns the result of a call that decoded `len` bytes into a buffer of `room` bytes. If a piece has ended, `found`
-/// says how it ended, and how many bytes there are through its end.
+/// Returns the result of a call that got `len` bytes of the stream, and has a buffer of `room` bytes. If a piece has
+/// ended, `found` says how it ended, and how many bytes the call took, up to and including the zero that ended the
+/// piece.
 #[inline(always)]
 pub fn result_of(
     decoder: &UnbufferedDecoder,

@@ -37,8 +37,8 @@ pub fn move_to_front(buffer: &mut [u8], from: usize, len: usize)
     }
 }
 
-/// Copies `N` to `2 * N` bytes, each XORed with the sentinel, as two vectors that may overlap, if none of the bytes is
-/// the sentinel. Returns whether it did.
+/// Copies the source's bytes, each XORed with the sentinel, but only if none of them is the sentinel. Returns whether
+/// it copied them. The source has `N` to `2 * N` bytes, which are copied as two vectors that may overlap.
 #[inline(always)]
 fn copy_xored_two<const N: usize>(source: &[u8], dest: &mut [u8], sentinel: u8) -> bool
     requires lanes { N ≤ 64 }
@@ -63,7 +63,8 @@ fn copy_xored_two<const N: usize>(source: &[u8], dest: &mut [u8], sentinel: u8) 
     true
 }
 
-/// Copies up to 64 bytes, each XORed with the sentinel, if none is the sentinel, and returns whether it did.
+/// Copies the source's bytes, at most 64, each XORed with the sentinel, but only if none of them is the sentinel.
+/// Returns whether it copied them.
 #[inline(always)]
 pub fn copy_xored_short(source: &[u8], dest: &mut [u8], sentinel: u8) -> bool
     requires some { 0 < length source.now }

@@ -50,9 +50,9 @@ pub extern "C" fn jcobs_encode(message: &[u8], frame: &mut [u8]) -> Answer
     law_4(); // The length of a frame, and its bound
     let len = message.len();
     // A message of up to 254 bytes fits if `frame` is longer than the message. Then the message is encoded here,
-    // without a call. Messages of fewer than `FEW` bytes are tested for first, so that compilers generate code for them
-    // without the other cases. The message's length is computed from the frame's, so that no register has to keep it.
-    // All this makes the encoding of short messages faster.
+    // without a call. The first test is for messages of fewer than `FEW` bytes, so that compilers generate code for
+    // them without the other cases. The message's length is computed from the frame's length, so that no register has
+    // to keep the message's length. All this makes the encoding of short messages faster.
     if len < frame.len() {
         if len < FEW {
             let length = encode(message, frame);
@@ -72,8 +72,8 @@ pub extern "C" fn jcobs_encode(message: &[u8], frame: &mut [u8]) -> Answer
     }
 }
 
-/// Writes the frame of the message for this sentinel to the front of the buffer `frame`, if it fits. Otherwise nothing is
-/// written.
+/// Writes the frame of the message for this sentinel to the front of the buffer `frame`, if it fits. Otherwise nothing
+/// is written.
 #[unsafe(no_mangle)]
 pub extern "C" fn jcobs_encode_with_sentinel(
     message: &[u8],

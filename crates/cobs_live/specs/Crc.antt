@@ -7,7 +7,8 @@ use Rattle.cobs_live.specs.declared.crc.Crc.{Crc}
 use Rattle.cobs_live.specs.declared.crc.Crc.TheVariants.{Crc8, Crc16CcittFalse, Crc16Modbus, Crc16Xmodem, Crc16Kermit, Crc16Arc, Crc32c, Crc32}
 use Rattle.cobs_live.specs.declared.crc.Params.{Params}
 
--- the rows of the catalogue; a register has 32 bits, and a shorter polynomial and start are in its high bits
+-- the rows of the catalogue. A register has 32 bits. A polynomial or an initial value with fewer bits is in the high
+-- bits.
 abbrev pub params_of : Crc → Params
 params_of Crc8 = record { size = 1; poly = 0x07 * 2 ^ 24; init = 0; reflected = false; xorout = 0 }
 params_of Crc16CcittFalse = record { size = 2; poly = 0x1021 * 2 ^ 16; init = 0xFFFF * 2 ^ 16; reflected = false; xorout = 0 }

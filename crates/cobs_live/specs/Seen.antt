@@ -77,7 +77,7 @@ part_of Broken message decoded = decoded
 part_of TooLong message decoded = decoded
 part_of BadCrc message decoded = message
 
--- the piece, in which, with `partial`, the bytes of a piece that is no message are its decoded bytes
+-- the piece. If the flag is set, the bytes of a broken or too long piece are these decoded bytes.
 abbrev pub with_part : Bool → Seen → List ℕ → Seen
 with_part false seen decoded = seen
 with_part true seen decoded = record { kind = seen.kind; len = seen.len; bytes = part_of seen.kind seen.bytes decoded }

@@ -56,7 +56,7 @@ unfoldable pub lines_of : List ℕ → List (List ℕ)
 lines_of [] = []
 lines_of (byte ∷ bytes) = if byte == 10 then (byte ∷ []) ∷ lines_of bytes else in_front byte (lines_of bytes)
 
--- `lines` were read, the first lines of the reader, and `sent` has the bytes that were written for each line. `rest`
+-- The first lines of the reader, `lines`, were read, and `sent` has the bytes that were written for each line. `rest`
 -- was read after these lines and not sent: a failed read cut it off, or memory ran out for its frame.
 pub record HasSentLines (settings : Settings) (rest : List ℕ) (from to before after : Option (List ℕ)) : Type 0 where
   pub lines : List (List ℕ)

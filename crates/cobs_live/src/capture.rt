@@ -15,9 +15,8 @@ pub fn write_capture_head<W: Write>(output: &mut W) -> io::Result<()>
     ])
 }
 
-/// Writes the header of a record: the record's time in seconds and microseconds, and then twice its number of bytes,
-/// because the format has one number for the captured bytes and one for the sent bytes. `time` is in milliseconds since
-/// 1970.
+/// Writes the header of a record: the record's time in seconds and microseconds, the number of captured bytes, and the
+/// number of sent bytes. Both numbers are `len`. `time` is in milliseconds since 1970.
 pub fn write_record_head<W: Write>(output: &mut W, time: u64, len: usize) -> io::Result<()>
     ensures written { OnOk result
         (Appends (W.contents output.old) (W.contents output.new) (record_head time len)) }

@@ -4,7 +4,7 @@ ghost use Rattle.cobs_live.specs.Crc.{IsTable, after_byte, crc};
 
 use crate::crc::{Params, table_of};
 
-/// A cyclic redundancy check, whose checksum follows each message, and the order of the checksum's bytes.
+/// A cyclic redundancy check, and the order of the bytes of its checksum. The checksum follows each message.
 #[derive(Debug, PartialEq, Eq, Drop)]
 pub struct Checksum {
     pub params: Params,

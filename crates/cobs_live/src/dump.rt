@@ -38,7 +38,8 @@ fn write_row<W: Write>(output: &mut W, offset: usize, row: &[u8]) -> io::Result<
     output.write_all(b"|\n")
 }
 
-/// Writes the digits of eight bytes from an index on. If the row has fewer bytes, writes spaces for the missing digits.
+/// Writes the digits of eight bytes, the first of which is at index `from`. If the row has fewer bytes, writes spaces
+/// for the missing digits.
 fn write_cells<W: Write>(output: &mut W, row: &[u8], from: usize) -> io::Result<()>
     requires few { from < 16 }
     ensures written { OnOk result (Appends (W.contents output.old) (W.contents output.new)
@@ -50,7 +51,7 @@ fn write_cells<W: Write>(output: &mut W, row: &[u8], from: usize) -> io::Result<
     Ok(())
 }
 
-/// Writes the digits of the byte at an index and a space, or three spaces if the row has no such byte.
+/// Writes the digits of the byte at index `i` and a space, or three spaces if the row has no such byte.
 fn write_cell<W: Write>(output: &mut W, row: &[u8], i: usize) -> io::Result<()>
     ensures written { OnOk result
         (Appends (W.contents output.old) (W.contents output.new) (cell row.now i)) }

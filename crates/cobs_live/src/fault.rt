@@ -1,4 +1,4 @@
-//! The faults that end showing or sending early.
+//! The errors of `run_show` and `run_send`.
 ghost use Rattle.std.specs.Prelude.{◌≡◌};
 ghost use Rattle.cobs_live.specs.declared.fault.WatchFault.TheVariants.{OutOfMemory};
 
@@ -6,7 +6,7 @@ use std::alloc::AllocError;
 use std::io::{self, ErrorKind};
 use thiserror::Error;
 
-/// The reason why showing or sending ended early.
+/// The reason why `run_show` or `run_send` failed.
 #[derive(Debug, PartialEq, Eq, Drop, Error)]
 pub enum WatchFault {
     /// A read failed for a reason other than an interruption, or memory ran out while `send` read a line. All pieces
@@ -14,8 +14,8 @@ pub enum WatchFault {
     #[error("read failed")]
     ReadFailed,
 
-    /// A write failed, but neither because it was interrupted nor because nobody reads the output any more. Some of the
-    /// bytes may have been written.
+    /// A write failed for a reason other than an interruption. (If nobody reads the output any more, the fault is
+    /// `OutputClosed`.) Some of the bytes may have been written.
     #[error("write failed")]
     WriteFailed,
 

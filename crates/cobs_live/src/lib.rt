@@ -1,12 +1,13 @@
-//! Shows the frames of a live line as they arrive, and sends lines of an input as frames, over any reader and writer.
+//! Shows the frames of a serial line as they arrive, and sends each line of a text as a frame, over any reader and
+//! writer.
 //!
-//! This crate is the program `cobs_watch` without its command line. `show::run_show` reads a stream of frames, and shows
-//! each piece when its sentinel arrives. `send::run_send` sends each line of an input as a frame.
+//! This crate is the program `cobs_watch` without its command line. `show::run_show` reads a stream of frames, and
+//! shows each piece when its sentinel arrives. `send::run_send` sends each line of an input as a frame.
 //!
-//! `seen` holds a piece of a stream, with its kind and its bytes, before it is shown. `shown` holds the settings that say
-//! which pieces are shown, and in which style. `line`, `json`, `dump`, `capture`, `escape` and `composed` write the text
-//! of a piece. `clock`, `checksum`, `crc` and `tally` hold the times of pieces, the checksums and the counts. `input` and
-//! `port` hold the readers and writers. `fault` holds the faults that end showing or sending early.
+//! `seen` has the type of a piece that is going to be shown: the piece's kind and its bytes. `shown` has the settings
+//! that say which pieces are shown, and in which style. `line`, `json`, `dump`, `capture`, `escape` and `composed`
+//! write the text of a piece. `clock` has the times of pieces, `checksum` and `crc` have the checksums, and `tally` has
+//! the counts. `input` and `port` have the readers and writers. `fault` has the errors of `run_show` and `run_send`.
 #![tactic(auto)]
 
 pub mod capture;

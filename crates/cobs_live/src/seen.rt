@@ -12,11 +12,11 @@ pub enum Kind {
     /// A piece that decodes to more bytes than the buffer holds.
     TooLong,
 
-    /// A frame of a message that doesn't end with the right checksum.
+    /// A frame whose message doesn't end with the right checksum.
     BadCrc,
 }
 
-/// A piece of a stream, as it can be shown.
+/// The kind, length and bytes of a piece, as far as they can be shown.
 #[derive(Clone, Copy)]
 pub struct Sight<'a> {
     /// The kind of the piece.

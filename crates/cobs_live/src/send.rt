@@ -1,4 +1,4 @@
-//! Sends lines as frames.
+//! Sends lines of text as frames.
 ghost use Rattle.std.specs.Prelude.{◌≡◌, ◌≢◌, ◌↔◌, List, [], OnOk, IfOk, IfErr, IsOk, IsTrue, ℕ, Some, true};
 ghost use Rattle.std.specs.Io.Buffered.{writer_buffer, writer_inner};
 ghost use Rattle.std.specs.Io.KnownBytes.{Appends, Keeps};
@@ -16,7 +16,7 @@ use hex::FromHexError;
 use std::alloc::{AllocError, Global};
 use std::io::{BufWriter, Write};
 
-/// How lines are sent.
+/// How lines of text are sent.
 #[derive(Debug, PartialEq, Eq, Drop)]
 pub struct Settings {
     /// Whether each line contains a message as hexadecimal digits. Otherwise the line itself is the message.
@@ -30,8 +30,9 @@ pub struct Settings {
 }
 
 /// Sends the message of each line of the input: writes its frame and the sentinel, and flushes the output before the
-/// next line is read. The message is the line without its newline or, if `settings.hex` is set, the bytes whose
-/// hexadecimal digits the line has. If `settings.checksum` is set, the checksum follows the message in the frame.
+/// next line is read. If `settings.hex` is set, the line has the hexadecimal digits of the message. Otherwise the
+/// message is the line without its newline. If `settings.checksum` is set, the checksum follows the message in the
+/// frame.
 ///
 /// Returns whether every line was sent. If `settings.hex` is set, a line that isn't hexadecimal digits is skipped, and
 /// its number, counted from 1, is reported on `errors`. An interrupted read is tried again. Memory is allocated for one
@@ -131,15 +132,15 @@ fn digits_of(alloc: Global, text: &[u8]) -> Result<Vec<u8>, AllocError>
     Ok(digits)
 }
 
-/// Returns whether a byte of a line should be a digit: whether it isn't a blank, a tab or a carriage return.
+/// Returns whether a byte of a line should be a digit, that is, whether it isn't a blank, a tab or a carriage return.
 fn is_digit(byte: u8) -> bool
     ensures digit { result ≡ is_digit byte }
 {
     !(byte == b' ' || byte == b'\t' || byte == b'\r')
 }
 
-/// Writes the frame of a message and the sentinel, and flushes the output. If a checksum is set, it follows the message
-/// in the frame.
+/// Writes the frame of a message, followed by the sentinel, and flushes the output. If a checksum is set, it follows
+/// the message in the frame.
 fn send_message<W: Write + Drop>(
     alloc: Global,
     settings: &Settings,

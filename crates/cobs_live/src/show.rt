@@ -39,8 +39,8 @@ const NEAREST: usize = 16;
 /// A zero is searched for in at most this many bytes before all bytes are passed to the decoder.
 const NEAR: usize = 64;
 
-/// The most bytes that one read can return, 64 KiB. If a read returns fewer bytes, they are shown before more bytes are
-/// read.
+/// The most bytes that one read can return, 64 KiB. If a read returns fewer bytes, the pieces that end in them are
+/// shown before more bytes are read.
 pub const CHUNK_LEN: usize = 65_536;
 
 /// Shows each piece of the input when its sentinel arrives. At the end of the input, shows `unfinished` if another
@@ -112,7 +112,7 @@ pub struct Watch<'a> {
     /// The times at which the last piece and the last bytes were read.
     clock: Times,
 
-    /// Whether bytes are skipped, up to the next sentinel.
+    /// Whether all bytes up to the next sentinel are skipped.
     skipping: bool,
 }
 
@@ -141,7 +141,7 @@ impl<'a> Watch<'a> {
     }
 
     /// Reads bytes once into `chunk`, shows each piece that ends in them, flushes the output, and returns whether the
-    /// input continues. At the end of the input, after a failed read and after a hang-up, shows `unfinished` if a piece
+    /// input continues. At the end of the input, after a failed read or after a hang-up, shows `unfinished` if a piece
     /// has begun and not ended. After a hang-up, shows `hung up` too.
     ///
     /// Nothing is written before the read. When the read begins, all output has been passed on (`flushed`), so all
@@ -376,7 +376,7 @@ fn front(bytes: &[u8]) -> &[u8]
     bytes
 }
 
-/// Returns the index after the first zero among the first `most` bytes, if they have a zero.
+/// Returns the index after the first zero if this zero is among the first `most` bytes.
 #[inline(always)]
 fn end_within(bytes: &[u8], most: usize) -> Option<usize>
     requires few { most ≤ 64 }

@@ -148,8 +148,8 @@ fn message_sight<'a>(checksum: &Option<Checksum>, message: &'a [u8]) -> Sight<'a
     }
 }
 
-/// A message that is sent with a checksum is shown as the sender had it, without the checksum. (A law: this function does
-/// nothing when it runs.)
+/// A message that is sent with a checksum is shown as the sender had it, without the checksum. (A law: this function
+/// does nothing when it runs.)
 pub fn sum_law()
     ensures back { (checksum : Checksum) (message : List ℕ)
         → seen_message (Some checksum) (with_sum (Some checksum) message)
@@ -167,8 +167,8 @@ fn whole(kind: Kind, bytes: &[u8]) -> Sight<'_>
     }
 }
 
-/// Returns the piece. If `partial` is set, a broken or too long piece has those of its decoded bytes that `buffer`
-/// holds.
+/// Returns the piece. If `partial` is set, and the piece is broken or too long, the bytes of the returned piece are
+/// those decoded bytes that `buffer` holds.
 pub fn with_part<'a>(partial: bool, piece: &Sight<'a>, buffer: &'a [u8]) -> Sight<'a>
     ensures seen { seen_in result
         ≡ with_part partial (seen_in piece.now) (held piece.now.kind piece.now.len buffer.now) }

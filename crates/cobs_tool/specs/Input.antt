@@ -9,8 +9,8 @@ use Rattle.cobs_tool.specs.declared.input.TheConstants.{READ_LEN}
 abbrev pub max_input : ℕ
 max_input = 1048576
 
--- a call that returns `result` has read these bytes from a reader; if they are known, the reader had the bytes `old`
--- left before the call, and has the bytes `new` left after it
+-- a call that returns `result` has read some bytes from a reader. The reader had the bytes `old` left before the call,
+-- and has the bytes `new` left after it, if these bytes are known.
 pub record HasRead {A : Type 0} (old new : Option (List ℕ)) (result : Result A ToolFault) : Type 0 where
   pub bytes : List ℕ
   pub consumed : Consumes old new bytes

@@ -2,6 +2,6 @@
 use Rattle.std.specs.Prelude.{ℕ, List, map, String, string_bytes}
 use Rattle.std.specs.Global.{Global}
 
--- the mode that some words ask for
+-- the text of each word, in order
 abbrev pub texts : List (String Global) → List (List ℕ)
 texts words = map string_bytes words

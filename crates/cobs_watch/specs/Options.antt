@@ -3,7 +3,8 @@ use Rattle.std.specs.Prelude.{ℕ, ◌≡◌, ◌≤◌, List, Option, option_ma
 use Rattle.cobs_watch.specs.declared.options.Task.{Task}
 use Rattle.cobs_watch.specs.declared.options.Task.TheVariants.{Show, Send}
 
--- a task for which the command line can ask: to show messages of up to at most 16 MiB, or to send
+-- a task for which the command line can ask: to send, or to show a stream; the greatest length of a message that is
+-- shown is then at most 16 MiB
 abbrev pub IsOffered : Task → Type 0
 IsOffered (Show show) = show.settings.length ≤ 16777216
 IsOffered (Send settings) = Unit {0}

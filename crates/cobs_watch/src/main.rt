@@ -37,8 +37,8 @@ use std::io::{self, BufReader, BufWriter, ErrorKind, IsTerminal, Read, Write};
 use std::process::ExitCode;
 use values::wrong;
 
-/// How many bytes of output are collected before they are written, 128 KiB: as many as a chunk of input has hexadecimal
-/// digits.
+/// How many bytes of output are collected before they are written: 128 KiB, the number of hexadecimal digits of a chunk
+/// of input.
 const OUTPUT_LEN: usize = 131_072;
 
 /// The system's error number of the last read or write that failed, if there is one.
@@ -108,7 +108,7 @@ fn no_task(rt: &HostRuntime, error: &clap::Error) -> ExitCode {
     faulted(rt, error.into(), reason)
 }
 
-/// Returns whether lines have colours if the arguments don't say so. They have colours if standard output is a
+/// Returns whether lines have colours if the arguments leave this open. They have colours if standard output is a
 /// terminal, the variable `TERM` is set and not `dumb`, and `NO_COLOR` is unset or empty. A value that isn't UTF-8
 /// counts as set and as not empty.
 fn auto_color(rt: &HostRuntime) -> bool {
@@ -193,9 +193,9 @@ fn show(rt: &HostRuntime, task: &ShowTask<'_>, zone: TimeZone<'_>) -> anyhow::Re
     }
 }
 
-/// Opens a log, and returns a duplicate of its descriptor, which is never 0, 1 or 2. If standard output or standard
-/// error is closed, the first descriptor can have the number of that stream. The log would then contain everything that
-/// the program writes to that stream.
+/// Opens a log, and returns a duplicate of the log's descriptor. The duplicate is never 0, 1 or 2. If standard output
+/// or standard error is closed, the log's own descriptor can have the number of that stream. Without the duplicate, the
+/// log would then contain everything that the program writes to that stream.
 fn open_log(rt: &HostRuntime, path: &str) -> io::Result<File> {
     let first = File::options().append(true).create(true).open(rt, path)?;
     first.try_clone()

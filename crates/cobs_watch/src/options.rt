@@ -53,7 +53,8 @@ pub(crate) struct ShowTask<'a> {
 /// Returns the task that the words ask for. The first word is the program's own name. `auto_color` says whether lines
 /// have colours if the words leave this open.
 ///
-/// If the words ask for help or for the version, the result is an error too, with the text to print and the status.
+/// If the words are wrong, the result is an error. If the words ask for help or for the version, the result is an error
+/// too: it has the text to print, and the status.
 pub(crate) fn task_of<'a>(
     alloc: Global,
     words: &'a [String],

@@ -17,7 +17,7 @@ static PyObject *outcome_make(PyTypeObject *type, PyObject *data)
     return (PyObject *)self;
 }
 
-/* Raises TypeError because the argument is missing or of another class. The text names the classes. */
+/* Raises TypeError because the argument is missing or isn't bytes. */
 static PyObject *outcome_wrong(PyTypeObject *type, PyObject *data)
 {
     PyObject *name = PyObject_GetAttrString((PyObject *)type, "__name__"), *given = NULL;

@@ -1,7 +1,7 @@
 """Consistent Overhead Byte Stuffing (COBS), with proved code if `jcobs.backend` is "prebuilt".
 
 `encode` turns a message into a frame that never contains a certain byte value: the sentinel, which is 0 unless you pass
-another. So the sentinel can mark the end of each frame on a serial line, in a stream or in a file:
+another value. So the sentinel can mark the end of each frame on a serial line, in a stream or in a file:
 
 >>> import jcobs
 >>> jcobs.encode(b"hello\\0world", terminated=True)
@@ -12,8 +12,9 @@ b'\\x06hello\\x06world\\x00'
 >>> decoder.feed(b"ld\\x00\\x03hi\\x00")
 [Message(b'hello\\x00world'), Message(b'hi')]
 
-`data`, `frame` and `chunk` are bytes, or any other contiguous bytes-like object: bytearray, memoryview, array.array,
-mmap. Each function and method raises TypeError for other objects, and BufferError if the bytes aren't contiguous.
+The arguments `data`, `frame` and `chunk` are bytes, or any other contiguous bytes-like object, such as a bytearray, a
+memoryview, an array.array or an mmap. Each function and method raises TypeError for other objects, and BufferError if
+the bytes aren't contiguous.
 """
 
 __version__ = "1.0.0"  # the modules below compare this version with that of the extension

@@ -30,8 +30,8 @@ def begins(calls: List[FrameType], mine: FrameType) -> bool:
     """Adds the stack frame of a call to `calls`, and returns whether no other call in `calls` is running.
 
     If another call is running, the stack frame is removed again. The stack frame of a call that has ended may still be
-    there, if a signal handler raised an exception before the call could remove it. Another call removes only such a
-    stack frame.
+    in `calls`, if a signal handler raised an exception before the call could remove it. Only such a stack frame is
+    removed by another call.
     """
     calls.append(mine)
     while (first := calls[0]) is not mine:
@@ -46,7 +46,7 @@ def begins(calls: List[FrameType], mine: FrameType) -> bool:
 def alone(what: str, use: Optional[str] = None) -> Callable[[_Method], _Method]:
     """Makes a method raise RuntimeError while another call is running on its object, in any thread or signal handler.
 
-    Methods with different uses may run at the same time. The object must have a dictionary `_calls`, which is empty at
+    Methods with different values of `use` may run at the same time. The object must have a dictionary `_calls`, which is empty at
     first.
 
     The finally clause calls nothing, because CPython from 3.11 on runs signal handlers after calls. In older versions,

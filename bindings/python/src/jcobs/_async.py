@@ -117,7 +117,7 @@ class AsyncFrameReader(Frames):
             return b""
 
     async def _take(self) -> bytes:
-        """Decodes the bytes of one read, and returns these bytes: none at the end.
+        """Decodes the bytes of one read, and returns these bytes: b"" at the end of the stream.
 
         Nothing is awaited between the read and the decoding.
         """
@@ -137,7 +137,7 @@ class AsyncFrameReader(Frames):
     async def _take_by_a_task(self, timeout: float) -> Optional[bytes]:
         """Does what `_take_within` does, for asyncio.
 
-        Up to Python 3.11 `asyncio.wait_for` would swallow a cancellation.
+        `asyncio.wait_for` isn't used, because up to Python 3.11 it would swallow a cancellation.
         """
         import asyncio
 

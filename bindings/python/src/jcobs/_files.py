@@ -25,7 +25,7 @@ class Readable(Protocol):
     """An object with `read`, such as a binary file or a `serial.Serial`."""
 
     def read(self, size: int, /) -> Optional[bytes]:
-        """Returns at most `size` bytes: no bytes at the end of the file, or None if there are none now."""
+        """Returns at most `size` bytes: no bytes at the end of the file, or None if no bytes have arrived."""
 
 
 class Receivable(Protocol):
@@ -119,7 +119,7 @@ def read_port_by_its_timeout(port: Any, timeout: Optional[float], kept: Kept) ->
 def read_port_at_a_socket(port: Any, timeout: Optional[float], kept: Kept) -> bool:
     """Reads the bytes that a port of socket:// has, or waits for some.
 
-    The port's `in_waiting` is 1 for any number of waiting bytes above 0.
+    The port's `in_waiting` is 1 for any number of waiting bytes above 0, so it isn't used.
     """
     own = port.timeout
     if not wait([port.fileno()], own if timeout is None else timeout):
@@ -160,7 +160,7 @@ def read_socket(sock: Any, timeout: Optional[float], kept: Kept) -> bool:
 def read_ssl(sock: Any, timeout: Optional[float], kept: Kept) -> bool:
     """Reads the bytes that an SSL socket has, or waits for some.
 
-    The socket may be readable because of a record without data.
+    The socket may be readable because of a record without data. So the timeout of the socket itself is used.
     """
     from ssl import SSLWantReadError
 
@@ -191,8 +191,8 @@ def read_file(file: Any, timeout: Optional[float], kept: Kept) -> bool:
     of_socket = isinstance(getattr(file, "raw", file), socket.SocketIO)
     found = keep(kept, getattr(file, "read1", file.read), CHUNK, in_python=of_socket)
     if (not found or not kept[-1]) and hasattr(file, "raw") and not waits(file):
-        # If `read1` returns empty bytes, the file is at its end. Up to Python 3.13 they may also mean that no bytes
-        # have arrived. In both cases the file's own buffer is empty.
+        # If `read1` returns empty bytes, the file is at its end. Up to Python 3.13 empty bytes may also mean that no
+        # bytes have arrived. In both cases the file's own buffer is empty.
         if found:
             kept.pop()
         return keep(kept, file.raw.read, CHUNK)

@@ -60,8 +60,8 @@ def encode_in_place(buffer: WriteableBuffer, length: int, *, sentinel: int = 0) 
     This function is no faster than `encode`, which it calls for a copy of the message. It remains for scripts that
     already use it.
 
-    `buffer` is a contiguous bytes-like object that can be written to. If it has fewer than `max_length(length)` bytes,
-    the function raises ValueError and leaves `buffer` as it was.
+    `buffer` is a contiguous bytes-like object that can be written to. If `buffer` has fewer than `max_length(length)`
+    bytes, the function raises ValueError and leaves `buffer` as it was.
 
     >>> buffer = bytearray(b"\\0hello..")
     >>> jcobs.encode_in_place(buffer, 5)

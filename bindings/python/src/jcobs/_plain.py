@@ -284,7 +284,7 @@ class Decoder:
 
 
 class Encoder:
-    """A message that comes in pieces."""
+    """A message that comes in chunks."""
 
     __slots__ = ("_calls", "_message", "_sentinel", "_taken")
 

@@ -21,7 +21,7 @@ if TYPE_CHECKING:
 
     from _typeshed import ReadableBuffer
 
-# A wait in seconds that every system accepts.
+# The longest wait in seconds that is passed to the system. Every system accepts a wait of this length.
 LONGEST = 2_000_000.0
 IN_USE = "the reader is in use by another call"
 # The longest time in seconds that `discard` takes, if bytes never stop arriving.
@@ -36,8 +36,8 @@ def closing(count: int, sentinel: int) -> bytes:
     block. The next byte is a code of 255 with fewer than 254 bytes after it, so the frame is broken.
 
     At most 254 bytes of a block can be missing, so `count` is at most 255. If `count` is 255, the first returned byte
-    is 1, the code of an empty block. If that byte were 255 and no byte of a block were missing, the 254 bytes after it
-    would make a full block.
+    is 1, the code of a block that has only its code. If that byte were 255 and no byte of a block were missing, the 254
+    bytes after it would make a full block.
     """
     spoiling = b"\xff" * count if count < 255 else b"\x01" + b"\xff" * 254
     return bytes(byte ^ sentinel for byte in spoiling + b"\0")
@@ -96,7 +96,7 @@ class Frames(Coder):
         self._headless = self._headless or begun
 
     def _check_arrived(self) -> None:
-        """Drops b"" or the GAP, if a read that an exception ended has left one of them."""
+        """Drops b"" or the GAP. A read may have left one of them, if an exception ended the read."""
         if self._arrived and (not self._arrived[0] or self._arrived[0] is GAP):
             if self._arrived.popleft() is GAP:
                 self._lose(True)
@@ -153,7 +153,7 @@ class FrameReader(Frames):
     """Reads frames from a serial port, a socket, a pipe or a file, and sends messages to it.
 
     `read` returns the outcome of one frame: a `Message`, `Broken` or `TooLong`. Iterating yields each outcome as soon
-    as its frame ends, until the stream ends or a timeout of the port or socket passes. After a timeout reading can
+    as its frame ends, until the stream ends or a timeout of the port or socket passes. After a timeout, reading can
     continue. No byte is lost if the read of the file raises an exception.
 
     With the extension and CPython 3.11 or later, no byte of a socket, a pipe or a file is lost if a signal handler
@@ -177,7 +177,7 @@ class FrameReader(Frames):
 
     A reader never waits for further bytes if some have arrived. From a serial port it reads `in_waiting` bytes, or 1
     byte if none are waiting. For a socket it calls `recv`, for a buffered file `read1`, and for any other object
-    `read`, each with 65536 as the size. This method of the object must return the bytes that have arrived, no bytes at
+    `read`, each with 65536 as the size. The method that is called must return the bytes that have arrived, no bytes at
     the end of the input, or None if no bytes have arrived.
     """
 
@@ -220,8 +220,9 @@ class FrameReader(Frames):
     def read(self, timeout: Optional[float] = None) -> Optional[Outcome]:
         """Returns the outcome of the next frame, or None if it hasn't ended after `timeout` seconds.
 
-        Without `timeout` the call waits as long as the object itself waits. Then it returns None if the object's own
-        timeout has passed, or if the object never waits and has no bytes now. Raises EOFError at the end of the stream.
+        Without `timeout` the call waits as long as the object itself waits. In this case the call returns None if the
+        object's own timeout has passed, or if the object never waits and has no bytes now. Raises EOFError at the end
+        of the stream.
 
         With `timeout` the call doesn't see bytes that other code, such as `readline`, has left in a file's own buffer.
         Open the file with `buffering=0`, or give such bytes to a `Decoder`. If a socket has a timeout, pass the socket

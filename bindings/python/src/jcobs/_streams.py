@@ -1,4 +1,4 @@
-"""Streams of frames, and messages in pieces."""
+"""Streams of frames, and messages in chunks."""
 
 from __future__ import annotations
 
@@ -116,7 +116,7 @@ class Decoder(Coder):
 
 
 class Encoder(Coder):
-    """Encodes messages that come in pieces.
+    """Encodes messages that come in chunks.
 
     `max_length` is the length of the longest message in bytes. When the encoder is created, it allocates memory for
     the frame of a message of this length, or in plain Python for the message. An encoder is for one thread at a time,

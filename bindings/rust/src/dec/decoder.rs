@@ -92,12 +92,12 @@ macro_rules! decoder_methods {
         ///
         /// # Errors
         ///
-        /// - [`DecodeError::InvalidFrame`]: the frame breaks off inside a block. The bytes through the zero that ends
-        ///   it were taken.
+        /// - [`DecodeError::InvalidFrame`]: the frame breaks off inside a block. The call has taken the bytes through
+        ///   the zero that ends the frame.
         /// - [`DecodeError::TargetBufTooSmall`]: the message is longer than the buffer. The push with the first byte
-        ///   that doesn't fit returns this error. Each later push that isn't empty also returns it, up to and including
-        ///   the push with the zero that ends the frame. The bytes through that zero were taken, or all bytes if the
-        ///   push doesn't contain that zero.
+        ///   that doesn't fit returns this error. Each later push that isn't empty also returns this error, up to and
+        ///   including the push with the zero that ends the frame. Each of these pushes has taken all its bytes, or if
+        ///   that zero is among them, the bytes through that zero.
         ///
         /// After an error, continue with the bytes from [`parsed_size`](Self::parsed_size) on. Then a broken frame
         /// never affects another frame.
@@ -123,8 +123,8 @@ macro_rules! decoder_methods {
 
         /// Returns the buffer to which messages are decoded, for writing.
         ///
-        /// You may change the buffer while no frame is open. If you change the buffer while a frame is open, the result
-        /// of this frame and the contents of the buffer are unspecified.
+        /// You may change the buffer between two frames. If you change the buffer after a frame has begun and before the
+        /// zero that ends it, the result of this frame and the contents of the buffer are unspecified.
         #[inline]
         pub fn dest_mut(&mut self) -> &mut [u8] {
             &mut self.dest[..]

@@ -1,10 +1,10 @@
-//! Encodes a message that comes in pieces, and writes its frame to a slice.
+//! Encodes a message that comes in chunks, and writes its frame to a slice.
 
 use crate::enc::DestBufTooSmallError;
 use crate::proved::UnbufferedEncoder;
 use crate::proved::enc::blocks::close;
 
-/// Encodes a message that comes in pieces, and writes its frame to a slice.
+/// Encodes a message that comes in chunks, and writes its frame to a slice.
 ///
 /// ```
 /// let mut frame = [0; 16];

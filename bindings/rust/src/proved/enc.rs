@@ -47,8 +47,8 @@ pub fn encode(source: &[u8], dest: &mut [u8]) -> usize {
     encode_long(source, dest)
 }
 
-/// Does what [`encode`] does, for any length. This is a separate function, so that encoding a short message doesn't
-/// save registers for the loop.
+/// Does what [`encode`] does, for a message of any length. This is a separate function, so that `encode` doesn't save
+/// registers for the loop when it encodes a short message.
 #[inline(never)]
 fn encode_long(source: &[u8], dest: &mut [u8]) -> usize {
     if source.is_empty() {
@@ -61,7 +61,7 @@ fn encode_long(source: &[u8], dest: &mut [u8]) -> usize {
 /// Does what [`encode`] does, if the frame fits `dest`.
 ///
 /// # Errors
-/// `DestBufTooSmallError` exactly if the frame is longer than `dest`. This error changes no byte of `dest`.
+/// `DestBufTooSmallError` exactly if the frame is longer than `dest`. Then no byte of `dest` has changed.
 #[inline]
 pub fn try_encode(source: &[u8], dest: &mut [u8]) -> Result<usize, DestBufTooSmallError> {
     if !has_vectors() {
@@ -73,7 +73,7 @@ pub fn try_encode(source: &[u8], dest: &mut [u8]) -> Result<usize, DestBufTooSma
     try_encode_any(source, dest)
 }
 
-/// Does what [`try_encode`] does, for any length.
+/// Does what [`try_encode`] does, for a message of any length.
 fn try_encode_any(source: &[u8], dest: &mut [u8]) -> Result<usize, DestBufTooSmallError> {
     // The frame of a message of up to 254 bytes is one byte longer than the message.
     if source.len() < dest.len().min(FULL_CODE) {

@@ -40,14 +40,14 @@ pub enum DecodeError {
     /// There was no byte to decode.
     EmptyFrame,
 
-    /// The frame breaks off inside a block, or the source has no frame.
+    /// The frame breaks off inside a block, or the source has only zeros.
     InvalidFrame {
         /// How many bytes were decoded. The decoded bytes are at the front of the buffer, if the caller passed a
         /// buffer.
         decoded_bytes: usize,
     },
 
-    /// The buffer is shorter than the frame's output.
+    /// The frame decodes to more bytes than the buffer holds.
     TargetBufTooSmall,
 }
 

@@ -189,7 +189,7 @@ fn is_unfinished(before: bool, bytes: &[u8]) -> bool {
 /// The greatest number of reads that one call of `next_frame` makes. So a call ends even if no piece ends.
 const MOST_READS: usize = 65536;
 
-/// Reads the frames of a stream, one frame for each call, with a decoder of its own.
+/// Reads a stream piece by piece, one piece for each call of `next_frame`, with a decoder of its own.
 ///
 /// The source isn't part of the reader: the caller passes a source to each call, so a stream may continue in another
 /// source.

@@ -1,5 +1,5 @@
 // Made by bindings/rust/translate.py from `crates/cobs/src/lib.rt`: change that file, and run it again.
-//! Consistent Overhead Byte Stuffing (COBS), after the crate `cobs` 0.5.1.
+//! Consistent Overhead Byte Stuffing (COBS), with calls modelled on those of the crate `cobs` 0.5.1.
 
 pub(crate) mod block;
 pub(crate) mod cobs_bytes;

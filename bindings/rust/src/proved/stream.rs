@@ -1,5 +1,6 @@
 // Made by bindings/rust/translate.py from `crates/cobs/src/stream.rt`: change that file, and run it again.
-//! Whole streams: one call decodes all pieces that end in a part of a stream, and one call encodes several messages.
+//! Whole streams: one call decodes all pieces that end in the next bytes of a stream, and one call encodes several
+//! messages.
 //!
 //! A stream is cut at its zeros. The bytes between two zeros are a piece, unless the zeros are adjacent. Each piece is
 //! decoded separately: a piece is a frame, breaks off inside a block, or decodes to more bytes than the buffer holds.
@@ -49,19 +50,19 @@ fn frame_outcome(end: PieceEnd, buffer: &[u8]) -> Result<FrameOutcome, AllocErro
     }
 }
 
-/// Decodes a part of a stream, and returns one outcome for each piece that ends in it, in order.
+/// Decodes the next bytes of a stream, and returns one outcome for each piece that ends in these bytes, in order.
 ///
 /// The first piece may have begun in an earlier call. The next call continues a piece that hasn't ended, because the
-/// decoder keeps its state. So a stream can be passed in parts, cut anywhere, and the joined results of the calls are
-/// those of the whole stream. Leading and repeated zeros make no piece.
+/// decoder keeps its state. So a stream may be cut anywhere, and each call gets the next bytes: the joined results of
+/// the calls are those of the whole stream. Leading and repeated zeros make no piece.
 ///
 /// If the caller wrote to the decoder's buffer while a piece was open, only the first outcome is affected, and only if
 /// it is a message: the bytes of this message are unspecified, but its length isn't affected.
 ///
 /// # Errors
-/// `AllocError` if memory for an outcome runs out. Then the outcomes are lost, and the decoder is idle, so the next
-/// nonzero byte begins a new piece. Only messages and the list of outcomes need memory: if no piece ends, the result is
-/// `Ok`.
+/// `AllocError` if memory for an outcome runs out. Then the outcomes of this call are lost, and the decoder is idle, so
+/// the next nonzero byte begins a new piece. Only messages and the list of outcomes need memory: if no piece ends, the
+/// result is `Ok`.
 ///
 /// ```
 /// # #[cfg(feature = "alloc")] {

@@ -6,8 +6,8 @@ use Rattle.cobs.specs.declared.dec.heapless.CobsDecoderHeapless.{CobsDecoderHeap
 use Rattle.cobs.specs.Feed.{Phase, Idle, Within, Overlong}
 use Rattle.cobs.specs.declared.dec.unbuffered.UnbufferedDecoder.{UnbufferedDecoder}
 
--- the phase of a decoder in a block, full or not, with this many bytes missing and this many written; before a piece
--- begins, the phase is that after a full block, with nothing written
+-- the phase of a decoder in a block, full or not, with this many bytes missing and this many written. If the block is
+-- full, and no bytes are missing or written, then no piece has begun.
 abbrev pub phase_with : Bool → ℕ → ℕ → Phase
 phase_with false left count = Within false left count
 phase_with true (suc left) count = Within true (suc left) count

@@ -33,6 +33,6 @@ pub record ReportsFirst (next : Next) (p bytes buffer rest : List ℕ) : Type 0 
   pub first : EndsFirstIn p bytes (length buffer) outcome rest
   pub decoded : HasDecoded outcome buffer (unended (p ++ first.front))
 
--- the reader, if these are the bytes that it has read but not fed
+-- the reader as if these were the bytes that it has read but not fed
 abbrev pub with_kept : List ℕ → ReaderState → ReaderState
 with_kept kept reader = record reader { kept = kept }

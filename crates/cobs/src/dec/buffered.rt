@@ -14,7 +14,7 @@ use crate::dec::unbuffered::UnbufferedDecoder;
 use crate::error::{DecodeError, DecodeReport, PushError};
 use std::alloc::{AllocError, Global};
 
-/// Decodes a stream of frames, each ended by a zero, into a slice that it borrows.
+/// Decodes a stream of frames, each ended by a zero, into a slice that the decoder borrows.
 ///
 /// `feed` takes one byte of the stream, and `push` takes any number of bytes. When a frame ends, its message is at the
 /// front of the slice, and stays there until the decoder takes the next nonzero byte. A piece of the stream is the
@@ -145,7 +145,7 @@ impl<'a> CobsDecoder<'a> {
     /// Writing in the middle of a piece doesn't change the results for this piece, but the bytes of its message are
     /// then unspecified. A proof about a caller of `dest_mut` can use the bytes of the slice while the returned
     /// reference is in use, but not the decoder's state after the write. If the caller writes with
-    /// [`write_dest`](crate::WriteBuffer::write_dest) instead, the proof can use the state too.
+    /// [`write_dest`](crate::WriteBuffer::write_dest) instead, the proof can use that state too.
     ///
     /// ```
     /// let mut buffer = [7; 2];

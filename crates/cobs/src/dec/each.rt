@@ -14,7 +14,7 @@ use crate::dec::frame_decoder::PieceEnd;
 use crate::error::{DecodeError, DecodeReport};
 use crate::find::{leading_zeros, len_to, len_to_zero};
 
-/// Decodes the frame in the first `end` bytes of the buffer, in place and one byte after another, and returns the
+/// Decodes the first `end` bytes of the buffer as one frame, in place and one byte after another, and returns the
 /// message's length. Every byte after the message is as it was. This function is small, and uses no SIMD vectors. (A
 /// choice of this library.)
 ///
@@ -104,8 +104,8 @@ fn through_piece(source: &[u8], at: usize) -> usize
     end
 }
 
-/// Returns the result of `decode_piece` for a piece with `written` bytes of output, if `missing` bytes of its last
-/// block are missing and `at` bytes of the source were consumed.
+/// Returns the result of `decode_piece` for a piece with `written` bytes of output. `missing` bytes of the piece's last
+/// block are missing, and `at` bytes of the source were consumed.
 #[inline(always)]
 fn ended(written: usize, missing: usize, at: usize) -> Option<(PieceEnd, usize)>
     ensures whole { missing ≡ 0 → result ≡ Some (Message written, at) }

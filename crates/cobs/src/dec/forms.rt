@@ -94,7 +94,7 @@ pub fn decode_with_sentinel(
     decode_blocks(&source[..end], dest, sentinel)
 }
 
-/// Returns the message of the first frame of the source, in a vector that has exactly the bytes of the message.
+/// Returns the message of the first frame of the source, as a vector of exactly the message's bytes.
 ///
 /// This function finds and reads the frame as [`decode`] does. Memory is allocated once, for as many bytes as the
 /// source has, so a message always fits and `TargetBufTooSmall` is never returned.
@@ -127,8 +127,8 @@ pub fn decode_vec(alloc: Global, source: &[u8]) -> Result<Vec<u8>, DecodeVecErro
     Ok(message)
 }
 
-/// Returns the message of the frame at the front of the source, for any sentinel, in a vector that has exactly the
-/// bytes of the message.
+/// Returns the message of the frame at the front of the source, for any sentinel, as a vector of exactly the message's
+/// bytes.
 ///
 /// This function reads the frame as [`decode_with_sentinel`] does, up to the first sentinel or the source's end. If the
 /// source begins with a sentinel, the function returns an empty vector. Memory is allocated as in [`decode_vec`]. The

@@ -151,7 +151,7 @@ pub trait FrameDecoder {
 /// assert_eq!(rt; decoder.dest(), [9, 8, 0].as_slice());
 /// ```
 pub trait WriteBuffer: FrameDecoder {
-    /// The decoder with other bytes in its buffer.
+    /// The same decoder, except that its buffer has these bytes.
     ghost with_bytes: { Self → List ℕ → Self };
 
     /// Returns the whole buffer, for writing. The buffer then keeps the bytes that the caller writes.

@@ -14,8 +14,8 @@ use crate::enc::UnbufferedEncoder;
 use crate::find::position_or_len;
 use cobs_bytes::window::{WINDOW, copy_at, copy_window, has_vectors, write_row, zeros_at};
 
-/// Fewer bytes than this are appended one by one, because in the Rust crate that is faster than copying a window.
-/// `push_few` takes up to this number of bytes.
+/// Fewer bytes than this number are appended one by one, because in the Rust crate that is faster than copying a
+/// window. `push_few` takes up to this number of bytes.
 pub(crate) const APPEND_EACH_BELOW: usize = 8;
 
 /// The mask of a window that has only zeros.
@@ -47,9 +47,10 @@ pub(crate) fn fits_window_and_block(encoder: UnbufferedEncoder, len: usize) -> b
     0 < len && len <= WINDOW && encoder.taken as usize + len < FULL_BLOCK_BYTES
 }
 
-/// Writes the code of the open block, which the first zero marked in the mask closes. Returns the index of the next
-/// code, and the mask without the bit of that zero. No branch tests whether the mask marks a zero. If the mask marks no
-/// zero, the block stays open, and its code is written again later, so the byte that is written here doesn't matter.
+/// Closes the open block at the first zero that the mask marks, and writes the block's code. Returns the index of the
+/// next code, and the mask without the bit of that zero. No branch tests whether the mask marks a zero. If the mask
+/// marks no zero, the block stays open, and its code is written again later, so the byte that is written here doesn't
+/// matter.
 #[inline(always)]
 fn mark_first(dest: &mut [u8], index: usize, next: usize, zeros: u64) -> (usize, u64)
     requires { IsMask next zeros index dest.old }
@@ -62,8 +63,8 @@ fn mark_first(dest: &mut [u8], index: usize, next: usize, zeros: u64) -> (usize,
     (index, zeros & zeros.wrapping_sub(1))
 }
 
-/// Writes the code of each block that a zero marked in the mask closes. Each iteration writes up to two codes, because
-/// there may be many zeros. Returns the index of the next code.
+/// Closes a block at each zero that the mask marks, and writes the code of each of these blocks. Each iteration writes
+/// up to two codes, because there may be many zeros. Returns the index of the next code.
 #[inline(always)]
 fn mark_zeros(dest: &mut [u8], index: usize, next: usize, zeros: u64) -> usize
     requires { IsMask next zeros index dest.old }
@@ -143,8 +144,8 @@ pub(crate) fn append_short(
     encoder_at(index, next + len, 0)
 }
 
-/// Writes the code 1 for each zero at the front of `source`, 32 codes at a time while more than 32 bytes are left, and
-/// returns how many codes it wrote.
+/// Takes rows of 32 zeros from the front of `source` while more than 32 bytes are left, and writes the code 1 for each
+/// zero. Returns how many codes it wrote.
 #[inline(always)]
 fn write_codes_of_zeros(source: &[u8], dest: &mut [u8], at: usize) -> usize
     requires some { 0 < length source.now }
@@ -167,9 +168,9 @@ fn write_codes_of_zeros(source: &[u8], dest: &mut [u8], at: usize) -> usize
 ///
 /// Each window is copied to the place of the next byte. If the window fills the open block before a zero comes, the
 /// block is closed, and the caller copies the next bytes as slices, because a run that fills one block often fills more
-/// blocks. Otherwise each zero of the window is replaced by the code of the block that the zero begins, and the last
-/// block stays open for the next window. If the window has only zeros, the rows of 32 zeros after it aren't copied:
-/// their codes are written 32 at a time. No byte after the frame is written.
+/// blocks. Otherwise a code is written over each zero of the window, and the last block stays open for the next window.
+/// If the window has only zeros, the rows of 32 zeros after it aren't copied: their codes are written 32 at a time. No
+/// byte after the frame is written.
 #[inline(always)]
 #[tactic(auto, using(crate::proofs::encoding::TakingLemmas::next_steps))]
 fn append_windows(
@@ -299,8 +300,8 @@ pub(crate) fn append_rest(
 /// Continues the frame of `encoder` in `dest` with `source`, and returns the encoder's state after `source`. [`close`]
 /// writes the code of the open block later; until then the byte at the place of the code doesn't matter.
 ///
-/// [`append_windows`] takes most bytes. Usually few bytes are left; [`append_rest`] takes them if there are more of
-/// them than a window holds, or if they may fill the open block.
+/// [`append_windows`] takes most bytes. Usually few bytes are left, and [`append_short`] takes them. [`append_rest`]
+/// takes them if they are more than a window holds, or if they may fill the open block.
 #[inline(always)]
 pub(crate) fn append(
     source: &[u8],
@@ -326,9 +327,9 @@ pub(crate) fn append(
 
 /// Writes the code of the open block, unless the frame ends with a full block, and returns the frame's length. Before
 /// the call, the byte in the code's place may have any value.
-// The test whether `index` is within the slice comes first, though it fails only after a full block. Without it,
+// The test whether `index` is within the slice comes first, though it fails only after a full block. Without this test,
 // compilers test in the caller's loop over single bytes whether the block is full. In the Rust crate with link-time
-// optimization, this can make that loop half as fast.
+// optimization, that loop can then be half as fast.
 #[inline(always)]
 pub(crate) fn close_block(dest: &mut [u8], encoder: &UnbufferedEncoder) -> usize
     requires { IsPlaceIn (length dest.old) (reached_by encoder.now) }

@@ -10,7 +10,7 @@ use crate::error::DestBufTooSmallError;
 /// Encodes a message that comes in pieces, and writes the frame to a slice that the encoder borrows.
 ///
 /// However the message is cut into pieces, the frame is the one that [`encode`](crate::encode) writes. After each push
-/// the slice begins with the frame of the bytes taken so far, except the code of the open block;
+/// the slice begins with the frame of the bytes taken so far, except for the code of the open block;
 /// [`finalize`](CobsEncoder::finalize) writes this last code. The slice needn't be longer than the frame.
 ///
 /// The blocks are those of the paper by Cheshire and Baker; the calls are those of the crate `cobs`.
@@ -63,9 +63,9 @@ impl<'a> CobsEncoder<'a> {
     /// An empty push always succeeds, and changes nothing. The bytes of the slice after the frame are never written.
     ///
     /// # Errors
-    /// `DestBufTooSmallError` exactly if the encoded frame of the message so far, these bytes included, is longer than
-    /// the slice. This error changes neither the encoder nor the slice, so the caller may end the frame, or push fewer
-    /// bytes. That an error changes nothing is a choice of this library.
+    /// `DestBufTooSmallError` exactly if the slice is shorter than the encoded frame of the bytes taken so far,
+    /// followed by these bytes. Then neither the encoder nor the slice has changed, so the caller may end the frame, or
+    /// push fewer bytes. (A choice of this library.)
     ///
     /// ```
     /// let mut dest = [170; 4];

@@ -40,8 +40,8 @@ pub fn encode_with_sentinel(source: &[u8], dest: &mut [u8], sentinel: u8) -> usi
 /// Does what [`encode_with_sentinel`] does, if the frame fits `dest`.
 ///
 /// # Errors
-/// `DestBufTooSmallError` exactly if the frame is longer than `dest`. This error changes no byte of `dest`. (A choice
-/// of this library.)
+/// `DestBufTooSmallError` exactly if the frame is longer than `dest`. Then no byte of `dest` has changed. (A choice of
+/// this library.)
 ///
 /// ```
 /// let mut dest = [170; 3];
@@ -107,8 +107,8 @@ pub fn encode_including_sentinels(source: &[u8], dest: &mut [u8]) -> usize
 /// Does what [`encode_including_sentinels`] does, if the frame and both sentinels fit `dest`.
 ///
 /// # Errors
-/// `DestBufTooSmallError` exactly if the frame and both sentinels together are longer than `dest`. This error changes
-/// no byte of `dest`. (A choice of this library.)
+/// `DestBufTooSmallError` exactly if the frame and both sentinels together are longer than `dest`. Then no byte of
+/// `dest` has changed. (A choice of this library.)
 ///
 /// ```
 /// let mut dest = [170; 4];

@@ -115,8 +115,8 @@ impl Clone for EncoderState {
 }
 
 impl EncoderState {
-    /// Returns whether another byte can be pushed: whether the index of the next block fits a `usize`, whatever the
-    /// byte is. (A choice of this library.)
+    /// Returns whether another byte can be pushed, that is, whether the index of the next block fits a `usize`,
+    /// whatever the byte is. (A choice of this library.)
     ///
     /// ```
     /// assert!(rt; EncoderState::default().can_push());

@@ -1,4 +1,4 @@
-//! The encoder, byte by byte: the step for one byte of the message, and a loop over the bytes of a piece.
+//! The encoder, byte by byte: the step for one byte of the message, and a loop over the bytes of a push.
 ghost use Rattle.std.specs.Prelude.{◌≡◌, ◌<◌, ◌≤◌, ◌+◌, ◌++◌, ◌↔◌, [], ◌∷◌, ℕ, List, length, drop, IsOk, IsTrue, IfOk, OnOk, OnErr, false};
 ghost use Rattle.cobs.specs.Length.{encoded_len};
 ghost use Rattle.cobs.specs.OpenBlock.{CobsEncoderAfter, HasRoomFor, IsPlaceIn, end_after, end_of};
@@ -14,8 +14,8 @@ use crate::error::DestBufTooSmallError;
 impl UnbufferedEncoder {
     /// Takes the next byte of the message, for which there is room, and returns the length that the frame has if the
     /// message ends with this byte.
-    // This function calls no other function, so that the loop of `encode_in_place` stays in registers. In each case the
-    // frame ends after the byte at index `next`.
+    // This function calls no other function, so that the variables of the loop of `encode_in_place` stay in registers.
+    // In each case the frame ends after the byte at index `next`.
     #[inline(always)]
     pub(crate) fn append_byte(&mut self, dest: &mut [u8], byte: u8) -> usize
         requires open_block { self.old.taken ≤ 253 }
@@ -50,7 +50,7 @@ impl UnbufferedEncoder {
     /// `feed` does what [`push`](UnbufferedEncoder::push) of this one byte does.
     ///
     /// # Errors
-    /// `DestBufTooSmallError` if the byte doesn't fit. This error changes neither the encoder nor the buffer.
+    /// `DestBufTooSmallError` if the byte doesn't fit. Then neither the encoder nor the buffer has changed.
     ///
     /// ```
     /// let mut buffer = [170; 2];
@@ -109,8 +109,8 @@ impl UnbufferedEncoder {
     {
         let room = dest.len();
         let code = self.taken as usize + 1;
-        // A block with a greater code isn't open: such a number doesn't come from these calls. The tests read the field,
-        // and not a copy of it: so rustc sees that no index of the step is out of bounds.
+        // An open block has a code of at most 254: a greater number doesn't come from these calls. The tests read the
+        // field, and not a copy of it, so that rustc sees that no index of the step is out of bounds.
         if FULL_BLOCK_BYTES < code || room < self.index || room - self.index <= code {
             return Err(DestBufTooSmallError);
         }
@@ -184,7 +184,7 @@ impl UnbufferedEncoder {
         ensures refused { OnErr result ((dest.new ≡ dest.old) × (self.new ≡ self.old)) }
         ensures empty { bytes.now ≡ [] → (dest.new ≡ dest.old) × (self.new ≡ self.old) }
     {
-        // An open block has at most 253 bytes: other numbers don't come from these calls.
+        // An open block has at most 253 bytes: a greater number doesn't come from these calls.
         if 253 < self.taken || dest.len() < self.index {
             return Err(DestBufTooSmallError);
         }
@@ -204,8 +204,8 @@ impl UnbufferedEncoder {
     }
 
     /// Takes the next bytes of the message, for which there is room, one at a time.
-    // The loop changes variables, which stay in registers, and one line closes every block. On a small processor `append_byte`
-    // in the loop would need more instructions and more flash.
+    // The loop changes local variables, which stay in registers, and every block is closed by the same lines. On a
+    // small processor `append_byte` in the loop would need more instructions and more flash.
     #[inline(always)]
     fn append_each(&mut self, dest: &mut [u8], bytes: &[u8])
         requires some { 0 < length bytes.now }

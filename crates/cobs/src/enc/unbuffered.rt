@@ -1,4 +1,4 @@
-//! The state of an encoder for a message that comes in pieces. Its buffer is passed to each call.
+//! The state of an encoder for a message that comes in pieces. The encoder's buffer is passed to each call.
 ghost use Rattle.std.specs.Prelude.{◌≡◌, ◌<◌, ◌↔◌, [], ℕ, List, length, IsTrue, false};
 ghost use Rattle.cobs.specs.OpenBlock.{CobsEncoderAfter, IsPlaceIn};
 ghost use Rattle.cobs.specs.Fields.Progress.{reached_by};
@@ -90,7 +90,7 @@ impl UnbufferedEncoder {
     pub(crate) fn is_within(&self, len: usize) -> bool
         ensures { IsTrue result ↔ IsPlaceIn len (reached_by self.now) }
     {
-        // An open block has at most 253 bytes: other numbers don't come from these calls.
+        // An open block has at most 253 bytes: a greater number doesn't come from these calls.
         if 253 < self.taken || len < self.index {
             return false;
         }

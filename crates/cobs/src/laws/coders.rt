@@ -76,9 +76,9 @@ pub fn law_16()
 /// A decoder of your own, byte by byte.
 ///
 /// In any phase and for any byte, the streaming decoders make the step that the table of
-/// [`DecoderState`](crate::DecoderState) describes, unless the output is too long for the buffer. Feeding bytes one by
-/// one has the same result as one call of `feed_piece`: both stop after the zero that ends the first piece, or after
-/// the last byte.
+/// [`DecoderState`](crate::DecoderState) describes, unless the output is too long for the buffer. A loop that feeds
+/// bytes one by one, and stops after the zero that ends the first piece or after the last byte, has the same result as
+/// one call of `feed_piece`.
 ///
 /// So your own decoder with this step decodes as the streaming decoders do, and a loop over `feed_byte` does what
 /// `feed_piece` does.
@@ -200,10 +200,10 @@ pub fn law_20()
 
 /// A loop over the pieces of a stream.
 ///
-/// If an idle decoder reads a piece with `feed_piece`, the outcomes of the stream are the outcome of that piece, and
-/// then the outcomes of the bytes after the piece. The unended bytes of the stream (those after its last zero, or all
-/// bytes if it has no zero) are the unended bytes of the bytes after that piece. If no piece ends, the stream has no
-/// outcome, and the decoder has taken the unended bytes.
+/// If an idle decoder reads the first piece of a stream with `feed_piece`, the outcomes of the stream are the outcome
+/// of that piece, and then the outcomes of the bytes after the piece. The unended bytes of the stream (those after its
+/// last zero, or all bytes if it has no zero) are the unended bytes of the bytes after that piece and its zero. If no
+/// piece ends, the stream has no outcome, and the decoder has taken the unended bytes.
 ///
 /// So a loop over `feed_piece` is proved by one equation: the outcomes found so far, followed by those of the remaining
 /// bytes, are the outcomes of the stream.

@@ -6,7 +6,7 @@ use crate::proved::dec::frame_decoder::PieceEnd;
 use crate::proved::error::{DecodeError, DecodeReport};
 use crate::proved::find::{leading_zeros, len_to, len_to_zero};
 
-/// Decodes the frame in the first `end` bytes of the buffer, in place and one byte after another, and returns the
+/// Decodes the first `end` bytes of the buffer as one frame, in place and one byte after another, and returns the
 /// message's length. Every byte after the message is as it was. This function is small, and uses no SIMD vectors.
 ///
 /// Precondition: the buffer has at least `end` bytes, and none of its first `end` bytes is a zero.
@@ -78,8 +78,8 @@ fn through_piece(source: &[u8], at: usize) -> usize {
     end
 }
 
-/// Returns the result of `decode_piece` for a piece with `written` bytes of output, if `missing` bytes of its last
-/// block are missing and `at` bytes of the source were consumed.
+/// Returns the result of `decode_piece` for a piece with `written` bytes of output. `missing` bytes of the piece's last
+/// block are missing, and `at` bytes of the source were consumed.
 #[inline(always)]
 fn ended(written: usize, missing: usize, at: usize) -> Option<(PieceEnd, usize)> {
     if missing == 0 {

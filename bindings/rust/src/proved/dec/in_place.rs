@@ -70,8 +70,8 @@ fn decode_blocks_in_place(buffer: &mut [u8], end: usize) -> Result<usize, Decode
 }
 
 /// Decodes the first `len` bytes of the buffer if `len` is 2 to 65 and these bytes are a frame, and returns whether it
-/// did. Otherwise no byte of the buffer changes: the bytes are copied before they are decoded, and put back if the
-/// frame is broken.
+/// did. Otherwise the buffer is as it was: the bytes are copied before they are decoded, and put back if the frame is
+/// broken.
 #[inline(always)]
 fn decode_span_in_place(buffer: &mut [u8], len: usize) -> bool {
     let mut coded = [0; WIDE_WINDOW + 1];

@@ -17,8 +17,8 @@ use crate::proved::find::zero_or_len;
 /// code after that block isn't in the span.
 pub(crate) const SPAN_MAX: usize = FULL_BLOCK_BYTES - 1;
 
-/// Takes rows of 32 bytes from the front of `bytes`, as long as each byte of a row is `byte`, and for each row writes a
-/// row of zeros to `dest`, from index `at` on. The function stops if `dest` has no room for another row. It also stops
+/// Takes rows of 32 bytes from the front of `bytes`, as long as each byte of a row is `byte`. Writes as many zeros to
+/// `dest` as it took bytes, from index `at` on. The function stops if `dest` has no room for another row. It also stops
 /// after seven rows, because the caller treats the rows as one span, and eight rows would be too long for a span.
 /// Returns how many zeros it wrote.
 #[inline(always)]
@@ -125,8 +125,8 @@ impl UnbufferedDecoder {
         ));
     }
 
-    /// Takes a span of up to 253 bytes, and returns how many bytes it took: 0 if there is no room for the first byte.
-    /// The span is chosen so that no full block ends before its last byte.
+    /// Takes a span of up to 253 bytes, and returns how many bytes it took: 0 only if there is no room for the output
+    /// of the first byte. The span is chosen so that no full block ends before its last byte.
     #[inline(always)]
     fn take_span(&mut self, dest: &mut [u8], bytes: &[u8], sentinel: u8) -> usize {
         let at = self.written;
@@ -179,8 +179,8 @@ impl UnbufferedDecoder {
     }
 
     /// Takes the bytes of one step, and returns their number, which is 0 only if there is no room for the output of the
-    /// first byte. A step takes one of three things: a block that begins the piece, follows a full block, or has at
-    /// least 64 bytes after its code; rows of 32 blocks 01; or a span.
+    /// first byte. A step takes a block if this block begins the piece, follows a full block, or has at least 64 bytes
+    /// after its code. Otherwise it takes rows of 32 blocks 01 if the next bytes are such rows, or else a span.
     #[inline(always)]
     fn take_part(&mut self, dest: &mut [u8], bytes: &[u8], sentinel: u8) -> usize {
         if self.missing == 0 {

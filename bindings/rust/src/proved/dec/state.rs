@@ -21,10 +21,10 @@ pub enum DecoderState {
     /// No nonzero byte has been taken since the last sentinel, or since the start.
     Idle,
 
-    /// Inside a block with a code from 1 to 254, of which this many bytes are missing.
+    /// Inside a block with a code from 1 to 254. This many bytes of the block are missing.
     Grab(u8),
 
-    /// Inside a full block, whose code is 255, and of which this many bytes are missing.
+    /// Inside a full block, which has the code 255. This many bytes of the block are missing.
     GrabChain(u8),
 }
 

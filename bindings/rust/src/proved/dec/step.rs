@@ -38,11 +38,11 @@ impl UnbufferedDecoder {
         }
     }
 
-    /// Takes a byte of a piece, writes its output to the buffer, and returns how many bytes of the open message the
-    /// buffer then holds. If the output is too long for the buffer, this is the buffer's length.
+    /// Takes a byte of a piece, writes its output to the buffer, and returns how many decoded bytes of the piece the
+    /// buffer then holds. If the output is too long for the buffer, this number is the buffer's length.
     ///
     /// This is the step of [`feed`](Self::feed) for a byte that isn't a zero. For a zero, which ends a piece, call
-    /// `feed`: after `take_byte` of a zero, the result for the open piece and the bytes of the buffer are unspecified.
+    /// `feed`: if `take_byte` gets a zero, the result for the open piece and the bytes of the buffer are unspecified.
     ///
     /// ```
     /// use jcobs::UnbufferedDecoder;
@@ -63,8 +63,8 @@ impl UnbufferedDecoder {
         if self.too_long != 0 {
             return room;
         }
-        // `written` is read once here, because compilers would read it again after each write to the buffer. Each case
-        // has a write of its own: that is faster than choosing a byte first and writing it in one place.
+        // `written` is read only once, here: otherwise compilers would read it again after each write to the buffer.
+        // Each case has a write of its own: that is faster than choosing a byte first and writing it in one place.
         let mut at = self.written;
         if self.missing != 0 {
             if at < room {

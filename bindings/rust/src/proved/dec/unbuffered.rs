@@ -28,8 +28,8 @@ use crate::proved::find::{front_len, position_or_len};
 /// # Ok::<(), Box<dyn std::error::Error>>(())
 /// ```
 ///
-/// The state of a decoder is plain numbers with the layout of a C struct. All numbers are 0 before a piece begins.
-/// Every call is safe, whatever the numbers are.
+/// The state of a decoder consists of plain numbers, with the layout of a C struct. All numbers are 0 before a piece
+/// begins. Every call is safe, whatever the numbers are.
 // No number says whether a piece has begun: a code at the front of a piece is read like a code after a full block, with
 // no zero before it. So for a nonzero byte there is no test whether a piece has begun: only `missing` says whether the
 // byte is a code, and only `joint` says whether a zero comes before the code's block.

@@ -19,7 +19,8 @@ use crate::proved::find::{leading_zeros, len_without_end};
 ///
 /// - `EmptyFrame` if the source is empty, and `InvalidFrame` with `decoded_bytes` 0 if the source has only zeros. In
 ///   both cases `dest` is as it was.
-/// - `TargetBufTooSmall` if `dest` is shorter than the output; `dest` then holds the first bytes of the output.
+/// - `TargetBufTooSmall` if the frame decodes to more bytes than `dest` has; `dest` then holds the first of these
+///   bytes.
 /// - `InvalidFrame` if the frame breaks off inside a block. `dest` then begins with the decoded bytes, including those
 ///   of the broken block, and `decoded_bytes` is the number of decoded bytes. The other bytes of `dest` are as they
 ///   were.

@@ -40,7 +40,7 @@ pub(crate) fn write_each(source: &[u8], dest: &mut [u8]) -> usize {
 
 /// Does what [`try_encode`](crate::try_encode) does, one byte at a time. This function is smaller but slower, and is
 /// meant for small devices. The function reads the message twice only if `dest` is shorter than the longest frame of a
-/// message of that length.
+/// message of the same length.
 ///
 /// # Errors
 /// Those of [`try_encode`](crate::try_encode).

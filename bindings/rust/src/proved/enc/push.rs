@@ -13,9 +13,9 @@ impl UnbufferedEncoder {
     /// An empty push changes nothing. The bytes of the buffer after the frame are never written.
     ///
     /// # Errors
-    /// `DestBufTooSmallError` exactly if the encoded frame of the message so far, these bytes included, is longer than
-    /// the buffer, or if the encoder's state isn't possible in a buffer of this length. This error changes neither
-    /// the encoder nor the buffer, so the caller may end the frame, or push fewer bytes.
+    /// `DestBufTooSmallError` exactly if the buffer is shorter than the encoded frame of the bytes taken so far,
+    /// followed by these bytes, or if the encoder's state isn't possible in a buffer of this length. Then neither the
+    /// encoder nor the buffer has changed, so the caller may end the frame, or push fewer bytes.
     ///
     /// ```
     /// use jcobs::{DestBufTooSmallError, UnbufferedEncoder};
@@ -62,8 +62,8 @@ impl UnbufferedEncoder {
     /// the encoder is ready for the next message. Every byte after the frame is as it was before this call.
     ///
     /// # Errors
-    /// `DestBufTooSmallError` if the encoder's state isn't possible in a buffer of this length. This error changes
-    /// neither the encoder nor the buffer.
+    /// `DestBufTooSmallError` if the encoder's state isn't possible in a buffer of this length. Then neither the
+    /// encoder nor the buffer has changed.
     ///
     /// ```
     /// use jcobs::{DestBufTooSmallError, UnbufferedEncoder};

@@ -7,9 +7,9 @@ use crate::proved::enc::blocks::{append, append_rest};
 use crate::proved::find::position_or_len;
 use memchr::memrchr;
 
-/// Counts the blocks that become full and are followed by another byte, if the open block, which has `taken` bytes,
-/// takes these bytes too. Returns whether there are fewer than `spare` such blocks. Each of these blocks makes the frame
-/// one byte longer, because the next block needs a code.
+/// Counts full blocks, as if these bytes were appended to an open block of `taken` bytes. A block is counted if it
+/// becomes full before the last byte: it makes the frame one byte longer, because the next block needs a code. Returns
+/// whether fewer than `spare` blocks were counted.
 fn fits_each(taken: u8, bytes: &[u8], spare: usize) -> bool {
     let mut left = spare;
     let mut taken = taken;
@@ -27,17 +27,18 @@ fn fits_each(taken: u8, bytes: &[u8], spare: usize) -> bool {
 }
 
 /// Returns whether `spare` bytes cover the overhead of every message of `len` bytes, that is, whether `len` is at most
-/// 254 times `spare`. The function compares half of `len`, rounded up, with 127 times `spare`, after adding `spare` to
-/// both sides. So it divides only by 2 and by 128, because small processors have no instruction for other divisions,
-/// and nothing overflows.
+/// 254 times `spare`. This is so exactly if half of `len`, rounded up, is at most 127 times `spare`. The function adds
+/// `spare` to both sides of this comparison, so that it divides only by 2 and by 128, and nothing overflows. Small
+/// processors have no instruction for other divisions. For up to 254 bytes, one spare byte is always enough.
 #[inline(always)]
 fn covers_overhead(len: usize, spare: usize) -> bool {
-    (len - len / 2 + spare - 1) / 128 < spare
+    len <= FULL_BLOCK_BYTES || (len - len / 2 + spare - 1) / 128 < spare
 }
 
-/// Returns whether `room` bytes, counted from the code of an open block that has `taken` bytes, are enough for the frame
-/// if the block takes these bytes too. The bytes are read only if their number doesn't decide whether the frame fits.
-// Inlined, because the two lengths mostly decide: a call would cost a short message more than the comparisons.
+/// Returns whether the frame fits if these bytes are appended to an open block of `taken` bytes. The buffer has `room`
+/// bytes from the code of this block on. The bytes are read only if their number doesn't decide whether the frame fits.
+// Inlined, because usually the number of bytes and `room` decide: for a short message, a call would cost more than the
+// comparisons.
 #[inline(always)]
 pub(crate) fn has_room(taken: u8, bytes: &[u8], room: usize) -> bool {
     let held = taken as usize;
@@ -98,9 +99,9 @@ fn fits(taken: u8, source: &[u8], room: usize) -> Option<usize> {
 }
 
 /// Takes `source`, as [`append`] does, but only if the frame then fits `dest`. Returns whether the frame fits. Usually
-/// the lengths of `source` and `dest` decide whether the frame fits, since no frame is longer than that of a message
-/// without zeros; calling [`fits`] each time would be slower. A long run that [`fits`] has searched isn't searched
-/// again. This function isn't inlined, so that a short push doesn't save registers for it.
+/// the lengths of `source` and `dest` decide whether the frame fits, since among messages of one length those without
+/// zeros have the longest frames. Calling [`fits`] each time would be slower. A long run that [`fits`] has searched
+/// isn't searched again. This function isn't inlined, so that a short push doesn't save registers for it.
 #[inline(never)]
 pub(crate) fn try_append(source: &[u8], dest: &mut [u8], encoder: &mut UnbufferedEncoder) -> bool {
     // Copied field by field, here and below: a load of all fields at once would have to wait, because they were stored

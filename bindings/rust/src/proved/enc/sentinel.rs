@@ -9,7 +9,7 @@ use crate::proved::error::DestBufTooSmallError;
 /// Does what [`encode_with_sentinel`](crate::encode_with_sentinel) does, if the frame fits `dest`.
 ///
 /// # Errors
-/// `DestBufTooSmallError` exactly if the frame is longer than `dest`. This error changes no byte of `dest`.
+/// `DestBufTooSmallError` exactly if the frame is longer than `dest`. Then no byte of `dest` has changed.
 #[inline]
 pub fn try_encode_with_sentinel(
     source: &[u8],
@@ -30,8 +30,8 @@ pub fn try_encode_with_sentinel(
 /// Does what [`encode_including_sentinels`](crate::encode_including_sentinels) does, if the frame and both sentinels fit `dest`.
 ///
 /// # Errors
-/// `DestBufTooSmallError` exactly if the frame and both sentinels together are longer than `dest`. This error changes
-/// no byte of `dest`.
+/// `DestBufTooSmallError` exactly if the frame and both sentinels together are longer than `dest`. Then no byte of
+/// `dest` has changed.
 pub fn try_encode_including_sentinels(
     source: &[u8],
     dest: &mut [u8],

@@ -73,8 +73,8 @@ impl Default for EncoderState {
 }
 
 impl EncoderState {
-    /// Returns whether another byte can be pushed: whether the index of the next block fits a `usize`, whatever the
-    /// byte is.
+    /// Returns whether another byte can be pushed, that is, whether the index of the next block fits a `usize`,
+    /// whatever the byte is.
     ///
     /// ```
     /// use jcobs::EncoderState;

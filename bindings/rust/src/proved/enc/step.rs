@@ -1,5 +1,5 @@
 // Made by bindings/rust/translate.py from `crates/cobs/src/enc/step.rt`: change that file, and run it again.
-//! The encoder, byte by byte: the step for one byte of the message, and a loop over the bytes of a piece.
+//! The encoder, byte by byte: the step for one byte of the message, and a loop over the bytes of a push.
 
 use crate::proved::block::{FULL_BLOCK_BYTES, FULL_CODE};
 use crate::proved::enc::UnbufferedEncoder;
@@ -10,8 +10,8 @@ use crate::proved::error::DestBufTooSmallError;
 impl UnbufferedEncoder {
     /// Takes the next byte of the message, for which there is room, and returns the length that the frame has if the
     /// message ends with this byte.
-    // This function calls no other function, so that the loop of `encode_in_place` stays in registers. In each case the
-    // frame ends after the byte at index `next`.
+    // This function calls no other function, so that the variables of the loop of `encode_in_place` stay in registers.
+    // In each case the frame ends after the byte at index `next`.
     #[inline(always)]
     pub(crate) fn append_byte(&mut self, dest: &mut [u8], byte: u8) -> usize {
         let index = self.index;
@@ -40,7 +40,7 @@ impl UnbufferedEncoder {
     /// `feed` does what [`push`](UnbufferedEncoder::push) of this one byte does.
     ///
     /// # Errors
-    /// `DestBufTooSmallError` if the byte doesn't fit. This error changes neither the encoder nor the buffer.
+    /// `DestBufTooSmallError` if the byte doesn't fit. Then neither the encoder nor the buffer has changed.
     ///
     /// ```
     /// use jcobs::{DestBufTooSmallError, UnbufferedEncoder};
@@ -78,8 +78,8 @@ impl UnbufferedEncoder {
     pub fn feed_len(&mut self, dest: &mut [u8], byte: u8) -> Result<usize, DestBufTooSmallError> {
         let room = dest.len();
         let code = self.taken as usize + 1;
-        // A block with a greater code isn't open: such a number doesn't come from these calls. The tests read the field,
-        // and not a copy of it: so rustc sees that no index of the step is out of bounds.
+        // An open block has a code of at most 254: a greater number doesn't come from these calls. The tests read the
+        // field, and not a copy of it, so that rustc sees that no index of the step is out of bounds.
         if FULL_BLOCK_BYTES < code || room < self.index || room - self.index <= code {
             return Err(DestBufTooSmallError);
         }
@@ -136,7 +136,7 @@ impl UnbufferedEncoder {
     /// ```
     #[inline]
     pub fn push_each(&mut self, dest: &mut [u8], bytes: &[u8]) -> Result<(), DestBufTooSmallError> {
-        // An open block has at most 253 bytes: other numbers don't come from these calls.
+        // An open block has at most 253 bytes: a greater number doesn't come from these calls.
         if 253 < self.taken || dest.len() < self.index {
             return Err(DestBufTooSmallError);
         }
@@ -156,8 +156,8 @@ impl UnbufferedEncoder {
     }
 
     /// Takes the next bytes of the message, for which there is room, one at a time.
-    // The loop changes variables, which stay in registers, and one line closes every block. On a small processor `append_byte`
-    // in the loop would need more instructions and more flash.
+    // The loop changes local variables, which stay in registers, and every block is closed by the same lines. On a
+    // small processor `append_byte` in the loop would need more instructions and more flash.
     #[inline(always)]
     fn append_each(&mut self, dest: &mut [u8], bytes: &[u8]) {
         let mut index = self.index;

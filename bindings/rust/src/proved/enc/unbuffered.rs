@@ -1,5 +1,5 @@
 // Made by bindings/rust/translate.py from `crates/cobs/src/enc/unbuffered.rt`: change that file, and run it again.
-//! The state of an encoder for a message that comes in pieces. Its buffer is passed to each call.
+//! The state of an encoder for a message that comes in pieces. The encoder's buffer is passed to each call.
 
 /// Encodes a message that comes in pieces, straight into a buffer that the caller passes to each call.
 ///
@@ -87,7 +87,7 @@ impl UnbufferedEncoder {
     /// Returns whether the encoder's state is possible in a buffer of `len` bytes.
     #[inline(always)]
     pub(crate) fn is_within(&self, len: usize) -> bool {
-        // An open block has at most 253 bytes: other numbers don't come from these calls.
+        // An open block has at most 253 bytes: a greater number doesn't come from these calls.
         if 253 < self.taken || len < self.index {
             return false;
         }
