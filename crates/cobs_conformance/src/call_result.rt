@@ -51,7 +51,8 @@ impl CallResult {
         self.words.append(&mut other.words)
     }
 
-    /// Adds the words of `other` if they differ from the words of this result.
+    /// Adds the words of `other` if they differ from the words of this result. The clause doesn't say which of the two
+    /// holds.
     pub fn append_other(&mut self, other: CallResult) -> Result<(), AllocError>
         ensures words { OnOk result ((words_of self.new ≡ words_of self.old)
             ⊎ (words_of self.new ≡ words_of self.old ++ words_of other)) }
@@ -62,7 +63,8 @@ impl CallResult {
         self.append(other)
     }
 
-    /// Adds the words of `other` if they differ from the words of `wanted`.
+    /// Adds the words of `other` if they differ from the words of `wanted`. The clause doesn't say which of the two
+    /// holds.
     pub fn append_unlike(
         &mut self,
         wanted: &CallResult,

@@ -7,6 +7,9 @@ use std::alloc::Global;
 
 /// Runs an `EncoderState` that has taken a message. Returns its result for one more byte, its state after that, and the
 /// frame of a caller that carries out each result.
+///
+/// `NotCallable`: `push` requires that `can_push` is true. It is false only if the index of the next block may not fit a
+/// `usize`.
 pub fn encoder_state(alloc: Global, arguments: &[&str]) -> Result<CallResult, CaseFault> {
     let [message, byte] = arguments else {
         return Err(CaseFault::Malformed);

@@ -70,44 +70,46 @@ impl Read for Counted {
     }
 }
 
-/// The result of a call of `next_frame`.
+/// An expected result of `next_frame`: its `Ok` or its `Err`, with the message's bytes in place of their number, so
+/// that it can be a constant.
 #[derive(Clone, Copy)]
-enum Found {
+enum Wanted {
     Message(&'static [u8]),
     Broken(usize),
     TooLong,
     End { unfinished: bool },
+    /// A read failed.
     Io,
     TooManyReads,
 }
 
-/// Returns the result of `next_frame` in this row.
-fn result_of(found: Found) -> Result<Next, ReadFault> {
-    match found {
-        Found::Message(message) => Ok(Next::Message(message.len())),
-        Found::Broken(count) => Ok(Next::Broken(count)),
-        Found::TooLong => Ok(Next::TooLong),
-        Found::End { unfinished } => Ok(Next::End { unfinished }),
-        Found::Io => Err(ReadFault::Io),
-        Found::TooManyReads => Err(ReadFault::TooManyReads),
+/// Returns the result of `next_frame` that is expected.
+fn result_of(wanted: Wanted) -> Result<Next, ReadFault> {
+    match wanted {
+        Wanted::Message(message) => Ok(Next::Message(message.len())),
+        Wanted::Broken(count) => Ok(Next::Broken(count)),
+        Wanted::TooLong => Ok(Next::TooLong),
+        Wanted::End { unfinished } => Ok(Next::End { unfinished }),
+        Wanted::Io => Err(ReadFault::Io),
+        Wanted::TooManyReads => Err(ReadFault::TooManyReads),
     }
 }
 
 /// A reader, the result of each call, and how often the reader has been read after these calls.
-type ReaderRow = (Given, &'static [Found], usize);
+type ReaderRow = (Given, &'static [Wanted], usize);
 
 /// Finds the frames of a reader.
 fn find_all<D: FrameDecoder>(
     rt: &impl Abort,
     frames: &mut FrameReader<D>,
-    (given, wanted, reads): &ReaderRow,
+    (given, results, reads): &ReaderRow,
     row: usize,
 ) {
     let mut source = Recorded::new(reader_of(*given));
-    for (at, found) in wanted.iter().enumerate() {
+    for (at, wanted) in results.iter().enumerate() {
         let returned = frames.next_frame(&mut source);
-        assert_eq!(rt; returned, result_of(*found), "row {row}, call {at}");
-        if let Found::Message(message) = found {
+        assert_eq!(rt; returned, result_of(*wanted), "row {row}, call {at}");
+        if let Wanted::Message(message) = wanted {
             let is_there = frames.decoder().buffer().starts_with(message);
             assert!(rt; is_there, "row {row}, call {at}");
         }
@@ -128,17 +130,17 @@ fn find_in_each<D: FrameDecoder + Drop>(
 }
 
 /// The result at the end of a reader, if no piece is unfinished.
-const END: Found = Found::End { unfinished: false };
+const END: Wanted = Wanted::End { unfinished: false };
 
 /// A stream with a message, a broken piece, a piece that is too long for four bytes, and a message.
 const DAMAGED: &[u8] = &[0, 3, 7, 8, 0, 5, 1, 0, 6, 1, 2, 3, 4, 5, 0, 2, 9, 0];
 
 /// The outcomes of [`DAMAGED`] in a buffer of four bytes.
-const OUTCOMES: &[Found] = &[
-    Found::Message(&[7, 8]),
-    Found::Broken(1),
-    Found::TooLong,
-    Found::Message(&[9]),
+const OUTCOMES: &[Wanted] = &[
+    Wanted::Message(&[7, 8]),
+    Wanted::Broken(1),
+    Wanted::TooLong,
+    Wanted::Message(&[9]),
     END,
 ];
 
@@ -148,21 +150,21 @@ const READERS: [&[ReaderRow]; 12] = [
     &[
         (
             Given::Bytes(&[2, 5, 0, 3, 1], 64),
-            &[Found::Message(&[5]), Found::End { unfinished: true }],
+            &[Wanted::Message(&[5]), Wanted::End { unfinished: true }],
             2,
         ),
-        (Given::Bytes(&[7, 0], 64), &[Found::Message(&[1, 7])], 1),
+        (Given::Bytes(&[7, 0], 64), &[Wanted::Message(&[1, 7])], 1),
     ],
     // bytes that were read from one reader are used before another reader is read
     &[
         (
             Given::Bytes(&[1, 0, 1, 0, 2, 5, 0], 64),
-            &[Found::Message(&[])],
+            &[Wanted::Message(&[])],
             1,
         ),
         (
             Given::Bytes(&[], 64),
-            &[Found::Message(&[]), Found::Message(&[5]), END],
+            &[Wanted::Message(&[]), Wanted::Message(&[5]), END],
             1,
         ),
     ],
@@ -174,30 +176,30 @@ const READERS: [&[ReaderRow]; 12] = [
     // a failed read inside a frame loses nothing
     &[(
         Given::Failing(&[2, 5, 0], false),
-        &[Found::Io, Found::Message(&[5]), END],
+        &[Wanted::Io, Wanted::Message(&[5]), END],
         5,
     )],
     &[(
         Given::Failing(&[2, 5, 0], true),
-        &[Found::Io, Found::Message(&[5]), END],
+        &[Wanted::Io, Wanted::Message(&[5]), END],
         5,
     )],
     // if zeros never end, each call ends after 65,536 reads
-    &[(Given::Zeros(u64::MAX, &[]), &[Found::TooManyReads], 65_536)],
+    &[(Given::Zeros(u64::MAX, &[]), &[Wanted::TooManyReads], 65_536)],
     &[(
         Given::Zeros(u64::MAX, &[]),
-        &[Found::TooManyReads, Found::TooManyReads],
+        &[Wanted::TooManyReads, Wanted::TooManyReads],
         131_072,
     )],
     // a frame may end with the last read of a call
     &[(
         Given::Zeros(65_534, &[1, 0]),
-        &[Found::Message(&[])],
+        &[Wanted::Message(&[])],
         65_536,
     )],
     &[(
         Given::Zeros(65_535, &[1, 0]),
-        &[Found::TooManyReads, Found::Message(&[])],
+        &[Wanted::TooManyReads, Wanted::Message(&[])],
         65_537,
     )],
 ];

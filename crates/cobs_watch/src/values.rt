@@ -56,8 +56,8 @@ pub(crate) fn sentinel_of(alloc: Global, matches: &ArgMatches<'_>) -> Result<u8,
 /// Returns the checksum that was asked for, if any.
 ///
 /// # Errors
-/// An error if the text is neither the name of a check nor a list of a check's parameters. If a part of the text isn't
-/// a parameter, the error names that part.
+/// An error if the text is neither the name of a checksum nor a list of a checksum's parameters. If a part of the text
+/// isn't a parameter, the error names that part.
 pub(crate) fn checksum_of(
     alloc: Global,
     matches: &ArgMatches<'_>,
@@ -73,11 +73,11 @@ pub(crate) fn checksum_of(
     Ok(Some(Checksum::new(params, little)))
 }
 
-/// The names of checks.
+/// The names of checksums.
 const NAMES: &str =
     "crc-8, crc-16-ccitt-false, crc-16-modbus, crc-16-xmodem, crc-16-kermit, crc-16-arc, crc-32, crc-32c";
 
-/// Returns the check with this name.
+/// Returns the checksum with this name.
 fn crc_of(name: &str) -> Option<Crc> {
     match name {
         "crc-8" => Some(Crc::Crc8),
@@ -92,7 +92,7 @@ fn crc_of(name: &str) -> Option<Crc> {
     }
 }
 
-/// The parameters of a check as the user writes them, and as the catalogue lists them.
+/// The parameters of a checksum as the user writes them, and as the catalogue lists them.
 #[derive(Drop)]
 struct Written {
     width: Option<u64>,
@@ -127,7 +127,7 @@ impl Written {
     }
 }
 
-/// Returns the parameters of the check with this name, or the parameters that the text lists, as in
+/// Returns the parameters of the checksum with this name, or the parameters that the text lists, as in
 /// `poly=0x1021,init=0xffff`.
 fn params_of(alloc: Global, text: &str) -> Result<Params, Error>
     ensures sized { IfOk result (λ params. (0 < params.size) × (params.size ≤ 4)) }
@@ -161,7 +161,7 @@ fn params_of(alloc: Global, text: &str) -> Result<Params, Error>
     }
 }
 
-/// Converts parameters as the user writes them to [`Params`], if they fit the width of the check.
+/// Converts parameters as the user writes them to [`Params`], if they fit the width of the checksum.
 fn sized(written: &Written) -> Option<Params>
     ensures sized { IfSome result (λ params. (0 < params.size) × (params.size ≤ 4)) }
 {

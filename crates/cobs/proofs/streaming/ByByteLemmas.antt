@@ -12,7 +12,7 @@ use Rattle.cobs.specs.declared.error.DecodeError.{DecodeError}
 use Rattle.cobs.specs.declared.dec.frame_decoder.PieceEnd.{PieceEnd}
 use Rattle.cobs.proofs.format.StreamLemmas.{fed-nonzero, unended-push, unended-no_zero, ended_pieces-no_zero}
 use Rattle.cobs.proofs.streaming.LastPiece.{overwritten-is, output-longer, last_piece-unended, last_piece-zero, ended_pieces-nonzero}
-use Rattle.cobs.proofs.streaming.SoFar.{SoFar-start, SoFar-more, TakesBytes-byte, outcome_reported, reported_by, count-within, here, no_outcomes}
+use Rattle.cobs.proofs.streaming.SoFar.{SoFar-start, SoFar-more, TakesBytes-byte, outcome_reported, reported_by, count-within, phase_so_far, no_outcomes}
 use Rattle.cobs_bytes.proofs.bytes.ListLemmas.{drop-later}
 
 -- THE RESULT FOR A ZERO
@@ -61,7 +61,7 @@ module _ {buffer₀ buffer buffer' : List ℕ} {phase₀ phase phase' : Phase} {
       → drop (length (output (last_piece (p ++ take (i + 1) bytes)))) buffer' ≡ drop (length (output (last_piece (p ++ take (i + 1) bytes)))) buffer₀
   untouched_behind p h = elim (cases_eq (get_or bytes i 0) 0) [
     | inl z ↦ rw (last_zero z p h, f.zero_unchanged z) (left_so_far p h)
-    | inr nz ↦ rw (last_nonzero nz p h) (f.untouched _ (here t.takes p h) nz ∙ drop-later _ _ _ _ (output-longer _ (get_or bytes i 0)) (left_so_far p h))
+    | inr nz ↦ rw (last_nonzero nz p h) (f.untouched _ (phase_so_far t.takes p h) nz ∙ drop-later _ _ _ _ (output-longer _ (get_or bytes i 0)) (left_so_far p h))
   ]
 
   begins_behind : (p : List ℕ) → DecoderAfter buffer₀ phase₀ p

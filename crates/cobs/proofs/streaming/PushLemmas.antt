@@ -15,7 +15,7 @@ use Rattle.cobs.specs.declared.error.DecodeError.{DecodeError}
 use Rattle.cobs.proofs.streaming.ByByteLemmas.{piece-nothing, piece-more, takes_behind, holds_behind, untouched_behind}
 use Rattle.cobs.proofs.streaming.FeedLemmas.{Feeds-step}
 use Rattle.cobs.proofs.streaming.RunLemmas.{ran-on}
-use Rattle.cobs.proofs.streaming.SoFar.{here, reported_by}
+use Rattle.cobs.proofs.streaming.SoFar.{phase_so_far, reported_by}
 use Rattle.cobs.specs.declared.error.DecodeReport.{DecodeReport}
 use Rattle.cobs.specs.declared.error.PushError.{PushError}
 
@@ -56,7 +56,7 @@ Pushed-start buffer phase bytes = record { piece = piece-nothing buffer phase; q
 module _ {buffer₀ buffer buffer' : List ℕ} {phase₀ phase phase' : Phase} {result : Result (Option ℕ) DecodeError} (bytes : List ℕ) (i : ℕ) (within : i < length bytes)
     (s : Pushed buffer₀ phase₀ buffer phase bytes i) (f : Feeds buffer phase (get_or bytes i 0) result buffer' phase') where
   result_here : (p : List ℕ) → PhaseAfter (length buffer₀) phase₀ p → result_at p bytes (length buffer₀) i ≡ result
-  result_here p h = grind (arith, get_or, here)
+  result_here p h = grind (arith, get_or, phase_so_far)
 
   zero_behind : (front : List ℕ) → take (i + 1) bytes ≡ front ++ 0 ∷ [] → phase' ≡ Idle
   zero_behind front e = grind (arith, common_steps, same_from_push, take_more)

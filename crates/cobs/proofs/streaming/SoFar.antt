@@ -65,12 +65,13 @@ count-within end buffer t n h e = grind (arith, fits-map)
 
 -- THE STEPS
 
--- before any byte
+-- bytes that are fed one after another, and then more of them
 FeedsEach-append : (done more buffer₀ buffer buffer' : List ℕ) (phase₀ phase phase' : Phase) → FeedsEach buffer₀ phase₀ done buffer phase → FeedsEach buffer phase more buffer' phase'
     → FeedsEach buffer₀ phase₀ (done ++ more) buffer' phase'
 FeedsEach-append [] more buffer₀ buffer buffer' phase₀ phase phase' f g = grind arith
 FeedsEach-append (byte ∷ done) more buffer₀ buffer buffer' phase₀ phase phase' f g = grind (arith, (FeedsEach-append done more f.1 buffer buffer' f.2 phase phase' f.4 g))
 
+-- before any byte
 pub SoFar-start : (buffer : List ℕ) (phase : Phase) → SoFar buffer phase buffer phase [] []
 SoFar-start buffer phase = grind (arith, append-nil, unended-no_zero, stream_outcomes-no_zero)
 
@@ -88,10 +89,11 @@ module _ {buffer buffer' : List ℕ} {phase phase' : Phase} {byte : ℕ} {result
   pub TakesBytes-byte : TakesBytes buffer phase (byte ∷ []) (reported_by byte result buffer') buffer' phase'
   TakesBytes-byte = grind (arith, unended-push_piece, reported_byte, stream_outcomes-push_piece, alike_byte, Contains-push_cases, DecoderAfter-idle)
 
--- the front that the decoder has taken, over its own buffer
-pub here : {buffer₀ buffer : List ℕ} {phase₀ phase : Phase} {done : List ℕ} {found : List Outcome} → SoFar buffer₀ phase₀ buffer phase done found
+-- if the phase at the start is that of a decoder that took the front p, then the phase now is that of a decoder that took
+-- the unended bytes of p ++ done
+pub phase_so_far : {buffer₀ buffer : List ℕ} {phase₀ phase : Phase} {done : List ℕ} {found : List Outcome} → SoFar buffer₀ phase₀ buffer phase done found
     → (p : List ℕ) → PhaseAfter (length buffer₀) phase₀ p → PhaseAfter (length buffer) phase (unended (p ++ done))
-here {buffer₀} {buffer} {phase₀} {phase} {done} s p h = grind arith
+phase_so_far {buffer₀} {buffer} {phase₀} {phase} {done} s p h = grind arith
 
 -- MORE BYTES AT ONCE
 
@@ -111,7 +113,7 @@ module _ {buffer₀ buffer buffer' : List ℕ} {phase₀ phase phase' : Phase} {
   SoFar-more s t = record {
     len = t.len ∙ s.len;
     feeds = FeedsEach-append done more buffer₀ buffer buffer' phase₀ phase phase' s.feeds t.feeds;
-    phased = λ p h. rw (unended_more p done more) (subst (λ n. PhaseAfter n phase' (unended (unended (p ++ done) ++ more))) s.len (t.phased _ (here s p h)));
+    phased = λ p h. rw (unended_more p done more) (subst (λ n. PhaseAfter n phase' (unended (unended (p ++ done) ++ more))) s.len (t.phased _ (phase_so_far s p h)));
     after = λ p h. rw (unended_more p done more) (t.after _ (s.after p h));
     outcomes = λ p h. rw (outcomes_more p done more (length buffer₀), ← s.outcomes p h, reported_more s t p (s.after p h)) refl;
     alike = λ p h. elim (zero_or_none done) [
@@ -119,11 +121,11 @@ module _ {buffer₀ buffer buffer' : List ℕ} {phase₀ phase phase' : Phase} {
       | inr none ↦
           let plain : stream_outcomes (p ++ done) (length buffer₀) ≡ [] = stream_outcomes-no_zero (p ++ done) (length buffer₀) (All-append (λ b. b ≢ 0) p done h.piece none) in
           rw (outcomes_more p done more (length buffer₀), plain, alike-nil found (rw plain at (s.alike p h)))
-          (subst (λ n. AreAlikeAtFirst stated (stream_outcomes (unended (p ++ done) ++ more) n)) s.len (t.alike _ (here s p h)))
+          (subst (λ n. AreAlikeAtFirst stated (stream_outcomes (unended (p ++ done) ++ more) n)) s.len (t.alike _ (phase_so_far s p h)))
     ];
     after_zero = λ p h z. rw (unended_more p done more) (elim (Contains-append_cases done more 0 z) [
       | inl old ↦ t.after _ (s.after_zero p h old)
-      | inr new ↦ t.after_zero _ (here s p h) new
+      | inr new ↦ t.after_zero _ (phase_so_far s p h) new
     ]);
   }
 

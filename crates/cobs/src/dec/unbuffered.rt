@@ -145,8 +145,8 @@ impl UnbufferedDecoder {
         self.push_long(dest, bytes)
     }
 
-    /// Does what `push` does, without the test for a short piece that `push` begins with.
-    pub(crate) fn push_long(
+    /// Does the rest of `push`: its loop, for bytes that `take_short` didn't take. It is correct for any bytes.
+    fn push_long(
         &mut self,
         dest: &mut [u8],
         bytes: &[u8],

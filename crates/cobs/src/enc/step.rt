@@ -117,9 +117,9 @@ impl UnbufferedEncoder {
         Ok(self.append_byte(dest, byte))
     }
 
-    /// Takes up to 8 bytes of the message if they fit and can't fill the open block, and returns whether it took them.
-    /// If it took none, it changed nothing; a call of [`push`](UnbufferedEncoder::push) then takes the bytes if they
-    /// fit.
+    /// Takes `bytes` as the next bytes of the message if they are 1 to 8 bytes, fit, and can't fill the open block.
+    /// Returns whether it took them. If it didn't, it changed nothing, and a call of
+    /// [`push`](UnbufferedEncoder::push) takes the bytes if they fit.
     ///
     /// No branch tests whether a byte is a zero, because a processor could predict the branch wrong. So pushing single
     /// bytes, or the fields of a record, is faster with `push_few` than with [`push`](UnbufferedEncoder::push) if zeros

@@ -50,8 +50,8 @@ pub(crate) fn has_room(taken: u8, bytes: &[u8], room: usize) -> bool {
     covers_overhead(len, spare) || fits_each(taken, bytes, spare)
 }
 
-/// Returns `Some` if `room` bytes, counted from the code of an open block that has `taken` bytes, are enough for the
-/// frame if the block takes `source` too. Returns `None` if they aren't.
+/// Returns `Some` if `room` bytes are enough for the encoded frame of the open block's `taken` bytes and the bytes of
+/// `source` after them. Otherwise returns `None`. `room` is counted from the code of the open block.
 ///
 /// The function counts all full blocks except a full block at the end of the frame. It looks at the bytes that would
 /// fill the open block. If one of them is a zero, the block doesn't become full, and the function continues after the

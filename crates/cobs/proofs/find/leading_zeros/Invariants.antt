@@ -1,3 +1,4 @@
+-- The first i bytes are zeros: the source has i more leading zeros than its bytes from index i on.
 use Rattle.std.proofs.Common.{◌≡◌, ◌+◌, drop}
 use Rattle.cobs.specs.Decode.{leading_zeros}
 use Rattle.cobs.proofs.find.leading_zeros.Given as goal

@@ -1,3 +1,4 @@
+-- None of the first i bytes equals `byte`.
 use Rattle.std.proofs.Common.{All, ◌≢◌, take}
 use Rattle.cobs.proofs.find.len_to.Given as goal
 

@@ -1,7 +1,7 @@
+-- If the sentinel is 0, the copy is left as it is, because XOR with 0 changes no byte (`xor_each-zero`).
 use Rattle.std.proofs.Common.{arith}
 use Rattle.cobs_bytes.proofs.bytes.XoredLemmas.{xor_each-zero}
 use Rattle.cobs_bytes.proofs.lanes.copy_xored.Goals as goal
 
--- with the sentinel 0 the copy is left as it is
 pub returns-else-sentinel-ne0 : goal.returns-else-sentinel-ne0
 returns-else-sentinel-ne0 c = grind (arith, xor_each-zero)

@@ -1,3 +1,4 @@
+-- The recursion ends: each call passes on the expected words without the first one.
 use Rattle.std.proofs.Common.{length}
 use Rattle.cobs_conformance.proofs.agree.+agree.Given as goal
 

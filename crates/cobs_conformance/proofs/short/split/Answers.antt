@@ -1,3 +1,5 @@
+-- The iterator yields the texts between the separators (`YieldsList-from_str_split`), and `collect` puts them into the
+-- vector in this order (`map_from_collect`).
 use Rattle.std.proofs.lemmas.Iterator.Consumers.{map_from_collect}
 use Rattle.std.proofs.lemmas.Iterator.Splits.{YieldsList-from_str_split}
 use Rattle.cobs_conformance.proofs.short.split.Goals as goal

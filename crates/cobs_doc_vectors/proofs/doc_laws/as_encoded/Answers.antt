@@ -1,3 +1,4 @@
+-- By `shorter` of `law_13`, an open frame is the encoded frame if its message doesn't end in a full run.
 use Rattle.cobs_doc_vectors.proofs.doc_laws.as_encoded.Goals as goal
 
 pub returns : goal.returns

@@ -1,3 +1,5 @@
+-- By `received` of `law_6`, bytes that are a frame once they are XORed with a sentinel don't contain the sentinel.
+-- `held` says that they are.
 use Rattle.cobs_doc_vectors.proofs.doc_laws.as_received.Goals as goal
 
 pub returns : goal.returns

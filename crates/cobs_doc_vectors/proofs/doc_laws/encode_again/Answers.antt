@@ -1,3 +1,4 @@
+-- `encode` writes an encoded frame of the message, and by `only` of `law_2` no two of them differ.
 use Rattle.cobs_doc_vectors.proofs.doc_laws.encode_again.Goals as goal
 
 pub returns : goal.returns

@@ -1,3 +1,5 @@
+-- The bytes that `encode` wrote read as the message. By `message` of `law_11`, their outcome in a buffer of n bytes is
+-- then the message, since the message fits (`held`).
 use Rattle.cobs_doc_vectors.proofs.doc_laws.encode_for_stream.Goals as goal
 
 pub returns : goal.returns

@@ -1,3 +1,4 @@
+-- By `fed` of `law_18`, the zero after a frame f returns the length of the frame's message m, since m fits (`held`).
 use Rattle.cobs_doc_vectors.proofs.doc_laws.end_frame.Goals as goal
 
 pub returns : goal.returns

@@ -1,3 +1,5 @@
+-- The vector has the bytes of the first frame, and then those of the second (`joined`). By `joined` of `law_8`, both
+-- together are a frame. m and k are the messages of the two frames.
 use Rattle.std.proofs.Common.{◌≡◌, ◌++◌, rules, subst, sym}
 use Rattle.cobs.specs.Grammar.{IsFrame}
 use Rattle.cobs_doc_vectors.proofs.doc_laws.join.Goals as goal

@@ -1,3 +1,5 @@
+-- Each iteration writes the two digits of the next byte, which `digit` computes (`encode_step`). After the last byte,
+-- the room has the digits of all bytes (`encode_done`).
 use Rattle.std.proofs.Common.{◌∙◌, arith, length-set}
 use Rattle.hex.specs.Hex.{lower_digits}
 use Rattle.hex.proofs.Pairs.{encode_done, encode_step}

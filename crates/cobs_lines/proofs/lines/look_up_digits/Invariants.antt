@@ -1,3 +1,5 @@
+-- The front of the room has the digits of the first i bytes: followed by the digits of the other bytes, they are the
+-- digits of all bytes (`filled`).
 use Rattle.std.proofs.Common.{◌≡◌, ◌*◌, ◌++◌, length, take, drop}
 use Rattle.hex.specs.Hex.{encode_with, lower_digits}
 use Rattle.cobs_lines.proofs.lines.look_up_digits.Given as goal

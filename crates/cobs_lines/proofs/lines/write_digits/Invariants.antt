@@ -1,3 +1,4 @@
+-- The digits of the first `at` bytes are written (`Appends`), and the array `digits` has room for 512 digits.
 use Rattle.std.proofs.Common.{◌≡◌, ◌≤◌, ◌-◌, length, take}
 use Rattle.std.specs.Io.KnownBytes.{Appends}
 use Rattle.hex.specs.Hex.{encode_lower}

@@ -1,3 +1,4 @@
+-- The definition `after_bits` is unfolded: before the loop no step is made, and each iteration makes one more.
 use Rattle.std.proofs.Common.{rules, add-one}
 use Rattle.cobs_live.specs.Crc.{after_bits}
 use Rattle.cobs_live.proofs.crc.word_of.Goals as goal

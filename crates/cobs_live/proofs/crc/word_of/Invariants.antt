@@ -1,3 +1,4 @@
+-- The register is the one with which the loop began, after a step for each iteration so far (`after_bits`).
 use Rattle.std.proofs.Common.{◌≡◌}
 use Rattle.cobs_live.specs.Crc.{after_bits}
 use Rattle.cobs_live.proofs.crc.word_of.Given as goal

@@ -1,3 +1,4 @@
+-- Before the loop no cell is written (`upto-none`), and each iteration writes one more (`upto-more`).
 use Rattle.std.proofs.KnownBytes.{Appends-nil, Appends-trans}
 use Rattle.cobs_live.proofs.DumpLemmas.{upto-more, upto-none}
 use Rattle.cobs_live.proofs.dump.write_cells.Goals as goal

@@ -1,3 +1,4 @@
+-- The first i bytes are plain, so they are ASCII characters, and a character begins or the text ends at index i.
 use Rattle.std.proofs.Common.{All, IsTrue, take}
 use Rattle.std.specs.Str.{IsCharBoundary}
 use Rattle.cobs_live.specs.Escaped.{is_plain_byte}

@@ -1,3 +1,4 @@
+-- The part of the text before `rest` is written, escaped (`WritesFront`). `rest` is still UTF-8.
 use Rattle.std.proofs.Common.{length}
 use denote.Shadow.{shadow}
 use denote.Text.{Utf8}

@@ -1,3 +1,4 @@
+-- The length, the digits, the last quote of the digits, and the text are written one after another (`Appends-trans`).
 use Rattle.std.proofs.KnownBytes.{Appends-trans}
 use Rattle.cobs_live.proofs.json.write_message.Goals as goal
 

@@ -1,3 +1,4 @@
+-- In the style pcap, the bytes are written after the header of their record (`behind`).
 use Rattle.cobs_live.proofs.AppendLemmas.{behind}
 use Rattle.cobs_live.proofs.line.write_alone.Goals as goal
 

@@ -1,3 +1,5 @@
+-- The frames of the lines that were read so far are written, and `all_sent` says whether every line could be sent. At
+-- each of these reads, the frames of all earlier lines were written (`IsLiveSoFar`). The output's buffer is empty.
 use Rattle.std.proofs.Common.{◌≡◌, []}
 use Rattle.std.specs.Io.Buffered.{writer_buffer, writer_inner}
 use Rattle.cobs_live.proofs.SendLemmas.{IsLiveSoFar}

@@ -1,3 +1,5 @@
+-- The pieces that ended in the reads so far are shown, and at each of these reads the pieces of all earlier reads were
+-- written (`IsLiveSoFar`). The output's buffer is empty, and the chunk has 65,536 bytes.
 use Rattle.std.proofs.Common.{◌≡◌, [], vec_len}
 use Rattle.std.specs.Io.Buffered.{writer_buffer, writer_inner}
 use Rattle.cobs_live.specs.Live.{IsLiveSoFar}

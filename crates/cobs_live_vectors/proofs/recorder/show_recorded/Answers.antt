@@ -1,3 +1,5 @@
+-- At the last read of a run that is live, the right text was written, and the recorder has its length
+-- (`right_at_last`).
 use Rattle.cobs_live_vectors.proofs.Last.{right_at_last}
 use Rattle.cobs_live_vectors.proofs.recorder.show_recorded.Goals as goal
 

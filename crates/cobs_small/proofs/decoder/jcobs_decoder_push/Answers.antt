@@ -1,3 +1,4 @@
+-- `decode_each` is called with the sentinel 0, and XOR with 0 changes no byte (`xor_each-zero`).
 use Rattle.cobs_abi.proofs.FinishLemmas.{xor_each-zero}
 use Rattle.cobs_small.proofs.decoder.jcobs_decoder_push.Goals as goal
 

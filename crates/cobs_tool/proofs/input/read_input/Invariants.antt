@@ -1,3 +1,5 @@
+-- The bytes that were read so far are in the vector, and they are at most `max_input`. The loop ends, because each
+-- iteration reads at least one byte.
 use Rattle.std.proofs.Common.{◌≤◌, ◌-◌, vec_len}
 use Rattle.std.specs.Io.KnownBytes.{Consumes}
 use Rattle.cobs_tool.specs.Input.{max_input}

@@ -1,3 +1,4 @@
+-- The line of an empty message is the text that is pushed (`outcome_line-empty`, `pushed_line`).
 use Rattle.std.proofs.Common.{sym, ◌∙◌}
 use Rattle.std.proofs.lemmas.Bool.{eqb-true}
 use Rattle.cobs_tool.proofs.ReportLemmas.{outcome_line-empty, pushed_line}

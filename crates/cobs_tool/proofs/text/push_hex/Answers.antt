@@ -1,3 +1,4 @@
+-- The formatted text of the byte is its two digits in the table (`hex_of_is`). `written` is what the write gave.
 use Rattle.cobs_tool.proofs.TextLemmas.{hex_of_is}
 use Rattle.cobs_tool.proofs.text.push_hex.Goals as goal
 

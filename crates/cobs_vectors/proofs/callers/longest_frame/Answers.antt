@@ -1,3 +1,5 @@
+-- m has a message of this length with the longest frame, and facts about it (`everywhere` of `law_4`). f has the frame
+-- of this message (`one` of `law_2`).
 use Rattle.std.proofs.Common.{◌∙◌}
 use Rattle.cobs_vectors.proofs.callers.longest_frame.Goals as goal
 

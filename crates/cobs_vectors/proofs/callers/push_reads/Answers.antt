@@ -1,3 +1,6 @@
+-- `came_to` returns true exactly if the push returned the message m. If it did, the piece reads as m (`only` of
+-- `push`). If the piece reads as m (`r`), the push returned m (`reads` of `push`). `at` is the fact that the push
+-- returned m, for a buffer b.
 use Rattle.std.proofs.Common.{List, ℕ, sym, subst}
 use Rattle.cobs.specs.Headline.{PushesMessage}
 use Rattle.cobs_vectors.proofs.callers.push_reads.Goals as goal

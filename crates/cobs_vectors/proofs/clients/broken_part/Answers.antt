@@ -1,3 +1,5 @@
+-- The number of decoded bytes is at most the length of the buffer, so the range is within the buffer
+-- (`length-take-le`).
 use Rattle.std.proofs.Common.{arith, length-take-le}
 use Rattle.cobs_vectors.proofs.clients.broken_part.Goals as goal
 

@@ -1,9 +1,10 @@
+-- `found` has the pieces that ended in t, and `begun` has the bytes of t that no zero has ended. t is the bytes that
+-- were begun before the call, and then those of the chunk before the index.
 use Rattle.std.proofs.Common.{◌≡◌, ◌++◌, take}
 use Rattle.cobs.specs.Messages.{messages_in}
 use Rattle.cobs.specs.Stream.{ended_pieces, unended}
 use Rattle.cobs_vectors.proofs.clients.pieces_in.Given as goal
 
--- the pieces that ended in the bytes so far, and the unended bytes
 abbrev pub invariant-by_byte : goal.invariant-by_byte
 invariant-by_byte l =
     let t = l.fn.begun.items ++ take l.byte-index l.chunk in

@@ -1,3 +1,6 @@
+-- The messages of the output so far, followed by those of the stream from index `at` on, are the messages of the whole
+-- stream (`reported`). The output ends with a sentinel, the decoder is idle, and its buffer still has n bytes. The loop
+-- ends, because each piece takes at least one byte.
 use Rattle.std.proofs.Common.{◌≡◌, ◌≤◌, ◌-◌, ◌++◌, length, drop}
 use Rattle.cobs.specs.Feed.{Idle}
 use Rattle.cobs.specs.Laws.{IsAtSentinel}

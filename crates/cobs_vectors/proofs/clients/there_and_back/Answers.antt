@@ -1,3 +1,4 @@
+-- The frame reads as the message m, so `decode` returned the length of m (`reads`): the comparison can't fail.
 use Rattle.std.proofs.Common.{ℕ, List, ◌∙◌}
 use Rattle.cobs_vectors.proofs.clients.there_and_back.Goals as goal
 

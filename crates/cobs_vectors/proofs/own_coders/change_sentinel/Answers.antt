@@ -1,3 +1,5 @@
+-- Each iteration of the loop changes one more byte, by `map_over_more`. `now` is the bytes at the start of the
+-- iteration, and i is the index.
 use Rattle.std.proofs.Common.{ℕ, ◌<◌, List, length, get_or, arith}
 use Rattle.std.proofs.lemmas.List.{get_or_default}
 use Rattle.std.proofs.lemmas.List.Edits.{map_over_more}

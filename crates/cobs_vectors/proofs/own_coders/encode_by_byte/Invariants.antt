@@ -1,8 +1,8 @@
+-- The bytes before the index are taken (`CobsEncoderAfter`), and the buffer keeps its length.
 use Rattle.std.proofs.Common.{◌≡◌, take, length}
 use Rattle.cobs.specs.OpenBlock.{CobsEncoderAfter, place_at}
 use Rattle.cobs_vectors.proofs.own_coders.encode_by_byte.Given as goal
 
--- the bytes so far are taken
 abbrev pub invariant-by_byte : goal.invariant-by_byte
 invariant-by_byte l = record {
   taken : CobsEncoderAfter l.dest (place_at l.index l.code l.full) (take l.byte-index l.message);

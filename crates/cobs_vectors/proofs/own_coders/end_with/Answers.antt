@@ -1,3 +1,5 @@
+-- `push` returns an error exactly if there is no room (`room`). If it succeeds, the open block is within the buffer
+-- (`within`), so `finalize` succeeds too (`place`). `p` says that `?` returned the error of `push`.
 use Rattle.std.proofs.Common.{refl}
 use Rattle.std.proofs.lemmas.Result.{err_from_is_err_and}
 use Rattle.cobs_vectors.proofs.own_coders.end_with.Goals as goal

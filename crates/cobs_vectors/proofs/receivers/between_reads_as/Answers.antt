@@ -1,3 +1,5 @@
+-- The bytes don't contain the sentinel, so XORed with it they are a piece (`coded` of `law_6`, `coded_piece`), as
+-- `reads_for` requires.
 use Rattle.cobs_vectors.proofs.Pieces.{coded_piece}
 use Rattle.cobs_vectors.proofs.receivers.between_reads_as.Goals as goal
 

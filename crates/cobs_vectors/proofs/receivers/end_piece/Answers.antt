@@ -1,3 +1,4 @@
+-- By `fed_only` of `law_18`, the bytes f that were fed read as the message that the zero returned.
 use Rattle.cobs_vectors.proofs.receivers.end_piece.Goals as goal
 
 pub returns-in-Ok-Some : goal.returns-in-Ok-Some

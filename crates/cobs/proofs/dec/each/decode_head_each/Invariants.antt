@@ -1,3 +1,6 @@
+-- The bytes that are written, followed by the kept output of the remaining bytes, are the kept output of h (`Written`).
+-- h is the XORed source before its first zero, and p is the XORed rest. Within a block, the block's remaining bytes,
+-- and the zero that joins the block to the next one, come between the two; `next` is the XORed bytes after the block.
 use Rattle.std.proofs.Common.{All, ◌≡◌, ◌<◌, ◌++◌, drop, length}
 use Rattle.cobs.specs.Grammar.{HasNoZero}
 use Rattle.cobs.specs.Piece.{kept_output}

@@ -1,8 +1,8 @@
+-- The loop has passed the bytes from index `at` up to index `end`, and none of them is a zero.
 use Rattle.std.proofs.Common.{◌-◌, ◌≤◌, drop, length, take}
 use Rattle.cobs.specs.Grammar.{HasNoZero}
 use Rattle.cobs.proofs.dec.each.through_piece.Given as goal
 
--- the bytes from `at` to `end` have no zero
 abbrev pub invariant-by_byte : goal.invariant-by_byte
 invariant-by_byte l = record {
   after : l.at ≤ l.end;

@@ -1,3 +1,5 @@
+-- The mask, the index and the slice still describe each window that they described before the loop (`Marks`). The loop
+-- ends, because each iteration clears at least one bit of the mask `zeros`.
 use Rattle.cobs.specs.Internal.Marks.{Marks}
 use Rattle.cobs.proofs.enc.blocks.mark_zeros.Given as goal
 

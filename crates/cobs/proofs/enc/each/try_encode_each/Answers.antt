@@ -1,3 +1,5 @@
+-- The bytes that `write_each` wrote are the encoded frame of the source, and no frame contains a zero
+-- (`encoded_nonzero`).
 use Rattle.cobs.proofs.format.SentinelLemmas.{encoded_nonzero}
 use Rattle.cobs.proofs.enc.each.try_encode_each.Goals as goal
 

@@ -1,8 +1,9 @@
+-- The frame fits exactly if the remaining bytes fit with `left` spare bytes. This follows from `total`, in which i
+-- bytes are counted, the open block had `fn.taken` bytes before the call, and has `taken` bytes now.
 use Rattle.std.proofs.Common.{◌≡◌, ◌+◌, ◌<◌, drop}
 use Rattle.cobs.specs.Length.{open_len}
 use Rattle.cobs.proofs.enc.room.fits_each.Given as goal
 
--- the frame fits exactly if it does with the remaining bytes and the spare bytes that are left for them
 abbrev pub invariant-by_byte : goal.invariant-by_byte
 invariant-by_byte l = record {
   short : l.taken < 255;

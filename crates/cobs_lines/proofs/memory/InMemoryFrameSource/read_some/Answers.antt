@@ -1,3 +1,5 @@
+-- The read copies the first bytes that are left, and leaves the others. So it is a step of the source, which returns 64
+-- bytes, or all bytes if there are fewer (`TakesChunk-read`).
 use Rattle.cobs_lines.proofs.MemoryLemmas.{TakesChunk-read}
 use Rattle.cobs_lines.proofs.memory.InMemoryFrameSource.read_some.Goals as goal
 

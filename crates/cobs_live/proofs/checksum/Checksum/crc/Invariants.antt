@@ -1,3 +1,4 @@
+-- The register is that of the bytes before the index, by the definition `register`.
 use Rattle.std.proofs.Common.{◌≡◌, take}
 use Rattle.cobs_live.specs.Crc.{register}
 use Rattle.cobs_live.proofs.checksum.Checksum.crc.Given as goal

@@ -1,3 +1,4 @@
+-- A number below 10 is written as one digit (`decimal_digit`).
 use Rattle.std.proofs.lemmas.Fmt.{decimal_digit}
 use Rattle.cobs_live.proofs.composed.Composed.append_decimal.Goals as goal
 

@@ -1,3 +1,5 @@
+-- If `put_message` succeeded, the composed text is the message in its style (`of_ok`). Without colour, number and time,
+-- this is the text of the piece in the view (`bare-view`). `done` says that `compose` returned true.
 use Rattle.std.proofs.Common.{sym, ◌∙◌, rules}
 use Rattle.cobs_lines.proofs.LineLemmas.{of_ok}
 use Rattle.cobs_live.specs.Composed.{contents_of}

@@ -1,3 +1,5 @@
+-- Each iteration writes the front of the rest with `put_run` (`front-more`). When nothing is left (`none`), the whole
+-- text is written (`front-end`).
 use Rattle.std.proofs.Common.{◌≡◌, length, arith}
 use Rattle.cobs_live.proofs.EscapeLemmas.{front-end, front-more}
 use Rattle.cobs_live.proofs.composed.Composed.put_escaped.Goals as goal

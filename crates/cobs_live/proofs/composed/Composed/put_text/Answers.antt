@@ -1,3 +1,5 @@
+-- If the bytes are UTF-8, the member's name, the escaped text and the last quote are written one after another
+-- (`quoted`).
 use Rattle.cobs_live.proofs.EscapeLemmas.{quoted}
 use Rattle.cobs_live.proofs.composed.Composed.put_text.Goals as goal
 

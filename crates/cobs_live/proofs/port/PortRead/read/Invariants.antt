@@ -1,6 +1,6 @@
+-- Each earlier try would have blocked, so it has read nothing (`Keeps`).
 use Rattle.std.specs.Io.KnownBytes.{Keeps}
 use Rattle.cobs_live.proofs.port.PortRead.read.Given as goal
 
--- each earlier try would have blocked
 abbrev pub invariant-by_try : goal.invariant-by_try
 invariant-by_try g l = Keeps (g.R.Read.remaining l.fn.self.inner) (g.R.Read.remaining l.self.inner)

@@ -1,6 +1,6 @@
+-- Each earlier try would have blocked, so it has written nothing (`Keeps`).
 use Rattle.std.specs.Io.KnownBytes.{Keeps}
 use Rattle.cobs_live.proofs.port.PortWrite.write.Given as goal
 
--- each earlier try would have blocked
 abbrev pub invariant-by_try : goal.invariant-by_try
 invariant-by_try g l = Keeps (g.W.Write.contents l.fn.self.inner) (g.W.Write.contents l.self.inner)

@@ -1,3 +1,5 @@
+-- In each branch, the written text is that of the counts for the value of `checked` that was found (`text-flag`).
+-- `plain` and `ok` are the premises of the clause `writes`.
 use Rattle.std.proofs.Common.{true, false}
 use Rattle.cobs_live.proofs.TallyLemmas.{text-flag}
 use Rattle.cobs_live.proofs.tally.TallyDisplay.fmt.Goals as goal

@@ -1,4 +1,6 @@
--- The returned reference lends the decoder's buffer, by `lends`.
+-- This file is the whole proof of the function. The check proves an `ensures*`, such as `writes_back`, by itself only
+-- if the body lends a field, or passes on what a call lends. This body lends the bytes to which a field refers. When
+-- the loan ends, the decoder has the bytes that the caller wrote (`lends`).
 use Rattle.cobs.specs.contracts.dec.buffered.CobsDecoder.dest_mut as f
 use Rattle.cobs.proofs.streaming.BorrowedSlice.{lends}
 use Rattle.cobs.proofs.dec.buffered.CobsDecoder.dest_mut.Statement.{statement}

@@ -1,8 +1,9 @@
+-- The decoder has taken the first i bytes, and no piece has ended in them (`TakesPiece` with `None`). It is still over
+-- the same slice (`loan`). `l.fn.self` is the decoder before the call, and `l.self` the decoder now.
 use Rattle.std.proofs.Common.{◌≡◌, take, None}
 use Rattle.cobs.specs.FeedPiece.{TakesPiece}
 use Rattle.cobs.proofs.dec.frame_decoder.FrameDecoder.feed_piece.Given as goal
 
--- no piece has ended in the bytes so far
 abbrev pub invariant-by_byte : goal.invariant-by_byte
 invariant-by_byte g l =
     let bytes = g.Self.FrameDecoder.bytes in

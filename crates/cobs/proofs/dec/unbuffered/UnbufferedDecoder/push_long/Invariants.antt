@@ -1,9 +1,10 @@
+-- The bytes before `at` are taken, and each of them returned `Ok(None)` (`Pushed`). `l.fn.self` is the decoder before
+-- the call, and `l.self` the decoder now.
 use Rattle.std.proofs.Common.{length, ◌-◌, ◌≤◌}
 use Rattle.cobs.specs.Fields.Decoders.{phase_of}
 use Rattle.cobs.proofs.streaming.PushLemmas.{Pushed}
 use Rattle.cobs.proofs.dec.unbuffered.UnbufferedDecoder.push_long.Given as goal
 
--- the bytes before `at` are taken, and each returned `Ok(None)`
 abbrev pub invariant-by_run : goal.invariant-by_run
 invariant-by_run l = record {
   within : l.at ≤ length l.bytes;

@@ -1,10 +1,11 @@
+-- The first `taken` bytes, each XORed with the sentinel, are fed, and each returned `Ok(None)` (`FeedsQuietly`). `here`
+-- is the loop's copy of the decoder, and its piece isn't too long (`going`).
 use Rattle.std.proofs.Common.{◌≡◌, ◌≤◌, ◌-◌, length, take}
 use Rattle.cobs.specs.Fields.Decoders.{phase_of}
 use Rattle.cobs.specs.Internal.FeedsQuietly.{FeedsQuietly}
 use Rattle.cobs.specs.Sentinel.{xor_each}
 use Rattle.cobs.proofs.dec.unbuffered.UnbufferedDecoder.take_blocks.Given as goal
 
--- the bytes before `taken` are fed
 abbrev pub invariant-by_step : goal.invariant-by_step
 invariant-by_step l = record {
   within : l.taken ≤ length l.bytes;

@@ -1,9 +1,10 @@
+-- The first `taken` bytes are taken, and no piece has ended in them (`TakesPiece` with `None`). `l.fn.self` is the
+-- decoder before the call, and `l.self` the decoder now.
 use Rattle.std.proofs.Common.{length, ◌-◌, ◌≤◌, None, take}
 use Rattle.cobs.specs.Fields.Decoders.{phase_of}
 use Rattle.cobs.specs.FeedPiece.{TakesPiece}
 use Rattle.cobs.proofs.dec.unbuffered.UnbufferedDecoder.take_to_end.Given as goal
 
--- the bytes before `taken` are taken, and no piece has ended in them
 abbrev pub invariant-by_run : goal.invariant-by_run
 invariant-by_run l = record {
   within : l.taken ≤ length l.bytes;
