@@ -62,7 +62,7 @@ pub struct MessageReader<R> {
 }
 
 impl<R: BufRead> MessageReader<R> {
-    /// Makes a reader of messages of up to `max_len` bytes. The reader allocates `max_len` bytes, and never more.
+    /// Makes a reader of messages of up to `max_len` bytes. `new` allocates a buffer of `max_len` bytes, and this buffer never grows.
     ///
     /// ```
     /// let stdin = std::io::stdin().lock();

@@ -263,7 +263,7 @@ mod neon {
 mod tests {
     use super::*;
 
-    /// Returns bytes of which no two neighbours are equal, with `byte` at `place`.
+    /// Returns bytes with `byte` at `place`. No two neighbours among the other bytes are equal.
     fn with(place: usize, byte: u8) -> [u8; 80] {
         let mut bytes = [0; 80];
         for (i, other) in bytes.iter_mut().enumerate() {

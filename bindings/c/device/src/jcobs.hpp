@@ -35,9 +35,9 @@
 //         sender.reset();
 //     }
 //
-// jcobs.h describes the status, consumed and length that each call returns. The preconditions of jcobs.h apply here
-// too, except those about lengths, because a view contains its length. Buffers must not overlap, and nothing else may
-// change them while a call runs.
+// jcobs.h describes the members status, consumed and length of the jcobs_answer that a call returns. The preconditions
+// of jcobs.h apply here too, except those about lengths, because a view contains its length. Buffers must not overlap,
+// and nothing else may change them while a call runs.
 #ifndef JCOBS_HPP
 #define JCOBS_HPP
 
