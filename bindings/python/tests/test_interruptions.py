@@ -12,6 +12,7 @@ import threading
 import pytest
 
 import jcobs
+from jcobs._files import keep
 from test_readers import KINDS, ends, hang_up
 
 MESSAGES = [b"%d\0" % number * (number % 7) + b"%d" % number for number in range(20_000)]
@@ -242,6 +243,32 @@ def test_an_exception_at_any_step_makes_no_other_message():
                 at = wanted.index(outcome, at) + 1
         step += 3 if sys.implementation.name == "cpython" else 17  # each one goes through all before it, traced
     assert found == wanted and step > 100
+
+
+def test_an_exception_at_any_step_after_lost_bytes_makes_no_other_message():
+    """Without the lost bytes, the first frame and the rest of the second one would be the frame of b"hele!"."""
+    step, interrupted = 1, True
+    while interrupted:
+        parts = [b"\x06hel", None, b"e!\0\x03hi\0", b""]  # None: the bytes `lo 00 05 b y` are lost
+
+        def read(size, parts=parts):
+            part = parts.pop(0)
+            if part is None:
+                raise Interruption
+            return part
+
+        reader = jcobs.FrameReader(io.BytesIO())
+        reader._read = lambda file, timeout, kept, read=read: keep(kept, read, 9, in_python=True)
+        found = []
+        with pytest.raises(Interruption):
+            found.extend(reader)
+        interrupted = interrupts(step, lambda: found.extend(reader))
+        if parts or interrupted:
+            parts.append(b"")
+            found.extend(reader)
+        assert {outcome for outcome in found if outcome != jcobs.Broken(b"")} <= {jcobs.Message(b"hi")}
+        step += 1
+    assert found == [jcobs.Broken(b""), jcobs.Message(b"hi")] and step > 20
 
 
 @pytest.mark.skipif(not hasattr(signal, "setitimer"), reason="there is no setitimer")

@@ -96,10 +96,14 @@ class Frames(Coder):
         self._headless = self._headless or begun
 
     def _check_arrived(self) -> None:
-        """Drops b"" or the GAP. A read may have left one of them, if an exception ended the read."""
+        """Drops b"" or the GAP. A read may have left one of them, if an exception ended the read.
+
+        The GAP is dropped last. If a signal handler raises an exception before that, the next call finds the GAP again.
+        """
         if self._arrived and (not self._arrived[0] or self._arrived[0] is GAP):
-            if self._arrived.popleft() is GAP:
+            if self._arrived[0] is GAP:
                 self._lose(True)
+            self._arrived.popleft()
 
     def _without_rest(self, chunk: bytes) -> bytes:
         """Drops the rest of a frame whose beginning is lost, and reports that frame as `Broken` when its sentinel comes."""
