@@ -10,17 +10,12 @@ use Rattle.cobs.specs.Table.{FeedsByTable}
 use Rattle.cobs.specs.Internal.FeedsQuietly.{FeedsQuietly}
 use Rattle.cobs.specs.declared.dec.state.DecoderState.TheVariants.{Grab, GrabChain}
 use Rattle.cobs.specs.declared.error.DecodeError.{DecodeError}
-use Rattle.cobs.proofs.streaming.ByByteLemmas.{piece-nothing, piece-ended}
+use Rattle.cobs.proofs.streaming.ByByteLemmas.{piece-ended}
 use Rattle.cobs.proofs.streaming.FeedLemmas.{Feeds-zero}
-use Rattle.cobs.proofs.streaming.RunLemmas.{piece-run}
+use Rattle.cobs.proofs.streaming.RunLemmas.{piece-all}
 use Rattle.cobs.proofs.dec.unbuffered.UnbufferedDecoder.feed_piece.Goals as goal
 use Rattle.cobs_bytes.proofs.bytes.XoredLemmas.{xor_each-zero}
 use Rattle.cobs.proofs.dec.unbuffered.UnbufferedDecoder.feed_piece.Goals.{Joined-bytes-gt-VERY_FEW, then-bytes-gt-VERY_FEW+then-is_idle+else-front-lt-WINDOW, else-front-lt-WINDOW-via-then-front-lt-WINDOW+else-take_front, else-front-lt-WINDOW-via-else-front-lt-WINDOW, then-bytes-gt-VERY_FEW+else-is_idle+else-take_short, else-bytes-gt-VERY_FEW}
-
--- bytes were fed, and none of them ends a piece
-quietly : (bytes buffer buffer' : List ℕ) (phase phase' : Phase) → FeedsQuietly buffer phase bytes buffer' phase' → TakesPiece buffer phase bytes None buffer' phase'
-quietly bytes buffer buffer' phase phase' fed =
-    rw (take_all (0 + length bytes) bytes (omega arith)) at (piece-run bytes 0 (length bytes) (omega arith) (piece-nothing _ _) (rw (← take-length bytes) at fed))
 
 -- a zero ends a piece of which at least one byte of output is written
 ended_at : (is_full : Bool) (left count n : ℕ) (phase' : Phase) (result : Result (Option ℕ) DecodeError)
@@ -48,7 +43,7 @@ returns-then-not-has_vectors c = grind (arith, xor_each-zero)
 pub returns-then-is_all : goal.returns-then-is_all
 returns-then-is_all c =
     let all = take_all c.front_len-front.result c.args.bytes.now (omega (arith, c.if-is_all.true)) in
-    record { takes = quietly _ _ _ _ _ (rw all at c.take_front.ensures.fed c.if-take_front.true) }
+    record { takes = piece-all _ _ _ _ _ (rw all at c.take_front.ensures.fed c.if-take_front.true) }
 
 pub returns-in_err-end : goal.returns-in_err-end
 returns-in_err-end c = grind (arith, ended_by)
@@ -61,12 +56,12 @@ returns-then-take_front c =
     let within : len < length bytes = omega (arith, c.if-is_all.false, c.front_len-front.ensures.within) in
     let zero = c.front_len-front.ensures.stop within in
     let front : TakesPiece c.args.dest.now (phase_of c.args.self.now) (take len bytes) None c.take_front.new.dest between =
-    quietly _ _ _ _ _ (c.take_front.ensures.fed c.if-take_front.true) in
+    piece-all _ _ _ _ _ (c.take_front.ensures.fed c.if-take_front.true) in
     let last : Feeds c.take_front.new.dest between (get_or bytes len 0) c.feed.result c.feed.new.dest (phase_of c.feed.new.self) = rw zero c.feed.ensures.feeds in
     record { takes = piece-ended _ _ within front last _ zero (sym c.in_ok-end.ensures.end) }
 
 pub returns-then-take_short : goal.returns-then-take_short
-returns-then-take_short c = record { takes = quietly _ _ _ _ _ (c.take_short.ensures.fed c.if-take_short.true) }
+returns-then-take_short c = record { takes = piece-all _ _ _ _ _ (c.take_short.ensures.fed c.if-take_short.true) }
 
 -- no byte was taken before
 kept : (c : Joined-bytes-gt-VERY_FEW) → (c.if-bytes-gt-VERY_FEW.dest ≡ c.args.dest.now) × (c.if-bytes-gt-VERY_FEW.self ≡ c.args.self.now)

@@ -8,7 +8,6 @@ use Rattle.cobs.specs.Internal.FeedsQuietly.{FeedsQuietly}
 use Rattle.cobs.proofs.streaming.RunLemmas.{rest_kept}
 use Rattle.cobs.proofs.streaming.SpanLemmas.{block_fed, FeedsQuietly-more, copied-there, row_fed}
 use Rattle.cobs.proofs.dec.unbuffered.UnbufferedDecoder.take_part_in_place.Goals as goal
-use Rattle.cobs.proofs.dec.unbuffered.UnbufferedDecoder.take_part_in_place.Goals.{then-self-eq0, else-self-eq0}
 use Rattle.cobs_bytes.proofs.bytes.ListLemmas.{part-nonzero}
 
 pub take_moved-requires-clause-nonzero : goal.take_moved-requires-clause-nonzero
@@ -25,7 +24,7 @@ returns-then-code-gt-WIDE_WINDOW-clause-fed c =
     let joint = c.take_joint.new in
     let one : take 1 bytes ≡ get_or c.args.buffer.now c.args.read 0 ∷ [] = ap (take 1) (drop_more c.args.buffer.now c.args.read 0 (omega arith)) in
     let f : FeedsQuietly c.args.buffer.now (phase_of c.args.self.now) (take 1 bytes) joint.dest (phase_of joint.self) = rw one c.take_joint.ensures.fed in
-    let last : joint.self.written ≤ c.args.read = grind (arith, then-self-eq0, else-self-eq0) in
+    let last : joint.self.written ≤ c.args.read = grind arith in
     let kept : drop (c.args.read + 1) joint.dest ≡ drop 1 bytes
     = rest_kept (take 1 bytes) c.args.buffer.now joint.dest c.args.self.now joint.self (c.args.read + 1) (part-nonzero 0 1 _ bytes c.requires.nonzero (omega arith)) f (omega arith) ∙ sym (drop-drop 1 c.args.read c.args.buffer.now) in
     let moved : c.move_back.new.buffer ≡ take joint.self.written joint.dest ++ (take n (drop 1 bytes) ++ drop (joint.self.written + n) joint.dest) = rw (sym kept) c.move_back.ensures in
@@ -33,7 +32,7 @@ returns-then-code-gt-WIDE_WINDOW-clause-fed c =
     (part-nonzero 1 n _ bytes c.requires.nonzero (omega arith)) moved)
 
 pub returns-then-is_all-clause-fed : goal.returns-then-is_all-clause-fed
-returns-then-is_all-clause-fed c = row_fed 32 c.args.self.now c.args.buffer.now _ _ (omega arith) (omega arith) c.requires.going c.if-missing-eq0-2.true (λ e. absurd (omega (arith, c.span_len-len.ensures.full e))) (omega arith) (c.is_all.ensures c.if-is_all.true) c.write_row.ensures
+returns-then-is_all-clause-fed c = row_fed 32 c.args.self.now c.args.buffer.now _ _ (omega arith) (omega arith) c.requires.going c.if-missing-eq0-3.true (λ e. absurd (omega (arith, c.span_len-len.ensures.full e))) (omega arith) (c.is_all.ensures c.if-is_all.true) c.write_row.ensures
 
 pub returns-clause-fed : goal.returns-clause-fed
 returns-clause-fed c = grind (arith, length-take-le, length-drop)
