@@ -59,7 +59,8 @@ const SHOWN: [(Style, &[u8]); 7] = [
     ),
 ];
 
-/// The text of [`SHOWN`] in colours, by style. Only titles have colours, and only these three styles have titles.
+/// The text of [`SHOWN`] in colours, by style. A colour stands for the kind of a piece, so only titles, which name the
+/// kind, have colours. Only these three styles have titles.
 const COLORED: [(Style, &[u8]); 3] = [
     (
         Style::Hex,

@@ -80,7 +80,8 @@ pub fn longest<D: FrameDecoder>(decoder: &mut D, bytes: &[u8]) -> usize {
     longest
 }
 
-/// Returns how many bytes of a broken piece were decoded. The decoded bytes are sliced out of the buffer.
+/// Returns how many bytes of a broken piece were decoded. The slice of the buffer shows that the buffer has this many
+/// bytes: an index that may be out of bounds isn't accepted.
 pub fn broken_part<D: FrameDecoder>(decoder: &mut D, bytes: &[u8]) -> usize
     requires { DecoderAfter (D.bytes decoder.old) (D.phase decoder.old) [] }
 {

@@ -81,6 +81,8 @@ pub fn frame_len(message: &[u8]) -> usize
     let mut closed = 0;
     let mut run = 0;
     'by_byte: for byte in message {
+        // The open block is full, and the message continues: the block has 255 bytes with its code, and no zero follows
+        // it.
         if run == 254 {
             closed += 255;
             run = 0;
