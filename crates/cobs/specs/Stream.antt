@@ -4,8 +4,8 @@ use Rattle.std.specs.List.{slice_split}
 use Rattle.cobs.specs.Grammar.{last_of}
 use Rattle.cobs.specs.Piece.{output, is_whole}
 
--- the bytes before the first zero of a list, between two neighbouring zeros, and after the last zero; each of these
--- lists may be empty
+-- a list cut at its zeros: the bytes before the first zero, between two neighbouring zeros, and after the last zero, as
+-- lists that may be empty
 abbrev pub stretches : List ℕ → List (List ℕ)
 stretches t = slice_split (λ byte. byte == 0) t
 

@@ -202,8 +202,7 @@ fn write_over(dest: &mut [u8], bytes: &[u8]) {
     }
 }
 
-/// Passes the pieces to a decoder. Returns each result except "nothing yet", and the decoder's buffer after the last
-/// piece.
+/// Passes the pieces to a decoder. Returns the decoder's buffer after the last piece, and each result except `Ok(None)`.
 fn given<D: Streaming>(
     alloc: Global,
     decoder: &mut D,
@@ -301,8 +300,8 @@ fn feed_pieces<D: Streaming>(
     Ok(())
 }
 
-/// Adds the result for a byte, unless the result is "nothing yet": the number of bytes taken, the kind of the result,
-/// and the front of the buffer.
+/// Adds the result for a byte, unless the result is `Ok(None)`: the number of bytes taken, the kind of the result, and
+/// the front of the buffer.
 fn say_event(
     events: &mut CallResult,
     taken: usize,
