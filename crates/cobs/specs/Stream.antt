@@ -9,6 +9,7 @@ use Rattle.cobs.specs.Piece.{output, is_whole}
 abbrev pub stretches : List ℕ → List (List ℕ)
 stretches t = slice_split (λ byte. byte == 0) t
 
+-- whether the list has at least one byte
 abbrev pub is_nonempty : List ℕ → Bool
 is_nonempty [] = false
 is_nonempty (byte ∷ bytes) = true

@@ -33,14 +33,15 @@ abbrev pub spaced : List ℕ → List ℕ
 spaced [] = []
 spaced (byte ∷ bytes) = codes " " ++ (byte ∷ bytes)
 
--- the line of a piece: with the piece's bytes as digits, as text (`text_line`), or sixteen per line below the line
--- (`dump_lines`). With `color`, the title has a colour.
+-- the line of a piece, with the piece's bytes as digits. With `color`, the title has a colour.
 abbrev pub hex_line : (color : Bool) → Seen → List ℕ
 hex_line color seen = heading color seen ++ spaced_digits seen.bytes ++ codes "\n"
 
+-- as `hex_line`, with the bytes as text if they are UTF-8 without hidden characters
 abbrev pub text_line : (color : Bool) → Seen → List ℕ
 text_line color seen = heading color seen ++ (if is_plain seen.bytes then spaced seen.bytes else spaced_digits seen.bytes) ++ codes "\n"
 
+-- as `hex_line`, with the bytes below the line, sixteen per line
 abbrev pub dump_lines : (color : Bool) → Seen → List ℕ
 dump_lines color seen = heading color seen ++ codes "\n" ++ dump seen.bytes
 
