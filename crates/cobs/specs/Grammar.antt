@@ -24,6 +24,7 @@ bytes_of (code ∷ bytes) = bytes
 abbrev pub is_full : List ℕ → Bool
 is_full block = code_of block == 255
 
+-- the block is full
 abbrev pub IsFull : List ℕ → Type 0
 IsFull block = IsTrue (is_full block)
 

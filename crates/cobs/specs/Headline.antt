@@ -33,5 +33,6 @@ abbrev pub IsNotOutOfMemory : DecodeVecError → Type 0
 IsNotOutOfMemory (Decode error) = ⊤
 IsNotOutOfMemory (Memory error) = ⊥
 
+-- the result of such a call is a vector, or an error for another reason than memory
 abbrev pub FoundMemory : {V : Type 0} → Result V DecodeVecError → Type 0
 FoundMemory result = IfErr result IsNotOutOfMemory

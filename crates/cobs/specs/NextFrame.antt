@@ -16,6 +16,7 @@ use Rattle.cobs.specs.declared.framed.ReadFault.TheVariants as faults
 abbrev pub Read : Type 0
 Read = Option (List ℕ)
 
+-- the bytes that a read returned, or no bytes if it failed
 abbrev pub bytes_given : Read → List ℕ
 bytes_given None = []
 bytes_given (Some bytes) = bytes

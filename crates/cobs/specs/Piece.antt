@@ -27,6 +27,7 @@ unfoldable pub is_whole : List ℕ → Bool
 is_whole [] = false
 is_whole (byte ∷ bytes) = missing (last_part (byte ∷ bytes)) == 0
 
+-- the piece is whole
 abbrev pub IsWhole : List ℕ → Type 0
 IsWhole p = IsTrue (is_whole p)
 

@@ -4,10 +4,12 @@ use Rattle.std.specs.List.{slice_split}
 use Rattle.cobs.specs.Grammar.{last_of}
 use Rattle.cobs.specs.Piece.{output, is_whole}
 
--- the parts of a list before its first zero, between two zeros, and after its last zero, empty parts included
+-- a list cut at its zeros: the bytes before the first zero, between two neighbouring zeros, and after the last zero, as
+-- lists that may be empty
 abbrev pub stretches : List ℕ → List (List ℕ)
 stretches t = slice_split (λ byte. byte == 0) t
 
+-- whether the list has at least one byte
 abbrev pub is_nonempty : List ℕ → Bool
 is_nonempty [] = false
 is_nonempty (byte ∷ bytes) = true

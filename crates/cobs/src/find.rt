@@ -134,7 +134,7 @@ pub(crate) fn front_len(source: &[u8]) -> usize
     if later != 0 {
         return at + later.trailing_zeros() as usize;
     }
-    // The frame of a message of 63 or 64 bytes has its zero here.
+    // After the frame of a message of 63 or 64 bytes, the zero is at index 64 or 65.
     if WIDE_WINDOW < source.len() && source[WIDE_WINDOW] == 0 {
         return WIDE_WINDOW;
     }

@@ -2,6 +2,7 @@
 use Rattle.std.specs.Prelude.{ℕ, ◌==◌, List, codes, if◌then◌else◌}
 use Rattle.cobs_abi.specs.declared.answer.TheConstants.{OK, MORE, TOO_SMALL, BROKEN, EMPTY}
 
+-- the text of a status
 abbrev pub words : ℕ → List ℕ
 words status =
     if status == OK then codes "done"

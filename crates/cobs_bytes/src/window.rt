@@ -13,7 +13,8 @@ pub const WIDE_WINDOW: usize = 64;
 
 /// Returns whether the target has vectors with which short data are copied faster. If it has none, a loop over bytes is
 /// faster, and its code is much smaller.
-// This function has no `ensures` clause, so that its callers are proved for both kinds of target.
+// This function has no `ensures` clause, so that its callers are proved for both kinds of target. In Rattle it returns
+// `true`; in the Rust crate it returns a constant of the target.
 #[inline(always)]
 pub fn has_vectors() -> bool {
     true

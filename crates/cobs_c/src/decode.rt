@@ -188,6 +188,7 @@ pub extern "C" fn jcobs_decode_in_place_with_sentinel(buffer: &mut [u8], sentine
     law_12(); // A stream's first piece, and its last
     let room = buffer.len();
     let end = first_sentinel(buffer, sentinel);
+    // A leading sentinel is read as an empty message.
     if end == 0 && room != 0 {
         return done(1, 0);
     }

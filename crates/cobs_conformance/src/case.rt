@@ -76,6 +76,8 @@ fn case_of<'a>(words: &'a [&'a str]) -> Option<Case<'a>>
     let [name, level, call, rest @ ..] = words else {
         return None;
     };
+    // A line is `owed` if every COBS library must have its result, and `choice` if another library may choose
+    // another result.
     if *level != "owed" && *level != "choice" {
         return None;
     }

@@ -24,6 +24,7 @@ pub fn max_encoding_length(alloc: Global, arguments: &[&str]) -> Result<CallResu
         return Err(CaseFault::Malformed);
     };
     let length = number_of(length)?;
+    // Up to this length, the greatest length of a frame fits a `usize`.
     if length > usize::MAX / 2 {
         return Err(CaseFault::NotCallable);
     }
@@ -72,6 +73,7 @@ pub fn encode(alloc: Global, arguments: &[&str]) -> Result<CallResult, CaseFault
         return Err(CaseFault::Malformed);
     };
     let message = bytes_of(alloc, message)?;
+    // `try_encode` finds out, with a buffer of its own, whether the frame fits: the precondition of `encode`.
     let mut tried = bytes_of(alloc, buffer)?;
     let mut buffer = bytes_of(alloc, buffer)?;
     if cobs::try_encode(&message, &mut tried).is_err() {

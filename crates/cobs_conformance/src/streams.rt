@@ -27,10 +27,10 @@ enum Feeding {
 
 /// Methods of streaming decoders that the cases need and `FrameDecoder` doesn't have.
 trait Streaming: FrameDecoder {
-    /// Pushes bytes until the first result that isn't "nothing yet".
+    /// Pushes bytes, as [`CobsDecoder::push`] does: up to the first byte whose result isn't `Ok(None)`.
     fn push_bytes(&mut self, bytes: &[u8]) -> Result<Option<DecodeReport>, PushError>;
 
-    /// Puts the decoder back to the start of a frame, and leaves the buffer as it is.
+    /// Makes the decoder idle, and leaves the buffer as it is.
     fn restart(&mut self);
 }
 
@@ -202,8 +202,7 @@ fn write_over(dest: &mut [u8], bytes: &[u8]) {
     }
 }
 
-/// Passes the pieces to a decoder. Returns each result except "nothing yet", and the decoder's buffer after the last
-/// piece.
+/// Passes the pieces to a decoder. Returns the decoder's buffer after the last piece, and each result except `Ok(None)`.
 fn given<D: Streaming>(
     alloc: Global,
     decoder: &mut D,
@@ -301,8 +300,8 @@ fn feed_pieces<D: Streaming>(
     Ok(())
 }
 
-/// Adds the result for a byte, unless the result is "nothing yet": the number of bytes taken, the kind of the result,
-/// and the front of the buffer.
+/// Adds the result for a byte, unless the result is `Ok(None)`: the number of bytes taken, the kind of the result, and
+/// the front of the buffer.
 fn say_event(
     events: &mut CallResult,
     taken: usize,
@@ -339,7 +338,10 @@ pub fn decode_stream(alloc: Global, arguments: &[&str]) -> Result<CallResult, Ca
     Ok(returned)
 }
 
-/// Makes a buffer of this many zeros.
+/// Makes a buffer of zeros. `room` is its length, a decimal number.
+///
+/// # Errors
+/// `Malformed` if `room` isn't a number, or is more than [`MAX_BYTES`]. `OutOfMemory` if memory ran out.
 fn buffer_of(alloc: Global, room: &str) -> Result<Vec<u8>, CaseFault> {
     let room = number_of(room)?;
     if room > MAX_BYTES {

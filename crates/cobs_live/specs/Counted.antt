@@ -7,6 +7,7 @@ use Rattle.cobs_live.specs.declared.seen.Kind.{Kind}
 use Rattle.cobs_live.specs.declared.seen.Kind.TheVariants.{Message, Broken, TooLong, BadCrc}
 use Rattle.cobs_live.specs.declared.tally.Tally.{Tally}
 
+-- a number for each kind, by which kinds are compared
 abbrev pub kind_number : Kind → ℕ
 kind_number Message = 0
 kind_number Broken = 1

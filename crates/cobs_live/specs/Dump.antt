@@ -21,6 +21,7 @@ cell row i = if nat_lt i (length row) then encode_lower (slice_index row i ∷ [
 abbrev pub character : ℕ → ℕ
 character byte = if nat_le 32 byte && nat_le byte 126 then byte else 46
 
+-- the line of a row of up to sixteen bytes, the first of which is at this offset
 abbrev pub dump_row : ℕ → List ℕ → List ℕ
 dump_row offset row = offset_text offset ++ codes "  " ++ upto (λ i. cell row (0 + i)) 8 ++ codes " " ++ upto (λ i. cell row (8 + i)) 8 ++ codes " |" ++ map character row ++ codes "|\n"
 
@@ -28,5 +29,6 @@ dump_row offset row = offset_text offset ++ codes "  " ++ upto (λ i. cell row (
 abbrev pub numbered_row : List ℕ → ℕ → List ℕ
 numbered_row bytes number = dump_row (16 * number) (take 16 (drop (16 * number) bytes))
 
+-- the lines of all bytes
 abbrev pub dump : List ℕ → List ℕ
 dump bytes = upto (numbered_row bytes) ((length bytes + 15) / 16)

@@ -32,5 +32,6 @@ json_kind Broken len bytes = codes "\"broken\",\"length\":" ++ decimal len ++ js
 json_kind TooLong len bytes = codes "\"too-long\"" ++ json_partial bytes
 json_kind BadCrc len bytes = codes "\"bad-crc\"" ++ json_message len bytes
 
+-- the line of a piece with this number and these times: a JSON object
 abbrev pub json : ℕ → Stamp → Times → Seen → List ℕ
 json number stamp times seen = codes "{\"frame\":" ++ decimal number ++ json_time stamp times ++ codes ",\"kind\":" ++ json_kind seen.kind seen.len seen.bytes ++ codes "}\n"

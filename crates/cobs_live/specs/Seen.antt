@@ -27,13 +27,14 @@ title Broken len = codes "broken " ++ decimal len
 title TooLong len = codes "too long"
 title BadCrc len = codes "bad crc " ++ decimal len
 
--- the escape sequences that begin the colour of a kind (green, yellow, magenta and red), and end it
+-- the escape sequence that begins the colour of a kind: green, yellow, magenta or red
 abbrev pub color_of : Kind → List ℕ
 color_of Message = codes "\u{1b}[32m"
 color_of Broken = codes "\u{1b}[33m"
 color_of TooLong = codes "\u{1b}[35m"
 color_of BadCrc = codes "\u{1b}[31m"
 
+-- the escape sequence that ends the colour of every kind
 abbrev pub color_end : List ℕ
 color_end = codes "\u{1b}[0m"
 
@@ -63,6 +64,7 @@ pub record Ended : Type 0 where
   pub outcome : Outcome
   pub decoded : List ℕ
 
+-- a piece that has ended in a buffer of n bytes
 abbrev pub ended_in : ℕ → List ℕ → Ended
 ended_in n piece = record { outcome = outcome_of piece n; decoded = take n (output piece) }
 
@@ -98,6 +100,7 @@ abbrev pub mark_if_any : List ℕ → List ℕ
 mark_if_any [] = []
 mark_if_any (byte ∷ bytes) = codes " partial"
 
+-- the word before the bytes of a piece of this kind, if they are no message
 abbrev pub mark : Kind → List ℕ → List ℕ
 mark Message bytes = []
 mark Broken bytes = mark_if_any bytes

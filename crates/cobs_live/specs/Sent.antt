@@ -30,6 +30,7 @@ SendsMessage settings message bytes = IsSent settings.sentinel (with_sum setting
 abbrev pub is_digit : ℕ → Bool
 is_digit byte = not ((byte == 32) || ((byte == 9) || (byte == 13)))
 
+-- the bytes of a text that count as digits
 abbrev pub digits_of : List ℕ → List ℕ
 digits_of text = filter is_digit text
 
@@ -39,6 +40,7 @@ abbrev pub SendsAs : (hex : Bool) → Settings → List ℕ → List ℕ → Typ
 SendsAs false settings text bytes = SendsMessage settings text bytes
 SendsAs true settings text bytes = MatchResult (decode_of (digits_of text)) (λ message. SendsMessage settings message bytes) (λ error. bytes ≡ [])
 
+-- `SendsAs` with the value of `hex` in the settings
 abbrev pub SendsText : Settings → List ℕ → List ℕ → Type 0
 SendsText settings text bytes = SendsAs settings.hex settings text bytes
 

@@ -33,19 +33,20 @@ abbrev pub spaced : List ℕ → List ℕ
 spaced [] = []
 spaced (byte ∷ bytes) = codes " " ++ (byte ∷ bytes)
 
--- the line of a piece: with the piece's bytes as digits, as text (`text_line`), or sixteen per line below the line
--- (`dump_lines`). With `color`, the kind has a colour.
+-- the line of a piece, with the piece's bytes as digits. With `color`, the title has a colour.
 abbrev pub hex_line : (color : Bool) → Seen → List ℕ
 hex_line color seen = heading color seen ++ spaced_digits seen.bytes ++ codes "\n"
 
+-- as `hex_line`, with the bytes as text if they are UTF-8 without hidden characters
 abbrev pub text_line : (color : Bool) → Seen → List ℕ
 text_line color seen = heading color seen ++ (if is_plain seen.bytes then spaced seen.bytes else spaced_digits seen.bytes) ++ codes "\n"
 
+-- as `hex_line`, with the bytes below the line, sixteen per line
 abbrev pub dump_lines : (color : Bool) → Seen → List ℕ
 dump_lines color seen = heading color seen ++ codes "\n" ++ dump seen.bytes
 
--- the bytes that are written for a message in a style that shows only messages: its bytes, its bytes and a newline, or
--- a record of a capture
+-- the bytes that are written for a message in a style that shows only messages: its bytes (`Bytes`), its bytes and a
+-- newline (`Raw`), or a record of a capture (`Pcap`); `styled` doesn't use the other rows
 abbrev pub alone : Style → ℕ → List ℕ → List ℕ
 alone Hex time bytes = bytes
 alone Text time bytes = bytes
@@ -62,7 +63,7 @@ of_message Broken text = []
 of_message TooLong text = []
 of_message BadCrc text = []
 
--- the text of a piece with this number and these times in a style; only lines have colours
+-- the text of a piece with this number and these times in a style; only titles have colours
 abbrev pub styled : Style → (color : Bool) → ℕ → Stamp → Times → Seen → List ℕ
 styled Hex color number stamp times seen = hex_line color seen
 styled Text color number stamp times seen = text_line color seen

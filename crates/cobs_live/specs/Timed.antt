@@ -25,6 +25,7 @@ pub record IsReadAt (times : ℕ → Moment) (number : ℕ) (clock : Times) : Ty
 abbrev pub padded : ℕ → ℕ → List ℕ
 padded width n = padded_integral (format_spec 32 0 4 width (2 ^ 64 - 1)) false [] (digits 10 false n)
 
+-- milliseconds as seconds with three decimals
 abbrev pub seconds : ℕ → List ℕ
 seconds time = decimal (time / 1000) ++ codes "." ++ padded 3 (time % 1000)
 

@@ -58,6 +58,7 @@ fn write_cell<W: Write>(output: &mut W, row: &[u8], i: usize) -> io::Result<()>
 {
     if i < row.len() {
         let mut digits = [0; 2];
+        // The two digits of a byte always fit.
         if hex::encode_to_slice(&[row[i]], &mut digits).is_err() {
             unreachable!();
         }

@@ -58,6 +58,7 @@ impl<'a, C: Clock + Drop, F: Drop> Port<'a, C, F> {
     }
 }
 
+// The loops of this file have a greatest number of tries, because each function is proved to end.
 impl<C: Clock + Drop, R: Read + Drop> Read for Port<'_, C, R> {
     ghost use Rattle.cobs_live.specs.Ports.{inner_of};
 

@@ -58,6 +58,7 @@ pub fn run_send<S: LiveLines<W>, W: Write + Drop, E: Write>(
 {
     let mut line = Vec::new(alloc);
     let mut all_sent = true;
+    // The loop has a greatest number of lines, because each function is proved to end.
     'by_line: for number in 1..usize::MAX {
         line.clear();
         let Ok(count) = input.read_line_beside(output, &mut line) else {

@@ -80,6 +80,7 @@ pub fn run_show<C: Clock + Drop, S: LiveInput<W>, W: Write + Drop, E: Write>(
     let mut watch = Watch::new(alloc, settings)?;
     let mut chunk = vec![in alloc; 0; CHUNK_LEN]?;
     let mut counted = timer.base;
+    // The loop has a greatest number of reads, because each function is proved to end.
     'by_read: for _read in 0..usize::MAX {
         let next = watch.show_next(timer, &mut chunk, input, output);
         if counting.at_end && next != Ok(true) {

@@ -59,7 +59,8 @@ const SHOWN: [(Style, &[u8]); 7] = [
     ),
 ];
 
-/// The text of [`SHOWN`] in colours, by style. Only titles have colours, and only these three styles have titles.
+/// The text of [`SHOWN`] in colours, by style. A colour stands for the kind of a piece, so only titles, which name the
+/// kind, have colours. Only these three styles have titles.
 const COLORED: [(Style, &[u8]); 3] = [
     (
         Style::Hex,
@@ -200,6 +201,7 @@ impl Clock for StepClock {
     }
 
     fn since_1970(&self) -> io::Result<Duration> {
+        // 23:59:58.123 on 1972-09-27, which is 1,000 days after 1970-01-01.
         Ok(Duration::from_millis(1_000 * 86_400_000 + 86_398_123))
     }
 }
@@ -214,7 +216,8 @@ fn timer_in(stamp: Stamp, zone: TimeZone<'_>) -> io::Result<Timer<'_, StepClock>
     Timer::new(clock(), stamp, zone)
 }
 
-/// Makes a clock that sleeps for no time, and is 250 ms later at each reading.
+/// Makes a clock that sleeps for no time, and is 250 ms later at each reading. Its first reading is 750 ms, so that a
+/// time since the start differs from the reading itself.
 fn clock() -> StepClock {
     StepClock {
         readings: Cell::new(3),

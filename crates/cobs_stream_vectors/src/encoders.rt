@@ -6,7 +6,7 @@ use std::alloc::Global;
 use std::process::Abort;
 use std::test::Fail;
 
-/// Encodes a message that comes in these pieces.
+/// Encodes a message that comes in these pieces, and returns the length of its frame.
 fn encode_pieces(rt: &impl Abort, pieces: &[&[u8]], slice: &mut [u8]) -> usize {
     assert!(rt; !slice.is_empty());
     let mut encoder = CobsEncoder::new(slice);

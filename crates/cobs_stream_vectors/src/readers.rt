@@ -24,7 +24,7 @@ enum Given {
 }
 
 /// A reader that counts its reads. It returns first the zeros, one per read, and then the bytes, at most `at_a_time`
-/// per read.
+/// per read. If `second_fails` has a kind of error, the second read fails with this error, and returns no byte.
 #[derive(Drop)]
 struct Counted {
     zeros: u64,
@@ -98,7 +98,7 @@ fn result_of(wanted: Wanted) -> Result<Next, ReadFault> {
 /// A reader, the result of each call, and how often the reader has been read after these calls.
 type ReaderRow = (Given, &'static [Wanted], usize);
 
-/// Finds the frames of a reader.
+/// Finds the frames of a reader, and checks the result of each call. `row` is the number that a failed check prints.
 fn find_all<D: FrameDecoder>(
     rt: &impl Abort,
     frames: &mut FrameReader<D>,
@@ -117,7 +117,7 @@ fn find_all<D: FrameDecoder>(
     assert_eq!(rt; source.into_inner().reads, *reads, "row {row}");
 }
 
-/// Finds the frames of some readers, one after the other.
+/// Finds the frames of some readers, one reader after the other, with the same `FrameReader`.
 fn find_in_each<D: FrameDecoder + Drop>(
     rt: &impl Abort,
     mut frames: FrameReader<D>,

@@ -123,8 +123,8 @@ fn pieces_of_any_size_give_the_message_or_overflow(rt: HostRuntime) -> Result<()
     Ok(())
 }
 
-/// Tests of the original crate: `stream_continuously_heapless` and `test_decoder_heapless_push_function`. The same
-/// tests of the other decoders are in `conformance/`, whose program has this decoder only with four bytes.
+/// Tests of the original crate: `stream_continuously_heapless` and `test_decoder_heapless_push_function`.
+/// `conformance/original.txt` has the same streams, which the conformance program decodes with each decoder.
 #[test]
 fn the_decoder_with_its_buffer_inside(rt: HostRuntime) {
     let mut decoder = CobsDecoderHeapless::<32>::new();

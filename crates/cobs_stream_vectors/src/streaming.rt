@@ -96,6 +96,7 @@ impl StreamingDecoder for CobsDecoderOwned {
 
 /// A test that is run with each of the three streaming decoders, each of them new.
 pub trait Check {
+    /// Runs the test with a new decoder.
     fn check<D: StreamingDecoder + Drop>(
         &self,
         rt: &impl Abort,

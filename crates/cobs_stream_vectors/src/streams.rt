@@ -6,8 +6,8 @@ use std::alloc::{AllocError, Global};
 use std::process::Abort;
 use std::test::Fail;
 
-/// An expected outcome: a `FrameOutcome` with a slice in place of the vector, so that it can be a constant. `Broken`
-/// has the number of bytes to which the piece decodes.
+/// An expected outcome, like `FrameOutcome`, with a slice in place of the vector, so that it can be a constant. The
+/// number of `Broken` is how many bytes the piece decodes to, including those of the broken block.
 #[derive(Clone, Copy, Debug)]
 enum Wanted {
     Message(&'static [u8]),

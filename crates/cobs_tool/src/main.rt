@@ -30,6 +30,7 @@ use std::env;
 use std::process::ExitCode;
 use text::fault_line;
 
+/// The line on standard error for wrong arguments.
 const USAGE: &str = "usage: cobs_tool [show|encode|decode]";
 
 fn main(rt: HostRuntime) -> ExitCode {

@@ -56,17 +56,19 @@ fn writes(rt: &impl Abort, alloc: Global, mode: &Mode, input: &[u8], output: &[u
     }
 }
 
-/// A message of two blocks. The outputs of `show` and `encode` for this message follow.
+/// A message whose frame has two blocks.
 const MESSAGE: &[u8] = b"hello\0";
 
+/// The output of `show` for [`MESSAGE`].
 const SHOWN: &[u8] = b"06 68 65 6c 6c 6f 01 00\n";
 
+/// The output of `encode` for [`MESSAGE`].
 const ENCODED: &[u8] = b"\x06hello\x01\0";
 
-/// A stream: a message, the empty message, a broken piece and an unfinished piece. The output of `decode` for this
-/// stream follows.
+/// A stream: a message, the empty message, a broken piece and an unfinished piece.
 const STREAM: &[u8] = b"\x06hello\0\x01\0\x03\x07\0\x02";
 
+/// The output of `decode` for [`STREAM`].
 const REPORT: &[u8] = b"message 5 68656c6c6f\nmessage 0\nbroken 1\nunfinished\n";
 
 #[test]

@@ -42,6 +42,8 @@ pub fn report_of(alloc: Global, stream: &[u8]) -> Result<String, AllocError>
                 }
                 return Ok(text);
             }
+            // A read of bytes in memory never fails, and a stream of at most 1 MiB, 64 bytes per read, never needs the
+            // 65,536 reads of one call.
             Err(_) => unreachable!(),
         }
     }

@@ -2,6 +2,7 @@
 use Rattle.std.specs.Prelude.{List, [], ◌∷◌}
 use Rattle.cobs.specs.Stream.{Outcome, Message, Broken, TooLong}
 
+-- the outcomes that are messages, in order
 abbrev pub messages_of : List Outcome → List Outcome
 messages_of [] = []
 messages_of (Message message ∷ outcomes) = Message message ∷ messages_of outcomes

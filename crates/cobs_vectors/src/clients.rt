@@ -28,7 +28,7 @@ use std::alloc::{AllocError, Global};
 use std::mem;
 
 /// Handles a byte in an interrupt. Returns the length of the message that the byte ended, or 0 if it ended none. The
-/// message is sliced out of the buffer, because this needs a proof that it is within the buffer.
+/// message is sliced out of the buffer, because the slice needs a proof that the message is within the buffer.
 pub fn on_byte<const N: usize>(decoder: &mut CobsDecoderHeapless<N>, byte: u8) -> usize
     ensures { result ≤ N }
 {
@@ -80,7 +80,8 @@ pub fn longest<D: FrameDecoder>(decoder: &mut D, bytes: &[u8]) -> usize {
     longest
 }
 
-/// Returns how many bytes of a broken piece were decoded. The decoded bytes are sliced out of the buffer.
+/// Returns how many bytes of a broken piece were decoded. The decoded bytes are sliced out of the buffer for the same
+/// reason as in [`on_byte`].
 pub fn broken_part<D: FrameDecoder>(decoder: &mut D, bytes: &[u8]) -> usize
     requires { DecoderAfter (D.bytes decoder.old) (D.phase decoder.old) [] }
 {
@@ -138,8 +139,8 @@ pub fn end_alike<D: FrameDecoder>(decoder: &mut D, state: &mut DecoderState, byt
     }
 }
 
-/// Reads all frames of a reader, and slices each message out of the decoder's buffer. Returns the sum of the messages'
-/// lengths.
+/// Reads the frames of a source until it ends or a call fails, with at most 1,000 calls, and slices each message out of
+/// the decoder's buffer. Returns the sum of the messages' lengths.
 pub fn total<D: FrameDecoder, S: FrameSource>(
     reader: &mut FrameReader<D>,
     source: &mut S,
@@ -186,7 +187,7 @@ pub struct Port {
 
 impl Port {
     /// Handles a byte. Returns the length of the message that the byte ended, and otherwise 0. The message is sliced
-    /// out of the buffer, because this needs a proof that it is within the buffer.
+    /// out of the buffer for the same reason as in the function `on_byte`.
     pub fn on_byte(&mut self, byte: u8) -> usize
         ensures { result ≤ 64 }
     {

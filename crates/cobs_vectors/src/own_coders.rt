@@ -23,8 +23,8 @@ use std::alloc::{AllocError, Global};
 /// The code of a full block.
 const FULL: usize = 255;
 
-/// Takes the last bytes of a message and ends it, whatever the state of the encoder is. It succeeds exactly if there is
-/// room.
+/// Takes the last bytes of a message and ends the message, whatever the state of the encoder is. Succeeds exactly if
+/// there is room.
 pub fn end_with(
     encoder: &mut UnbufferedEncoder,
     bytes: &[u8],
@@ -36,7 +36,8 @@ pub fn end_with(
     encoder.finalize(buffer)
 }
 
-/// Encodes a field of four bytes. A new encoder takes so few bytes at once if the buffer has room for five bytes.
+/// Encodes a field of four bytes. `push_few` always takes the field, because the encoder is new and the buffer has at
+/// least five bytes.
 pub fn encode_field(field: &[u8], buffer: &mut [u8]) -> Result<usize, DestBufTooSmallError>
     requires four { length field.now ≡ 4 }
     requires room { 5 ≤ length buffer.old }
@@ -81,6 +82,8 @@ pub fn frame_len(message: &[u8]) -> usize
     let mut closed = 0;
     let mut run = 0;
     'by_byte: for byte in message {
+        // The open block is full, and the message continues: the block has 255 bytes with its code, and no zero follows
+        // it.
         if run == 254 {
             closed += 255;
             run = 0;

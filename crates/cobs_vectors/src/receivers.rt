@@ -59,6 +59,7 @@ pub fn end_of<D: FrameDecoder>(decoder: &mut D, ended: &[u8], piece: &[u8]) -> P
         ≡ outcome_of piece.now (length (D.bytes decoder.old)) }
 {
     law_18(); // A frame is decoded as its message however it is streamed, and nothing else is
+    // The last byte of `ended` is a zero, which ends the piece, so the result is never `None`.
     match decoder.feed_piece(ended) {
         Some((end, _)) => end,
         None => unreachable!(),

@@ -128,7 +128,7 @@ fn with_show_options<'a>(alloc: Global, command: Command<'a>) -> Result<Command<
     Ok(with_line(alloc, command)?.after_help(help::SHOW_EXAMPLES))
 }
 
-/// Adds the styles to the command.
+/// Adds the styles to the command. `json` excludes `number`, because each JSON object has its piece's number.
 fn with_styles<'a>(alloc: Global, command: Command<'a>) -> Result<Command<'a>, Error> {
     let hexdump = style(alloc, "hexdump")?.short('x');
     let json = style(alloc, "json")?.short('j').conflicts_with("number")?;
@@ -141,7 +141,8 @@ fn with_styles<'a>(alloc: Global, command: Command<'a>) -> Result<Command<'a>, E
     Ok(command.arg(bytes)?.arg(bare_style(alloc, "pcap")?)?)
 }
 
-/// Adds the options for the number, the time, the colour and the partial bytes of a piece to the command.
+/// Adds the options for the number, the time, the colour and the partial bytes of a piece to the command. The texts of
+/// `help.rt` name the possible values, so clap doesn't list them again.
 fn with_columns<'a>(alloc: Global, command: Command<'a>) -> Result<Command<'a>, Error> {
     let time = option(alloc, "time", "CLOCK")
         .short('t')

@@ -196,7 +196,8 @@ static JCOBS_INLINE int jcobs_covers_overhead(size_t len, size_t spare)
 
 /* Counts full blocks, as if these bytes were appended to an open block of `taken` bytes. A block is counted if it
  * becomes full before the last byte: it makes the frame one byte longer, because the next block needs a code.
- * Returns whether fewer than `spare` blocks were counted. */
+ * Returns whether fewer than `spare` blocks were counted. `spare` is the number of bytes that the buffer has for
+ * codes, including the code of the open block. */
 static int jcobs_extra_codes_fit(unsigned char taken, const unsigned char *bytes, size_t len, size_t spare)
 {
     size_t left = spare;
@@ -695,6 +696,8 @@ static JCOBS_INLINE jcobs_end jcobs_decoder_end_piece(jcobs_decoder *decoder, si
     if (buffer_size < before.written) {
         return jcobs_make_end(JCOBS_END_TOO_LONG, 0);
     }
+    /* No byte of a block is missing. If a piece has begun, its last block isn't full, and then `joint` isn't 0,
+     * or it is full, and then its bytes were written. */
     if (before.written == 0 && before.joint == 0) {
         return jcobs_make_end(JCOBS_END_NONE, 0);
     }

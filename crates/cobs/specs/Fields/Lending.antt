@@ -36,12 +36,14 @@ module _ {N : ℕ} where
 abbrev pub LendsBytes : (R : RattleType) → MutBor R.Denot → MutBor (List ℕ) → (R.Denot → List ℕ → R.Denot) → Fml
 LendsBytes R lender bytes with_bytes = Lends R (Array u8 0) lender bytes (with_bytes lender.now)
 
--- `LendsBytes` for each decoder
+-- `LendsBytes` for a `CobsDecoder`
 abbrev pub LendsSlice : MutBor CobsDecoder → MutBor (List ℕ) → Fml
 LendsSlice decoder bytes = LendsBytes (borrowed_row (record { mir = named 1; lft = [] })) decoder bytes with_borrowed_buffer
 
+-- for a `CobsDecoderOwned`
 abbrev pub LendsOwned : MutBor CobsDecoderOwned → MutBor (List ℕ) → Fml
 LendsOwned decoder bytes = LendsBytes owned_row decoder bytes with_owned_buffer
 
+-- for a `CobsDecoderHeapless`
 abbrev pub LendsHeapless : (N : RattleType) → MutBor (CobsDecoderHeapless (value_of N)) → MutBor (List ℕ) → Fml
 LendsHeapless N decoder bytes = LendsBytes (heapless_row N) decoder bytes with_heapless_buffer

@@ -33,6 +33,7 @@ pub record Start : Type 0 where
   pub reached : Reached
   pub source : List ℕ
 
+-- the `Start` with these fields
 abbrev pub start_with : List ℕ → Reached → List ℕ → Start
 start_with slice reached source = record { slice = slice; reached = reached; source = source }
 

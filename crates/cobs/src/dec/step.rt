@@ -42,6 +42,8 @@ impl UnbufferedDecoder {
         if len < ended.written {
             return Err(DecodeError::TargetBufTooSmall);
         }
+        // No byte of a block is missing. If a piece has begun, its last block isn't full, and then `joint` isn't 0, or
+        // it is full, and then its bytes were written.
         if ended.written == 0 && ended.joint == 0 {
             Ok(None)
         } else {

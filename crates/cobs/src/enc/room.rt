@@ -13,7 +13,8 @@ use memchr::memrchr;
 
 /// Counts full blocks, as if these bytes were appended to an open block of `taken` bytes. A block is counted if it
 /// becomes full before the last byte: it makes the frame one byte longer, because the next block needs a code. Returns
-/// whether fewer than `spare` blocks were counted.
+/// whether fewer than `spare` blocks were counted. `spare` is the number of bytes that the buffer has for codes,
+/// including the code of the open block.
 fn fits_each(taken: u8, bytes: &[u8], spare: usize) -> bool
     requires open_block { taken ≤ 253 }
     requires spare { 0 < spare }

@@ -70,7 +70,8 @@ impl Model for EncoderState {
 impl Default for EncoderState {
     ghost is_default = { λ state. state ≡ record { index = 0; code = 1 } };
 
-    /// Makes the state at the start: the open block is the placeholder at index 0, and has no bytes yet.
+    /// Makes the state at the start: the open block begins with the placeholder at index 0, and has no bytes after it
+    /// yet.
     ///
     /// ```
     /// let state = EncoderState::default();

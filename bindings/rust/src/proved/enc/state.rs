@@ -56,7 +56,8 @@ pub struct EncoderState {
 }
 
 impl Default for EncoderState {
-    /// Makes the state at the start: the open block is the placeholder at index 0, and has no bytes yet.
+    /// Makes the state at the start: the open block begins with the placeholder at index 0, and has no bytes after it
+    /// yet.
     ///
     /// ```
     /// use jcobs::EncoderState;
