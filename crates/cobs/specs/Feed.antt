@@ -45,7 +45,7 @@ phase_after (byte ∷ bytes) n =
     let p = byte ∷ bytes in
     if nat_le (length (output p)) n then Within (is_full (last_part p)) (missing (last_part p)) (length (output p)) else Overlong
 
--- a decoder has this phase if its buffer has n bytes, and it has been fed the front p of a piece
+-- this is the phase of a decoder after the front p of a piece was fed to it; the decoder's buffer has n bytes
 pub record PhaseAfter (n : ℕ) (phase : Phase) (p : List ℕ) : Type 0 where
   pub piece : HasNoZero p
   pub phase_is : phase ≡ phase_after p n

@@ -62,7 +62,7 @@ end_reported (Err EmptyFrame) = None
 end_reported (Err (InvalidFrame count)) = Some (ends.Broken count)
 end_reported (Err TargetBufTooSmall) = Some ends.TooLong
 
--- if this end of a piece reports a message, the message is at most as long as a buffer of this length
+-- if this end of a piece reports a message, the message fits a buffer of this length
 abbrev pub IsWithin : ℕ → PieceEnd → Type 0
 IsWithin len (ends.Message n) = n ≤ len
 IsWithin len (ends.Broken count) = Unit {0}

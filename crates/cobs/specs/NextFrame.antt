@@ -12,7 +12,7 @@ use Rattle.cobs.specs.declared.framed.ReadFault.TheVariants as faults
 
 -- READS
 
--- a read: the bytes that it returned, or nothing if it failed
+-- the result of a read: the bytes that the read returned, or `None` if it failed
 abbrev pub Read : Type 0
 Read = Option (List ℕ)
 
@@ -38,8 +38,9 @@ abbrev pub Runs : {S : Type 0} → (S → Read → S → Type 0) → S → List 
 Runs step from [] to = from ≡ to
 Runs {S} step from (read ∷ reads) to = (next : S) × step from read next × Runs step next reads to
 
--- a read from a `Read` whose remaining bytes, if they are known, are `before` before the read and `after` after it. If
--- the read doesn't fail, it returns at most 64 bytes, which are the first bytes of `before`.
+-- the result of a read from a reader, which implements `std::io::Read`. The reader's remaining bytes, if they are
+-- known, are `before` before the read and `after` after the read. If the read doesn't fail, it returns at most 64
+-- bytes, which are the first bytes of `before`.
 abbrev pub IsReadOf : Option (List ℕ) → Read → Option (List ℕ) → Type 0
 IsReadOf before None after = Unit {0}
 IsReadOf before (Some bytes) after = (length bytes ≤ 64) × Consumes before after bytes
@@ -60,8 +61,8 @@ EachCalledFor front n reads =
 
 -- THE MEANING OF A RESULT
 
--- the first piece that ends in the stream t has this outcome in a buffer of n bytes, and `rest` is the bytes after the
--- zero that ends this piece
+-- the first piece that ends in the stream t has this outcome in a buffer of n bytes, and `rest` consists of the bytes
+-- after the zero that ends this piece
 pub record EndsFirst (t : List ℕ) (n : ℕ) (outcome : Outcome) (rest : List ℕ) : Type 0 where
   pub front : List ℕ
   pub cut : t ≡ front ++ 0 ∷ rest
@@ -79,9 +80,9 @@ pub record ReaderState : Type 0 where
 abbrev pub ReaderAfter : ReaderState → List ℕ → Type 0
 ReaderAfter reader p = DecoderAfter reader.buffer reader.phase p
 
--- the output of this piece is in the buffer. The buffer begins with the output of a broken piece, and it is filled with
--- the first bytes of an output that is too long. For a message nothing is stated here, because its bytes are part of
--- the outcome.
+-- the output of this piece is in the buffer. If the piece is broken, the buffer begins with the output. If the output
+-- is too long, the buffer is filled with the first bytes of the output. If the piece is a message, nothing is stated
+-- here, because the bytes of the message are part of the outcome.
 abbrev pub HasDecoded : Outcome → List ℕ → List ℕ → Type 0
 HasDecoded (Message message) buffer piece = Unit {0}
 HasDecoded (Broken count) buffer piece = (count ≤ length buffer) × (take count buffer ≡ output piece)

@@ -10,8 +10,7 @@ pub record OpenBlock : Type 0 where
   pub index : ℕ
   pub code : ℕ
 
--- the bytes pushed to the encoder so far are the message m: the last block of an open frame of m has this index and
--- this code
+-- the bytes pushed to the encoder so far are the message m: m has an open frame whose last block is this open block
 abbrev pub EncoderAfter : OpenBlock → List ℕ → Type 0
 EncoderAfter state m = (f : List ℕ) × IsOpenFrame f m state.index state.code
 
@@ -19,8 +18,8 @@ EncoderAfter state m = (f : List ℕ) × IsOpenFrame f m state.index state.code
 abbrev pub AgreeOutside : ℕ → List ℕ → List ℕ → Type 0
 AgreeOutside i f g = (x : ℕ) × (g ≡ slice_set f i x)
 
--- g is the output of a caller that has made all changes for the message m: an open frame of m whose last block has this
--- index and this code, except that the byte at the block's index may differ
+-- g is the output of a caller that has made all changes for the message m: an open frame of m whose last block is this
+-- open block, except that the byte at the block's index may differ
 abbrev pub IsOpenOutput : List ℕ → OpenBlock → List ℕ → Type 0
 IsOpenOutput g state m = (f : List ℕ) × IsOpenFrame f m state.index state.code × AgreeOutside state.index f g
 

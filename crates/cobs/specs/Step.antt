@@ -12,7 +12,7 @@ use Rattle.cobs.specs.declared.error.DecodeError.TheVariants.{InvalidFrame, Targ
 abbrev pub grows : ℕ → Bool → ℕ → ℕ → Phase
 grows n full left count = if nat_lt count n then Within full left (count + 1) else Overlong
 
--- the phase after a byte, in a buffer of n bytes
+-- the phase after a byte, with a buffer of n bytes
 abbrev pub next_phase : ℕ → Phase → ℕ → Phase
 next_phase n Idle byte = if byte == 0 then Idle else Within (byte == 255) (byte - 1) 0
 next_phase n Overlong byte = if byte == 0 then Idle else Overlong
@@ -45,7 +45,7 @@ end_result n (Within full zero count) = if nat_le count n then Ok (Some count) e
 abbrev pub next_result : ℕ → Phase → ℕ → Result (Option ℕ) DecodeError
 next_result n phase byte = if byte == 0 then end_result n phase else error_if_overlong (next_phase n phase byte)
 
--- how many decoded bytes of the open piece a buffer of n bytes holds
+-- how many decoded bytes of the open piece a buffer of n bytes holds in this phase
 abbrev pub held : ℕ → Phase → ℕ
 held n Idle = 0
 held n (Within full left count) = min count n

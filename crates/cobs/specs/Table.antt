@@ -1,5 +1,5 @@
--- The table of `DecoderState`: for each state and byte, the result and the next state. The file also says what a state
--- means for a piece, and that the streaming decoders follow the same table.
+-- The table of `DecoderState`: for each state and byte, the result and the next state. The file also defines the
+-- meaning of a state for a piece, and states that the streaming decoders follow the same table.
 use Rattle.std.specs.Prelude.{ℕ, zero, suc, ◌≡◌, ◌≢◌, ◌<◌, ◌+◌, ◌-◌, ◌⊎◌, ◌==◌, true, false, List, [], ◌∷◌, length, All, Option, Some, None, Result, Ok, Err, if◌then◌else◌}
 use Rattle.cobs.specs.Grammar.{HasNoZero, is_full}
 use Rattle.cobs.specs.Piece.{last_part, missing, output}
@@ -16,7 +16,7 @@ use Rattle.cobs.specs.declared.error.DecodeError.TheVariants.{InvalidFrame, Targ
 abbrev pub opened_by : ℕ → DecoderState
 opened_by code = if code == 255 then GrabChain 254 else Grab (code - 1)
 
--- the result of a state for a byte
+-- the result of `DecoderState::feed` for a byte in this state
 abbrev pub table_result : DecoderState → ℕ → Result DecodeResult DecodeError
 table_result Idle byte = if byte == 0 then Ok NoData else Ok DataStart
 table_result (Grab (suc left)) byte = if byte == 0 then Err (InvalidFrame 0) else Ok (DataContinue byte)
@@ -24,7 +24,7 @@ table_result (GrabChain (suc left)) byte = if byte == 0 then Err (InvalidFrame 0
 table_result (Grab zero) byte = if byte == 0 then Ok DataComplete else Ok (DataContinue 0)
 table_result (GrabChain zero) byte = if byte == 0 then Ok DataComplete else Ok NoData
 
--- the state after a byte
+-- the state after `DecoderState::feed` of a byte in this state
 abbrev pub table_state : DecoderState → ℕ → DecoderState
 table_state Idle byte = if byte == 0 then Idle else opened_by byte
 table_state (Grab (suc left)) byte = if byte == 0 then Idle else Grab left
@@ -78,7 +78,7 @@ counted n (Ok DataComplete) = Ok (Some n)
 counted n (Err error) = Err (InvalidFrame n)
 
 -- `feed` of this byte to a decoder with a buffer of n bytes has this result, and changes the decoder's phase to
--- `phase'`, as the table says. The phase may be any phase.
+-- `phase'`, as the table says. This holds in every phase.
 pub record FeedsByTable (n : ℕ) (phase : Phase) (byte : ℕ) (result : Result (Option ℕ) DecodeError) (phase' : Phase) : Type 0 where
   -- the state changes as the table says, unless the output is now too long
   pub next : (state : DecoderState) → state_in phase ≡ Some state → phase' ≢ phases.Overlong → state_in phase' ≡ Some (table_state state byte)

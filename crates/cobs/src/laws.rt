@@ -109,10 +109,10 @@ pub fn law_3()
 
 /// The length of a frame, and its bound.
 ///
-/// An encoded frame is longer than its message, and at most as long as the number that
-/// [`max_encoding_length`](crate::max_encoding_length) returns. The frame of a message without zeros is as long as this bound,
-/// so for every length of a message some frame reaches the bound. If bytes are appended to a message, its frame doesn't get
-/// shorter.
+/// An encoded frame is longer than its message, and has at most as many bytes as
+/// [`max_encoding_length`](crate::max_encoding_length) returns for the message's length. The frame of a message without zeros
+/// is as long as this bound, so for every length of a message some frame reaches the bound. If bytes are appended to a message,
+/// its frame doesn't get shorter.
 ///
 /// ```
 /// fn encode_nonzero(source: &[u8], dest: &mut [u8]) -> usize

@@ -5,9 +5,9 @@
 //! serial line or in a file. If a frame is damaged, the receiver waits for the next sentinel and reads the frame after
 //! that sentinel. A frame is a list of blocks. A block is a code followed by up to 254 nonzero bytes. The code is the
 //! length of the block in bytes, including the code itself. The boundary of two blocks stands for a zero of the
-//! message, unless the first block is full, that is, unless its code is 255. The frame of a message of up to 254 bytes
-//! is one byte longer than the message. The frame of a longer message of `n` bytes has at most `n / 254` extra bytes,
-//! rounded up. The format is that of the paper "Consistent Overhead Byte Stuffing" by Stuart Cheshire and Mary Baker.
+//! message, unless the first block is full: its code is then 255. The frame of a message of up to 254 bytes is one byte
+//! longer than the message. The frame of a longer message of `n` bytes has at most `n / 254` extra bytes, rounded up.
+//! The format is that of the paper "Consistent Overhead Byte Stuffing" by Stuart Cheshire and Mary Baker.
 //!
 //! This example encodes a message, and then decodes the frame:
 //!
@@ -41,14 +41,14 @@
 //!
 //! # Which call to use
 //!
-//! - To encode a whole message, call [`encode`] to write to a slice that has room for the frame, [`try_encode`] if the
-//!   frame may not fit the slice, [`encode_vec`] for a new vector, or [`encode_in_place`] for a frame in the message's
-//!   own buffer. The forms `.._with_sentinel` use a sentinel other than 0, and the forms `.._including_sentinels` write
-//!   a sentinel on each side of the frame.
+//! - To encode a whole message, call [`encode`] to write to a slice that has room for the frame, [`try_encode`] if you
+//!   don't know whether the frame fits the slice, [`encode_vec`] for a frame in a new vector, or [`encode_in_place`]
+//!   for a frame in the buffer that holds the message. The forms `.._with_sentinel` use a sentinel other than 0, and
+//!   the forms `.._including_sentinels` write a sentinel on each side of the frame.
 //! - To encode a message that comes in chunks, use [`CobsEncoder`] over a slice, [`UnbufferedEncoder`] with a buffer
 //!   that you pass to each call, or [`EncoderState`] to write to a container of your own.
-//! - To decode a whole frame, call [`decode`] for a message in a slice, [`decode_vec`] for a new vector, or
-//!   [`decode_in_place`] for a message in the frame's own buffer.
+//! - To decode a whole frame, call [`decode`] for a message in a slice, [`decode_vec`] for a message in a new vector,
+//!   or [`decode_in_place`] for a message in the buffer that holds the frame.
 //! - To decode frames from a serial line, use [`CobsDecoder`] over a slice, [`CobsDecoderOwned`] with a vector that is
 //!   allocated once, [`CobsDecoderHeapless`] with its buffer inside, [`UnbufferedDecoder`] with a buffer that you pass
 //!   to each call, or [`DecoderState`] to write to a container of your own. [`FrameReader`] reads frames from any

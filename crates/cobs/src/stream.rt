@@ -1,10 +1,10 @@
 //! Calls for whole streams: `decode_stream` decodes all pieces that end in the next bytes of a stream, and
 //! `encode_frames` encodes several messages.
 //!
-//! A stream is cut at its zeros. The bytes between two zeros are a piece, unless the zeros are adjacent. Each piece is
-//! decoded separately: a piece is a frame, breaks off inside a block, or decodes to more bytes than the buffer has room
-//! for. So damage to one piece has no effect after the next zero. (The rule that a zero ends each frame is from
-//! Cheshire and Baker's paper; how broken and too long pieces are reported is a choice of this library.)
+//! A stream is cut at its zeros. The bytes between two neighbouring zeros are a piece, unless the zeros are adjacent.
+//! Each piece is decoded separately: a piece is a frame, breaks off inside a block, or decodes to more bytes than the
+//! buffer has room for. So damage to one piece has no effect after the next zero. (The rule that a zero ends each frame
+//! is from Cheshire and Baker's paper; how broken and too long pieces are reported is a choice of this library.)
 ghost use Rattle.std.specs.Prelude.{◌≡◌, ℕ, ◌+◌, ◌<◌, ◌≤◌, ◌^◌, List, [], ◌++◌, All, length, map, take, option_to_list, IfOk, IfSome, IsOk, IsSome, ◌↔◌, OnOk, OnErr, Contains};
 ghost use Rattle.cobs.specs.Feed.{DecoderAfter, PhaseAfter};
 ghost use Rattle.cobs.specs.Length.{max_encoded_len};
@@ -27,7 +27,7 @@ use std::alloc::{AllocError, Global};
 /// ```
 #[derive(Debug, PartialEq, Eq, Drop)]
 pub enum FrameOutcome {
-    /// The piece is a frame, and these are the bytes of its message.
+    /// The piece is a frame, and its message has these bytes.
     Message(Vec<u8>),
 
     /// The piece breaks off inside a block. The piece decodes to this many bytes, including those of the broken block.
@@ -56,9 +56,8 @@ fn frame_outcome(alloc: Global, end: PieceEnd, buffer: &[u8]) -> Result<FrameOut
 /// per call: the outcomes of all calls, in order, are those of the whole stream. A zero at the front of a stream, or
 /// after another zero, ends no piece.
 ///
-/// If the caller wrote to the decoder's buffer before this call, while a piece was open, and if the first outcome of
-/// this call is a message, then the bytes of that message are unspecified. Its length, and all other outcomes, are
-/// still right.
+/// The caller may write to the decoder's buffer while a piece is open, but the bytes of this piece's message are then
+/// unspecified. The length of the message, and all other outcomes, aren't affected.
 ///
 /// # Errors
 /// `AllocError` if memory for an outcome runs out. Then the outcomes of this call are lost, and the decoder is idle, so

@@ -40,7 +40,7 @@ pub enum Next {
 
     /// The source returned no more bytes, and no piece ended.
     End {
-        /// Whether a piece has begun that no zero has ended yet.
+        /// Whether a piece has begun and hasn't ended yet.
         unfinished: bool,
     },
 }
@@ -107,7 +107,7 @@ pub trait FrameSource {
     fn read_some(&mut self, chunk: &mut [u8; 64]) -> Option<usize>;
 }
 
-/// A source of the bytes that any `Read` returns. Each call of `read_some` makes one read, and each error of the `Read`
+/// A source that gets its bytes from any `Read`. Each call of `read_some` makes one read, and each error of the `Read`
 /// counts as a failed read.
 ///
 /// ```
@@ -215,7 +215,7 @@ pub struct FrameReader<D: FrameDecoder> {
     start: usize,
     end: usize,
 
-    /// Whether a piece has begun in the bytes fed so far that no zero has ended yet.
+    /// Whether a piece has begun and hasn't ended yet. It has if the last byte that was fed isn't a zero.
     unfinished: bool,
 }
 
@@ -272,7 +272,7 @@ impl<D: FrameDecoder> FrameReader<D> {
         }
     }
 
-    /// Reads up to the zero that ends the next piece of the stream, and returns the outcome of this piece. Returns
+    /// Decodes the stream up to the zero that ends the next piece, and returns the outcome of this piece. Returns
     /// `Next::End` if the source ends before such a zero.
     ///
     /// The call first uses the bytes that earlier calls have kept. Then it makes up to 65,536 reads from the source: it
@@ -284,8 +284,8 @@ impl<D: FrameDecoder> FrameReader<D> {
     /// - `Io` if the last read of this call failed.
     /// - `TooManyReads` if this call made 65,536 reads that all returned bytes.
     ///
-    /// After either error no piece has ended, all bytes that were read have been fed to the decoder, and the next call
-    /// continues after these bytes.
+    /// In both cases no piece ended in this call. All bytes that were read have been fed to the decoder, and the next
+    /// call continues after these bytes.
     ///
     /// ```
     /// # #[cfg(feature = "std")] {

@@ -19,8 +19,8 @@ IsOutcome (nexts.Broken count) buffer outcome = (outcome ≡ Broken count) × (c
 IsOutcome nexts.TooLong buffer outcome = outcome ≡ TooLong
 IsOutcome (nexts.End unfinished) buffer outcome = ⊥
 
--- if these bytes follow the front p of a piece, the first piece that ends in them has this outcome, and `rest` is the
--- bytes after the zero that ends this piece
+-- if these bytes follow the front p of a piece, the first piece that ends in them has this outcome, and `rest` consists
+-- of the bytes after the zero that ends this piece
 pub record EndsFirstIn (p bytes : List ℕ) (n : ℕ) (outcome : Outcome) (rest : List ℕ) : Type 0 where
   pub front : List ℕ
   pub cut : bytes ≡ front ++ 0 ∷ rest

@@ -67,9 +67,9 @@ impl<'a> CobsDecoder<'a> {
     /// # Errors
     /// - `InvalidFrame`: the byte was a zero inside a block. `decoded_bytes` is the length of the piece's output, which
     ///   is at the front of the slice.
-    /// - `TargetBufTooSmall`: the output of the piece is longer than the slice, and the slice holds the first bytes of
-    ///   the output. `feed` returns this error for the first byte whose output doesn't fit, and for each byte after
-    ///   that, up to and including the zero that ends the piece.
+    /// - `TargetBufTooSmall`: the output of the piece is longer than the slice, and the slice is filled with the first
+    ///   bytes of the output. `feed` returns this error for the first byte whose output doesn't fit, and for each byte
+    ///   after that, up to and including the zero that ends the piece.
     ///
     /// After every zero the decoder is idle. (The results for the bytes after an overflow are a choice of this
     /// library.)
@@ -142,10 +142,11 @@ impl<'a> CobsDecoder<'a> {
 
     /// Returns the whole slice, for writing.
     ///
-    /// If the caller writes while a piece is open, that is, between its first byte and its zero, the results for this
-    /// piece stay the same, but the bytes of its message are unspecified. A proof about a caller of `dest_mut` knows
-    /// the bytes of the slice while the returned reference is in use, but not the decoder's state after the write. If
-    /// the caller writes with [`write_dest`](crate::WriteBuffer::write_dest) instead, the proof also knows that state.
+    /// If the caller writes while a piece is open, the results for this piece stay the same, but the bytes of its
+    /// message are unspecified. A piece is open from its first byte to the zero that ends it. A proof about a caller of
+    /// `dest_mut` knows the bytes of the slice while the returned reference is in use, but not the decoder's state
+    /// after the write. If the caller writes with [`write_dest`](crate::WriteBuffer::write_dest) instead, the proof
+    /// also knows that state.
     ///
     /// ```
     /// let mut buffer = [7; 2];

@@ -55,7 +55,7 @@ fn decode_blocks(source: &[u8], dest: &mut [u8], sentinel: u8) -> Result<usize, 
 ///   as it was. If the block before the broken block isn't full, the output ends with the zero that joins the two
 ///   blocks.
 ///
-/// Frames for a sentinel other than 0 come from Cheshire and Baker's paper; the results for broken frames are a choice
+/// Cheshire and Baker's paper describes frames for a sentinel other than 0; the results for broken frames are a choice
 /// of this library.
 ///
 /// ```
@@ -97,7 +97,7 @@ pub fn decode_with_sentinel(
 /// Returns the message of the first frame of the source, as a vector that contains only the message.
 ///
 /// This function finds and reads the frame as [`decode`] does. Memory is allocated once, for as many bytes as the
-/// source has, so a message always fits and `TargetBufTooSmall` is never returned.
+/// source has, so a message always fits, and `TargetBufTooSmall` is never returned.
 ///
 /// # Errors
 ///

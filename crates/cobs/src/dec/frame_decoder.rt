@@ -135,8 +135,8 @@ pub trait FrameDecoder {
 /// A decoder that lends its buffer for writing.
 ///
 /// Writing replaces the bytes of the buffer. The decoder's state stays the same, and the buffer stays the same slice.
-/// So if the caller writes while a piece is open, that is, between its first byte and its zero, the results for this
-/// piece stay the same (`PhaseAfter`), but the bytes of its message are unspecified.
+/// So if the caller writes while a piece is open, the results for this piece stay the same (`PhaseAfter`), but the
+/// bytes of its message are unspecified. A piece is open from its first byte to the zero that ends it.
 ///
 /// Each decoder of this library that implements this trait also has an inherent method `dest_mut`. A `CobsDecoder`
 /// borrows its slice, so a proof about a caller of `CobsDecoder::dest_mut` can use only the bytes of the slice, and

@@ -71,7 +71,7 @@ impl Default for DecoderState {
 }
 
 impl DecoderState {
-    /// Returns the state after this code of a block was fed, and before the other bytes of the block.
+    /// Returns the state after the code of a block was fed, and before the other bytes of the block are fed.
     fn opened(code: u8) -> DecoderState
         requires { code ≢ 0 }
         ensures opened { result ≡ opened_by code }

@@ -18,7 +18,7 @@ use cobs_bytes::window::has_vectors;
 /// Precondition: the frame fits `dest`. [`max_encoding_length`](crate::max_encoding_length) returns a length of `dest`
 /// that is always enough.
 ///
-/// Frames for a sentinel other than 0 come from Cheshire and Baker's paper.
+/// Cheshire and Baker's paper describes frames for a sentinel other than 0.
 ///
 /// ```
 /// let mut dest = [170; 6];

@@ -110,7 +110,7 @@ pub fn law_17()
 ///
 /// Assume that the buffer has room for the message of a frame. If all bytes of the frame have been fed, `feed` returns
 /// the length of the message for the zero after the frame. If an idle decoder gets a piece, a zero and any other bytes,
-/// `feed_piece` stops after that zero; if the piece is the frame, `feed_piece` returns the length of the message. A
+/// `feed_piece` stops after that zero; if the piece is this frame, `feed_piece` returns the length of the message. A
 /// `push` of the frame and its zero to an idle decoder returns the length of the message too. After each of these calls
 /// the buffer begins with the message. No piece that isn't a frame is decoded as a message.
 ///

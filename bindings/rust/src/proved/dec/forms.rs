@@ -41,7 +41,7 @@ fn decode_blocks(source: &[u8], dest: &mut [u8], sentinel: u8) -> Result<usize, 
 ///   as it was. If the block before the broken block isn't full, the output ends with the zero that joins the two
 ///   blocks.
 ///
-/// Frames for a sentinel other than 0 come from Cheshire and Baker's paper; the results for broken frames are a choice
+/// Cheshire and Baker's paper describes frames for a sentinel other than 0; the results for broken frames are a choice
 /// of this library.
 #[inline]
 pub fn decode_with_sentinel(

@@ -10,8 +10,8 @@ use crate::proved::cobs_bytes::window::{
 use crate::proved::enc::UnbufferedEncoder;
 use crate::proved::find::position_or_len;
 
-/// Fewer bytes than this number are appended one by one, because in the Rust crate that is faster than copying a
-/// window. `push_few` accepts at most this number of bytes.
+/// Fewer bytes than this number are encoded one by one, because in the Rust crate this is faster than copying a window.
+/// `push_few` accepts at most this number of bytes.
 pub(crate) const APPEND_EACH_BELOW: usize = 8;
 
 /// The mask of a window that has only zeros.
@@ -65,8 +65,8 @@ fn mark_zeros(dest: &mut [u8], index: usize, next: usize, zeros: u64) -> usize {
 
 /// Encodes the first `len` bytes of `source` one by one. The caller ensures that these bytes can't fill the open block.
 /// Each zero is copied like any other byte; the code of the block that begins there is written over it. No branch tests
-/// whether a byte is a zero, because a processor could mispredict that branch. Instead, the function writes the code of
-/// the open block for each byte.
+/// whether a byte is a zero, because a processor could mispredict that branch. Instead, for each byte the function
+/// writes the code that the open block has if this byte is a zero.
 #[inline(always)]
 pub(crate) fn append_few(
     source: &[u8],
@@ -114,9 +114,8 @@ pub(crate) fn append_short(
     encoder_at(index, next + len, 0)
 }
 
-/// Encodes the zeros at the front of `source`: writes a code 1 to `dest`, from index `at` on, for each zero. The
-/// function goes on in rows of 32 zeros as long as more than 32 bytes of `source` remain. Returns how many codes it
-/// wrote.
+/// Encodes rows of 32 zeros at the front of `source`, as long as more than 32 bytes of `source` remain: writes a code 1
+/// to `dest`, from index `at` on, for each zero. Returns how many codes it wrote.
 #[inline(always)]
 fn write_codes_of_zeros(source: &[u8], dest: &mut [u8], at: usize) -> usize {
     let mut len = 0;
@@ -279,8 +278,8 @@ pub(crate) fn close_block(dest: &mut [u8], encoder: &UnbufferedEncoder) -> usize
 }
 
 /// Writes the code of the open block, unless the frame ends with a full block, and returns the frame's length, as
-/// [`close_block`] does. On a target with SIMD vectors, after a full block, `close` also stores the next byte of the
-/// slice if there is one: it stores the value that this byte already has.
+/// [`close_block`] does. If the frame ends with a full block, and the target has SIMD vectors, `close` also stores the
+/// next byte of the slice, if the slice has one: it stores the value that this byte already has.
 // With this store, compilers keep the caller's loop over single bytes as it is written. If only an open block's code
 // were stored, this loop would be slower in the Rust crate on x86-64. On a target without vectors `close` calls
 // `close_block`, which needs fewer bytes of flash.

@@ -32,7 +32,7 @@ pub enum PushResult {
 /// The state doesn't hold the output, so a caller can write the encoded bytes to a container of its own. At first the
 /// caller's output is one placeholder, a byte of any value. For each byte of the message, [`push`](EncoderState::push)
 /// returns the change that the caller makes to the output. At the end [`finalize`](EncoderState::finalize) returns the
-/// last change. After all changes the output is the frame of the message whose last block isn't full.
+/// last change. After all changes the output is a frame of the message, and the last block of this frame isn't full.
 /// [`encode`](crate::encode) writes the same frame, unless the message ends in a run of nonzero bytes whose length is a
 /// positive multiple of 254. In that case the message has two frames, and the output is the longer one: the frame that
 /// `encode` writes, followed by the byte `1`.

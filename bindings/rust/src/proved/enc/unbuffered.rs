@@ -58,7 +58,8 @@ impl UnbufferedEncoder {
         }
     }
 
-    /// Makes the encoder ready for a new message, as [`new`](UnbufferedEncoder::new) does.
+    /// Makes the encoder ready for a new message. The encoder is then in the state that [`new`](UnbufferedEncoder::new)
+    /// returns.
     ///
     /// ```
     /// use jcobs::UnbufferedEncoder;
