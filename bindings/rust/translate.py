@@ -82,9 +82,9 @@ REWORDED = {
     " (A choice of this library.)": "",
     " (The names of the variants are this library's own.)": "",
     "(The trait is this library's own.)": "",
-    "Precondition: the decoder is idle. A decoder is idle if it is new, and after each reset and each zero.": "The decoder should"
-    " be idle. A decoder is idle if it is new, and after each reset and each zero. If it isn't idle,\nthe first outcome is that of the"
-    " piece that the decoder has begun.",
+    "Precondition: the decoder is idle. A decoder is idle when it is new, after each reset, and after each zero.": "The decoder should"
+    " be idle. A decoder is idle when it is new, after each reset, and after each zero. If the decoder\nisn't idle, the first outcome"
+    " is that of the piece that it has begun.",
     "Precondition: [`can_push`](EncoderState::can_push) returns true. Indices count bytes from the start of the output.": "Indices count"
     " bytes from the start of the output.\n\n# Panics\n\nWith overflow checks, if [`can_push`](EncoderState::can_push) returns false.",
 }

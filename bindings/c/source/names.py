@@ -101,8 +101,8 @@ COMMENTS = {
         "",
     )],
     "UnbufferedDecoder::step": [(
-        ", and writes its output to the buffer.",
-        ", and writes its output to the buffer. It returns JCOBS_END_TOO_LONG at each byte of a piece that is too long.",
+        ", and writes the output of this byte to the buffer.",
+        ", and writes the output of this byte to the buffer. It returns JCOBS_END_TOO_LONG at each byte of a piece that is too long.",
     )],
     "UnbufferedEncoder::append_each": [(", one byte at a time.", ", one byte at a time. There is at least one byte.")],
     "UnbufferedEncoder::feed_len": [(

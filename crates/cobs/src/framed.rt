@@ -226,7 +226,7 @@ impl<D: FrameDecoder> FrameReader<D> {
 
     /// Makes a reader that decodes with `decoder`, and that has read nothing yet.
     ///
-    /// Precondition: the decoder is idle. A decoder is idle if it is new, and after each reset and each zero.
+    /// Precondition: the decoder is idle. A decoder is idle when it is new, after each reset, and after each zero.
     ///
     /// ```
     /// let mut source = Recorded::new(b"".as_slice());

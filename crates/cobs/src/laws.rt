@@ -426,7 +426,7 @@ pub fn law_13()
 
 /// A decoder has been fed nothing of a piece exactly if it is idle.
 ///
-/// So [`FrameReader::new`](crate::FrameReader::new) accepts a decoder after it was fed a zero. One `push` of a frame and its
+/// So [`FrameReader::new`](crate::FrameReader::new) accepts a decoder that was last fed a zero. One `push` of a frame and its
 /// zero to a new decoder decodes the frame.
 ///
 /// ```

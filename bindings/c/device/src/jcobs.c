@@ -783,8 +783,8 @@ jcobs_answer jcobs_decoder_push(jcobs_decoder *decoder, void *buffer, size_t buf
     return jcobs_decoder_answer(decoder, piece, len, buffer_size);
 }
 
-/* Decodes the next byte of the stream, and writes its output to the buffer. It returns JCOBS_END_TOO_LONG at each
- * byte of a piece that is too long. */
+/* Decodes the next byte of the stream, and writes the output of this byte to the buffer. It returns
+ * JCOBS_END_TOO_LONG at each byte of a piece that is too long. */
 static JCOBS_INLINE jcobs_end jcobs_decoder_step(jcobs_decoder *decoder, unsigned char *buffer, size_t buffer_size,
                                                  unsigned char byte)
 {

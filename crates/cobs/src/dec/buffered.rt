@@ -201,7 +201,7 @@ impl WriteBuffer for CobsDecoder<'_> {
     ghost loan_stays = { λ _ _. refl };
 }
 
-/// Decodes a stream of frames, each ended by a zero, into a buffer of its own.
+/// Decodes a stream of frames, each ended by a zero, into a vector that the decoder owns.
 ///
 /// This decoder returns the same results as [`CobsDecoder`](crate::CobsDecoder). Memory is allocated once, by `new`,
 /// and the buffer keeps its length. The rule that a zero ends each frame is from Cheshire and Baker's paper; the calls

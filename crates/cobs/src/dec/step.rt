@@ -106,7 +106,7 @@ impl UnbufferedDecoder {
         at.min(room)
     }
 
-    /// Decodes the next byte of the stream, and writes its output to the buffer.
+    /// Decodes the next byte of the stream, and writes the output of this byte to the buffer.
     #[inline(always)]
     pub(crate) fn step(&mut self, dest: &mut [u8], byte: u8) -> Result<Option<usize>, DecodeError>
         ensures returned { result ≡ next_result (length dest.old) (phase_of self.old) byte }

@@ -127,8 +127,8 @@ fn fits(taken: u8, source: &[u8], room: usize) -> Option<usize>
 ///
 /// Usually the lengths of `source` and `dest` decide whether the frame fits, because among all messages of one length,
 /// those without zeros have the longest frames. [`fits`] is slower, so the function calls it only if the lengths don't
-/// decide. If [`fits`] has found the end of a long first run, the function doesn't search for it again. The function
-/// isn't inlined, so that a short push doesn't save registers for it.
+/// decide. If [`fits`] has found the end of a long first run, the function doesn't search for this end again. The
+/// function isn't inlined, so that a short push doesn't save registers for it.
 #[inline(never)]
 #[tactic(auto, using(crate::proofs::encoding::TakingLemmas::short_room))]
 pub(crate) fn try_append(source: &[u8], dest: &mut [u8], encoder: &mut UnbufferedEncoder) -> bool
