@@ -80,6 +80,9 @@ REWORDED = {
     "[`decode_short`](crate::decode_short)": "`decode_short`",
     "[`len_to_zero`](crate::len_to_zero)": "`len_to_zero`",
     " (A choice of this library.)": "",
+    " (This function is this library's own.)": "",
+    " (This guarantee is this library's own.)": "",
+    " (This type is this library's own.)": "",
     " (The names of the variants are this library's own.)": "",
     "(The trait is this library's own.)": "",
     "Precondition: the decoder is idle. A decoder is idle when it is new, after each reset, and after each zero.": "The decoder should"

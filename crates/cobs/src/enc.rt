@@ -38,7 +38,7 @@ pub use vector::{encode_vec, encode_vec_including_sentinels, encode_vec_with_sen
 ///
 /// The frame consists of blocks, as in Cheshire and Baker's paper. If the message ends in a run of nonzero bytes whose
 /// length is a positive multiple of 254, the message has two frames: the longer frame is the shorter frame followed by
-/// the byte `1`. This function writes the shorter frame. (A choice of this library.) No byte of the frame is the
+/// the byte `1`. This function writes the shorter frame (a choice of this library). No byte of the frame is the
 /// sentinel 0, and no sentinel is written before or after the frame. The bytes of `dest` after the frame stay as they
 /// were.
 ///
@@ -93,8 +93,8 @@ fn encode_long(source: &[u8], dest: &mut [u8]) -> usize
 /// the frame's length in bytes.
 ///
 /// # Errors
-/// `DestBufTooSmallError` exactly if the frame is longer than `dest`. Then no byte of `dest` has changed. (A choice of
-/// this library.)
+/// `DestBufTooSmallError` exactly if the frame is longer than `dest`. Then no byte of `dest` has changed. (This
+/// guarantee is this library's own.)
 ///
 /// ```
 /// let mut dest = [170; 5];

@@ -42,8 +42,8 @@ pub enum DecodeError {
     TargetBufTooSmall,
 }
 
-/// The error of a `push` to a streaming decoder, with the number of bytes that were consumed. (A choice of this
-/// library.)
+/// The error of a `push` to a streaming decoder, with the number of bytes that were consumed. (This type is this
+/// library's own.)
 ///
 /// The decoder has consumed the first `parsed_size` of the pushed bytes. To continue, the caller pushes the bytes that
 /// weren't consumed.
@@ -67,8 +67,8 @@ pub struct PushError {
     pub parsed_size: usize,
 }
 
-/// The reason why a call returned no vector. (A choice of this library: if memory runs out, the call returns `Memory`
-/// and doesn't abort the program.)
+/// The reason why a call returned no vector. If memory runs out, the call returns `Memory` and doesn't abort the
+/// program. (This type is this library's own.)
 ///
 /// ```
 /// let rejected = Err(DecodeVecError::Decode(DecodeError::EmptyFrame));

@@ -6,8 +6,8 @@ ghost use Rattle.cobs.specs.Grammar.{HasNoZero};
 use cobs_bytes::window::{WIDE_WINDOW, WINDOW, first_zero, has_vectors, zeros_at};
 use memchr::memchr;
 
-/// Returns how many zeros the source begins with. [`decode`](crate::decode) skips these zeros before a frame. (A choice
-/// of this library.)
+/// Returns how many zeros the source begins with. [`decode`](crate::decode) skips these zeros before a frame. (This
+/// function is this library's own.)
 ///
 /// ```
 /// assert_eq!(rt; leading_zeros(&[0, 0, 2, 7, 0]), 2);
@@ -36,7 +36,7 @@ pub(crate) fn position_or_len(source: &[u8], byte: u8) -> usize
 }
 
 /// Returns how many bytes come before the first zero, or the length of `bytes` if there is no zero. The function is
-/// small, because it uses no SIMD vectors. (A choice of this library.)
+/// small, because it uses no SIMD vectors. (This function is this library's own.)
 ///
 /// ```
 /// assert_eq!(rt; len_to_zero(&[3, 7, 8, 0, 2]), 3);

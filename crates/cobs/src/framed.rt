@@ -5,7 +5,7 @@
 //! source, or a fault. The reader reads from the source only if no piece ends in the bytes that it kept from earlier
 //! reads. No byte is lost: the bytes after the end of a piece are kept for the next call, and before a fault is
 //! returned, all bytes that were read are fed to the decoder. No call of this module allocates. (The rule that a zero
-//! ends each piece is from Cheshire and Baker's paper; the rest of this module is a choice of this library.)
+//! ends each piece is from Cheshire and Baker's paper; the rest of this module is this library's own.)
 ghost use Rattle.std.specs.Prelude.{◌≡◌, ℕ, ◌≤◌, List, [], ◌∷◌, ◌++◌, length, take, drop, Option, option_map, IfOk, IfNone, IfSome, OnSome, MatchOption};
 ghost use Rattle.cobs.specs.Grammar.{HasNoZero};
 ghost use Rattle.cobs.specs.Stream.{Outcome, stream_outcomes, unended, is_nonempty};
@@ -202,13 +202,13 @@ const MOST_READS: usize = 65536;
 pub struct FrameReader<D: FrameDecoder> {
     decoder: D,
 
-    /// The bytes of an earlier read. Those at the indices from `start` to `end - 1` haven't been fed to the decoder
+    /// The bytes of an earlier read. The bytes at the indices from `start` to `end - 1` haven't been fed to the decoder
     /// yet.
     chunk: [u8; 64],
     start: usize,
     end: usize,
 
-    /// Whether a piece has begun and hasn't ended yet. It has if the last byte that was fed isn't a zero.
+    /// Whether a piece has begun and hasn't ended yet, that is, whether the last byte that was fed isn't a zero.
     unfinished: bool,
     ghost ordered: { start ≤ end },
     ghost in_chunk: { end ≤ 64 },

@@ -28,7 +28,7 @@ pub use unbuffered::UnbufferedEncoder;
 ///
 /// The frame consists of blocks, as in Cheshire and Baker's paper. If the message ends in a run of nonzero bytes whose
 /// length is a positive multiple of 254, the message has two frames: the longer frame is the shorter frame followed by
-/// the byte `1`. This function writes the shorter frame. No byte of the frame is the
+/// the byte `1`. This function writes the shorter frame (a choice of this library). No byte of the frame is the
 /// sentinel 0, and no sentinel is written before or after the frame. The bytes of `dest` after the frame stay as they
 /// were.
 ///

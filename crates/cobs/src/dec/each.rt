@@ -16,7 +16,7 @@ use crate::find::{leading_zeros, len_to, len_to_zero};
 
 /// Decodes the first `end` bytes of the buffer as one frame, in the buffer itself and one byte at a time. Returns the
 /// message's length in bytes. The message is then at the front of the buffer, and every byte after the message is as it
-/// was. The code of this function is small, and uses no SIMD vectors. (A choice of this library.)
+/// was. The code of this function is small, and uses no SIMD vectors. (This function is this library's own.)
 ///
 /// Precondition: the buffer has at least `end` bytes, and none of its first `end` bytes is a zero.
 /// [`len_to_zero`](crate::len_to_zero) returns the number of bytes before the first zero.
@@ -122,8 +122,8 @@ fn ended(written: usize, missing: usize, at: usize) -> Option<(PieceEnd, usize)>
 /// Returns `None` if the source has no piece.
 ///
 /// This function decodes as [`decode`](crate::decode) does, but it returns the number of consumed bytes even if the
-/// piece is broken or too long. The code of this function is small, and uses no SIMD vectors. (A choice of this
-/// library.)
+/// piece is broken or too long. The code of this function is small, and uses no SIMD vectors. (This function is this
+/// library's own.)
 ///
 /// ```
 /// let mut dest = [170; 3];

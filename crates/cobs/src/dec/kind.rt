@@ -56,7 +56,7 @@ pub fn frame_kind(bytes: &[u8]) -> FrameKind
 }
 
 /// Returns whether the bytes are a frame, and which kind of frame, as [`frame_kind`] does. This function reads only the
-/// code of each block, and doesn't search the other bytes for a zero. (A choice of this library.)
+/// code of each block, and doesn't search the other bytes for a zero. (This function is this library's own.)
 ///
 /// Precondition: no byte is a zero.
 ///

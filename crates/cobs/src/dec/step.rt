@@ -53,8 +53,8 @@ impl UnbufferedDecoder {
     /// then holds. If the output of the piece is too long for the buffer, the function returns the buffer's length.
     ///
     /// For a nonzero byte, [`feed`](Self::feed) makes the same step. For a zero, which ends a piece, call `feed`: if
-    /// you pass a zero to `take_byte`, the results for the open piece and the bytes of the buffer are unspecified. (A
-    /// choice of this library.)
+    /// you pass a zero to `take_byte`, the results for the open piece and the bytes of the buffer are unspecified.
+    /// (This function is this library's own.)
     ///
     /// ```
     /// let mut buffer = [0; 4];
@@ -126,7 +126,7 @@ impl UnbufferedDecoder {
     /// Decodes bytes of a stream of frames for `sentinel`, one byte at a time. The function stops after the sentinel
     /// that ends the first piece; if no piece ends, it decodes all bytes. For the sentinel 0, the effect and the result
     /// are those of [`feed_piece`](Self::feed_piece). The function doesn't search ahead or copy slices, so its code is
-    /// small, and it is fast for a few bytes. (A choice of this library.)
+    /// small, and it is fast for a few bytes. (This function is this library's own.)
     ///
     /// ```
     /// let mut decoder = UnbufferedDecoder::new();

@@ -65,7 +65,7 @@ impl<'a> CobsEncoder<'a> {
     /// # Errors
     /// `DestBufTooSmallError` exactly if the slice is shorter than the encoded frame of the message so far with `bytes`
     /// appended. Then neither the encoder nor the slice has changed, so the caller may end the message, or push fewer
-    /// bytes. (A choice of this library.)
+    /// bytes. (This guarantee is this library's own.)
     ///
     /// ```
     /// let mut dest = [170; 4];

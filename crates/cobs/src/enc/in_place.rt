@@ -18,7 +18,7 @@ use crate::max_encoding_overhead;
 /// after the frame stays as it was, even if the byte belongs to the message.
 ///
 /// Precondition: `buffer` has at least as many bytes as [`max_encoding_length`](crate::max_encoding_length) returns for
-/// `len`. So the whole message lies within `buffer`. (A choice of this library.)
+/// `len`. So the whole message lies within `buffer`. (This function is this library's own.)
 ///
 /// ```
 /// let mut buffer = *b"\0hello..";

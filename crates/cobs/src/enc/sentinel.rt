@@ -42,8 +42,8 @@ pub fn encode_with_sentinel(source: &[u8], dest: &mut [u8], sentinel: u8) -> usi
 /// frame fits `dest`. Returns the frame's length in bytes.
 ///
 /// # Errors
-/// `DestBufTooSmallError` exactly if the frame is longer than `dest`. Then no byte of `dest` has changed. (A choice of
-/// this library.)
+/// `DestBufTooSmallError` exactly if the frame is longer than `dest`. Then no byte of `dest` has changed. (This
+/// guarantee is this library's own.)
 ///
 /// ```
 /// let mut dest = [170; 3];
@@ -111,7 +111,7 @@ pub fn encode_including_sentinels(source: &[u8], dest: &mut [u8]) -> usize
 ///
 /// # Errors
 /// `DestBufTooSmallError` exactly if the frame and both sentinels together are longer than `dest`. Then no byte of
-/// `dest` has changed. (A choice of this library.)
+/// `dest` has changed. (This guarantee is this library's own.)
 ///
 /// ```
 /// let mut dest = [170; 4];

@@ -120,7 +120,7 @@ impl Clone for EncoderState {
 
 impl EncoderState {
     /// Returns whether another byte can be pushed: the index of the next block must fit a `usize`, whatever the byte
-    /// is. (A choice of this library.)
+    /// is. (This function is this library's own.)
     ///
     /// ```
     /// assert!(rt; EncoderState::default().can_push());

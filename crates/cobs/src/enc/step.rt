@@ -80,7 +80,7 @@ impl UnbufferedEncoder {
     }
 
     /// Encodes the next byte of the message as [`feed`](UnbufferedEncoder::feed) does, and returns the length in bytes
-    /// that the frame has if the message ends with this byte. (A choice of this library.)
+    /// that the frame has if the message ends with this byte. (This function is this library's own.)
     ///
     /// # Errors
     /// The errors are those of [`feed`](UnbufferedEncoder::feed).
