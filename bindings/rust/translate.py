@@ -70,21 +70,26 @@ REWORDED = {
     "The results and errors are those of [`CobsDecoder::push`](crate::CobsDecoder::push).": "The error says how many bytes were taken.",
     "CobsDecoder::new(&mut buffer); let rejected = PushError": "UnbufferedDecoder::new();\nlet rejected = PushError",
     "decoder.push(&[3, 7, 0, 2, 9, 0]), Err(rejected)": "decoder.push(&mut buffer, &[3, 7, 0, 2, 9, 0]), Err(rejected)",
-    "Contracts describe a source by a relation, `step`, between two states of the source and the result of a read. `step` holds"
-    " if a read with this result may change the source from the first state to the second. The result of a read is a failure, or the"
-    " bytes that the read returned.": "[`FrameReader::next_frame`] panics"
+    "Contracts describe a source by the relation `step`. It relates the state of the source before a read, the result of the read,"
+    " and the state after the read: `step` holds if a read in the first state may have this result and lead to the second state. The"
+    " result of a read is a failure, or the bytes that the read returned.": "[`FrameReader::next_frame`] panics"
     " if a read returns a number above 64.",
-    " Contracts describe a reader by its decoder, and by the bytes that the reader has read and not yet fed to the decoder.": "",
-    "Contracts describe a decoder by the bytes of its buffer and by its phase. ": "",
+    " Contracts describe a reader by its decoder, and by the bytes that the reader has read but not yet fed to the decoder.": "",
+    "Contracts describe a decoder by the bytes of its buffer and by its phase, that is, the facts that the decoder keeps about the"
+    " piece so far. ": "",
     "[`decode_short`](crate::decode_short)": "`decode_short`",
     "[`len_to_zero`](crate::len_to_zero)": "`len_to_zero`",
     " (A choice of this library.)": "",
-    " (The names are this library's own.)": "",
+    " (This function is this library's own.)": "",
+    " (This guarantee is this library's own.)": "",
+    " (This type is this library's own.)": "",
+    " (The names of the variants are this library's own.)": "",
     "(The trait is this library's own.)": "",
-    "Precondition: the decoder is idle, as it is when new, after a reset, and after each zero.": "The decoder is idle, as it is"
-    " when new, after a reset, and after each zero. Otherwise the first\noutcome is that of the piece that it has begun.",
-    "Precondition: [`can_push`](EncoderState::can_push) is true. Indices count bytes from the start of the output.": "Indices count"
-    " bytes from the start of the output.\n\n# Panics\n\nWith overflow checks, if [`can_push`](EncoderState::can_push) is false.",
+    "Precondition: the decoder is idle. A decoder is idle when it is new, after each reset, and after each zero.": "The decoder should"
+    " be idle. A decoder is idle when it is new, after each reset, and after each zero. If the decoder\nisn't idle, the first outcome"
+    " is that of the piece that it has begun.",
+    "Precondition: [`can_push`](EncoderState::can_push) returns true. Indices count bytes from the start of the output.": "Indices count"
+    " bytes from the start of the output.\n\n# Panics\n\nWith overflow checks, if [`can_push`](EncoderState::can_push) returns false.",
 }
 # The traits whose methods an example calls. `UnbufferedDecoder` has `feed_piece` itself.
 TRAITS = {"FrameDecoder": "feed_byte|feed_piece|buffer", "FrameSource": "read_some"}

@@ -166,8 +166,8 @@ static JCOBS_INLINE void jcobs_decoder_init(jcobs_decoder *decoder)
 
 /* ---- Encoding a whole message ---- */
 
-/* Returns the greatest overhead of the encoded frame of a message of message_len bytes. The overhead is the number
- * of bytes by which the frame is longer than the message. */
+/* Returns the greatest overhead, in bytes, of an encoded frame of a message of message_len bytes. The overhead of
+ * a frame is its length minus the length of its message. */
 static size_t jcobs_max_overhead(size_t message_len)
 {
     if (message_len == 0) {
@@ -184,20 +184,17 @@ size_t jcobs_max_length(size_t message_len)
     return jcobs_sum_or_zero(message_len, jcobs_max_overhead(message_len));
 }
 
-/* Returns whether `spare` bytes cover the overhead of every message of `len` bytes, that is, whether `len` is at
- * most 254 times `spare`. This is so exactly if half of `len`, rounded up, is at most 127 times `spare`. The
- * function adds `spare` to both sides of this comparison, so that it divides only by 2 and by 128, and nothing
- * overflows. Small processors have no instruction for other divisions. For up to 254 bytes, one spare byte is
- * always enough. */
+/* Returns whether `spare` bytes are enough for the overhead of every message of `len` bytes, that is, whether
+ * `len` is at most 254 times `spare`. For up to 254 bytes, one spare byte is always enough. */
 static JCOBS_INLINE int jcobs_covers_overhead(size_t len, size_t spare)
 {
     return len <= JCOBS_FULL_BLOCK_BYTES || (len - len / 2 + spare - 1) / 128 < spare;
 }
 
-/* Counts full blocks, as if these bytes were appended to an open block of `taken` bytes. A block is counted if it
- * becomes full before the last byte: it makes the frame one byte longer, because the next block needs a code.
- * Returns whether fewer than `spare` blocks were counted. `spare` is the number of bytes that the buffer has for
- * codes, including the code of the open block. */
+/* Returns whether fewer than `spare` blocks become full if `bytes` are appended to an open block of `taken` bytes.
+ * A block that becomes full with the last byte isn't counted: no other block follows it, so the frame needs no
+ * further code. `spare` is the number of bytes that the buffer has for codes, including the code of the open
+ * block. */
 static int jcobs_extra_codes_fit(unsigned char taken, const unsigned char *bytes, size_t len, size_t spare)
 {
     size_t left = spare;
@@ -215,10 +212,10 @@ static int jcobs_extra_codes_fit(unsigned char taken, const unsigned char *bytes
     return 1;
 }
 
-/* Returns whether the frame fits if these bytes are appended to an open block of `taken` bytes. The buffer has
- * `room` bytes from the code of this block on. The bytes are read only if their number doesn't decide whether the
- * frame fits. data_len is the number of bytes of the message in the open block and the blocks after it, with these
- * bytes. */
+/* Returns whether the frame fits the buffer after `bytes` are appended to an open block of `taken` bytes. `room`
+ * is the number of bytes that the buffer has from the open block's code to its end. The function reads `bytes`
+ * only if their number doesn't decide whether the frame fits. data_len is the number of bytes of the message in
+ * the open block and the blocks after it, with these bytes. */
 static JCOBS_INLINE int jcobs_has_room(unsigned char taken, const unsigned char *bytes, size_t len, size_t room)
 {
     size_t block_len = taken;
@@ -327,8 +324,8 @@ jcobs_answer jcobs_encode_terminated(const void *message, size_t message_len, vo
     return jcobs_ok_answer(message_len, length + 1);
 }
 
-/* Takes the next byte of the message, for which there is room, and returns the length that the frame has if the
- * message ends with this byte. */
+/* Encodes the next byte of the message, and returns the length in bytes that the frame has if the message ends
+ * with this byte. The caller ensures that there is room for the byte. */
 static JCOBS_INLINE size_t jcobs_encoder_append_byte(jcobs_encoder *encoder, unsigned char *buffer, unsigned char byte)
 {
     size_t index = encoder->index;
@@ -367,7 +364,7 @@ static JCOBS_INLINE size_t jcobs_close_block(unsigned char *buffer, size_t buffe
     return index;
 }
 
-/* Encodes a message in its own buffer, in which the message begins at index JCOBS_MAX_OVERHEAD(message_len).
+/* Encodes a message in the buffer that holds it. The message begins at index JCOBS_MAX_OVERHEAD(message_len).
  * Returns the length of the frame in bytes. */
 static size_t jcobs_write_in_place(unsigned char *buffer, size_t buffer_size, size_t message_len)
 {
@@ -411,8 +408,7 @@ static size_t jcobs_leading_zeros(const unsigned char *source, size_t source_len
     return source_len;
 }
 
-/* Skips the first `at` bytes of the source. Returns the index after the next zero, or the source's length if no
- * zero follows. */
+/* Returns the index after the first zero at index `at` or later, or the source's length if there is no such zero. */
 static JCOBS_APART size_t jcobs_find_end(const unsigned char *source, size_t source_len, size_t at)
 {
     size_t end = at;
@@ -436,9 +432,9 @@ static JCOBS_INLINE jcobs_piece jcobs_ended_piece(size_t written, size_t missing
     return jcobs_make_piece(JCOBS_END_BROKEN, written, consumed);
 }
 
-/* Decodes the first piece of the source into `message`, one byte after another. Returns how the piece ended, and
- * how many bytes were consumed: the leading zeros, the piece, and the zero after the piece if there is one. It
- * returns JCOBS_END_NONE if there is no piece. */
+/* Decodes the first piece of the source into `message`, one byte at a time. Returns how the piece ended, and how
+ * many bytes of the source were consumed: the leading zeros, the piece, and the zero after the piece if there is
+ * one. It returns JCOBS_END_NONE if there is no piece. */
 static JCOBS_INLINE jcobs_piece jcobs_decode_piece(const unsigned char *source, size_t source_len,
                                                    unsigned char *message, size_t message_size)
 {
@@ -524,9 +520,10 @@ static JCOBS_APART size_t jcobs_length_to_zero(const unsigned char *bytes, size_
     return len - rest_len;
 }
 
-/* Decodes the first frame_len bytes of the buffer as one frame, in place and one byte after another, and returns
- * the message's length. Every byte after the message is as it was. No byte of the frame is a zero. If the last
- * block is cut off, it returns JCOBS_END_BROKEN, with the length of the output of the blocks before it. */
+/* Decodes the first frame_len bytes of the buffer as one frame, in the buffer itself and one byte at a time.
+ * Returns the message's length in bytes. The message is then at the front of the buffer, and every byte after the
+ * message is as it was. No byte of the frame is a zero. If the last block is cut off, it returns JCOBS_END_BROKEN,
+ * with the length of the output of the blocks before it. */
 static JCOBS_APART jcobs_end jcobs_decode_blocks(unsigned char *buffer, size_t frame_len)
 {
     size_t read = 0;
@@ -539,8 +536,8 @@ static JCOBS_APART jcobs_end jcobs_decode_blocks(unsigned char *buffer, size_t f
         }
         size_t next = read + code;
         read++;
-        /* The inner loop tests at its end, because compilers that optimize for size leave the test where it is
-         * written. */
+        /* The test of the inner loop is written at the end of the loop, because compilers that optimize for size
+         * don't move a test there. */
         if (read != next) {
             do {
                 buffer[written] = buffer[read];
@@ -548,7 +545,7 @@ static JCOBS_APART jcobs_end jcobs_decode_blocks(unsigned char *buffer, size_t f
                 read++;
             } while (read != next);
         }
-        /* A zero joins this block to the next block, unless this block is full. */
+        /* A zero joins this block and the next block, unless this block is full. */
         if (code != JCOBS_FULL_CODE && read < frame_len) {
             buffer[written] = 0;
             written++;
@@ -592,7 +589,8 @@ jcobs_answer jcobs_decode_in_place(void *buffer, size_t buffer_len)
     return jcobs_in_place_answer(jcobs_min(buffer_len, frame_len + 1), buffer_len, decoded);
 }
 
-/* Returns the kind of a frame, given bytes without a zero. It goes from one code to the next. */
+/* Returns whether the bytes are a frame, and which kind of frame. None of the bytes may be a zero. The function
+ * reads only the code of each block. */
 static enum jcobs_kind jcobs_kind_by_blocks(const unsigned char *bytes, size_t len)
 {
     size_t read = 0;
@@ -641,8 +639,8 @@ static JCOBS_INLINE unsigned char jcobs_joint_after(unsigned char code)
     return code == JCOBS_FULL_CODE ? 0 : 1;
 }
 
-/* Takes a byte of a piece, writes its output to the buffer, and returns how many decoded bytes of the piece the
- * buffer then holds. If the output is too long for the buffer, this number is the buffer's length. */
+/* Decodes a nonzero byte of a piece into the buffer, and returns how many decoded bytes of the piece the buffer
+ * then holds. If the output of the piece is too long for the buffer, the function returns the buffer's length. */
 static JCOBS_INLINE size_t jcobs_decoder_take_byte(jcobs_decoder *decoder, unsigned char *buffer, size_t buffer_size,
                                                    unsigned char byte)
 {
@@ -650,8 +648,9 @@ static JCOBS_INLINE size_t jcobs_decoder_take_byte(jcobs_decoder *decoder, unsig
         return buffer_size;
     }
 
-    /* `written` is read only once, here: otherwise compilers would read it again after each write to the buffer.
-     * Each case has a write of its own: that is faster than choosing a byte first and writing it in one place. */
+    /* `written` is read only once, here; otherwise compilers would read it again after each write to the buffer.
+     * Each case writes its byte itself, because it is slower to choose the byte first and to write it in one
+     * place. */
     size_t at = decoder->written;
 
     if (decoder->missing != 0) {
@@ -678,8 +677,7 @@ static JCOBS_INLINE size_t jcobs_decoder_take_byte(jcobs_decoder *decoder, unsig
     return jcobs_min(at, buffer_size);
 }
 
-/* Takes a zero, which ends a piece if one has begun. It returns how the piece ended. The buffer has buffer_size
- * bytes. */
+/* Ends the open piece at a zero, and returns how the piece ended. The buffer has buffer_size bytes. */
 static JCOBS_INLINE jcobs_end jcobs_decoder_end_piece(jcobs_decoder *decoder, size_t buffer_size)
 {
     jcobs_decoder before = *decoder;
@@ -691,8 +689,8 @@ static JCOBS_INLINE jcobs_end jcobs_decoder_end_piece(jcobs_decoder *decoder, si
     if (before.missing != 0) {
         return jcobs_make_end(JCOBS_END_BROKEN, before.written);
     }
-    /* This happens only if the caller now passes a shorter buffer, or has set the state's numbers itself:
-     * `written` counts only bytes that fitted. */
+    /* `written` counts only bytes that fitted the buffer. So it is greater than buffer_size only if the caller
+     * now passes a shorter buffer, or has changed the decoder's numbers. */
     if (buffer_size < before.written) {
         return jcobs_make_end(JCOBS_END_TOO_LONG, 0);
     }
@@ -704,14 +702,14 @@ static JCOBS_INLINE jcobs_end jcobs_decoder_end_piece(jcobs_decoder *decoder, si
     return jcobs_make_end(JCOBS_END_MESSAGE, before.written);
 }
 
-/* Takes bytes of a stream of frames for this sentinel, one step for each byte. The function stops after the
- * sentinel that ends the first piece, or takes all bytes if no piece ends. */
+/* Decodes bytes of a stream of frames for `sentinel`, one byte at a time. The function stops after the sentinel
+ * that ends the first piece; if no piece ends, it decodes all bytes. */
 static JCOBS_INLINE jcobs_piece jcobs_decoder_take_bytes(jcobs_decoder *decoder, unsigned char *buffer,
                                                          size_t buffer_size, const unsigned char *bytes, size_t len,
                                                          unsigned char sentinel)
 {
-    /* `state` is a copy of the decoder, so that it stays in registers: otherwise compilers read the fields again
-     * after each byte that is written. */
+    /* The loop changes `state`, a copy of the decoder, which stays in registers. If the loop changed the decoder
+     * itself, compilers would read the fields again after each byte that is written. */
     jcobs_decoder state = *decoder;
     size_t taken = 0;
 
@@ -788,8 +786,8 @@ jcobs_answer jcobs_decoder_push(jcobs_decoder *decoder, void *buffer, size_t buf
     return jcobs_decoder_answer(decoder, piece, len, buffer_size);
 }
 
-/* Takes the next byte of the stream, and writes its output to the buffer. It returns JCOBS_END_TOO_LONG at each
- * byte of a piece that is too long. */
+/* Decodes the next byte of the stream, and writes the output of this byte to the buffer. It returns
+ * JCOBS_END_TOO_LONG at each byte of a piece that is too long. */
 static JCOBS_INLINE jcobs_end jcobs_decoder_step(jcobs_decoder *decoder, unsigned char *buffer, size_t buffer_size,
                                                  unsigned char byte)
 {
@@ -843,7 +841,8 @@ void jcobs_encoder_reset(jcobs_encoder *encoder)
     jcobs_encoder_init(encoder);
 }
 
-/* Takes the next bytes of the message, for which there is room, one at a time. There is at least one byte. */
+/* Encodes the next bytes of the message, one byte at a time. There is at least one byte. The caller ensures that
+ * there is room for the bytes. */
 static JCOBS_INLINE void jcobs_encoder_append_bytes(jcobs_encoder *encoder, unsigned char *buffer,
                                                     const unsigned char *bytes, size_t len)
 {
@@ -875,12 +874,13 @@ static JCOBS_INLINE void jcobs_encoder_append_bytes(jcobs_encoder *encoder, unsi
     encoder->full = code == 1 && bytes[len - 1] != 0 ? 1 : 0;
 }
 
-/* Takes the next bytes of the message, if the frame of all bytes so far fits the buffer, and returns whether it
+/* Encodes the next bytes of the message, if the frame of all bytes so far fits the buffer, and returns whether it
  * does. */
 static int jcobs_encoder_try_append(jcobs_encoder *encoder, unsigned char *buffer, size_t buffer_size,
                                     const unsigned char *bytes, size_t len)
 {
-    /* An open block has at most 253 bytes: a greater number doesn't come from these calls. */
+    /* An open block has at most 253 bytes; `taken` is greater only if the caller has changed the encoder's
+     * numbers. */
     if (encoder->taken >= JCOBS_FULL_BLOCK_BYTES || buffer_size < encoder->index) {
         return 0;
     }
@@ -893,7 +893,7 @@ static int jcobs_encoder_try_append(jcobs_encoder *encoder, unsigned char *buffe
         }
         return 0;
     }
-    /* If the bytes fit, the open block without them fits too. */
+    /* If there is room for the bytes, there is also room for the open block without them. */
     if (!jcobs_has_room(encoder->taken, bytes, len, room)) {
         return 0;
     }
@@ -929,8 +929,9 @@ static jcobs_answer jcobs_encoder_feed_byte(jcobs_encoder *encoder, unsigned cha
 {
     size_t code = (size_t)encoder->taken + 1;
 
-    /* An open block has a code of at most 254: a greater number doesn't come from these calls. The tests read
-     * the field, and not a copy of it, so that rustc sees that no index of the step is out of bounds. */
+    /* An open block has a code of at most 254; the code is greater only if the caller has changed the encoder's
+     * numbers. The tests read the field `index` itself, not a copy, so that rustc sees that no index of the step
+     * is out of bounds. */
     if (code > JCOBS_FULL_BLOCK_BYTES || buffer_size < encoder->index || buffer_size - encoder->index <= code) {
         return jcobs_too_small_answer();
     }
@@ -949,7 +950,8 @@ jcobs_answer jcobs_encoder_feed(jcobs_encoder *encoder, void *buffer, size_t buf
 /* Returns whether the state is possible in a buffer of this size. */
 static JCOBS_INLINE int jcobs_encoder_is_valid(const jcobs_encoder *encoder, size_t buffer_size)
 {
-    /* An open block has at most 253 bytes: a greater number doesn't come from these calls. */
+    /* An open block has at most 253 bytes; `taken` is greater only if the caller has changed the encoder's
+     * numbers. */
     if (encoder->taken >= JCOBS_FULL_BLOCK_BYTES || buffer_size < encoder->index) {
         return 0;
     }

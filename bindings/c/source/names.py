@@ -86,19 +86,25 @@ ENDS = {
 # every function. The words in backticks that are left are names of Rattle, which get their names in C. A name that could be read as
 # an ordinary word keeps its backticks.
 COMMENTS = {
-    "": [(" (A choice of this library.)", "")],
-    "UnbufferedDecoder::end": [("`len` is the buffer's length.", "It returns how the piece ended. The buffer has buffer_size bytes.")],
+    "": [(" (A choice of this library.)", ""), (" (This function is this library's own.)", ""), (" (This guarantee is this library's own.)", "")],
+    "UnbufferedDecoder::end": [(
+        "and returns the result for this zero. `len` is the buffer's length.",
+        "and returns how the piece ended. The buffer has buffer_size bytes.",
+    )],
     "UnbufferedDecoder::feed_each": [(
-        " For the sentinel 0 it does what [`feed_piece`](Self::feed_piece) does. The function doesn't search ahead or copy"
-        " slices, so it is small, and fast for a few bytes.",
+        " For the sentinel 0, the effect and the result are those of [`feed_piece`](Self::feed_piece). The function doesn't search"
+        " ahead or copy slices, so its code is small, and it is fast for a few bytes.",
         "",
     ), (
-        "The fields are assigned one by one: if the whole decoder is assigned, rustc needs 24 bytes more for a push on a Cortex-M4.", "")],
-    "UnbufferedDecoder::step": [(
-        ", and writes its output to the buffer.",
-        ", and writes its output to the buffer. It returns JCOBS_END_TOO_LONG at each byte of a piece that is too long.",
+        "The fields are assigned one by one, because for an assignment of the whole decoder, rustc needs 24 bytes more for a push"
+        " on a Cortex-M4.",
+        "",
     )],
-    "UnbufferedEncoder::append_each": [(", one at a time.", ", one at a time. There is at least one byte.")],
+    "UnbufferedDecoder::step": [(
+        ", and writes the output of this byte to the buffer.",
+        ", and writes the output of this byte to the buffer. It returns JCOBS_END_TOO_LONG at each byte of a piece that is too long.",
+    )],
+    "UnbufferedEncoder::append_each": [(", one byte at a time.", ", one byte at a time. There is at least one byte.")],
     "UnbufferedEncoder::feed_len": [(
         "if the frame of all bytes so far fits the buffer.",
         "if the frame of all bytes so far fits the buffer. It is a separate function: as a part of jcobs_encoder_feed it would"
@@ -109,9 +115,9 @@ COMMENTS = {
         "Ends the message, if the state is possible in a buffer of this size, and returns",
     )],
     "UnbufferedEncoder::is_within": [("the encoder's state is possible in a buffer of `len` bytes", "the state is possible in a buffer of this size")],
-    "UnbufferedEncoder::push_each": [(", one at a time.", ", if the frame of all bytes so far fits the buffer, and returns whether it does.")],
+    "UnbufferedEncoder::push_each": [(", one byte at a time.", ", if the frame of all bytes so far fits the buffer, and returns whether it does.")],
     "decode_blocks_each": [(
-        " This function is small, and uses no SIMD vectors.",
+        " The code of this function is small, and uses no SIMD vectors.",
         " No byte of the frame is a zero. If the last block is cut off, it returns JCOBS_END_BROKEN, with the length of the output"
         " of the blocks before it.",
     )],
@@ -119,15 +125,15 @@ COMMENTS = {
     "decode_piece": [("Returns `None` if the source has no piece.", "It returns JCOBS_END_NONE if there is no piece.")],
     "encode_each": [(", `consumed` is at most the number of bytes, and `length` is at most the buffer's length.", ".")],
     "encode_in_place": [(
-        "in its own buffer, and returns the length of its frame in bytes.",
-        "in its own buffer, in which the message begins at index JCOBS_MAX_OVERHEAD(message_len). Returns the length of the"
+        "in the buffer that holds it, and returns the length of the frame in bytes.",
+        "in the buffer that holds it. The message begins at index JCOBS_MAX_OVERHEAD(message_len). Returns the length of the"
         " frame in bytes.",
     )],
     "end_of": [("the frame that an encoder has written so far", "the frame, if the message ends with the bytes that were taken")],
     "ended": [("`decode_piece`", "jcobs_decode_piece")],
     "has_room": [(
-        "The bytes are read only if their number doesn't decide whether the frame fits.",
-        "The bytes are read only if their number doesn't decide whether the frame fits. data_len is the number of bytes of the message in"
+        "The function reads `bytes` only if their number doesn't decide whether the frame fits.",
+        "The function reads `bytes` only if their number doesn't decide whether the frame fits. data_len is the number of bytes of the message in"
         " the open block and the blocks after it, with these bytes.",
     )],
     "jcobs_decoder_reset": [("Makes the decoder idle, even if its state is corrupt.", "Resets the decoder to the initial state, from any state.")],
@@ -136,8 +142,8 @@ COMMENTS = {
         "Resets the encoder to the initial state, from any state.",
     )],
     "kind_by_blocks": [(
-        ", as [`frame_kind`] does. This function goes from one code to the next, and doesn't search the bytes for a zero.",
-        ", given bytes without a zero. It goes from one code to the next.",
+        ", as [`frame_kind`] does. This function reads only the code of each block, and doesn't search the other bytes for a zero.",
+        ". None of the bytes may be a zero. The function reads only the code of each block.",
     )],
     "leading_zeros": [(" [`decode`](crate::decode) skips these zeros before a frame.", "")],
     "len_to_zero": [(
@@ -154,7 +160,7 @@ COMMENTS = {
         " decoded.",
     )],
     "write_each": [(
-        "Does what [`encode`](crate::encode) does, one byte at a time.",
+        "Encodes a message as [`encode`](crate::encode) does, but one byte at a time.",
         "Writes the frame of the message, and returns its length. The code of the open block belongs at `index`, and the next byte at"
         " `next`. No part has more bytes than the open block has room for, so no byte needs a test whether the block is full.",
     )],

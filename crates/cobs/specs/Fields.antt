@@ -1,4 +1,4 @@
--- The words with which contracts describe types with private fields.
+-- The definitions with which contracts describe types that have private fields.
 pub mod Report
 pub mod Decoders
 pub mod Lending

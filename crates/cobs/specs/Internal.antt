@@ -1,4 +1,4 @@
--- Words that only contracts of private functions use.
+-- Definitions that only the contracts of private functions use.
 pub mod Taking
 pub mod Reaches
 pub mod Marks

@@ -1,4 +1,4 @@
--- Words of the laws.
+-- Definitions that the contracts of the laws use.
 use Rattle.std.specs.Prelude.{◌≡◌, ◌≢◌, ◌<◌, ◌≤◌, ◌+◌, ℕ, List, [], ◌∷◌, ◌++◌, ◌⊎◌, length, take, slice_index, slice_set, true, false, All, Option, Some, None, Ok, Result}
 use Rattle.std.specs.List.{concat}
 use Rattle.cobs.specs.Feed.{DecoderAfter, Feeds, Idle, Phase}
@@ -18,23 +18,26 @@ use Rattle.cobs.specs.declared.error.PushError.{PushError}
 use Rattle.cobs.specs.declared.dec.frame_decoder.PieceEnd.{PieceEnd}
 use Rattle.cobs.specs.declared.dec.frame_decoder.PieceEnd.TheVariants.{Message}
 
--- f is the encoded frame of m or, if m ends in a full run, that frame and the lone block after it
+-- f is the encoded frame of the message m; or m ends in a full run, and f is the encoded frame of m followed by the
+-- lone block
 abbrev pub IsFrameFor : List ℕ → List ℕ → Type 0
 IsFrameFor f m = IsEncodedFrame f m ⊎ (EndsInFullRun m × ((g : List ℕ) × IsEncodedFrame g m × (f ≡ g ++ lone_block)))
 
--- p consists of some of these blocks, from the first one on, end to end; it may have none or all of them
+-- p ends at the end of one of these blocks: p consists of the first blocks, end to end, any number of them from none to
+-- all
 abbrev pub EndsAtBlock : List ℕ → List (List ℕ) → Type 0
 EndsAtBlock p blocks = (first : List (List ℕ)) × (rest : List (List ℕ)) × (blocks ≡ first ++ rest) × (p ≡ concat first)
 
--- the list begins with the front
+-- the list xs begins with `front`
 abbrev pub IsFront : List ℕ → List ℕ → Type 0
 IsFront front xs = (rest : List ℕ) × (xs ≡ front ++ rest)
 
--- the stream is empty or ends in a sentinel, so no piece is open, and the next byte begins a new piece
+-- the stream is empty or ends in a sentinel, so no piece is open
 abbrev pub IsAtSentinel : List ℕ → Type 0
 IsAtSentinel t = (t ≡ []) ⊎ ((front : List ℕ) × (t ≡ front ++ 0 ∷ []))
 
--- `law_9`: a stream may be cut anywhere; a lemma may take this record as one argument
+-- the clause of `law_9`: a stream may be cut anywhere. The facts are a record, so that a lemma can have them as one
+-- argument.
 pub record StreamLaw : Type 0 where
   -- the outcomes of x ++ y are those of x, and then those of the unended bytes of x followed by y
   pub cut : (x y : List ℕ) (n : ℕ) → stream_outcomes (x ++ y) n ≡ stream_outcomes x n ++ stream_outcomes (unended x ++ y) n
@@ -52,8 +55,8 @@ pub record StreamLaw : Type 0 where
   -- one or more nonzero bytes and a zero after them are one piece
   pub piece : (x : List ℕ) → x ≢ [] → HasNoZero x → ended_pieces (x ++ 0 ∷ []) ≡ x ∷ []
 
--- `law_16`: an encoder over a slice, byte by byte. In each field that has an m, the encoder has taken m, and has the
--- progress `reached` in the slice.
+-- the clause of `law_16`: the steps of an encoder that writes to a slice, byte by byte. In each field that has an m, the
+-- encoder has taken m, and has the progress `reached` in the slice.
 pub record EncoderLaw : Type 0 where
   -- at the start, the encoder has taken no byte, and the open block begins at index 0
   pub nothing : (slice : List ℕ) → 0 < length slice → CobsEncoderAfter slice (place_at 0 1 false) []
@@ -72,7 +75,7 @@ pub record EncoderLaw : Type 0 where
   -- at the end, if the last block is full, the slice has the frame already
   pub full_frame : (slice m : List ℕ) (reached : Reached) → CobsEncoderAfter slice reached m → reached.full ≡ true → IsEncodedFrame (take reached.block.index slice) m
 
--- `law_17`: a decoder, byte by byte
+-- the clause of `law_17`: the steps of a decoder, byte by byte
 pub record DecoderLaw : Type 0 where
   -- the machine of `Step.antt` takes a byte as `Feeds` says
   pub step : (buffer : List ℕ) (phase : Phase) (byte : ℕ) → let n = length buffer in Feeds buffer phase byte (next_result n phase byte) (next_buffer buffer phase byte) (next_phase n phase byte)
@@ -85,8 +88,8 @@ pub record DecoderLaw : Type 0 where
   -- if the first i bytes ended no piece, and the next byte is a zero that ends one, `feed_piece` stops after this zero
   pub end : (bytes buffer between buffer' : List ℕ) (phase phase_between phase' : Phase) (result : Result (Option ℕ) DecodeError) (end : PieceEnd) (i : ℕ) → i < length bytes → TakesPiece buffer phase (take i bytes) None between phase_between → Feeds between phase_between (slice_index bytes i) result buffer' phase' → slice_index bytes i ≡ 0 → end_reported result ≡ Some end → TakesPiece buffer phase bytes (Some (end, i + 1)) buffer' phase'
 
--- `law_18`: the results of the streaming decoders for a frame. In the fields about `feed_piece` and `push` the decoder
--- is idle. In the fields `fed`, `taken` and `pushed` the message fits the buffer.
+-- the clause of `law_18`: the results of the streaming decoders for a frame. In the fields about `feed_piece` and `push`
+-- the decoder is idle. In the fields `fed`, `taken` and `pushed` the message fits the buffer.
 pub record FrameLaw : Type 0 where
   -- the zero after a frame of m, whose bytes were fed: the result is the length of m, and the buffer begins with m
   pub fed : (buffer buffer' f m : List ℕ) (phase phase' : Phase) (result : Result (Option ℕ) DecodeError) → Feeds buffer phase 0 result buffer' phase' → DecoderAfter buffer phase f → Reads f m → length m ≤ length buffer → (result ≡ Ok (Some (length m))) × (take (length m) buffer' ≡ m)

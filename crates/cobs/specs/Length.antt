@@ -2,13 +2,14 @@
 use Rattle.std.specs.Prelude.{◌≡◌, ◌<◌, ◌%◌, ℕ, ◌+◌, ◌-◌, ◌/◌, List, [], ◌∷◌, ◌++◌, length, map, max, replicate}
 use Rattle.cobs.specs.Stream.{stretches}
 
--- the lengths of a message's runs, empty runs included. A run is the nonzero bytes before the first zero, between two
--- zeros, or after the last zero.
+-- the lengths of the runs of a message, empty runs included. A run consists of the nonzero bytes before the first zero,
+-- between two neighbouring zeros, or after the last zero; a message without a zero is one run.
 abbrev pub runs : List ℕ → List ℕ
 runs m = map length (stretches m)
 
--- how many more blocks than runs a message's encoded frame has: L / 254 for a run of L bytes, but (L - 1) / 254 for the
--- last run, because the frame may end with a full block
+-- the number of blocks of a message's encoded frame minus the number of the message's runs, given the lengths of the
+-- runs. A run of L bytes adds L / 254, rounded down. The last run adds only (L - 1) / 254, because a full block at the
+-- end of a frame needs no block after it.
 abbrev pub full_blocks : List ℕ → ℕ
 full_blocks [] = 0
 full_blocks (run ∷ []) = (run - 1) / 254
@@ -18,12 +19,13 @@ full_blocks (run ∷ next ∷ more) = run / 254 + full_blocks (next ∷ more)
 abbrev pub encoded_len : List ℕ → ℕ
 encoded_len m = length m + 1 + full_blocks (runs m)
 
--- the length of an encoded frame, counted from an open block with this code, if the block takes these bytes. The block
--- already has code - 1 nonzero bytes. Only their number matters, so ones stand for them here (`law_15: same`).
+-- the length of an encoded frame from its open block to its end, after these bytes are appended to the message. The
+-- open block has this code, so it already has code - 1 nonzero bytes. Only the number of these nonzero bytes matters,
+-- so the definition uses ones in their place (`law_15: same`).
 abbrev pub open_len : ℕ → List ℕ → ℕ
 open_len code bytes = encoded_len (replicate (code - 1) 1 ++ bytes)
 
--- n / 254 rounded up, and 1 for the empty message
+-- the greatest overhead of an encoded frame of a message of n bytes: n / 254 rounded up, or 1 for the empty message
 abbrev pub max_overhead : ℕ → ℕ
 max_overhead n = max 1 ((n + 253) / 254)
 
@@ -31,7 +33,7 @@ max_overhead n = max 1 ((n + 253) / 254)
 abbrev pub max_encoded_len : ℕ → ℕ
 max_encoded_len n = n + max_overhead n
 
--- the last number of a list
+-- the last number of a list, or 0 if the list is empty
 abbrev pub last_number : List ℕ → ℕ
 last_number [] = 0
 last_number (n ∷ []) = n
@@ -41,6 +43,6 @@ last_number (n ∷ next ∷ more) = last_number (next ∷ more)
 abbrev pub last_run : List ℕ → ℕ
 last_run m = last_number (runs m)
 
--- the last run has a positive length divisible by 254
+-- the last run of the message has a positive length that is divisible by 254
 abbrev pub EndsInFullRun : List ℕ → Type 0
 EndsInFullRun m = (0 < last_run m) × (last_run m % 254 ≡ 0)

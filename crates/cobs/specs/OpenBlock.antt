@@ -1,30 +1,30 @@
--- The message that a streaming encoder has taken so far, and the changes to the output that a caller carries out.
+-- The progress of a streaming encoder in a frame, and the changes that a caller of `EncoderState` makes to its output.
 use Rattle.std.specs.Prelude.{◌≡◌, ℕ, ◌+◌, ◌<◌, ◌≤◌, ◌==◌, Bool, List, [], ◌∷◌, ◌++◌, length, take, slice_set, if◌then◌else◌}
 use Rattle.cobs.specs.declared.enc.state.PushResult.{PushResult}
 use Rattle.cobs.specs.declared.enc.state.PushResult.TheVariants.{AddSingle, ModifyFromStartAndSkip, ModifyFromStartAndPushAndSkip}
 use Rattle.cobs.specs.Grammar.{IsEncodedFrame, IsOpenFrame, is_full, last_of}
 use Rattle.cobs.specs.Length.{open_len}
 
--- the index at which the open block of a frame begins, and the code that it has so far
+-- the open block of a frame: the index at which it begins, and the code that it has so far
 pub record OpenBlock : Type 0 where
   pub index : ℕ
   pub code : ℕ
 
--- the encoder has taken m: some open frame of m ends in this block
+-- the bytes pushed to the encoder so far are the message m: m has an open frame whose last block is this open block
 abbrev pub EncoderAfter : OpenBlock → List ℕ → Type 0
 EncoderAfter state m = (f : List ℕ) × IsOpenFrame f m state.index state.code
 
--- g is f, except for the byte at i
+-- g is f, except that the byte at index i may differ
 abbrev pub AgreeOutside : ℕ → List ℕ → List ℕ → Type 0
 AgreeOutside i f g = (x : ℕ) × (g ≡ slice_set f i x)
 
--- g is the output of a caller that carried out each result for m: the open frame of m that ends in this block, except
--- that the byte at the block's index may differ
+-- g is the output of a caller that has made all changes for the message m: an open frame of m whose last block is this
+-- open block, except that the byte at the block's index may differ
 abbrev pub IsOpenOutput : List ℕ → OpenBlock → List ℕ → Type 0
 IsOpenOutput g state m = (f : List ℕ) × IsOpenFrame f m state.index state.code × AgreeOutside state.index f g
 
--- the result for a byte: a zero closes the open block, the 254th nonzero byte fills it, and any other byte is appended
--- to it
+-- the result of `EncoderState::push` for a byte: a zero closes the open block, the 254th nonzero byte fills the block,
+-- and any other byte is appended to the block
 abbrev pub push_result : OpenBlock → ℕ → PushResult
 push_result state byte =
     if byte == 0 then ModifyFromStartAndSkip (state.index, state.code)
@@ -36,60 +36,63 @@ next_open state byte =
     if byte == 0 then record { index = state.index + state.code; code = 1 }
     else (if state.code == 254 then record { index = state.index + 255; code = 1 } else record { index = state.index; code = state.code + 1 })
 
--- the list g after a result was carried out, with x as the placeholder
+-- the output g after the caller has made the change that a result says; x is the new placeholder, if the change appends
+-- one
 abbrev pub applied : List ℕ → PushResult → ℕ → List ℕ
 applied g (AddSingle b) x = g ++ b ∷ []
 applied g (ModifyFromStartAndSkip (i, c)) x = slice_set g i c ++ x ∷ []
 applied g (ModifyFromStartAndPushAndSkip (i, c, b)) x = slice_set g i c ++ b ∷ x ∷ []
 
--- how much of a frame is in a slice: the frame's open block, and whether the encoded frame ends in a full block. If it
--- does, the open block is only a placeholder after the full block.
+-- the progress of a frame in a slice: the frame's open block, and whether the encoded frame so far ends in a full
+-- block. If it ends in a full block, the open block is only a placeholder after the full block.
 pub record Reached : Type 0 where
   pub block : OpenBlock
   pub full : Bool
 
--- a frame whose open block is at this index and has this code; `full` says whether the encoded frame ends in a full
--- block
+-- the progress of a frame whose open block has this index and this code; `full` says whether the encoded frame so far
+-- ends in a full block
 abbrev pub place_at : ℕ → ℕ → Bool → Reached
 place_at index code full = record { block = record { index = index; code = code }; full = full }
 
--- the index of the next byte
+-- the index at which the next byte of the message belongs
 abbrev pub next_of : Reached → ℕ
 next_of reached = reached.block.index + reached.block.code
 
--- the index at which the encoded frame ends
+-- the index at which the encoded frame so far ends, that is, its length
 abbrev pub end_of : Reached → ℕ
 end_of reached = if reached.full then reached.block.index else next_of reached
 
--- the index at which the encoded frame ends if these bytes are taken too. The blocks before the open block don't
--- change. From the open block on, the frame is as long as a frame of the open block's bytes and these bytes.
+-- the index at which the encoded frame ends after these bytes are appended to the message. The blocks before the open
+-- block don't change. From the open block on, the frame is as long as a frame of the open block's bytes followed by
+-- these bytes.
 abbrev pub end_after : Reached → List ℕ → ℕ
 end_after reached [] = end_of reached
 end_after reached (byte ∷ bytes) = reached.block.index + open_len reached.block.code (byte ∷ bytes)
 
--- a frame can have this progress in a buffer of n bytes: its open block has a code, isn't full, and ends within the
--- buffer
+-- a frame can have this progress in a buffer of n bytes: the code of its open block is from 1 to 254, and the encoded
+-- frame so far ends within the buffer
 pub record IsPlaceIn (n : ℕ) (reached : Reached) : Type 0 where
   pub some : 0 < reached.block.code
   pub not_full : reached.block.code < 255
   pub fits : end_of reached ≤ n
 
--- an encoder with this progress takes these bytes in a buffer of n bytes: a frame can have this progress in the buffer,
--- and the frame with these bytes fits the buffer
+-- an encoder with this progress has room for these bytes in a buffer of n bytes: a frame can have this progress in the
+-- buffer, and the frame still fits the buffer after these bytes are appended to the message
 pub record HasRoomFor (n : ℕ) (reached : Reached) (bytes : List ℕ) : Type 0 where
   pub place : IsPlaceIn n reached
   pub fits : end_after reached bytes ≤ n
 
--- these are 1 to 8 bytes, and an encoder with this progress takes them in a buffer of n bytes without filling its open
--- block, whatever the bytes are
+-- `push_few` accepts these bytes: there are 1 to 8 of them, they can't fill the open block, whatever their values are,
+-- and a buffer of n bytes has room for them
 pub record IsFewFor (n : ℕ) (reached : Reached) (bytes : List ℕ) : Type 0 where
   pub some : 0 < length bytes
   pub few : length bytes ≤ 8
   pub open_block : reached.block.code + length bytes < 255
   pub fits : next_of reached + length bytes ≤ n
 
--- A `CobsEncoder` with this progress over this slice has taken m: the slice begins with the encoded frame of m, except
--- for the byte at the open block's index, and the progress says whether that frame ends in a full block.
+-- The bytes pushed to a `CobsEncoder` with this slice and this progress are the message m. The slice begins with the
+-- encoded frame of m, except that the byte at the open block's index may differ. The progress says whether that frame
+-- ends in a full block.
 pub record CobsEncoderAfter (slice : List ℕ) (reached : Reached) (m : List ℕ) : Type 0 where
   pub frame : List ℕ
   pub encoded : IsEncodedFrame frame m

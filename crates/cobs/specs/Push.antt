@@ -1,4 +1,4 @@
--- The result of pushing bytes to a streaming decoder, and the decoder's buffer and phase after it.
+-- The result of pushing bytes to a streaming decoder, and the decoder's buffer and phase after the push.
 use Rattle.std.specs.Prelude.{ℕ, ◌≡◌, ◌≢◌, ◌+◌, ◌-◌, ◌<◌, ◌≤◌, ◌==◌, List, [], ◌∷◌, ◌++◌, length, take, drop, filter, slice_index, Option, Some, None, Result, Ok, Err, IfOk, IfSome, if◌then◌else◌}
 use Rattle.cobs.specs.Grammar.{last_of}
 use Rattle.cobs.specs.Piece.{output}
@@ -11,36 +11,39 @@ use Rattle.cobs.specs.declared.error.PushError.{PushError}
 use Rattle.cobs.specs.declared.error.DecodeError.{DecodeError}
 use Rattle.cobs.specs.declared.error.DecodeError.TheVariants.{EmptyFrame, InvalidFrame, TargetBufTooSmall}
 
--- the last piece of a stream, ended by a zero or by the end of the stream, or the empty list if there is none
+-- the last piece of a stream, which ends at a zero or at the end of the stream; the empty list if the stream has no
+-- piece
 unfoldable pub last_piece : List ℕ → List ℕ
 last_piece t = last_of (filter is_nonempty (stretches t))
 
--- how many bytes a push consumed: the number in its result, or all bytes if the result has no number
+-- how many bytes a push with this result consumed: the number in the result, or the number of all bytes if the result
+-- is `Ok(None)`
 abbrev pub consumed_size : List ℕ → Result (Option DecodeReport) PushError → ℕ
 consumed_size bytes (Ok None) = length bytes
 consumed_size bytes (Ok (Some report)) = parsed_size_of report
 consumed_size bytes (Err failure) = failure.parsed_size
 
--- the bytes that a push consumed
+-- the bytes that a push with this result consumed
 abbrev pub consumed : List ℕ → Result (Option DecodeReport) PushError → List ℕ
 consumed bytes result = take (consumed_size bytes result) bytes
 
--- the outcome of the piece that a zero ends, if the zero returns this error
+-- the outcome of the piece that a zero ends, if `feed` returns this error for the zero; a list of at most one outcome
 abbrev pub error_outcomes : DecodeError → List Outcome
 error_outcomes EmptyFrame = []
 error_outcomes (InvalidFrame count) = Broken count ∷ []
 error_outcomes TargetBufTooSmall = TooLong ∷ []
 
--- the outcomes that a push reports: for a report, the message at the front of the buffer; for an error, the outcome of
--- the piece that ended, if the last byte consumed is a zero
+-- the outcomes that the result of a push reports, a list of at most one outcome. A report stands for the message at the
+-- front of the buffer. An error stands for the outcome of the piece that has ended if the last byte consumed is a zero,
+-- and otherwise for no outcome.
 abbrev pub pushed_outcomes : List ℕ → Result (Option DecodeReport) PushError → List ℕ → List Outcome
 pushed_outcomes bytes (Ok None) buffer = []
 pushed_outcomes bytes (Ok (Some report)) buffer = Message (take (frame_size_of report) buffer) ∷ []
 pushed_outcomes bytes (Err failure) buffer =
     if slice_index bytes (failure.parsed_size - 1) == 0 then error_outcomes failure.error else []
 
--- the bytes are fed one after another, and change buffer and phase to `buffer'` and `phase'`. Each except the last
--- returns `Ok(None)`, and the last one returns `returned`.
+-- the bytes are fed one after another, and change buffer and phase to `buffer'` and `phase'`. `feed` returns `Ok(None)`
+-- for each byte except the last one, and `returned` for the last byte.
 abbrev pub FeedsInTurn : List ℕ → Phase → List ℕ → Result (Option ℕ) DecodeError → List ℕ → Phase → Type 0
 FeedsInTurn buffer phase [] returned buffer' phase' = (returned ≡ Ok None) × (buffer' ≡ buffer) × (phase' ≡ phase)
 FeedsInTurn buffer phase (byte ∷ []) returned buffer' phase' = Feeds buffer phase byte returned buffer' phase'
@@ -48,7 +51,7 @@ FeedsInTurn buffer phase (byte ∷ next ∷ bytes) returned buffer' phase' =
     (between : List ℕ) × (phase_between : Phase) × Feeds buffer phase byte (Ok None) between phase_between
     × FeedsInTurn between phase_between (next ∷ bytes) returned buffer' phase'
 
--- the result of `feed` for the last byte that a push consumed
+-- the result of `feed` for the last byte that a push with this result consumed
 abbrev pub last_result : Result (Option DecodeReport) PushError → Result (Option ℕ) DecodeError
 last_result (Ok None) = Ok None
 last_result (Ok (Some report)) = Ok (Some (frame_size_of report))
@@ -57,23 +60,24 @@ last_result (Err failure) = Err failure.error
 -- a push of the bytes changes the decoder's buffer and phase to `buffer'` and `phase'`, and has this result
 pub record PushesBytes (buffer : List ℕ) (phase : Phase) (bytes : List ℕ)
     (result : Result (Option DecodeReport) PushError) (buffer' : List ℕ) (phase' : Phase) : Type 0 where
-  -- each byte that was consumed returns `Ok(None)`, except the last one, which returns the result of the push
+  -- `feed` returns `Ok(None)` for each byte that was consumed, except for the last one, for which it returns the result
+  -- of the push
   pub push_returns : (p : List ℕ) → PhaseAfter (length buffer) phase p → (place : ℕ) → place < consumed_size bytes result
       → result_for (unended (p ++ take place bytes)) (slice_index bytes place) (length buffer)
       ≡ (if place + 1 == consumed_size bytes result then last_result result else Ok None)
-  -- the decoder has taken the bytes that were consumed
+  -- the bytes that were consumed have been fed to the decoder
   pub phased : (p : List ℕ) → PhaseAfter (length buffer) phase p
       → PhaseAfter (length buffer) phase' (unended (p ++ consumed bytes result))
   pub after : (p : List ℕ) → DecoderAfter buffer phase p → DecoderAfter buffer' phase' (unended (p ++ consumed bytes result))
-  -- the buffer begins with the output of the piece that was read last, as far as it fits
+  -- the buffer begins with the output of the last piece, or with as much of this output as fits
   pub holds : (p : List ℕ) → DecoderAfter buffer phase p
       → buffer' ≡ overwritten buffer (output (last_piece (p ++ consumed bytes result)))
   pub untouched : (p : List ℕ) → PhaseAfter (length buffer) phase p
       → let written = length (output (last_piece (p ++ consumed bytes result))) in drop written buffer' ≡ drop written buffer
-  -- the push reports each piece that ended in these bytes
+  -- the push reports each piece that ended in the bytes that were consumed
   pub outcomes : (p : List ℕ) → DecoderAfter buffer phase p
       → stream_outcomes (p ++ consumed bytes result) (length buffer) ≡ pushed_outcomes bytes result buffer'
-  -- in every phase, the push feeds the bytes that were consumed
+  -- whatever the phase is, the push does the same as feeding the consumed bytes one after another
   pub feeds : FeedsInTurn buffer phase (consumed bytes result) (last_result result) buffer' phase'
   -- if the result isn't `Ok(None)`, at least one byte was consumed
   pub some : last_result result ≢ Ok None → 0 < consumed_size bytes result

@@ -38,12 +38,13 @@ pub use vector::{encode_vec, encode_vec_including_sentinels, encode_vec_with_sen
 ///
 /// The frame consists of blocks, as in Cheshire and Baker's paper. If the message ends in a run of nonzero bytes whose
 /// length is a positive multiple of 254, the message has two frames: the longer frame is the shorter frame followed by
-/// the byte `1`. This function writes the shorter frame. (A choice of this library.) No byte of the frame is the
+/// the byte `1`. This function writes the shorter frame (a choice of this library). No byte of the frame is the
 /// sentinel 0, and no sentinel is written before or after the frame. The bytes of `dest` after the frame stay as they
 /// were.
 ///
 /// Precondition: the frame fits `dest`. [`max_encoding_length`](crate::max_encoding_length) returns a length of `dest`
-/// that is always enough. If the frame may not fit, call [`try_encode`], which tests whether it fits.
+/// that is always enough. If you don't know whether the frame fits, call [`try_encode`], which returns an error if the
+/// frame doesn't fit.
 ///
 /// ```
 /// let mut dest = [170; 6];
@@ -51,7 +52,7 @@ pub use vector::{encode_vec, encode_vec_including_sentinels, encode_vec_with_sen
 /// assert_eq!(rt; len, 5);
 /// assert_eq!(rt; dest, [3, 10, 11, 2, 12, 170]);
 /// ```
-// Inlined, so that a short message is encoded in the caller's code, without a call.
+// Inlined, so that a short message is encoded without a call.
 #[inline(always)]
 #[tactic(auto, using(crate::proofs::encoding::TakingLemmas::from_start))]
 pub fn encode(source: &[u8], dest: &mut [u8]) -> usize
@@ -71,8 +72,8 @@ pub fn encode(source: &[u8], dest: &mut [u8]) -> usize
     encode_long(source, dest)
 }
 
-/// Does what [`encode`] does, for a message of any length. This is a separate function, so that `encode` doesn't save
-/// registers for the loop when it encodes a short message.
+/// Encodes a message of any length as [`encode`] does. This function is separate from `encode`, so that `encode`
+/// doesn't save registers for the loop when it encodes a short message.
 #[inline(never)]
 #[tactic(auto, using(crate::proofs::encoding::TakingLemmas::from_start))]
 fn encode_long(source: &[u8], dest: &mut [u8]) -> usize
@@ -88,11 +89,12 @@ fn encode_long(source: &[u8], dest: &mut [u8]) -> usize
     close(dest, &encoder)
 }
 
-/// Does what [`encode`] does, if the frame fits `dest`.
+/// Writes the encoded frame of `source` to the front of `dest`, as [`encode`] does, if the frame fits `dest`. Returns
+/// the frame's length in bytes.
 ///
 /// # Errors
-/// `DestBufTooSmallError` exactly if the frame is longer than `dest`. Then no byte of `dest` has changed. (A choice of
-/// this library.)
+/// `DestBufTooSmallError` exactly if the frame is longer than `dest`. Then no byte of `dest` has changed. (This
+/// guarantee is this library's own.)
 ///
 /// ```
 /// let mut dest = [170; 5];
@@ -119,7 +121,7 @@ pub fn try_encode(source: &[u8], dest: &mut [u8]) -> Result<usize, DestBufTooSma
     try_encode_any(source, dest)
 }
 
-/// Does what [`try_encode`] does, for a message of any length.
+/// Encodes a message of any length as [`try_encode`] does.
 #[tactic(auto, using(crate::proofs::format::LengthLemmas::bounds))]
 fn try_encode_any(source: &[u8], dest: &mut [u8]) -> Result<usize, DestBufTooSmallError>
     ensures fits { IsOk result ↔ (encoded_len source.now ≤ length dest.old) }
@@ -140,7 +142,8 @@ fn try_encode_any(source: &[u8], dest: &mut [u8]) -> Result<usize, DestBufTooSma
     Ok(close(dest, &encoder))
 }
 
-/// Encodes a message of up to 254 bytes for this sentinel. The caller ensures that the frame fits `dest`.
+/// Encodes a message of up to 254 bytes for `sentinel`, and returns the frame's length in bytes. The caller ensures
+/// that the frame fits `dest`.
 #[inline(always)]
 #[tactic(auto, using(crate::proofs::format::LengthLemmas::bounds))]
 fn encode_block(source: &[u8], dest: &mut [u8], sentinel: u8) -> usize
@@ -150,16 +153,16 @@ fn encode_block(source: &[u8], dest: &mut [u8], sentinel: u8) -> usize
     ensures len { result ≡ encoded_len source.now }
     ensures rest { drop result dest.new ≡ drop result dest.old }
 {
-    // The length that `encode` returns isn't used: the frame's length is computed from the message's length, which a
-    // compiler may know.
+    // The length that `encode` returns isn't used: the frame's length is computed from the message's length, which may
+    // be known to the compiler.
     let _len = encode(source, dest);
     let len = source.len() + 1;
     xor_bytes(&mut dest[..len], sentinel);
     len
 }
 
-/// Encodes a message of 1 to 4 bytes for this sentinel if its frame fits. If the message has another length, or its
-/// frame doesn't fit, the function returns `None` and changes nothing.
+/// Encodes a message of 1 to 4 bytes for `sentinel`, and returns the frame's length in bytes. If the message has
+/// another length, or if the frame doesn't fit `dest`, the function returns `None` and changes nothing.
 // There is a match arm for each length, so that compilers unroll the loops.
 #[inline(always)]
 fn encode_few(source: &[u8], dest: &mut [u8], sentinel: u8) -> Option<usize>

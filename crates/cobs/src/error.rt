@@ -6,7 +6,7 @@ use serde::{Deserialize, Serialize};
 use std::alloc::AllocError;
 use thiserror::Error;
 
-/// The frame is longer than the slice that it should be written to.
+/// The error of an encoder: the frame is longer than the slice to which it should be written.
 ///
 /// ```
 /// let text = DestBufTooSmallError.to_string(alloc)?;
@@ -16,7 +16,7 @@ use thiserror::Error;
 #[error("out of bounds error during encoding")]
 pub struct DestBufTooSmallError;
 
-/// The reason why a frame is rejected. The names are those of the crate `cobs`.
+/// The reason why a frame is rejected. The names of the variants are those of the crate `cobs`.
 ///
 /// ```
 /// assert_eq!(rt; decode(&[], &mut [0; 4]), Err(DecodeError::EmptyFrame));
@@ -32,21 +32,21 @@ pub enum DecodeError {
     /// The frame breaks off inside a block, or the source has only zeros.
     #[error("frame with invalid format, written {decoded_bytes} to decoded buffer")]
     InvalidFrame {
-        /// How many bytes were decoded. The decoded bytes are at the front of the buffer, if the caller passed a
-        /// buffer.
+        /// How many bytes were decoded. If the output was written to a buffer of the caller or of a streaming decoder,
+        /// that buffer begins with the decoded bytes.
         decoded_bytes: usize,
     },
 
-    /// The frame decodes to more bytes than the buffer holds.
+    /// The frame decodes to more bytes than the buffer has room for.
     #[error("target buffer too small")]
     TargetBufTooSmall,
 }
 
-/// The error of a `push` to a streaming decoder, with the number of bytes that were consumed. (A choice of this
-/// library.)
+/// The error of a `push` to a streaming decoder, with the number of bytes that were consumed. (This type is this
+/// library's own.)
 ///
-/// The decoder has consumed the first `parsed_size` bytes, and no others. To continue, the caller pushes the remaining
-/// bytes.
+/// The decoder has consumed the first `parsed_size` of the pushed bytes. To continue, the caller pushes the bytes that
+/// weren't consumed.
 ///
 /// ```
 /// let mut buffer = [0; 4];
@@ -60,15 +60,15 @@ pub enum DecodeError {
 #[derive(Debug, Drop, PartialEq, Eq, Error)]
 #[error("{error}")]
 pub struct PushError {
-    /// The error that the last consumed byte raised.
+    /// The error that [`feed`](crate::CobsDecoder::feed) returns for the last consumed byte.
     pub error: DecodeError,
 
     /// How many bytes were consumed, including the byte that raised the error.
     pub parsed_size: usize,
 }
 
-/// The reason why a call returned no vector. (A choice of this library: if memory runs out, the call returns `Memory`
-/// and doesn't abort the program.)
+/// The reason why a call returned no vector. If memory runs out, the call returns `Memory` and doesn't abort the
+/// program. (This type is this library's own.)
 ///
 /// ```
 /// let rejected = Err(DecodeVecError::Decode(DecodeError::EmptyFrame));
@@ -76,7 +76,7 @@ pub struct PushError {
 /// ```
 #[derive(Debug, Drop, PartialEq, Eq, Error)]
 pub enum DecodeVecError {
-    /// The source has no message.
+    /// The source can't be decoded, for this reason.
     #[error("{0}")]
     Decode(DecodeError),
 
@@ -85,8 +85,8 @@ pub enum DecodeVecError {
     Memory(AllocError),
 }
 
-/// The sizes of a decoded message: how many bytes of the source were consumed, and how many bytes the message has. The
-/// names are those of the crate `cobs`.
+/// A report of a decoded message: how many bytes of the source were consumed, and how many bytes the message has. The
+/// names of its methods are those of the crate `cobs`.
 ///
 /// ```
 /// let report = decode(&[0, 3, 1, 2, 0, 1], &mut [0; 4])?;

@@ -6,8 +6,8 @@ ghost use Rattle.cobs.specs.Grammar.{HasNoZero};
 use cobs_bytes::window::{WIDE_WINDOW, WINDOW, first_zero, has_vectors, zeros_at};
 use memchr::memchr;
 
-/// Returns how many zeros the source begins with. [`decode`](crate::decode) skips these zeros before a frame. (A choice
-/// of this library.)
+/// Returns how many zeros the source begins with. [`decode`](crate::decode) skips these zeros before a frame. (This
+/// function is this library's own.)
 ///
 /// ```
 /// assert_eq!(rt; leading_zeros(&[0, 0, 2, 7, 0]), 2);
@@ -26,7 +26,7 @@ pub fn leading_zeros(source: &[u8]) -> usize
     source.len()
 }
 
-/// Returns the index of the first byte of the source that equals `byte`, or the source's length if there is none.
+/// Returns the index of the first byte of the source that equals `byte`, or the source's length if no byte does.
 pub(crate) fn position_or_len(source: &[u8], byte: u8) -> usize
     ensures within { result ≤ length source.now }
     ensures before { All (λ other. other ≢ byte) (take result source.now) }
@@ -36,7 +36,7 @@ pub(crate) fn position_or_len(source: &[u8], byte: u8) -> usize
 }
 
 /// Returns how many bytes come before the first zero, or the length of `bytes` if there is no zero. The function is
-/// small, because it uses no SIMD vectors. (A choice of this library.)
+/// small, because it uses no SIMD vectors. (This function is this library's own.)
 ///
 /// ```
 /// assert_eq!(rt; len_to_zero(&[3, 7, 8, 0, 2]), 3);
@@ -80,7 +80,7 @@ pub(crate) fn len_to(bytes: &[u8], byte: u8) -> usize
     bytes.len()
 }
 
-/// Returns the index of the first zero of a source, or the source's length if there is none.
+/// Returns the index of the first zero of the source, or the source's length if there is no zero.
 #[inline(always)]
 pub(crate) fn zero_or_len(source: &[u8]) -> usize
     ensures within { result ≤ length source.now }
@@ -96,7 +96,7 @@ pub(crate) fn zero_or_len(source: &[u8]) -> usize
     }
 }
 
-/// Returns the length of the source. The last byte isn't counted if it is the sentinel.
+/// Returns the length of the source, not counting the last byte if this byte is the sentinel.
 #[inline(always)]
 pub(crate) fn len_without_end(source: &[u8], sentinel: u8) -> usize
     requires some { 0 < length source.now }
@@ -113,7 +113,7 @@ pub(crate) fn len_without_end(source: &[u8], sentinel: u8) -> usize
     }
 }
 
-/// Returns the index of the first zero if it is among the first 66 bytes, and otherwise the source's length.
+/// Returns the index of the first zero if this zero is among the first 66 bytes, and otherwise the source's length.
 #[inline(always)]
 pub(crate) fn front_len(source: &[u8]) -> usize
     ensures within { result ≤ length source.now }
@@ -134,7 +134,7 @@ pub(crate) fn front_len(source: &[u8]) -> usize
     if later != 0 {
         return at + later.trailing_zeros() as usize;
     }
-    // After the frame of a message of 63 or 64 bytes, the zero is at index 64 or 65.
+    // The zero after the frame of a message of 63 or 64 bytes is at one of these two indices.
     if WIDE_WINDOW < source.len() && source[WIDE_WINDOW] == 0 {
         return WIDE_WINDOW;
     }

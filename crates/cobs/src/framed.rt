@@ -1,11 +1,11 @@
 //! A reader of frames from any source of bytes.
 //!
 //! `FrameReader` reads chunks of up to 64 bytes from a `FrameSource`: a file, a socket, a serial port or any other
-//! source. Each call of `next_frame` returns the outcome of one piece, the end of the source, or a fault. The reader
-//! reads from the source only if no piece ends in the bytes that the reader has kept. No byte is lost: the bytes after
-//! the end of a piece are kept for the next call, and after a fault the decoder has taken all bytes that were read. No
-//! call of this module allocates. (The rule that a zero ends each piece is from Cheshire and Baker's paper; the rest of
-//! this module is a choice of this library.)
+//! source. Each call of `next_frame` returns the outcome of one piece (the bytes between two zeros), the end of the
+//! source, or a fault. The reader reads from the source only if no piece ends in the bytes that it kept from earlier
+//! reads. No byte is lost: the bytes after the end of a piece are kept for the next call, and before a fault is
+//! returned, all bytes that were read are fed to the decoder. No call of this module allocates. (The rule that a zero
+//! ends each piece is from Cheshire and Baker's paper; the rest of this module is this library's own.)
 ghost use Rattle.std.specs.Prelude.{◌≡◌, ℕ, ◌≤◌, List, [], ◌∷◌, ◌++◌, length, take, drop, Option, option_map, IfOk, IfNone, IfSome, OnSome, MatchOption};
 ghost use Rattle.cobs.specs.Grammar.{HasNoZero};
 ghost use Rattle.cobs.specs.Stream.{Outcome, stream_outcomes, unended, is_nonempty};
@@ -33,12 +33,12 @@ pub enum Next {
     /// broken block. The decoded bytes are at the front of the decoder's buffer.
     Broken(usize),
 
-    /// A piece ended, and it decodes to more bytes than the decoder's buffer holds.
+    /// A piece ended, and it decodes to more bytes than the decoder's buffer has room for.
     TooLong,
 
     /// The source returned no more bytes, and no piece ended.
     End {
-        /// Whether a piece has begun, and no zero has ended it yet.
+        /// Whether a piece has begun and hasn't ended yet.
         unfinished: bool,
     },
 }
@@ -63,15 +63,15 @@ pub enum ReadFault {
     /// A read failed. An interrupted read counts as a failed read.
     Io,
 
-    /// The call made 65,536 reads, each of which returned bytes, and no piece ended.
+    /// The call made 65,536 reads. Each read returned bytes, but no piece ended.
     TooManyReads,
 }
 
 /// A source of the bytes of a stream.
 ///
-/// Contracts describe a source by a relation, `step`, between two states of the source and the result of a read. `step`
-/// holds if a read with this result may change the source from the first state to the second. The result of a read is a
-/// failure, or the bytes that the read returned.
+/// Contracts describe a source by the relation `step`. It relates the state of the source before a read, the result of
+/// the read, and the state after the read: `step` holds if a read in the first state may have this result and lead to
+/// the second state. The result of a read is a failure, or the bytes that the read returned.
 ///
 /// ```
 /// let mut source = Recorded::new([2, 7].as_slice());
@@ -81,13 +81,13 @@ pub enum ReadFault {
 /// assert_eq!(rt; source.read_some(&mut chunk), Some(0));
 /// ```
 pub trait FrameSource {
-    /// Whether a read with this result may change the source from the first state to the second.
+    /// Whether a read in the first state may have this result and lead to the second state.
     ghost step: { Self → Option (List ℕ) → Self → Type 0 };
 
-    /// Reads once, into `chunk`.
+    /// Reads bytes of the stream into `chunk`, with one read.
     ///
-    /// Returns `Some(n)` if the read succeeded: the bytes that were read are then the first n bytes of `chunk`. At the
-    /// end of the source, n is 0. Returns `None` if the read failed.
+    /// Returns `Some(n)` if the read succeeded: the first `n` bytes of `chunk` are then the bytes that were read, and
+    /// `n` is 0 at the end of the source. Returns `None` if the read failed.
     ///
     /// ```
     /// let mut source = Recorded::new([7; 100].as_slice());
@@ -100,7 +100,7 @@ pub trait FrameSource {
         ensures step { step self.old (option_map (λ n. take n chunk.new) result) self.new };
 }
 
-/// A source of bytes that reads from any `Read`. Each call of `read_some` reads once, and each error of the `Read`
+/// A source that gets its bytes from any `Read`. Each call of `read_some` makes one read, and each error of the `Read`
 /// counts as a failed read.
 ///
 /// ```
@@ -117,7 +117,7 @@ impl<R: Read> Recorded<R> {
     ghost use Rattle.std.specs.Prelude.{◌≡◌};
     ghost use Rattle.cobs.specs.Fields.Reader.{reader_of};
 
-    /// Makes a source that reads from this reader.
+    /// Makes a source that reads from `reader`.
     ///
     /// ```
     /// let mut source = Recorded::new([2, 7, 0].as_slice());
@@ -130,7 +130,7 @@ impl<R: Read> Recorded<R> {
         Self { reader }
     }
 
-    /// Returns the reader, in its state after the reads so far.
+    /// Returns the reader that was passed to [`new`](Recorded::new), in its state after all reads so far.
     ///
     /// ```
     /// let source = Recorded::new([1, 0].as_slice());
@@ -159,7 +159,7 @@ impl<R: Read> FrameSource for Recorded<R> {
     }
 }
 
-/// Converts a `PieceEnd` to `Next`.
+/// Converts a `PieceEnd` to the variant of `Next` with the same name.
 fn next_at(end: PieceEnd) -> Next
     ensures { (buffer : List ℕ) → IsCountWithin (length buffer) end → IsOutcome result buffer (outcome_at end buffer) }
 {
@@ -182,13 +182,14 @@ fn is_unfinished(before: bool, bytes: &[u8]) -> bool
     }
 }
 
-/// The greatest number of reads that one call of `next_frame` makes. So a call ends even if no piece ends.
+/// The greatest number of reads that one call of `next_frame` makes. Because of this limit, every call ends, even if no
+/// piece ends.
 const MOST_READS: usize = 65536;
 
-/// Reads a stream piece by piece, one piece for each call of `next_frame`, with a decoder of its own.
+/// Reads a stream with a decoder that the reader owns. Each call of `next_frame` reads one piece.
 ///
 /// The source isn't part of the reader: the caller passes a source to each call, so a stream may continue in another
-/// source. Contracts describe a reader by its decoder, and by the bytes that the reader has read and not yet fed to the
+/// source. Contracts describe a reader by its decoder, and by the bytes that the reader has read but not yet fed to the
 /// decoder.
 ///
 /// ```
@@ -201,12 +202,13 @@ const MOST_READS: usize = 65536;
 pub struct FrameReader<D: FrameDecoder> {
     decoder: D,
 
-    /// The bytes of an earlier read. The bytes at indices `start` to `end - 1` haven't been fed to the decoder yet.
+    /// The bytes of an earlier read. The bytes at the indices from `start` to `end - 1` haven't been fed to the decoder
+    /// yet.
     chunk: [u8; 64],
     start: usize,
     end: usize,
 
-    /// Whether a piece has begun in the bytes fed so far, and no zero has ended it yet.
+    /// Whether a piece has begun and hasn't ended yet, that is, whether the last byte that was fed isn't a zero.
     unfinished: bool,
     ghost ordered: { start ≤ end },
     ghost in_chunk: { end ≤ 64 },
@@ -222,9 +224,9 @@ impl<D: FrameDecoder> FrameReader<D> {
     ghost use Rattle.cobs.specs.Internal.KeptBytes.{ReportsFirst, with_kept};
     ghost use Rattle.cobs.specs.Fields.Reader.{decoder_of, kept_of, reader_state};
 
-    /// Makes a reader with this decoder. The reader has read nothing yet.
+    /// Makes a reader that decodes with `decoder`, and that has read nothing yet.
     ///
-    /// Precondition: the decoder is idle, as it is when new, after a reset, and after each zero.
+    /// Precondition: the decoder is idle. A decoder is idle when it is new, after each reset, and after each zero.
     ///
     /// ```
     /// let mut source = Recorded::new(b"".as_slice());
@@ -290,18 +292,20 @@ impl<D: FrameDecoder> FrameReader<D> {
         }
     }
 
-    /// Returns the outcome of the next piece of the stream once a zero has ended the piece, or `Next::End` if the
-    /// source ends first.
+    /// Decodes the stream up to the zero that ends the next piece, and returns the outcome of this piece. Returns
+    /// `Next::End` if the source ends before such a zero.
     ///
-    /// Bytes that earlier calls have kept are used first. The bytes after the zero that ends the piece are kept for the
-    /// next call. As long as no piece ends, the source is read, at most 65,536 times. Nothing is read after the end of
-    /// a piece, after a failed read, or after a read that returned no bytes. After `Next::End` the stream may continue,
-    /// in this source or in another one.
+    /// The call first uses the bytes that earlier calls have kept. Then it makes up to 65,536 reads from the source: it
+    /// stops after the read that contains the end of a piece, after a failed read, and after a read that returned no
+    /// bytes. The call keeps the bytes after the end of the piece for the next call. After `Next::End` the stream may
+    /// continue, in this source or in another one.
     ///
     /// # Errors
-    /// `Io` if the last read of this call failed, and `TooManyReads` if this call made 65,536 reads that all returned
-    /// bytes. In both cases no piece ended, the decoder has taken all bytes that were read, and the next call continues
-    /// after these bytes.
+    /// - `Io` if the last read of this call failed.
+    /// - `TooManyReads` if this call made 65,536 reads that all returned bytes.
+    ///
+    /// In both cases no piece ended in this call. All bytes that were read have been fed to the decoder, and the next
+    /// call continues after these bytes.
     ///
     /// ```
     /// let mut reader = FrameReader::new(CobsDecoderHeapless::<8>::new());

@@ -1,7 +1,7 @@
-//! The laws of messages, frames, pieces and streams. Each law is a function that does nothing when it runs: its contract is the
-//! law, and a function that calls it may use the law in its own proof. The example of each law is such a caller. Some examples
-//! call `reads_as`, the caller that CALLING.md shows. The lines after an example are its proof: the caller's `Answers.antt`,
-//! without the line `use Rattle.CRATE.proofs.CALLER.Goals as goal`. An example without such lines needs no proof.
+//! The laws of messages, frames, pieces and streams. Each law is a function whose contract states the law. The function does
+//! nothing when it runs. Another function calls it to use the law in its own proof. The example of each law is such a caller.
+//! Some examples call `reads_as`, the function that CALLING.md shows. If an example needs a proof, the proof is shown after it:
+//! the lines of the caller's `Answers.antt`, without the line `use Rattle.CRATE.proofs.CALLER.Goals as goal`.
 //!
 //! ```
 //! fn encode_by_longest(source: &[u8], dest: &mut [u8]) -> usize
@@ -30,12 +30,12 @@ pub use coders::{law_15, law_16, law_17, law_18, law_19, law_20, law_21};
 
 /// A frame reads as its output.
 ///
-/// A list of bytes reads as a message exactly if the list isn't empty, no byte is a zero, the last block has all bytes that its
-/// code counts, and the message is the output of the list. An output is never longer than its piece, and never gets shorter if
-/// a byte is appended to the piece.
+/// The output of a list of bytes is the message that its blocks stand for, even if the last block isn't complete. A list of
+/// bytes reads as a message exactly if the list isn't empty, no byte is a zero, the last block has all bytes that its code
+/// counts, and the message is the output of the list. The output is never longer than the list, and never gets shorter if a
+/// byte is appended.
 ///
-/// Each decoder cuts bytes at their codes, and so finds out whether the bytes are a frame, and of which message. This law says
-/// that a decoder accepts exactly the frames.
+/// By this law, a decoder accepts exactly the frames if it goes from code to code and checks that the last block is complete.
 ///
 /// ```
 /// fn is_output(piece: &[u8], message: &[u8], buffer: &mut [u8]) -> bool
@@ -57,10 +57,10 @@ pub fn law_1()
 
 /// Each message has one encoded frame.
 ///
-/// Each message has exactly one encoded frame. So two encoded frames can be compared byte by byte, for example to find a
-/// message in a store or to check a signature. In the clauses, messages and frames are lists of numbers. If each number of a
-/// message is less than 256, so is each number of its encoded frame. All encoders that write an encoded frame of a message
-/// write the same bytes. The length of the encoded frame decides whether `try_encode` and `CobsEncoder` accept the message.
+/// Each message has exactly one encoded frame, so all encoders that write the encoded frame of a message write the same bytes.
+/// A program can compare encoded frames instead of messages, for example to find a message in a store or to check a signature.
+/// The length of the encoded frame (`encoded_len`) decides whether `try_encode` and `CobsEncoder` accept the message. In the
+/// clauses, messages and frames are lists of numbers. If all numbers of a message are bytes, so are those of its encoded frame.
 ///
 /// ```
 /// fn encode_again(message: &[u8], frame: &[u8], dest: &mut [u8]) -> usize
@@ -89,8 +89,8 @@ pub fn law_2()
 ///
 /// One frame of a message is its encoded frame. There is a second frame only if the message ends in a full run, that is, a run
 /// of nonzero bytes whose length is a positive multiple of 254. The second frame is one byte longer: it is the encoded frame
-/// followed by 01. A protocol may allow only one frame for each message, for example because it compares frames. Then a
-/// receiver rejects the longer frame: [`frame_kind`](crate::frame_kind) distinguishes the two frames.
+/// followed by 01. A protocol may allow only one frame for each message, for example because its receivers compare frames. A
+/// receiver then rejects the longer frame, which it recognizes with [`frame_kind`](crate::frame_kind).
 ///
 /// ```
 /// fn is_frame_for(piece: &[u8], message: &[u8], buffer: &mut [u8]) -> bool
@@ -109,9 +109,10 @@ pub fn law_3()
 
 /// The length of a frame, and its bound.
 ///
-/// An encoded frame is longer than its message, and at most as long as [`max_encoding_length`](crate::max_encoding_length)
-/// says. A message without zeros reaches this bound, so the bound is reached at every length. If bytes are appended to a
-/// message, its frame never gets shorter.
+/// An encoded frame is longer than its message, and has at most as many bytes as
+/// [`max_encoding_length`](crate::max_encoding_length) returns for the message's length. The frame of a message without zeros
+/// is as long as this bound, so for every length of a message some frame reaches the bound. If bytes are appended to a message,
+/// its frame doesn't get shorter.
 ///
 /// ```
 /// fn encode_nonzero(source: &[u8], dest: &mut [u8]) -> usize
@@ -134,8 +135,8 @@ pub fn law_4()
 
 /// Equal frames, equal messages.
 ///
-/// Messages with equal encoded frames are equal, and a frame has only one message. So a frame keeps all the information in its
-/// message, and a receiver can't read another message from the frame.
+/// Messages with equal encoded frames are equal, and a frame reads as only one message. So a frame keeps all information of its
+/// message, and no receiver reads another message from it.
 ///
 /// ```
 /// fn are_equal(alloc: Global, first: &[u8], second: &[u8]) -> Result<bool, AllocError>
@@ -154,13 +155,12 @@ pub fn law_5()
 
 /// No frame contains its sentinel; a second XOR restores the frame.
 ///
-/// A frame for a sentinel is a frame for 0 with each byte XORed with the sentinel. A frame for a sentinel doesn't contain the
-/// sentinel, and another XOR restores the frame for 0.
+/// If each byte of a frame for the sentinel 0 is XORed with another byte `s`, the result is a frame for the sentinel `s`. The
+/// frame for `s` doesn't contain `s`, and a second XOR with `s` restores the frame for 0.
 ///
-/// The purpose of COBS is that a frame doesn't contain its sentinel: if sentinels are put between frames, a receiver finds the
-/// ends of frames by searching for the sentinel. The clause `free` is about a frame that is sent, and the clause `received` is
-/// about bytes that were received. Bytes without the sentinel contain no zero after the XOR (`coded`), and an XOR with 0
-/// changes nothing (`zero`).
+/// A frame must not contain its sentinel, so that a receiver can find the end of a frame by searching for the sentinel. The
+/// clause `free` states this for a frame that is sent, and the clause `received` for bytes that were received. Bytes that don't
+/// contain `s` contain no zero after the XOR (`coded`), and an XOR with 0 changes nothing (`zero`).
 ///
 /// ```
 /// fn as_received<'a>(frame: &'a [u8], sentinel: u8) -> &'a [u8]
@@ -185,11 +185,11 @@ pub fn law_6()
 
 /// The fronts of a frame.
 ///
-/// A front of a frame is its first bytes, any number of them. A front that isn't empty is a frame exactly if it ends at the end
-/// of a block. The front's message is then a front of the frame's message.
+/// A front of a frame consists of any number of its first bytes. A front that isn't empty is a frame exactly if it ends at the
+/// end of a block. The message of such a front is a front of the frame's message.
 ///
-/// So if a frame was cut short, for example because a connection was lost, a receiver notices this, unless the frame was cut
-/// between two blocks. A receiver reads a frame that was cut between two blocks as the beginning of the message that was sent.
+/// So if a frame is cut inside a block, for example because a connection is lost, a receiver notices it. If a frame is cut
+/// between two blocks, a receiver doesn't notice it, and reads the beginning of the message that was sent.
 ///
 /// ```
 /// fn is_begun(received: &[u8], message: &[u8], buffer: &mut [u8]) -> bool
@@ -214,11 +214,11 @@ pub fn law_7()
 
 /// Frames joined without a sentinel.
 ///
-/// Two frames without a sentinel between them read as their two messages joined, with a zero between them unless the
-/// first frame ends in a full block.
+/// Two frames without a sentinel between them are one frame. Its message is the message of the first frame, then a zero unless
+/// the first frame ends in a full block, and then the message of the second frame.
 ///
-/// So if the sentinel between two frames is lost, a receiver reads one message, and can't know that two were sent. To notice a
-/// lost sentinel, put a checksum of your own into each message.
+/// So if the sentinel between two frames is lost, a receiver reads one message, and can't know that two messages were sent. To
+/// notice a lost sentinel, put a checksum of your own into each message.
 ///
 /// ```
 /// fn join(alloc: Global, first: &[u8], second: &[u8]) -> Result<Vec<u8>, AllocError>
@@ -248,13 +248,13 @@ pub fn law_8()
 /// A stream may be cut anywhere.
 ///
 /// The unended bytes of a stream are the bytes after its last zero. Cut a stream into two parts, and put the unended bytes of
-/// the first part before the second part. Then the pieces and the outcomes of the whole stream are those of the first part,
-/// followed by those of the extended second part. The unended bytes of the whole stream are those of the extended second part.
-/// A stream that ends in a zero has no unended bytes. In a stream without a zero, all bytes are unended, and there is no
-/// outcome. One or more nonzero bytes with a zero after them are one piece.
+/// the first part before the second part. Then the pieces of the whole stream are the pieces of the first part, followed by the
+/// pieces of the extended second part, and likewise for the outcomes. The unended bytes of the whole stream are those of the
+/// extended second part. A stream that ends in a zero has no unended bytes. In a stream without a zero, all bytes are unended,
+/// and there is no outcome. One or more nonzero bytes with a zero after them are one piece.
 ///
-/// So a receiver may get a stream in parts of any length, as reads return them. The joined results are those of one call over
-/// the whole stream. `decode_stream`, `push` and `FrameReader` rely on this law.
+/// So a receiver may decode a stream in parts of any length, as reads return them. The outcomes of all parts, in order, are
+/// those of one call for the whole stream. `decode_stream`, `push` and `FrameReader` rely on this law.
 ///
 /// ```
 /// fn decode_in_two<D: FrameDecoder>(
@@ -290,8 +290,8 @@ pub fn law_9()
 /// Damage stays between its sentinels.
 ///
 /// If bytes between two sentinels are changed, lost or added, the outcomes before the first sentinel and after the second
-/// sentinel are unchanged, even if the damage adds sentinels. If no other sentinel is between the two sentinels, they enclose
-/// one piece, with one outcome, or nothing if they are adjacent.
+/// sentinel are unchanged, even if the damage adds sentinels. If the bytes between the two sentinels contain no sentinel, they
+/// are one piece, which has one outcome. If the two sentinels are adjacent, there is no piece between them.
 ///
 /// So a receiver on a noisy line, or a reader of a damaged file of records, loses only the messages that the damage touches.
 ///
@@ -323,8 +323,8 @@ pub fn law_10()
 /// A frame in a stream is decoded as its message.
 ///
 /// A frame is decoded as its message in each buffer that has room for the message. So if messages were sent as frames, with a
-/// sentinel after each frame, a decoder with room for each message returns exactly these messages. It reports no frame as
-/// broken or too long, not even the longer frame of a message that has two frames.
+/// sentinel after each frame, a decoder with room for each message returns exactly these messages. The decoder reports no frame
+/// as broken or too long, not even the longer frame of a message that has two frames.
 ///
 /// ```
 /// fn encode_for_stream(message: &[u8], dest: &mut [u8]) -> usize
@@ -348,15 +348,15 @@ pub fn law_11()
 
 /// A stream's first piece, and its last.
 ///
-/// If a stream begins with a nonzero byte, its first piece is the bytes before the first zero. In a buffer of the stream's
-/// length, the outcome of the first piece is a message exactly if the piece reads as that message. Zeros before the first piece
-/// are skipped: the first piece after them ends at the next zero. A stream that has only zeros, or is empty, has no piece. If
-/// the first n bytes contain no zero, and a zero or the end of the stream follows them, these n bytes are all bytes before the
-/// first zero. The same holds for any sentinel. As long as no piece has ended, the unended bytes are the last piece, and the
-/// next zero ends this piece.
+/// If a stream begins with a nonzero byte, its first piece consists of the bytes before the first zero. In a buffer of the
+/// stream's length, the outcome of the first piece is a message exactly if the piece reads as that message. Zeros before the
+/// first piece are skipped: the first piece begins after these zeros, and ends at the next zero or at the end of the stream. A
+/// stream that is empty, or that has only zeros, has no piece. If the first `n` bytes contain no zero, and a zero or the end of
+/// the stream follows them, these `n` bytes are the bytes before the first zero (`head`). The same holds for any other sentinel
+/// (`head_for`). As long as no piece has ended, the unended bytes are the last piece, and the next zero ends this piece.
 ///
-/// So if a source begins with a nonzero byte, `decode` into a buffer as long as the source and `decode_in_place` return the
-/// same message, or both return an error.
+/// So `decode`, with a buffer as long as the source, and `decode_in_place` agree about a source that begins with a nonzero
+/// byte: both return the same message, or both return an error.
 ///
 /// ```
 /// fn begins_with_piece(stream: &[u8]) -> bool
@@ -392,11 +392,11 @@ pub fn law_12()
 
 /// The open frame of a streaming encoder.
 ///
-/// An open frame is a frame whose last block isn't full; an [`EncoderState`](crate::EncoderState) makes the open frame of a
-/// message. This law says at which index the frame so far ends, and how the open frame differs from the encoded frame.
+/// An open frame is a frame whose last block isn't full. A caller of [`EncoderState`](crate::EncoderState) writes the open
+/// frame of a message. This law states the length of the output so far, and how the open frame differs from the encoded frame.
 ///
-/// So if a caller carries out each [`PushResult`](crate::PushResult), the byte reserved for the next code (the placeholder) is
-/// always within the output. The caller's frame is the encoded frame, followed by 01 if the message ends in a full run.
+/// So if a caller makes the change of each [`PushResult`](crate::PushResult), the placeholder (the byte for the next code) is
+/// always within the output. The final output is the encoded frame, followed by 01 if the message ends in a full run.
 ///
 /// ```
 /// fn as_encoded<'a>(frame: &'a [u8], message: &[u8], index: usize, code: u8) -> &'a [u8]
@@ -426,8 +426,8 @@ pub fn law_13()
 
 /// A decoder has been fed nothing of a piece exactly if it is idle.
 ///
-/// So [`FrameReader::new`](crate::FrameReader::new) accepts a decoder that was last fed a zero, and a new decoder reads a frame
-/// and its zero in one `push`.
+/// So [`FrameReader::new`](crate::FrameReader::new) accepts a decoder that was last fed a zero. One `push` of a frame and its
+/// zero to a new decoder decodes the frame.
 ///
 /// ```
 /// fn reader_after_zero(mut decoder: CobsDecoderOwned) -> FrameReader<CobsDecoderOwned>

@@ -2,14 +2,14 @@
 //!
 //! COBS turns a message, which may be any bytes, into a frame that never contains a chosen byte value, usually 0. This
 //! byte value is the delimiter; this library calls it the sentinel. The sentinel marks the end of each frame on a
-//! serial line, in a stream or in a file, so after damage a receiver finds the next frame after the next sentinel. A
-//! frame is a list of blocks. A block is a code, which counts the block's bytes including itself, followed by up to 254
-//! nonzero bytes. Between two blocks the message has a zero, unless the first of the two is a full block, whose code is
-//! 255. So the frame of a message of up to 254 bytes is one byte longer than the message. The frame of a longer message
-//! has at most one extra byte for every 254 bytes of the message, rounded up. The format is that of the paper
-//! "Consistent Overhead Byte Stuffing" by Stuart Cheshire and Mary Baker.
+//! serial line or in a file. If a frame is damaged, the receiver waits for the next sentinel and reads the frame after
+//! that sentinel. A frame is a list of blocks. A block is a code followed by up to 254 nonzero bytes. The code is the
+//! length of the block in bytes, including the code itself. The boundary of two blocks stands for a zero of the
+//! message, unless the first block is full: its code is then 255. The frame of a message of up to 254 bytes is one byte
+//! longer than the message. The frame of a longer message of `n` bytes has at most `n / 254` extra bytes, rounded up.
+//! The format is that of the paper "Consistent Overhead Byte Stuffing" by Stuart Cheshire and Mary Baker.
 //!
-//! This example encodes a message, and decodes it again:
+//! This example encodes a message, and then decodes the frame:
 //!
 //! ```
 //! use cobs::{decode, encode};
@@ -24,7 +24,7 @@
 //! assert!(rt; message.starts_with(b"hello"));
 //! ```
 //!
-//! This example decodes a stream of two frames byte by byte, as bytes come from a line:
+//! This example decodes a stream of two frames byte by byte, as bytes arrive from a serial line:
 //!
 //! ```
 //! use cobs::CobsDecoder;
@@ -41,20 +41,23 @@
 //!
 //! # Which call to use
 //!
-//! - To encode a whole message, call [`encode`] to write to a slice that has room for the frame, [`try_encode`] if the
-//!   frame may not fit the slice, [`encode_vec`] for a new vector, or [`encode_in_place`] for a frame in the message's
-//!   own buffer. The forms `.._with_sentinel` use a sentinel other than 0, and the forms `.._including_sentinels` write
-//!   a sentinel on each side of the frame.
-//! - To encode a message that comes in pieces, use [`CobsEncoder`] over a slice, [`UnbufferedEncoder`] with a buffer
-//!   that you pass to each call, or [`EncoderState`] with a container of your own.
-//! - To decode a whole frame, call [`decode`] for a message in a slice, [`decode_vec`] for a new vector, or
-//!   [`decode_in_place`] for a message in the frame's own buffer.
-//! - To decode frames from a line, use [`CobsDecoder`] over a slice, [`CobsDecoderOwned`] with a vector that is
+//! - To encode a whole message, call [`encode`] to write to a slice that has room for the frame, [`try_encode`] if you
+//!   don't know whether the frame fits the slice, [`encode_vec`] for a frame in a new vector, or [`encode_in_place`]
+//!   for a frame in the buffer that holds the message. The forms `.._with_sentinel` use a sentinel other than 0, and
+//!   the forms `.._including_sentinels` write a sentinel on each side of the frame.
+//! - To encode a message that comes in chunks, use [`CobsEncoder`] over a slice, [`UnbufferedEncoder`] with a buffer
+//!   that you pass to each call, or [`EncoderState`] to write to a container of your own.
+//! - To decode a whole frame, call [`decode`] for a message in a slice, [`decode_vec`] for a message in a new vector,
+//!   or [`decode_in_place`] for a message in the buffer that holds the frame.
+//! - To decode frames from a serial line, use [`CobsDecoder`] over a slice, [`CobsDecoderOwned`] with a vector that is
 //!   allocated once, [`CobsDecoderHeapless`] with its buffer inside, [`UnbufferedDecoder`] with a buffer that you pass
-//!   to each call, or [`DecoderState`] with a container of your own. [`FrameReader`] reads frames from any reader.
+//!   to each call, or [`DecoderState`] to write to a container of your own. [`FrameReader`] reads frames from any
+//!   reader.
 //! - To decode a recorded stream, call [`decode_stream`]. To make a stream, call [`encode_frames`].
 //! - [`max_encoding_length`] returns the length of a buffer that has room for the frame of any message of a given
-//!   length. [`frame_kind`] returns whether bytes are a frame, and of which kind.
+//!   length.
+//! - [`frame_kind`] returns whether some bytes are a frame, and whether this frame is the shortest frame of its
+//!   message.
 //! - [`laws`] has facts that a proof of your own can cite.
 //!
 //! A call that allocates has an allocator as its first argument and returns a `Result`. Each call is proved to meet its
@@ -93,12 +96,12 @@ pub use find::{leading_zeros, len_to_zero};
 pub use framed::{FrameReader, FrameSource, Next, ReadFault, Recorded};
 pub use stream::{FrameOutcome, decode_stream, encode_frames, encode_frames_room};
 
-/// Returns the greatest overhead of the encoded frame of a message of `source_len` bytes. The overhead is the number of
-/// bytes by which the frame is longer than the message.
+/// Returns the greatest overhead, in bytes, of an encoded frame of a message of `source_len` bytes. The overhead of a
+/// frame is its length minus the length of its message.
 ///
-/// The greatest overhead is `source_len / 254` rounded up, and 1 for the empty message: each group of up to 254 nonzero
-/// bytes has a code of its own, and a frame has at least one code. A message without zeros reaches this overhead.
-/// Sentinels around the frame aren't counted. The bound is that of the paper by Cheshire and Baker.
+/// The greatest overhead is `source_len / 254`, rounded up, or 1 if the message is empty. A message without zeros has
+/// this overhead: its frame has one code for each group of up to 254 bytes, and at least one code. Sentinels before and
+/// after the frame aren't counted. The bound is that of the paper by Cheshire and Baker.
 ///
 /// ```
 /// assert_eq!(rt; max_encoding_overhead(0), 1);
@@ -114,10 +117,10 @@ pub fn max_encoding_overhead(source_len: usize) -> usize
     source_len.div_ceil(254)
 }
 
-/// Returns the length of the longest encoded frame of a message of `source_len` bytes, without sentinels: a buffer of
-/// this length has room for the frame of each message of `source_len` bytes.
+/// Returns the length in bytes of the longest encoded frame that a message of `source_len` bytes can have. A buffer of
+/// this length has room for the frame of any message of `source_len` bytes. Sentinels aren't counted.
 ///
-/// Precondition: this length fits a `usize`. This is so for each `source_len` up to `isize::MAX`.
+/// Precondition: the length of the longest frame fits a `usize`. It does for every `source_len` up to `isize::MAX`.
 ///
 /// ```
 /// assert_eq!(rt; max_encoding_length(0), 1);

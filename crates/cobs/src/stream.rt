@@ -1,10 +1,10 @@
-//! Whole streams: one call decodes all pieces that end in the next bytes of a stream, and one call encodes several
-//! messages.
+//! Calls for whole streams: `decode_stream` decodes all pieces that end in the next bytes of a stream, and
+//! `encode_frames` encodes several messages.
 //!
-//! A stream is cut at its zeros. The bytes between two zeros are a piece, unless the zeros are adjacent. Each piece is
-//! decoded separately: a piece is a frame, breaks off inside a block, or decodes to more bytes than the buffer holds.
-//! So damage to one piece has no effect after the next zero. (The rule that a zero ends each frame is from Cheshire and
-//! Baker's paper; how broken and too long pieces are reported is a choice of this library.)
+//! A stream is cut at its zeros. The bytes between two neighbouring zeros are a piece, unless the zeros are adjacent.
+//! Each piece is decoded separately: a piece is a frame, breaks off inside a block, or decodes to more bytes than the
+//! buffer has room for. So damage to one piece has no effect after the next zero. (The rule that a zero ends each frame
+//! is from Cheshire and Baker's paper; how broken and too long pieces are reported is a choice of this library.)
 ghost use Rattle.std.specs.Prelude.{◌≡◌, ℕ, ◌+◌, ◌<◌, ◌≤◌, ◌^◌, List, [], ◌++◌, All, length, map, take, option_to_list, IfOk, IfSome, IsOk, IsSome, ◌↔◌, OnOk, OnErr, Contains};
 ghost use Rattle.cobs.specs.Feed.{DecoderAfter, PhaseAfter};
 ghost use Rattle.cobs.specs.Length.{max_encoded_len};
@@ -27,17 +27,17 @@ use std::alloc::{AllocError, Global};
 /// ```
 #[derive(Debug, PartialEq, Eq, Drop)]
 pub enum FrameOutcome {
-    /// The piece is a frame, and these are the bytes of its message.
+    /// The piece is a frame, and its message has these bytes.
     Message(Vec<u8>),
 
     /// The piece breaks off inside a block. The piece decodes to this many bytes, including those of the broken block.
     Broken(usize),
 
-    /// The piece decodes to more bytes than the decoder's buffer holds.
+    /// The piece decodes to more bytes than the decoder's buffer has room for.
     TooLong,
 }
 
-/// Converts the end of a piece, whose output is in `buffer`, to the piece's outcome.
+/// Converts `end`, the end of a piece whose output is in `buffer`, to the outcome of the piece.
 fn frame_outcome(alloc: Global, end: PieceEnd, buffer: &[u8]) -> Result<FrameOutcome, AllocError>
     requires { IsWithin (length buffer.now) end }
     ensures { IfOk result (λ outcome. outcome_in outcome ≡ outcome_at end buffer.now) }
@@ -51,17 +51,18 @@ fn frame_outcome(alloc: Global, end: PieceEnd, buffer: &[u8]) -> Result<FrameOut
 
 /// Decodes the next bytes of a stream, and returns one outcome for each piece that ends in these bytes, in order.
 ///
-/// The first piece may have begun in an earlier call. The next call continues a piece that hasn't ended, because the
-/// decoder keeps its state. So a stream may be cut anywhere, and each call gets the next bytes: the joined results of
-/// the calls are those of the whole stream. Leading and repeated zeros make no piece.
+/// The first of these pieces may have begun in an earlier call. A piece that hasn't ended is continued by the next
+/// call, because the decoder keeps its state. So a caller may cut a stream into chunks anywhere and decode one chunk
+/// per call: the outcomes of all calls, in order, are those of the whole stream. A zero at the front of a stream, or
+/// after another zero, ends no piece.
 ///
-/// If the caller wrote to the decoder's buffer while a piece was open, only the first outcome is affected, and only if
-/// it is a message: the bytes of this message are unspecified, but its length isn't affected.
+/// The caller may write to the decoder's buffer while a piece is open, but the bytes of this piece's message are then
+/// unspecified. The length of the message, and all other outcomes, aren't affected.
 ///
 /// # Errors
 /// `AllocError` if memory for an outcome runs out. Then the outcomes of this call are lost, and the decoder is idle, so
-/// the next nonzero byte begins a new piece. Only messages and the list of outcomes need memory: if no piece ends, the
-/// result is `Ok`.
+/// the next nonzero byte begins a new piece. Only messages and the list of outcomes need memory. So if no piece ends,
+/// the result is `Ok`.
 ///
 /// ```
 /// let mut buffer = [0; 4];
@@ -77,8 +78,8 @@ pub fn decode_stream<D: FrameDecoder>(
     decoder: &mut D,
     bytes: &[u8],
 ) -> Result<Vec<FrameOutcome>, AllocError>
-    // If the decoder has taken the front p of a piece, the outcomes are those of the stream that consists of p followed
-    // by `bytes`.
+    // If the decoder has been fed the front p of a piece, the outcomes are those of the stream that consists of p
+    // followed by `bytes`.
     ensures outcomes { (p : List ℕ) → DecoderAfter (D.bytes decoder.old) (D.phase decoder.old) p
         → IfOk result (λ found. outcomes_in found.items
         ≡ stream_outcomes (p ++ bytes.now) (length (D.bytes decoder.old))) }
@@ -89,8 +90,8 @@ pub fn decode_stream<D: FrameDecoder>(
         → PhaseAfter (length (D.bytes decoder.old)) (D.phase decoder.old) p
         → stream_outcomes (p ++ bytes.now) (length (D.bytes decoder.old)) ≡ [] → IsOk result }
 
-    // If the caller wrote to the buffer after the decoder took p, the outcomes are the same, except that the bytes of
-    // the first message may differ.
+    // If the caller wrote to the buffer while p was fed or later, the outcomes are the same, with one exception: if the
+    // first outcome is a message, the bytes of this message may differ.
     ensures alike { (p : List ℕ)
         → PhaseAfter (length (D.bytes decoder.old)) (D.phase decoder.old) p
         → IfOk result (λ found. AreAlikeAtFirst (outcomes_in found.items)
@@ -118,10 +119,11 @@ pub fn decode_stream<D: FrameDecoder>(
     Ok(outcomes)
 }
 
-/// Makes a stream of these messages: for each message, in order, its encoded frame and then a zero.
+/// Returns a stream of `messages` as a vector. The stream has, for each message in order, the encoded frame of the
+/// message and then a zero.
 ///
-/// An idle decoder whose buffer has room for each message decodes this stream to exactly these messages. If there are
-/// no messages, the stream is empty.
+/// An idle decoder whose buffer has room for each of these messages decodes the stream to exactly these messages. If
+/// there are no messages, the stream is empty.
 ///
 /// Precondition: [`encode_frames_room`] of the messages isn't `None`. Memory is allocated once, for as many bytes as
 /// [`encode_frames_room`] returns.
@@ -151,12 +153,12 @@ pub fn encode_frames(alloc: Global, messages: &[Vec<u8>]) -> Result<Vec<u8>, All
     Ok(frames)
 }
 
-/// Returns a number of bytes that is enough for the frames of the messages, with a zero after each frame. The number is
-/// a sum over all messages: [`max_encoding_length`](crate::max_encoding_length) of the message's length, plus 1.
-/// Returns `None` if the sum doesn't fit a `usize`.
+/// Returns a number of bytes that is enough for the frames of the messages, with a zero after each frame. For each
+/// message, the number includes [`max_encoding_length`](crate::max_encoding_length) of the message's length, plus 1 for
+/// the zero. Returns `None` if the number doesn't fit a `usize`.
 ///
-/// Call [`encode_frames`] only if this function returns `Some(n)`; `encode_frames` then allocates n bytes. This
-/// function allocates nothing.
+/// Call [`encode_frames`] only if this function returns `Some(n)`; `encode_frames` then allocates `n` bytes.
+/// `encode_frames_room` itself allocates nothing.
 ///
 /// ```
 /// let messages = [b"hi".to_vec(alloc)?, Vec::new(alloc)];

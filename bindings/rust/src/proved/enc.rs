@@ -28,13 +28,14 @@ pub use unbuffered::UnbufferedEncoder;
 ///
 /// The frame consists of blocks, as in Cheshire and Baker's paper. If the message ends in a run of nonzero bytes whose
 /// length is a positive multiple of 254, the message has two frames: the longer frame is the shorter frame followed by
-/// the byte `1`. This function writes the shorter frame. No byte of the frame is the
+/// the byte `1`. This function writes the shorter frame (a choice of this library). No byte of the frame is the
 /// sentinel 0, and no sentinel is written before or after the frame. The bytes of `dest` after the frame stay as they
 /// were.
 ///
 /// Precondition: the frame fits `dest`. [`max_encoding_length`](crate::max_encoding_length) returns a length of `dest`
-/// that is always enough. If the frame may not fit, call [`try_encode`], which tests whether it fits.
-// Inlined, so that a short message is encoded in the caller's code, without a call.
+/// that is always enough. If you don't know whether the frame fits, call [`try_encode`], which returns an error if the
+/// frame doesn't fit.
+// Inlined, so that a short message is encoded without a call.
 #[inline(always)]
 pub fn encode(source: &[u8], dest: &mut [u8]) -> usize {
     if !has_vectors() {
@@ -47,8 +48,8 @@ pub fn encode(source: &[u8], dest: &mut [u8]) -> usize {
     encode_long(source, dest)
 }
 
-/// Does what [`encode`] does, for a message of any length. This is a separate function, so that `encode` doesn't save
-/// registers for the loop when it encodes a short message.
+/// Encodes a message of any length as [`encode`] does. This function is separate from `encode`, so that `encode`
+/// doesn't save registers for the loop when it encodes a short message.
 #[inline(never)]
 fn encode_long(source: &[u8], dest: &mut [u8]) -> usize {
     if source.is_empty() {
@@ -58,7 +59,8 @@ fn encode_long(source: &[u8], dest: &mut [u8]) -> usize {
     close(dest, &encoder)
 }
 
-/// Does what [`encode`] does, if the frame fits `dest`.
+/// Writes the encoded frame of `source` to the front of `dest`, as [`encode`] does, if the frame fits `dest`. Returns
+/// the frame's length in bytes.
 ///
 /// # Errors
 /// `DestBufTooSmallError` exactly if the frame is longer than `dest`. Then no byte of `dest` has changed.
@@ -73,7 +75,7 @@ pub fn try_encode(source: &[u8], dest: &mut [u8]) -> Result<usize, DestBufTooSma
     try_encode_any(source, dest)
 }
 
-/// Does what [`try_encode`] does, for a message of any length.
+/// Encodes a message of any length as [`try_encode`] does.
 fn try_encode_any(source: &[u8], dest: &mut [u8]) -> Result<usize, DestBufTooSmallError> {
     // The frame of a message of up to 254 bytes is one byte longer than the message.
     if source.len() < dest.len().min(FULL_CODE) {
@@ -86,19 +88,20 @@ fn try_encode_any(source: &[u8], dest: &mut [u8]) -> Result<usize, DestBufTooSma
     Ok(close(dest, &encoder))
 }
 
-/// Encodes a message of up to 254 bytes for this sentinel. The caller ensures that the frame fits `dest`.
+/// Encodes a message of up to 254 bytes for `sentinel`, and returns the frame's length in bytes. The caller ensures
+/// that the frame fits `dest`.
 #[inline(always)]
 fn encode_block(source: &[u8], dest: &mut [u8], sentinel: u8) -> usize {
-    // The length that `encode` returns isn't used: the frame's length is computed from the message's length, which a
-    // compiler may know.
+    // The length that `encode` returns isn't used: the frame's length is computed from the message's length, which may
+    // be known to the compiler.
     let _len = encode(source, dest);
     let len = source.len() + 1;
     xor_bytes(&mut dest[..len], sentinel);
     len
 }
 
-/// Encodes a message of 1 to 4 bytes for this sentinel if its frame fits. If the message has another length, or its
-/// frame doesn't fit, the function returns `None` and changes nothing.
+/// Encodes a message of 1 to 4 bytes for `sentinel`, and returns the frame's length in bytes. If the message has
+/// another length, or if the frame doesn't fit `dest`, the function returns `None` and changes nothing.
 // There is a match arm for each length, so that compilers unroll the loops.
 #[inline(always)]
 fn encode_few(source: &[u8], dest: &mut [u8], sentinel: u8) -> Option<usize> {

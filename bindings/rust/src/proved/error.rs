@@ -1,7 +1,7 @@
 // Made by bindings/rust/translate.py from `crates/cobs/src/error.rt`: change that file, and run it again.
 //! Errors, and the sizes of a decoded message.
 
-/// The frame is longer than the slice that it should be written to.
+/// The error of an encoder: the frame is longer than the slice to which it should be written.
 ///
 /// ```
 /// use jcobs::DestBufTooSmallError;
@@ -24,7 +24,7 @@ impl core::fmt::Display for DestBufTooSmallError {
 
 impl core::error::Error for DestBufTooSmallError {}
 
-/// The reason why a frame is rejected. The names are those of the crate `cobs`.
+/// The reason why a frame is rejected. The names of the variants are those of the crate `cobs`.
 ///
 /// ```
 /// use jcobs::{DecodeError, decode};
@@ -42,12 +42,12 @@ pub enum DecodeError {
 
     /// The frame breaks off inside a block, or the source has only zeros.
     InvalidFrame {
-        /// How many bytes were decoded. The decoded bytes are at the front of the buffer, if the caller passed a
-        /// buffer.
+        /// How many bytes were decoded. If the output was written to a buffer of the caller or of a streaming decoder,
+        /// that buffer begins with the decoded bytes.
         decoded_bytes: usize,
     },
 
-    /// The frame decodes to more bytes than the buffer holds.
+    /// The frame decodes to more bytes than the buffer has room for.
     TargetBufTooSmall,
 }
 
@@ -68,8 +68,8 @@ impl core::error::Error for DecodeError {}
 
 /// The error of a `push` to a streaming decoder, with the number of bytes that were consumed.
 ///
-/// The decoder has consumed the first `parsed_size` bytes, and no others. To continue, the caller pushes the remaining
-/// bytes.
+/// The decoder has consumed the first `parsed_size` of the pushed bytes. To continue, the caller pushes the bytes that
+/// weren't consumed.
 ///
 /// ```
 /// use jcobs::{DecodeError, PushError, UnbufferedDecoder};
@@ -86,7 +86,7 @@ impl core::error::Error for DecodeError {}
 #[cfg_attr(feature = "serde", derive(serde::Serialize, serde::Deserialize))]
 #[cfg_attr(feature = "defmt", derive(defmt::Format))]
 pub struct PushError {
-    /// The error that the last consumed byte raised.
+    /// The error that [`feed`](crate::CobsDecoder::feed) returns for the last consumed byte.
     pub error: DecodeError,
 
     /// How many bytes were consumed, including the byte that raised the error.
@@ -103,8 +103,8 @@ impl core::fmt::Display for PushError {
 
 impl core::error::Error for PushError {}
 
-/// The sizes of a decoded message: how many bytes of the source were consumed, and how many bytes the message has. The
-/// names are those of the crate `cobs`.
+/// A report of a decoded message: how many bytes of the source were consumed, and how many bytes the message has. The
+/// names of its methods are those of the crate `cobs`.
 ///
 /// ```
 /// use jcobs::decode;

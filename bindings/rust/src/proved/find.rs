@@ -14,7 +14,7 @@ pub fn leading_zeros(source: &[u8]) -> usize {
     source.len()
 }
 
-/// Returns the index of the first byte of the source that equals `byte`, or the source's length if there is none.
+/// Returns the index of the first byte of the source that equals `byte`, or the source's length if no byte does.
 pub(crate) fn position_or_len(source: &[u8], byte: u8) -> usize {
     memchr(byte, source).unwrap_or(source.len())
 }
@@ -51,7 +51,7 @@ pub(crate) fn len_to(bytes: &[u8], byte: u8) -> usize {
     bytes.len()
 }
 
-/// Returns the index of the first zero of a source, or the source's length if there is none.
+/// Returns the index of the first zero of the source, or the source's length if there is no zero.
 #[inline(always)]
 pub(crate) fn zero_or_len(source: &[u8]) -> usize {
     if !has_vectors() {
@@ -63,7 +63,7 @@ pub(crate) fn zero_or_len(source: &[u8]) -> usize {
     }
 }
 
-/// Returns the length of the source. The last byte isn't counted if it is the sentinel.
+/// Returns the length of the source, not counting the last byte if this byte is the sentinel.
 #[inline(always)]
 pub(crate) fn len_without_end(source: &[u8], sentinel: u8) -> usize {
     let last = source.len() - 1;
@@ -74,7 +74,7 @@ pub(crate) fn len_without_end(source: &[u8], sentinel: u8) -> usize {
     }
 }
 
-/// Returns the index of the first zero if it is among the first 66 bytes, and otherwise the source's length.
+/// Returns the index of the first zero if this zero is among the first 66 bytes, and otherwise the source's length.
 #[inline(always)]
 pub(crate) fn front_len(source: &[u8]) -> usize {
     if source.len() < WINDOW {
@@ -90,7 +90,7 @@ pub(crate) fn front_len(source: &[u8]) -> usize {
     if later != 0 {
         return at + later.trailing_zeros() as usize;
     }
-    // After the frame of a message of 63 or 64 bytes, the zero is at index 64 or 65.
+    // The zero after the frame of a message of 63 or 64 bytes is at one of these two indices.
     if WIDE_WINDOW < source.len() && source[WIDE_WINDOW] == 0 {
         return WIDE_WINDOW;
     }

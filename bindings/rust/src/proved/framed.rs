@@ -2,11 +2,11 @@
 //! A reader of frames from any source of bytes.
 //!
 //! `FrameReader` reads chunks of up to 64 bytes from a `FrameSource`: a file, a socket, a serial port or any other
-//! source. Each call of `next_frame` returns the outcome of one piece, the end of the source, or a fault. The reader
-//! reads from the source only if no piece ends in the bytes that the reader has kept. No byte is lost: the bytes after
-//! the end of a piece are kept for the next call, and after a fault the decoder has taken all bytes that were read. No
-//! call of this module allocates. (The rule that a zero ends each piece is from Cheshire and Baker's paper; the rest of
-//! this module is a choice of this library.)
+//! source. Each call of `next_frame` returns the outcome of one piece (the bytes between two zeros), the end of the
+//! source, or a fault. The reader reads from the source only if no piece ends in the bytes that it kept from earlier
+//! reads. No byte is lost: the bytes after the end of a piece are kept for the next call, and before a fault is
+//! returned, all bytes that were read are fed to the decoder. No call of this module allocates. (The rule that a zero
+//! ends each piece is from Cheshire and Baker's paper; the rest of this module is this library's own.)
 
 use crate::proved::dec::{FrameDecoder, PieceEnd};
 #[cfg(feature = "std")]
@@ -35,12 +35,12 @@ pub enum Next {
     /// broken block. The decoded bytes are at the front of the decoder's buffer.
     Broken(usize),
 
-    /// A piece ended, and it decodes to more bytes than the decoder's buffer holds.
+    /// A piece ended, and it decodes to more bytes than the decoder's buffer has room for.
     TooLong,
 
     /// The source returned no more bytes, and no piece ended.
     End {
-        /// Whether a piece has begun, and no zero has ended it yet.
+        /// Whether a piece has begun and hasn't ended yet.
         unfinished: bool,
     },
 }
@@ -69,7 +69,7 @@ pub enum ReadFault {
     /// A read failed. An interrupted read counts as a failed read.
     Io,
 
-    /// The call made 65,536 reads, each of which returned bytes, and no piece ended.
+    /// The call made 65,536 reads. Each read returned bytes, but no piece ended.
     TooManyReads,
 }
 
@@ -89,10 +89,10 @@ pub enum ReadFault {
 /// # }
 /// ```
 pub trait FrameSource {
-    /// Reads once, into `chunk`.
+    /// Reads bytes of the stream into `chunk`, with one read.
     ///
-    /// Returns `Some(n)` if the read succeeded: the bytes that were read are then the first n bytes of `chunk`. At the
-    /// end of the source, n is 0. Returns `None` if the read failed.
+    /// Returns `Some(n)` if the read succeeded: the first `n` bytes of `chunk` are then the bytes that were read, and
+    /// `n` is 0 at the end of the source. Returns `None` if the read failed.
     ///
     /// ```
     /// # #[cfg(feature = "std")] {
@@ -107,7 +107,7 @@ pub trait FrameSource {
     fn read_some(&mut self, chunk: &mut [u8; 64]) -> Option<usize>;
 }
 
-/// A source of bytes that reads from any `Read`. Each call of `read_some` reads once, and each error of the `Read`
+/// A source that gets its bytes from any `Read`. Each call of `read_some` makes one read, and each error of the `Read`
 /// counts as a failed read.
 ///
 /// ```
@@ -127,7 +127,7 @@ pub struct Recorded<R> {
 
 #[cfg(feature = "std")]
 impl<R: Read> Recorded<R> {
-    /// Makes a source that reads from this reader.
+    /// Makes a source that reads from `reader`.
     ///
     /// ```
     /// # #[cfg(feature = "std")] {
@@ -142,7 +142,7 @@ impl<R: Read> Recorded<R> {
         Self { reader }
     }
 
-    /// Returns the reader, in its state after the reads so far.
+    /// Returns the reader that was passed to [`new`](Recorded::new), in its state after all reads so far.
     ///
     /// ```
     /// # #[cfg(feature = "std")] {
@@ -168,7 +168,7 @@ impl<R: Read> FrameSource for Recorded<R> {
     }
 }
 
-/// Converts a `PieceEnd` to `Next`.
+/// Converts a `PieceEnd` to the variant of `Next` with the same name.
 fn next_at(end: PieceEnd) -> Next {
     match end {
         PieceEnd::Message(n) => Next::Message(n),
@@ -186,10 +186,11 @@ fn is_unfinished(before: bool, bytes: &[u8]) -> bool {
     }
 }
 
-/// The greatest number of reads that one call of `next_frame` makes. So a call ends even if no piece ends.
+/// The greatest number of reads that one call of `next_frame` makes. Because of this limit, every call ends, even if no
+/// piece ends.
 const MOST_READS: usize = 65536;
 
-/// Reads a stream piece by piece, one piece for each call of `next_frame`, with a decoder of its own.
+/// Reads a stream with a decoder that the reader owns. Each call of `next_frame` reads one piece.
 ///
 /// The source isn't part of the reader: the caller passes a source to each call, so a stream may continue in another
 /// source.
@@ -208,20 +209,21 @@ const MOST_READS: usize = 65536;
 pub struct FrameReader<D: FrameDecoder> {
     decoder: D,
 
-    /// The bytes of an earlier read. The bytes at indices `start` to `end - 1` haven't been fed to the decoder yet.
+    /// The bytes of an earlier read. The bytes at the indices from `start` to `end - 1` haven't been fed to the decoder
+    /// yet.
     chunk: [u8; 64],
     start: usize,
     end: usize,
 
-    /// Whether a piece has begun in the bytes fed so far, and no zero has ended it yet.
+    /// Whether a piece has begun and hasn't ended yet, that is, whether the last byte that was fed isn't a zero.
     unfinished: bool,
 }
 
 impl<D: FrameDecoder> FrameReader<D> {
-    /// Makes a reader with this decoder. The reader has read nothing yet.
+    /// Makes a reader that decodes with `decoder`, and that has read nothing yet.
     ///
-    /// The decoder is idle, as it is when new, after a reset, and after each zero. Otherwise the first
-    /// outcome is that of the piece that it has begun.
+    /// The decoder should be idle. A decoder is idle when it is new, after each reset, and after each zero. If the decoder
+    /// isn't idle, the first outcome is that of the piece that it has begun.
     ///
     /// ```
     /// # #[cfg(feature = "std")] {
@@ -270,18 +272,20 @@ impl<D: FrameDecoder> FrameReader<D> {
         }
     }
 
-    /// Returns the outcome of the next piece of the stream once a zero has ended the piece, or `Next::End` if the
-    /// source ends first.
+    /// Decodes the stream up to the zero that ends the next piece, and returns the outcome of this piece. Returns
+    /// `Next::End` if the source ends before such a zero.
     ///
-    /// Bytes that earlier calls have kept are used first. The bytes after the zero that ends the piece are kept for the
-    /// next call. As long as no piece ends, the source is read, at most 65,536 times. Nothing is read after the end of
-    /// a piece, after a failed read, or after a read that returned no bytes. After `Next::End` the stream may continue,
-    /// in this source or in another one.
+    /// The call first uses the bytes that earlier calls have kept. Then it makes up to 65,536 reads from the source: it
+    /// stops after the read that contains the end of a piece, after a failed read, and after a read that returned no
+    /// bytes. The call keeps the bytes after the end of the piece for the next call. After `Next::End` the stream may
+    /// continue, in this source or in another one.
     ///
     /// # Errors
-    /// `Io` if the last read of this call failed, and `TooManyReads` if this call made 65,536 reads that all returned
-    /// bytes. In both cases no piece ended, the decoder has taken all bytes that were read, and the next call continues
-    /// after these bytes.
+    /// - `Io` if the last read of this call failed.
+    /// - `TooManyReads` if this call made 65,536 reads that all returned bytes.
+    ///
+    /// In both cases no piece ended in this call. All bytes that were read have been fed to the decoder, and the next
+    /// call continues after these bytes.
     ///
     /// ```
     /// # #[cfg(feature = "std")] {

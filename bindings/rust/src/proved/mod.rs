@@ -28,12 +28,12 @@ pub use framed::{FrameReader, FrameSource, Next, ReadFault};
 #[cfg(feature = "alloc")]
 pub use stream::{FrameOutcome, decode_stream};
 
-/// Returns the greatest overhead of the encoded frame of a message of `source_len` bytes. The overhead is the number of
-/// bytes by which the frame is longer than the message.
+/// Returns the greatest overhead, in bytes, of an encoded frame of a message of `source_len` bytes. The overhead of a
+/// frame is its length minus the length of its message.
 ///
-/// The greatest overhead is `source_len / 254` rounded up, and 1 for the empty message: each group of up to 254 nonzero
-/// bytes has a code of its own, and a frame has at least one code. A message without zeros reaches this overhead.
-/// Sentinels around the frame aren't counted. The bound is that of the paper by Cheshire and Baker.
+/// The greatest overhead is `source_len / 254`, rounded up, or 1 if the message is empty. A message without zeros has
+/// this overhead: its frame has one code for each group of up to 254 bytes, and at least one code. Sentinels before and
+/// after the frame aren't counted. The bound is that of the paper by Cheshire and Baker.
 pub const fn max_encoding_overhead(source_len: usize) -> usize {
     if source_len == 0 {
         return 1;
@@ -41,10 +41,10 @@ pub const fn max_encoding_overhead(source_len: usize) -> usize {
     source_len.div_ceil(254)
 }
 
-/// Returns the length of the longest encoded frame of a message of `source_len` bytes, without sentinels: a buffer of
-/// this length has room for the frame of each message of `source_len` bytes.
+/// Returns the length in bytes of the longest encoded frame that a message of `source_len` bytes can have. A buffer of
+/// this length has room for the frame of any message of `source_len` bytes. Sentinels aren't counted.
 ///
-/// Precondition: this length fits a `usize`. This is so for each `source_len` up to `isize::MAX`.
+/// Precondition: the length of the longest frame fits a `usize`. It does for every `source_len` up to `isize::MAX`.
 pub const fn max_encoding_length(source_len: usize) -> usize {
     source_len + max_encoding_overhead(source_len)
 }

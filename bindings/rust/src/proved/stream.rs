@@ -1,11 +1,11 @@
 // Made by bindings/rust/translate.py from `crates/cobs/src/stream.rt`: change that file, and run it again.
-//! Whole streams: one call decodes all pieces that end in the next bytes of a stream, and one call encodes several
-//! messages.
+//! Calls for whole streams: `decode_stream` decodes all pieces that end in the next bytes of a stream, and
+//! `encode_frames` encodes several messages.
 //!
-//! A stream is cut at its zeros. The bytes between two zeros are a piece, unless the zeros are adjacent. Each piece is
-//! decoded separately: a piece is a frame, breaks off inside a block, or decodes to more bytes than the buffer holds.
-//! So damage to one piece has no effect after the next zero. (The rule that a zero ends each frame is from Cheshire and
-//! Baker's paper; how broken and too long pieces are reported is a choice of this library.)
+//! A stream is cut at its zeros. The bytes between two neighbouring zeros are a piece, unless the zeros are adjacent.
+//! Each piece is decoded separately: a piece is a frame, breaks off inside a block, or decodes to more bytes than the
+//! buffer has room for. So damage to one piece has no effect after the next zero. (The rule that a zero ends each frame
+//! is from Cheshire and Baker's paper; how broken and too long pieces are reported is a choice of this library.)
 
 use crate::memory::AllocError;
 use crate::proved::dec::{FrameDecoder, PieceEnd};
@@ -30,17 +30,17 @@ use alloc::vec::Vec;
 #[cfg_attr(feature = "serde", derive(serde::Serialize, serde::Deserialize))]
 #[cfg_attr(feature = "defmt", derive(defmt::Format))]
 pub enum FrameOutcome {
-    /// The piece is a frame, and these are the bytes of its message.
+    /// The piece is a frame, and its message has these bytes.
     Message(Vec<u8>),
 
     /// The piece breaks off inside a block. The piece decodes to this many bytes, including those of the broken block.
     Broken(usize),
 
-    /// The piece decodes to more bytes than the decoder's buffer holds.
+    /// The piece decodes to more bytes than the decoder's buffer has room for.
     TooLong,
 }
 
-/// Converts the end of a piece, whose output is in `buffer`, to the piece's outcome.
+/// Converts `end`, the end of a piece whose output is in `buffer`, to the outcome of the piece.
 #[cfg(feature = "alloc")]
 fn frame_outcome(end: PieceEnd, buffer: &[u8]) -> Result<FrameOutcome, AllocError> {
     match end {
@@ -52,17 +52,18 @@ fn frame_outcome(end: PieceEnd, buffer: &[u8]) -> Result<FrameOutcome, AllocErro
 
 /// Decodes the next bytes of a stream, and returns one outcome for each piece that ends in these bytes, in order.
 ///
-/// The first piece may have begun in an earlier call. The next call continues a piece that hasn't ended, because the
-/// decoder keeps its state. So a stream may be cut anywhere, and each call gets the next bytes: the joined results of
-/// the calls are those of the whole stream. Leading and repeated zeros make no piece.
+/// The first of these pieces may have begun in an earlier call. A piece that hasn't ended is continued by the next
+/// call, because the decoder keeps its state. So a caller may cut a stream into chunks anywhere and decode one chunk
+/// per call: the outcomes of all calls, in order, are those of the whole stream. A zero at the front of a stream, or
+/// after another zero, ends no piece.
 ///
-/// If the caller wrote to the decoder's buffer while a piece was open, only the first outcome is affected, and only if
-/// it is a message: the bytes of this message are unspecified, but its length isn't affected.
+/// The caller may write to the decoder's buffer while a piece is open, but the bytes of this piece's message are then
+/// unspecified. The length of the message, and all other outcomes, aren't affected.
 ///
 /// # Errors
 /// `AllocError` if memory for an outcome runs out. Then the outcomes of this call are lost, and the decoder is idle, so
-/// the next nonzero byte begins a new piece. Only messages and the list of outcomes need memory: if no piece ends, the
-/// result is `Ok`.
+/// the next nonzero byte begins a new piece. Only messages and the list of outcomes need memory. So if no piece ends,
+/// the result is `Ok`.
 ///
 /// ```
 /// # #[cfg(feature = "alloc")] {

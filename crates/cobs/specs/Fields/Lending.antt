@@ -1,5 +1,5 @@
--- The words for a buffer that a decoder lends with `dest_mut`. They have a file of their own, because only `dest_mut`
--- and `write_dest` need them. They are in specs/, not in proofs/, because clauses cite them.
+-- The definitions for a buffer that a decoder lends to its caller with `dest_mut`. They have a file of their own,
+-- because only `dest_mut` and `write_dest` need them. They are in specs/, not in proofs/, because clauses cite them.
 use Rattle.std.specs.Prelude.{◌≡◌, length, ℕ, List, []}
 use Rattle.std.specs.List.{length_refill}
 use Rattle.std.proofs.Common.{refl, sym, ◌∙◌}
@@ -24,7 +24,7 @@ abbrev pub with_owned_buffer : CobsDecoderOwned → List ℕ → CobsDecoderOwne
 with_owned_buffer decoder bytes = record decoder { dest = with_items decoder.dest bytes }
 
 module _ {N : ℕ} where
-  -- if bytes are replaced, the vector stays full
+  -- if the bytes of the vector are replaced, the vector still has N bytes
   pub filled_again : (decoder : CobsDecoderHeapless N) (bytes : List ℕ) → length (refilled decoder.dest bytes).items ≡ N
   filled_again decoder bytes = sym (length_refill (length decoder.dest.items) decoder.dest.items bytes refl) ∙ decoder.filled
 
@@ -32,7 +32,8 @@ module _ {N : ℕ} where
   abbrev pub with_heapless_buffer : CobsDecoderHeapless N → List ℕ → CobsDecoderHeapless N
   with_heapless_buffer decoder bytes = record decoder { dest = refilled decoder.dest bytes; filled = filled_again decoder bytes }
 
--- when the loan ends, the lender has the bytes that the caller left in its buffer, and is otherwise as it was
+-- the lender lends its buffer: when the loan ends, the buffer has the bytes that the caller left in it, and the rest of
+-- the lender is as it was
 abbrev pub LendsBytes : (R : RattleType) → MutBor R.Denot → MutBor (List ℕ) → (R.Denot → List ℕ → R.Denot) → Fml
 LendsBytes R lender bytes with_bytes = Lends R (Array u8 0) lender bytes (with_bytes lender.now)
 
@@ -40,10 +41,10 @@ LendsBytes R lender bytes with_bytes = Lends R (Array u8 0) lender bytes (with_b
 abbrev pub LendsSlice : MutBor CobsDecoder → MutBor (List ℕ) → Fml
 LendsSlice decoder bytes = LendsBytes (borrowed_row (record { mir = named 1; lft = [] })) decoder bytes with_borrowed_buffer
 
--- for a `CobsDecoderOwned`
+-- `LendsBytes` for a `CobsDecoderOwned`
 abbrev pub LendsOwned : MutBor CobsDecoderOwned → MutBor (List ℕ) → Fml
 LendsOwned decoder bytes = LendsBytes owned_row decoder bytes with_owned_buffer
 
--- for a `CobsDecoderHeapless`
+-- `LendsBytes` for a `CobsDecoderHeapless`
 abbrev pub LendsHeapless : (N : RattleType) → MutBor (CobsDecoderHeapless (value_of N)) → MutBor (List ℕ) → Fml
 LendsHeapless N decoder bytes = LendsBytes (heapless_row N) decoder bytes with_heapless_buffer

@@ -1,4 +1,4 @@
--- The words with which contracts describe a `FrameReader` and a `Recorded`.
+-- The definitions with which contracts describe a `FrameReader` and a `Recorded`.
 use Rattle.std.specs.Prelude.{ℕ, List, slice_range}
 use Rattle.cobs.specs.Feed.{Phase}
 use Rattle.cobs.specs.NextFrame.{ReaderState}
@@ -10,11 +10,11 @@ module _ {D : Type 0} {g : _} where
   abbrev pub decoder_of : FrameReader D g → D
   decoder_of reader = reader.decoder
 
-  -- the bytes that a `FrameReader` has read and not yet fed to its decoder
+  -- the bytes that a `FrameReader` has read but not yet fed to its decoder
   abbrev pub kept_of : FrameReader D g → List ℕ
   kept_of reader = slice_range reader.chunk reader.start reader.end
 
-  -- the reader, described by the buffer and the phase of its decoder
+  -- the state of a `FrameReader`: the buffer and the phase of its decoder, and the bytes that it has kept
   abbrev pub reader_state : (D → List ℕ) → (D → Phase) → FrameReader D g → ReaderState
   reader_state bytes phase reader =
       record { buffer = bytes reader.decoder; phase = phase reader.decoder; kept = kept_of reader }

@@ -1,4 +1,4 @@
--- The sizes in a report of a decoded message.
+-- The two numbers in a report of a decoded message.
 use Rattle.std.specs.Prelude.{ℕ}
 use Rattle.cobs.specs.declared.error.DecodeReport.{DecodeReport}
 

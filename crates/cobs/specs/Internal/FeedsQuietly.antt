@@ -1,11 +1,10 @@
--- Feeding several bytes, none of which ends a piece or overflows the buffer, to the decoder on which the streaming
--- decoders are built.
+-- Several bytes are fed to an `UnbufferedDecoder`, and none of them ends a piece or overflows the buffer.
 use Rattle.std.specs.Prelude.{◌≡◌, List, [], ◌∷◌, ℕ, length, Ok, None}
 use Rattle.cobs.specs.Feed.{Phase}
 use Rattle.cobs.specs.Step.{next_result, next_buffer, next_phase}
 
--- the bytes are fed one after another, each returns `Ok(None)`, and they change buffer and phase to `buffer'` and
--- `phase'`
+-- the bytes are fed one after another, `feed` returns `Ok(None)` for each of them, and they change buffer and phase to
+-- `buffer'` and `phase'`
 abbrev pub FeedsQuietly : List ℕ → Phase → List ℕ → List ℕ → Phase → Type 0
 FeedsQuietly buffer phase [] buffer' phase' = (buffer' ≡ buffer) × (phase' ≡ phase)
 FeedsQuietly buffer phase (byte ∷ bytes) buffer' phase' =

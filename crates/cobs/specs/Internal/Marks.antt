@@ -1,12 +1,12 @@
--- A window of a source. The window was copied after the bytes of the open block, and its zeros are marked: a code is
--- written over each zero.
+-- A window of a source. The window was copied to the slice, after the bytes of the open block. Then a code is written
+-- over each zero of the window.
 use Rattle.std.specs.Prelude.{◌≡◌, ◌<◌, ◌≤◌, ℕ, ◌+◌, ◌-◌, min, false, List, ◌++◌, length, take, drop, replicate}
 use Rattle.cobs_bytes.specs.Mask.{lowest, zero_mask}
 use Rattle.cobs.specs.Internal.Reaches.{Reaches, Start, whole_end}
 
--- The window has the `len` bytes of the source from `read` on, and was copied to `next`. Its first d bytes are taken.
--- The mask says which of its other bytes are zeros, and so where the next codes belong. The code of the open block
--- belongs at `index`.
+-- The window consists of the `len` bytes of the source from index `read` on, and was copied to index `next` of the
+-- slice. Its first d bytes are encoded. The mask `zeros` says which of its other bytes are zeros; codes are written
+-- over these zeros later. The code of the open block belongs at `index`.
 pub record IsMaskedAt (start : Start) (read len next zeros index : ℕ) (slice : List ℕ) (d : ℕ) : Type 0 where
   pub seen : d ≤ len
   pub some : 0 < len
@@ -19,11 +19,12 @@ pub record IsMaskedAt (start : Start) (read len next zeros index : ℕ) (slice :
   pub short : next + min (lowest zeros) len < index + 255
   pub reaches : Reaches start slice (read + d) index (next + d) (λ full. 0 < d → full ≡ false)
 
--- the bytes up to and including the last zero that was replaced are taken; the open block begins at that zero
+-- the bytes of the window up to and including the last zero that a code has replaced are encoded; the open block begins
+-- at the place of that zero
 abbrev pub IsMasked : Start → ℕ → ℕ → ℕ → ℕ → ℕ → List ℕ → Type 0
 IsMasked start read len next zeros index slice = IsMaskedAt start read len next zeros index slice (index + 1 - next)
 
--- the mask describes some window that was copied to `next`
+-- the mask `zeros` describes some window that was copied to index `next` of the slice
 abbrev pub IsMask : ℕ → ℕ → ℕ → List ℕ → Type 0
 IsMask next zeros index slice = (start : Start) × (read : ℕ) × (len : ℕ) × IsMasked start read len next zeros index slice
 

@@ -1,18 +1,19 @@
--- The result of a step of the encoder for the front of a source.
+-- The effect of a step of the encoder that encodes the front of a source.
 use Rattle.std.specs.Prelude.{◌≡◌, ◌<◌, ◌≤◌, ℕ, List, ◌++◌, length, take, drop, slice_index}
 use Rattle.cobs.specs.Grammar.{HasNoZero}
 use Rattle.cobs.specs.OpenBlock.{Reached, CobsEncoderAfter, IsPlaceIn, end_after}
 
--- A step took the first n bytes of a source, and changed the slice and the progress of the frame to `slice'` and
--- `reached'`. The frame of the whole source still ends at the same index, and the bytes of the slice after that index
--- are as they were.
+-- A step has encoded the first n bytes of a source, and has changed the slice and the progress of the frame to `slice'`
+-- and `reached'`. After the whole source is encoded, the frame ends at the same index as before the step, and the bytes
+-- of the slice after that index are as they were.
 pub record TakesFront (slice : List ℕ) (reached : Reached) (source : List ℕ) (n : ℕ) (slice' : List ℕ) (reached' : Reached) : Type 0 where
   pub place : IsPlaceIn (length slice') reached'
   pub after : (m : List ℕ) → CobsEncoderAfter slice reached m → CobsEncoderAfter slice' reached' (m ++ take n source)
   pub end : end_after reached' (drop n source) ≡ end_after reached source
   pub rest : drop (end_after reached source) slice' ≡ drop (end_after reached source) slice
 
--- the source begins with a run of this many bytes: a zero or the end of the source follows them
+-- the source begins with a run of this many bytes: these bytes aren't zeros, and a zero or the end of the source
+-- follows them
 pub record IsFirstRun (run : ℕ) (source : List ℕ) : Type 0 where
   pub within : run ≤ length source
   pub nonzero : HasNoZero (take run source)

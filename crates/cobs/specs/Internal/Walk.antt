@@ -1,8 +1,9 @@
--- Bytes after the front of a block, read from code to code.
+-- The bytes after the front of a block, read from each code to the next code.
 use Rattle.std.specs.Prelude.{List, [], ◌∷◌, ℕ, zero, suc, ◌-◌}
 
--- These bytes follow the front of a block that has this code and of which n bytes are missing. `walked` is the bytes
--- with a zero in place of each code, the last code, and how many bytes of the last code's block are missing at the end.
+-- The given bytes follow the front of a block that has this code, and of which n bytes are missing. `walked` has three
+-- parts: the bytes with a zero in place of each code, the last code, and how many bytes of the last code's block are
+-- missing after the bytes.
 abbrev pub walked : ℕ → ℕ → List ℕ → List ℕ × ℕ × ℕ
 walked code n [] = ([], code, n)
 walked code (suc n) (byte ∷ bytes) = let w = walked code n bytes in (byte ∷ w.0, w.1, w.2)

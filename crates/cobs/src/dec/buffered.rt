@@ -16,8 +16,8 @@ use std::alloc::{AllocError, Global};
 
 /// Decodes a stream of frames, each ended by a zero, into a slice that the decoder borrows.
 ///
-/// `feed` takes one byte of the stream, and `push` takes any number of bytes. When a frame ends, its message is at the
-/// front of the slice, and stays there until the decoder takes the next nonzero byte. A piece of the stream is the
+/// `feed` decodes one byte of the stream, and `push` decodes any number of bytes. When a frame ends, its message is at
+/// the front of the slice, and stays there until the next nonzero byte is fed. A piece of the stream consists of the
 /// bytes between two zeros. The outcome of a piece depends only on the bytes of the piece and on the length of the
 /// slice: the decoder is idle after every zero, so a broken frame never affects another frame. The rule that a zero
 /// ends each frame is from Cheshire and Baker's paper.
@@ -57,7 +57,7 @@ impl<'a> CobsDecoder<'a> {
         }
     }
 
-    /// Takes the next byte of the stream.
+    /// Decodes the next byte of the stream.
     ///
     /// - `Ok(None)`: the byte didn't end a piece, and the slice begins with the output of the piece so far.
     /// - `Ok(Some(n))`: the byte was the zero after a whole frame, and the message is the slice's first `n` bytes.
@@ -67,9 +67,9 @@ impl<'a> CobsDecoder<'a> {
     /// # Errors
     /// - `InvalidFrame`: the byte was a zero inside a block. `decoded_bytes` is the length of the piece's output, which
     ///   is at the front of the slice.
-    /// - `TargetBufTooSmall`: the output of the piece is longer than the slice, and the slice holds the first bytes of
-    ///   the output. `feed` returns this error for the first byte whose output doesn't fit, and for each byte after
-    ///   that, up to and including the zero that ends the piece.
+    /// - `TargetBufTooSmall`: the output of the piece is longer than the slice, and the slice is filled with the first
+    ///   bytes of the output. `feed` returns this error for the first byte whose output doesn't fit, and for each byte
+    ///   after that, up to and including the zero that ends the piece.
     ///
     /// After every zero the decoder is idle. (The results for the bytes after an overflow are a choice of this
     /// library.)
@@ -92,18 +92,18 @@ impl<'a> CobsDecoder<'a> {
         self.inner.feed(self.dest, byte)
     }
 
-    /// Takes the next bytes of the stream, and stops after the first byte for which `feed` doesn't return `Ok(None)`.
+    /// Decodes the next bytes of the stream, and stops after the first byte for which `feed` doesn't return `Ok(None)`.
     ///
-    /// - `Ok(None)`: all bytes were taken, and no piece has ended in them.
+    /// - `Ok(None)`: all bytes were decoded, and no piece ended in them.
     /// - `Ok(Some(report))`: a whole frame has ended. `frame_size` is the length of the frame's message, which is at
-    ///   the front of the slice. `parsed_size` is the number of bytes taken, including the zero after the frame. The
-    ///   bytes after the first `parsed_size` bytes had no effect: push them next.
+    ///   the front of the slice. `parsed_size` is the number of bytes consumed, including the zero after the frame. The
+    ///   other bytes had no effect: push them next.
     ///
     /// # Errors
-    /// A `PushError` has the error of `feed` and the number of bytes taken, including the byte that raised the error.
-    /// To continue with the stream, push the bytes that weren't taken. If a zero raised the error, the piece before
-    /// this zero has ended. If a piece is too long for the slice, each push takes one more byte of the piece and
-    /// returns the error again, until a push takes the zero that ends the piece.
+    /// A `PushError` contains the error of `feed` and the number of bytes consumed, including the byte that raised the
+    /// error. To continue with the stream, push the bytes that weren't consumed. If a zero raised the error, the piece
+    /// before this zero has ended. If a piece is too long for the slice, each push consumes one more byte of the piece
+    /// and returns the error again, until a push consumes the zero that ends the piece.
     ///
     /// ```
     /// let mut buffer = [0; 2];
@@ -142,10 +142,11 @@ impl<'a> CobsDecoder<'a> {
 
     /// Returns the whole slice, for writing.
     ///
-    /// Writing in the middle of a piece doesn't change the results for this piece, but the bytes of its message are
-    /// then unspecified. A proof about a caller of `dest_mut` can use the bytes of the slice while the returned
-    /// reference is in use, but not the decoder's state after the write. If the caller writes with
-    /// [`write_dest`](crate::WriteBuffer::write_dest) instead, the proof can use that state too.
+    /// If the caller writes while a piece is open, the results for this piece stay the same, but the bytes of its
+    /// message are unspecified. A piece is open from its first byte to the zero that ends it. A proof about a caller of
+    /// `dest_mut` knows the bytes of the slice while the returned reference is in use, but not the decoder's state
+    /// after the write. If the caller writes with [`write_dest`](crate::WriteBuffer::write_dest) instead, the proof
+    /// also knows that state.
     ///
     /// ```
     /// let mut buffer = [7; 2];
@@ -200,7 +201,7 @@ impl WriteBuffer for CobsDecoder<'_> {
     ghost loan_stays = { λ _ _. refl };
 }
 
-/// Decodes a stream of frames, each ended by a zero, into a buffer of its own.
+/// Decodes a stream of frames, each ended by a zero, into a vector that the decoder owns.
 ///
 /// This decoder returns the same results as [`CobsDecoder`](crate::CobsDecoder). Memory is allocated once, by `new`,
 /// and the buffer keeps its length. The rule that a zero ends each frame is from Cheshire and Baker's paper; the calls
@@ -239,7 +240,7 @@ impl CobsDecoderOwned {
         })
     }
 
-    /// Takes the next byte of the stream, with the results and errors of
+    /// Decodes the next byte of the stream. The results and errors are those of
     /// [`CobsDecoder::feed`](crate::CobsDecoder::feed).
     ///
     /// ```
@@ -257,7 +258,7 @@ impl CobsDecoderOwned {
         self.inner.feed(&mut self.dest, byte)
     }
 
-    /// Takes the next bytes of the stream, and stops after the first byte for which `feed` doesn't return `Ok(None)`.
+    /// Decodes the next bytes of the stream, and stops after the first byte for which `feed` doesn't return `Ok(None)`.
     /// The results and errors are those of [`CobsDecoder::push`](crate::CobsDecoder::push).
     ///
     /// ```

@@ -19,13 +19,13 @@ use crate::find::{len_without_end, position_or_len};
 use cobs_bytes::window::{WIDE_WINDOW, has_vectors};
 use std::alloc::Global;
 
-/// Decodes a source that contains no sentinel, and returns the message's length.
+/// Decodes a source that contains no sentinel, and returns the message's length in bytes.
 fn decode_blocks(source: &[u8], dest: &mut [u8], sentinel: u8) -> Result<usize, DecodeError>
     requires { HasNoZero (xor_each sentinel source.now) }
     ensures returned { result ≡ head_result_within (xor_each sentinel source.now) (length dest.old) }
     ensures buffer { dest.new ≡ overwritten dest.old (kept_output (xor_each sentinel source.now)) }
 {
-    // A block has at most 255 bytes, so a block that begins before the last 254 bytes is whole.
+    // A block has at most 255 bytes, so a block that begins before the last 254 bytes of the source is whole.
     let tail = source.len().saturating_sub(FULL_BLOCK_BYTES);
     let mut progress = START;
     if progress.take_blocks(dest, &source[..tail], sentinel) < tail {
@@ -38,10 +38,10 @@ fn decode_blocks(source: &[u8], dest: &mut [u8], sentinel: u8) -> Result<usize, 
     message_len(progress.written, whole)
 }
 
-/// Decodes the frame at the front of the source, for any sentinel, and returns the message's length.
+/// Decodes the frame at the front of the source, for any sentinel, and returns the message's length in bytes.
 ///
 /// The frame ends at the source's first sentinel, or at the end of the source. Each byte of the frame is XORed with the
-/// sentinel before it is decoded. The message is then at the front of `dest`, and every byte of `dest` after the
+/// sentinel before it is decoded. After the call `dest` begins with the message, and every byte of `dest` after the
 /// message is as it was. Unlike [`decode`](crate::decode), this function reads a leading sentinel as an empty message,
 /// and returns 0.
 ///
@@ -49,13 +49,13 @@ fn decode_blocks(source: &[u8], dest: &mut [u8], sentinel: u8) -> Result<usize, 
 ///
 /// - `EmptyFrame` if the source is empty; `dest` is as it was.
 /// - `TargetBufTooSmall` if the message is longer than `dest`, or if the frame breaks off and the output of its whole
-///   blocks is longer than `dest`. `dest` then holds the first bytes of that message or output.
+///   blocks is longer than `dest`. In both cases `dest` is then filled with the first bytes of that message or output.
 /// - `InvalidFrame` if the frame breaks off inside a block and the output of its whole blocks fits `dest`. Then `dest`
 ///   begins with that output, `decoded_bytes` is the length of the output, and every byte of `dest` after the output is
 ///   as it was. If the block before the broken block isn't full, the output ends with the zero that joins the two
 ///   blocks.
 ///
-/// Frames for a sentinel other than 0 are from Cheshire and Baker's paper; the results for broken frames are a choice
+/// Cheshire and Baker's paper describes frames for a sentinel other than 0; the results for broken frames are a choice
 /// of this library.
 ///
 /// ```
@@ -94,15 +94,16 @@ pub fn decode_with_sentinel(
     decode_blocks(&source[..end], dest, sentinel)
 }
 
-/// Returns the message of the first frame of the source, as a vector of exactly the message's bytes.
+/// Returns the message of the first frame of the source, as a vector that contains only the message.
 ///
 /// This function finds and reads the frame as [`decode`] does. Memory is allocated once, for as many bytes as the
-/// source has, so a message always fits and `TargetBufTooSmall` is never returned.
+/// source has, so a message always fits, and `TargetBufTooSmall` is never returned.
 ///
 /// # Errors
 ///
-/// `Decode(EmptyFrame)` if the source is empty; nothing is allocated then. `Memory` if memory runs out. `Decode` with
-/// the error of [`decode`] if the source can't be decoded.
+/// - `Decode(EmptyFrame)` if the source is empty. Then no memory is allocated.
+/// - `Memory` if memory runs out.
+/// - `Decode` with the error of [`decode`] if [`decode`] returns an error for the source.
 ///
 /// ```
 /// let message = decode_vec(alloc, b"\x06hello\0")?;
@@ -127,12 +128,16 @@ pub fn decode_vec(alloc: Global, source: &[u8]) -> Result<Vec<u8>, DecodeVecErro
     Ok(message)
 }
 
-/// Returns the message of the frame at the front of the source, for any sentinel, as a vector of exactly the message's
-/// bytes.
+/// Returns the message of the frame at the front of the source, for any sentinel, as a vector that contains only the
+/// message.
 ///
 /// This function reads the frame as [`decode_with_sentinel`] does, up to the first sentinel or the source's end. If the
-/// source begins with a sentinel, the function returns an empty vector. Memory is allocated as in [`decode_vec`]. The
-/// errors are also those of [`decode_vec`], except that `Decode` has the error of [`decode_with_sentinel`].
+/// source begins with a sentinel, the function returns an empty vector. Memory is allocated once, for as many bytes as
+/// the source has.
+///
+/// # Errors
+///
+/// The errors are those of [`decode_vec`], except that `Decode` contains the error of [`decode_with_sentinel`].
 ///
 /// ```
 /// let message = decode_vec_with_sentinel(alloc, &[252, 245, 244, 253, 243], 255)?;

@@ -1,5 +1,5 @@
-//! The traits of the streaming decoders: one for decoding, which `stream` and `framed` use, and one for writing to the
-//! buffer.
+//! The traits of the streaming decoders: `FrameDecoder` for decoding, which `stream` and `framed` use, and
+//! `WriteBuffer` for writing to the decoder's buffer.
 ghost use Rattle.std.specs.Prelude.{◌≡◌, ◌≤◌, ℕ, List, length, ◌+◌};
 ghost use Rattle.cobs.specs.Feed.{Feeds, Phase};
 ghost use Rattle.cobs.specs.FeedPiece.{end_reported, TakesPiece};
@@ -10,7 +10,7 @@ ghost use Rattle.cobs.specs.Fields.Lending.{LendsBytes};
 
 use crate::error::DecodeError;
 
-/// How a piece of a stream ended. (The names are this library's own.)
+/// How a piece of a stream ended. (The names of the variants are this library's own.)
 ///
 /// ```
 /// let mut decoder = CobsDecoderHeapless::<1>::new();
@@ -25,13 +25,13 @@ pub enum PieceEnd {
     /// The piece breaks off inside a block. The piece decodes to this many bytes, including those of the broken block.
     Broken(usize),
 
-    /// The piece decodes to more bytes than the decoder's buffer holds.
+    /// The piece decodes to more bytes than the decoder's buffer has room for.
     TooLong,
 }
 
 impl PieceEnd {
-    /// Returns how a piece ended, given the result of `feed` for the zero that ended the piece. Returns `None` if no
-    /// piece had begun.
+    /// Converts `returned`, the result of `feed` for a zero, to the end of the piece that this zero ended. Returns
+    /// `None` if no piece had begun.
     ///
     /// ```
     /// let mut decoder = UnbufferedDecoder::new();
@@ -55,9 +55,11 @@ impl PieceEnd {
     }
 }
 
-/// A decoder that takes a stream byte by byte or piece by piece, and owns or borrows the buffer for its output.
+/// A decoder that decodes a stream byte by byte or piece by piece. The decoder owns or borrows the buffer for its
+/// output.
 ///
-/// Contracts describe a decoder by the bytes of its buffer and by its phase. (The trait is this library's own.)
+/// Contracts describe a decoder by the bytes of its buffer and by its phase, that is, the facts that the decoder keeps
+/// about the piece so far. (The trait is this library's own.)
 ///
 /// ```
 /// let mut decoder = CobsDecoderHeapless::<4>::new();
@@ -74,7 +76,7 @@ pub trait FrameDecoder {
     /// A number that identifies the slice that the decoder borrows as its buffer, if it borrows one.
     ghost loan: { Self → ℕ };
 
-    /// Takes the next byte of the stream, with the results and errors of
+    /// Decodes the next byte of the stream. The results and errors are those of
     /// [`CobsDecoder::feed`](crate::CobsDecoder::feed).
     ///
     /// ```
@@ -87,16 +89,17 @@ pub trait FrameDecoder {
         ensures by_table { FeedsByTable (length (bytes self.old)) (phase self.old) byte result (phase self.new) }
         ensures same_loan { loan self.new ≡ loan self.old };
 
-    /// Takes the next bytes of the stream, and stops after the first zero that ends a piece.
+    /// Decodes the next bytes of the stream, and stops after the first zero that ends a piece.
     ///
-    /// Returns `None` if no piece ended in these bytes; the decoder has then taken all of them. Returns `Some((end,
-    /// count))` if the zero at index `count - 1` ended a piece; `end` says how the piece ended. The bytes after that
-    /// zero had no effect. The bytes of the buffer after the piece's output are as they were. A piece that is too long
-    /// for the buffer also ends at its zero, so the caller continues with the bytes from index `count` on, as after
-    /// every other piece.
+    /// - Returns `None` if no piece ended in these bytes. Then all of them were decoded.
+    /// - Returns `Some((end, count))` if the zero at index `count - 1` ended a piece; `end` says how the piece ended.
+    ///   The bytes after that zero had no effect, so the caller continues with the byte at index `count`, even if the
+    ///   piece is too long for the buffer.
     ///
-    /// An implementation doesn't have to define this method: the provided method feeds one byte after another. On
-    /// targets with SIMD vectors, the decoders of this library copy many bytes at once instead.
+    /// The bytes of the buffer after the piece's output are as they were.
+    ///
+    /// An implementation doesn't have to define this method: the provided method feeds one byte after another. The
+    /// decoders of this library define it: on targets with SIMD vectors they copy many bytes in one step.
     ///
     /// ```
     /// let mut decoder = CobsDecoderHeapless::<1>::new();
@@ -132,8 +135,8 @@ pub trait FrameDecoder {
 /// A decoder that lends its buffer for writing.
 ///
 /// Writing replaces the bytes of the buffer. The decoder's state stays the same, and the buffer stays the same slice.
-/// So a write in the middle of a piece doesn't change the results for this piece (`PhaseAfter`), but the bytes of its
-/// message are then unspecified.
+/// So if the caller writes while a piece is open, the results for this piece stay the same (`PhaseAfter`), but the
+/// bytes of its message are unspecified. A piece is open from its first byte to the zero that ends it.
 ///
 /// Each decoder of this library that implements this trait also has an inherent method `dest_mut`. A `CobsDecoder`
 /// borrows its slice, so a proof about a caller of `CobsDecoder::dest_mut` can use only the bytes of the slice, and
@@ -154,7 +157,7 @@ pub trait WriteBuffer: FrameDecoder {
     /// The same decoder, except that its buffer has these bytes.
     ghost with_bytes: { Self → List ℕ → Self };
 
-    /// Returns the whole buffer, for writing. The buffer then keeps the bytes that the caller writes.
+    /// Returns the whole buffer, for writing. The buffer keeps the bytes that the caller writes to it.
     ///
     /// ```
     /// let mut decoder = CobsDecoderHeapless::<2>::new();

@@ -49,8 +49,8 @@ impl<const N: usize> CobsDecoderHeapless<N> {
         CobsDecoderHeapless::new_with_vec(ArrayVec::new())
     }
 
-    /// Makes an idle decoder whose buffer is the vector `vec`. The vector keeps its bytes, and zeros are appended up to
-    /// its capacity of `N` bytes.
+    /// Makes an idle decoder whose buffer is the vector `vec`. The vector keeps its bytes, and zeros are appended until
+    /// it is full with `N` bytes.
     ///
     /// ```
     /// let mut vec = ArrayVec::<u8, 3>::new();
@@ -73,7 +73,7 @@ impl<const N: usize> CobsDecoderHeapless<N> {
         }
     }
 
-    /// Takes the next byte of the stream, with the results and errors of
+    /// Decodes the next byte of the stream. The results and errors are those of
     /// [`CobsDecoder::feed`](crate::CobsDecoder::feed).
     ///
     /// ```
@@ -92,7 +92,7 @@ impl<const N: usize> CobsDecoderHeapless<N> {
         self.inner.feed(self.dest.as_mut_slice(), byte)
     }
 
-    /// Takes the next bytes of the stream, and stops after the first byte for which `feed` doesn't return `Ok(None)`.
+    /// Decodes the next bytes of the stream, and stops after the first byte for which `feed` doesn't return `Ok(None)`.
     /// The results and errors are those of [`CobsDecoder::push`](crate::CobsDecoder::push).
     ///
     /// ```
@@ -132,7 +132,7 @@ impl<const N: usize> CobsDecoderHeapless<N> {
         self.inner = UnbufferedDecoder::new();
     }
 
-    /// Returns the whole buffer, `N` bytes.
+    /// Returns the whole buffer, which has `N` bytes.
     ///
     /// ```
     /// assert_eq!(rt; CobsDecoderHeapless::<3>::new().dest().len(), 3);

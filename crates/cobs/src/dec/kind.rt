@@ -5,8 +5,8 @@ ghost use Rattle.cobs.specs.Grammar.{HasNoZero, IsCanonical, IsFrame};
 use crate::block::FULL_CODE;
 use crate::find::zero_or_len;
 
-/// Whether some bytes are a frame, and if so, whether encoders write this frame for its message. (The names are this
-/// library's own.)
+/// Whether some bytes are a frame, and if so, whether encoders write this frame for its message. (The names of the
+/// variants are this library's own.)
 ///
 /// ```
 /// assert_eq!(rt; frame_kind(&[]), FrameKind::NotAFrame);
@@ -21,16 +21,16 @@ pub enum FrameKind {
     Canonical,
 
     /// The bytes are the longer frame of a message: the frame that encoders write for this message, followed by the
-    /// lone block 01. Only a message whose last run of nonzero bytes has a positive length divisible by 254 has a
-    /// longer frame.
+    /// byte 01, a block that has only its code. Only a message whose last run of nonzero bytes has a positive length
+    /// divisible by 254 has a longer frame.
     Longer,
 }
 
 /// Returns whether the bytes are a frame, and whether encoders write this frame for its message.
 ///
-/// `bytes` are the bytes between two sentinels. A frame is the longer frame of its message if and only if its last two
-/// blocks are a full block and the lone block 01. Decoders return the same message for both frames. Nothing is
-/// allocated.
+/// `bytes` are the bytes between two sentinels. If a message has two frames, the longer frame is the one whose last two
+/// blocks are a full block, with the code 255, and the block 01. Decoders return the same message for both frames. The
+/// function allocates nothing.
 ///
 /// A frame is defined by its blocks, as in Cheshire and Baker's paper. If a message has two frames, the shorter frame
 /// is canonical (a choice of this library): all `encode` functions of this library write the shorter frame.
@@ -55,8 +55,8 @@ pub fn frame_kind(bytes: &[u8]) -> FrameKind
     kind_by_blocks(bytes)
 }
 
-/// Returns the kind of a frame, as [`frame_kind`] does. This function goes from one code to the next, and doesn't
-/// search the bytes for a zero. (A choice of this library.)
+/// Returns whether the bytes are a frame, and which kind of frame, as [`frame_kind`] does. This function reads only the
+/// code of each block, and doesn't search the other bytes for a zero. (This function is this library's own.)
 ///
 /// Precondition: no byte is a zero.
 ///

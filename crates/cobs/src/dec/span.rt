@@ -1,4 +1,5 @@
-//! Walks from code to code: over bytes that were copied, and over the last bytes of a piece.
+//! Functions that go from each code of a piece to the next code: in bytes that were copied, and in the last bytes of a
+//! piece.
 ghost use Rattle.std.specs.Prelude.{◌≡◌, ◌+◌, ◌-◌, ◌<◌, ◌≤◌, ◌∷◌, ◌++◌, ◌↔◌, length, take, drop, false, IsTrue, IfSome, IsSome, List, None, Ok, Err, ℕ};
 ghost use Rattle.cobs.specs.Grammar.{HasNoZero};
 ghost use Rattle.cobs.specs.Internal.Walk.{walked};
@@ -10,9 +11,9 @@ use crate::error::DecodeError;
 use cobs_bytes::lanes::copy_xored_short;
 use cobs_bytes::window::{WIDE_WINDOW, WINDOW, is_all};
 
-/// Writes a zero over each code in `dest`. The bytes of `dest` are those that follow the code `first`. The caller
-/// ensures that no code in `dest` follows a full block, since the output has no zero after a full block. Returns the
-/// code of the last block, and how many bytes of this block are missing.
+/// Writes a zero over each code in `dest`. `dest` contains the bytes of a piece that follow the code `first`. The
+/// caller ensures that no code in `dest` follows a full block, since the output has no zero after a full block. Returns
+/// the code of the last block, and how many bytes of this block are missing.
 // Compilers turn this recursion into a loop that advances the address of the remaining bytes. A loop over an index
 // would add the index to an address before each load. Since the load of each code waits for the preceding code, this
 // addition would cost a cycle per code.
@@ -30,8 +31,9 @@ pub(crate) fn write_zeros_at_codes(dest: &mut [u8], first: usize) -> (u8, u8)
     write_zeros_at_codes(&mut dest[first..], code as usize)
 }
 
-/// Does what [`write_zeros_at_codes`] does for bytes that were copied to `dest`, each XORed with the sentinel. The
-/// codes are read from `copied`, because a load from `dest` would have to wait until the copy is stored.
+/// Writes a zero over each code in `dest`, as [`write_zeros_at_codes`] does. `dest` contains the bytes of `copied`,
+/// each XORed with `sentinel`. The codes are read from `copied`, because a load from `dest` would have to wait until
+/// the copy is stored.
 #[inline(always)]
 pub(crate) fn write_zeros_at_copied(
     dest: &mut [u8],
@@ -58,7 +60,7 @@ pub(crate) fn write_zeros_at_copied(
     )
 }
 
-/// Decodes a source of 2 to 65 bytes for a sentinel, and returns how many bytes of its last block are missing. The
+/// Decodes a source of 2 to 65 bytes for `sentinel`, and returns how many bytes of its last block are missing. The
 /// bytes of `dest` after the output are unchanged. Returns `None` and changes nothing if the source has another length,
 /// if one of its bytes is the sentinel, or if `dest` is shorter than the output. The output has one byte fewer than the
 /// source.
@@ -88,10 +90,10 @@ pub(crate) fn decode_span(source: &[u8], dest: &mut [u8], sentinel: u8) -> Optio
     Some(left)
 }
 
-/// Returns how many of `bytes`, the last bytes of a piece, have to be decoded, and whether the piece is whole. A whole
-/// piece is decoded to its end. A broken piece is decoded up to and including the code of its last block, because the
-/// output of that block's other bytes isn't kept. The first `left` bytes belong to a block that began before `bytes`.
-/// Each byte of `bytes` is XORed with the sentinel before it is read.
+/// Returns how many of `bytes` have to be decoded, and whether the piece is whole; `bytes` are the last bytes of a
+/// piece. A whole piece is decoded to its end. A broken piece is decoded up to and including the code of its last
+/// block, because the output doesn't include the other bytes of that block. The first `left` bytes belong to a block
+/// that began before `bytes`. Each byte of `bytes` is XORed with the sentinel before it is read.
 pub(crate) fn kept_len(bytes: &[u8], left: usize, sentinel: u8) -> (usize, bool)
     requires left { left ≤ length bytes.now }
     requires nonzero { HasNoZero (xor_each sentinel bytes.now) }
@@ -109,8 +111,8 @@ pub(crate) fn kept_len(bytes: &[u8], left: usize, sentinel: u8) -> (usize, bool)
         if rest < code {
             return (at + 1, false);
         }
-        // A row of 32 blocks 01 is skipped at once. A walk from code to code would be slower: each load would wait for
-        // the preceding load.
+        // A row of 32 blocks 01 is skipped in one step. It would be slower to go from code to code, because each load
+        // would wait for the preceding load.
         if code == 1 && WINDOW <= rest && is_all(bytes, at, 1 ^ sentinel) {
             at += WINDOW;
             continue;

@@ -1,4 +1,4 @@
-//! Decoding a whole frame into another buffer.
+//! Decodes a whole frame into another buffer.
 ghost use Rattle.std.specs.Prelude.{◌≡◌, ◌≤◌, ◌+◌, List, length, ℕ, None, IfSome, IsSome};
 ghost use Rattle.cobs.specs.Overwritten.{overwritten};
 ghost use Rattle.cobs.specs.Decode.{IsShortPiece, first_output, result_of_decode};
@@ -24,8 +24,8 @@ use cobs_bytes::window::has_vectors;
 ///
 /// - `EmptyFrame` if the source is empty, and `InvalidFrame` with `decoded_bytes` 0 if the source has only zeros. In
 ///   both cases `dest` is as it was.
-/// - `TargetBufTooSmall` if the frame decodes to more bytes than `dest` has; `dest` then holds the first of these
-///   bytes.
+/// - `TargetBufTooSmall` if the frame decodes to more bytes than `dest` has. `dest` is then filled with the first
+///   decoded bytes.
 /// - `InvalidFrame` if the frame breaks off inside a block. `dest` then begins with the decoded bytes, including those
 ///   of the broken block, and `decoded_bytes` is the number of decoded bytes. The other bytes of `dest` are as they
 ///   were.
@@ -60,7 +60,7 @@ pub fn decode(source: &[u8], dest: &mut [u8]) -> Result<DecodeReport, DecodeErro
     decode_long(source, dest)
 }
 
-/// Does what [`decode`] does, for any source: [`decode_short`] decodes only a short one.
+/// Decodes a source of any length as [`decode`] does; [`decode_short`] decodes only short frames.
 fn decode_long(source: &[u8], dest: &mut [u8]) -> Result<DecodeReport, DecodeError>
     ensures returned { result ≡ result_of_decode source.now (length dest.old) }
     ensures buffer { dest.new ≡ overwritten dest.old (first_output source.now) }
@@ -86,12 +86,12 @@ fn decode_long(source: &[u8], dest: &mut [u8]) -> Result<DecodeReport, DecodeErr
     })
 }
 
-/// Decodes a short frame as [`decode`] does, or returns `None` and leaves `dest` as it was.
+/// Decodes a short frame as [`decode`] does. For any other source, returns `None` and leaves `dest` as it was.
 ///
-/// This function decodes a source of `n` nonzero bytes, with or without a zero after them, if `n` is 2 to 65 and `dest`
-/// has at least `n - 1` bytes. If the target has SIMD vectors, [`decode`] calls this function first. `decode_short` and
-/// the functions of this library that it calls are marked `#[inline(always)]`, so that they are compiled into a caller
-/// that decodes small frames. (A choice of this library.)
+/// A source is decoded if it consists of `n` nonzero bytes, with or without one zero after them, if `n` is 2 to 65, and
+/// if `dest` has at least `n - 1` bytes. If the target has SIMD vectors, [`decode`] calls this function first.
+/// `decode_short` and the functions of this library that it calls are marked `#[inline(always)]`, so a caller decodes a
+/// short frame without a function call. (This function is this library's own.)
 ///
 /// ```
 /// let mut dest = [170; 3];

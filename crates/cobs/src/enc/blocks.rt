@@ -1,6 +1,6 @@
 //! Cuts a message into blocks: the core of the encoders that write to a slice, on targets with SIMD vectors. A *window*
-//! is 32 bytes that are copied at once. The *mask* of a window is a number with one bit for each byte of the window;
-//! the bit is 1 if the byte is a zero.
+//! is 32 bytes that are copied in one step. The *mask* of a window is a number with one bit for each byte of the
+//! window; the bit is 1 if the byte is a zero.
 ghost use Rattle.std.specs.Prelude.{◌≡◌, ◌≢◌, ◌<◌, ◌≤◌, ◌+◌, ◌-◌, ◌%◌, ◌++◌, ◌==◌, ℕ, IsTrue, List, length, not, take, drop, replicate};
 ghost use Rattle.cobs.specs.Grammar.{HasNoZero, IsEncodedFrame};
 ghost use Rattle.cobs.specs.OpenBlock.{CobsEncoderAfter, IsPlaceIn, end_after, end_of};
@@ -14,14 +14,15 @@ use crate::enc::UnbufferedEncoder;
 use crate::find::position_or_len;
 use cobs_bytes::window::{WINDOW, copy_at, copy_window, has_vectors, write_row, zeros_at};
 
-/// Fewer bytes than this number are appended one by one, because in the Rust crate that is faster than copying a
-/// window. `push_few` takes up to this number of bytes.
+/// Fewer bytes than this number are encoded one by one, because in the Rust crate this is faster than copying a window.
+/// `push_few` accepts at most this number of bytes.
 pub(crate) const APPEND_EACH_BELOW: usize = 8;
 
 /// The mask of a window that has only zeros.
 const ALL_ZEROS: u64 = 0xffff_ffff;
 
-/// Returns the state of an encoder whose open block is at `index`, and whose next byte belongs at `next`.
+/// Returns the state of an encoder whose open block begins at index `index`, and whose next byte belongs at index
+/// `next`.
 #[inline(always)]
 fn encoder_at(index: usize, next: usize, full: u8) -> UnbufferedEncoder
     requires ordered { index < next }
@@ -37,7 +38,8 @@ fn encoder_at(index: usize, next: usize, full: u8) -> UnbufferedEncoder
     }
 }
 
-/// Returns whether `len` is from 1 to the length of a window, and `len` more bytes can't fill the open block.
+/// Returns true if `len` is at least 1 and at most the length of a window, and `len` more bytes can't fill the open
+/// block.
 #[inline(always)]
 pub(crate) fn fits_window_and_block(encoder: UnbufferedEncoder, len: usize) -> bool
     ensures some { IsTrue result → 0 < len }
@@ -48,9 +50,9 @@ pub(crate) fn fits_window_and_block(encoder: UnbufferedEncoder, len: usize) -> b
 }
 
 /// Closes the open block at the first zero that the mask marks, and writes the block's code. Returns the index of the
-/// next code, and the mask without the bit of that zero. No branch tests whether the mask marks a zero. If the mask
-/// marks no zero, the block stays open, and its code is written again later, so the byte that is written here doesn't
-/// matter.
+/// next code, and the mask without the bit of that zero. No branch tests whether the mask marks a zero: if it marks
+/// none, the function also writes a byte at the place of the block's code. The block then stays open, and its code is
+/// written later.
 #[inline(always)]
 fn mark_first(dest: &mut [u8], index: usize, next: usize, zeros: u64) -> (usize, u64)
     requires { IsMask next zeros index dest.old }
@@ -63,8 +65,8 @@ fn mark_first(dest: &mut [u8], index: usize, next: usize, zeros: u64) -> (usize,
     (index, zeros & zeros.wrapping_sub(1))
 }
 
-/// Closes a block at each zero that the mask marks, and writes the code of each of these blocks. Each iteration writes
-/// up to two codes, because there may be many zeros. Returns the index of the next code.
+/// Closes a block at each zero that the mask marks, and writes the code of each of these blocks. Each iteration of the
+/// loop writes up to two codes, because a window may have many zeros. Returns the index of the next code.
 #[inline(always)]
 fn mark_zeros(dest: &mut [u8], index: usize, next: usize, zeros: u64) -> usize
     requires { IsMask next zeros index dest.old }
@@ -81,9 +83,10 @@ fn mark_zeros(dest: &mut [u8], index: usize, next: usize, zeros: u64) -> usize
     index
 }
 
-/// Takes the first `len` bytes of `source` one by one. The caller ensures that these bytes can't fill the open block.
-/// The code of the next block is written over each zero. No branch tests whether a byte is a zero, since a processor
-/// may predict the branch wrong. Instead, the code of the open block is written again after each byte.
+/// Encodes the first `len` bytes of `source` one by one. The caller ensures that these bytes can't fill the open block.
+/// Each zero is copied like any other byte; the code of the block that begins there is written over it. No branch tests
+/// whether a byte is a zero, because a processor could mispredict that branch. Instead, for each byte the function
+/// writes the code that the open block has if this byte is a zero.
 #[inline(always)]
 pub(crate) fn append_few(
     source: &[u8],
@@ -110,9 +113,9 @@ pub(crate) fn append_few(
     encoder_at(index, next, 0)
 }
 
-/// Takes a `source` of up to 32 bytes that can't fill the open block. The function has few branches that a processor
-/// could predict wrong: two zeros are marked before a branch depends on the number of zeros. If `test_for_none` is
-/// true, a branch first tests whether there is any zero.
+/// Encodes a `source` of up to 32 bytes, which can't fill the open block. The function has few branches that a
+/// processor could mispredict: it calls `mark_first` twice before a branch depends on the number of zeros. If
+/// `test_for_none` is true, a branch first tests whether `source` has a zero.
 #[inline(always)]
 #[tactic(auto, using(crate::proofs::encoding::TakingLemmas::next_steps))]
 pub(crate) fn append_short(
@@ -144,8 +147,8 @@ pub(crate) fn append_short(
     encoder_at(index, next + len, 0)
 }
 
-/// Takes rows of 32 zeros from the front of `source` while more than 32 bytes are left, and writes the code 1 for each
-/// zero. Returns how many codes it wrote.
+/// Encodes rows of 32 zeros at the front of `source`, as long as more than 32 bytes of `source` remain: writes a code 1
+/// to `dest`, from index `at` on, for each zero. Returns how many codes it wrote.
 #[inline(always)]
 fn write_codes_of_zeros(source: &[u8], dest: &mut [u8], at: usize) -> usize
     requires some { 0 < length source.now }
@@ -163,14 +166,14 @@ fn write_codes_of_zeros(source: &[u8], dest: &mut [u8], at: usize) -> usize
     len
 }
 
-/// Takes windows of 32 bytes while more than 32 bytes are left. The function stops earlier if the open block becomes
-/// full. Returns how many bytes it took, and the encoder's state after them.
+/// Encodes windows of 32 bytes from the front of `source`, as long as more than 32 bytes remain and no block becomes
+/// full. Returns how many bytes it encoded, and the encoder's state after these bytes.
 ///
-/// Each window is copied to the place of the next byte. If the window fills the open block before a zero comes, the
-/// block is closed, and the caller copies the next bytes as slices, because a run that fills one block often fills more
-/// blocks. Otherwise a code is written over each zero of the window, and the last block stays open for the next window.
-/// If the window has only zeros, the rows of 32 zeros after it aren't copied: their codes are written 32 at a time. No
-/// byte after the frame is written.
+/// Each window is copied to the place of the next byte. If the bytes before the window's first zero fill the open
+/// block, the function closes this block and returns. The caller then copies the rest of the run in slices, because a
+/// run that fills one block often fills more blocks. Otherwise the function writes a code over each zero of the window,
+/// and the last block stays open for the next window. If the window has only zeros, rows of 32 zeros after it aren't
+/// copied: their codes are written 32 at a time. No byte after the frame is written.
 #[inline(always)]
 #[tactic(auto, using(crate::proofs::encoding::TakingLemmas::next_steps))]
 fn append_windows(
@@ -192,7 +195,7 @@ fn append_windows(
     }
     let last = source.len() - WINDOW;
     'by_window: while read < last {
-        // The mask of the window: 0 if it has no zero.
+        // The mask of the window, which is 0 if the window has no zero.
         let window = copy_at::<32>(source, read, dest, next);
         if window == 0 {
             if next - index < FULL_CODE - WINDOW {
@@ -208,7 +211,7 @@ fn append_windows(
                     let zeros = write_codes_of_zeros(&source[read..], dest, next);
                     read += zeros;
                     next += zeros;
-                    // The last of these codes is that of the open block.
+                    // The last code that was written is the code of the open block.
                     index = next - 1;
                     continue;
                 }
@@ -218,7 +221,7 @@ fn append_windows(
                 continue;
             }
         }
-        // The block is full before a zero comes.
+        // The bytes before the window's first zero fill the open block.
         dest[index] = FULL_CODE as u8;
         let end = index + FULL_CODE;
         return (read + (end - next), encoder_at(end, end + 1, 1));
@@ -226,9 +229,9 @@ fn append_windows(
     (read, encoder_at(index, next, 0))
 }
 
-/// Takes the first run of `source`, which has `run` bytes, and the zero after the run if there is one. The run is cut
-/// into blocks of at most 254 bytes, each copied as one slice. Returns how many bytes it took, and the encoder's
-/// state after them.
+/// Encodes the first run of `source`, which has `run` bytes, and the zero after the run if there is one. The bytes of
+/// each block, at most 254, are copied as one slice. Returns how many bytes it encoded, and the encoder's state after
+/// these bytes.
 #[inline(always)]
 #[tactic(auto, using(crate::proofs::encoding::TakingLemmas::next_steps))]
 fn append_long_run(
@@ -269,8 +272,8 @@ fn append_long_run(
     (read + 1, encoder_at(next, next + 1, 0))
 }
 
-/// Takes all bytes of `source`, whose first run has `run` bytes. The function first takes this run. Then it repeats two
-/// steps until no byte is left: it takes windows up to the next long run, and then it takes that run.
+/// Encodes all bytes of `source`, whose first run has `run` bytes. The function encodes this run first. Then it repeats
+/// two steps until no byte remains: it encodes windows up to the next long run, and then that run.
 #[inline(never)]
 #[tactic(auto, using(crate::proofs::encoding::TakingLemmas::next_steps))]
 pub(crate) fn append_rest(
@@ -297,11 +300,11 @@ pub(crate) fn append_rest(
     encoder
 }
 
-/// Continues the frame of `encoder` in `dest` with `source`, and returns the encoder's state after `source`. [`close`]
-/// writes the code of the open block later; until then the byte at the place of the code doesn't matter.
+/// Appends `source` to the message whose frame `encoder` writes to `dest`, and returns the encoder's state after
+/// `source`. The code of the open block isn't written yet: [`close`] writes it at the end of the message.
 ///
-/// [`append_windows`] takes most bytes. Usually few bytes are left, and [`append_short`] takes them. [`append_rest`]
-/// takes them if they are more than a window holds, or if they may fill the open block.
+/// [`append_windows`] encodes most bytes. Usually few bytes remain, and [`append_short`] encodes them. If more bytes
+/// remain than a window holds, or if the remaining bytes may fill the open block, [`append_rest`] encodes them.
 #[inline(always)]
 pub(crate) fn append(
     source: &[u8],
@@ -318,7 +321,8 @@ pub(crate) fn append(
     if fits_window_and_block(encoder, rest.len()) {
         append_short(rest, dest, encoder, false)
     } else {
-        // Copied field by field, before the call and after it, so that the result of `append_short` stays in registers.
+        // The state is copied field by field, before the call of `append_rest` and after it, so that the result of
+        // `append_short` stays in registers.
         let start = UnbufferedEncoder { ..encoder };
         let reached = append_rest(rest, position_or_len(rest, 0), dest, start);
         UnbufferedEncoder { ..reached }
@@ -327,9 +331,9 @@ pub(crate) fn append(
 
 /// Writes the code of the open block, unless the frame ends with a full block, and returns the frame's length. Before
 /// the call, the byte in the code's place may have any value.
-// The test whether `index` is within the slice comes first, though it fails only after a full block. Without this test,
-// compilers test in the caller's loop over single bytes whether the block is full. In the Rust crate with link-time
-// optimization, that loop can then be half as fast.
+// The test whether `index` is within the slice comes first, though `index` can be outside only after a full block.
+// Without this test, compilers test in the caller's loop over single bytes whether the last block is full. In the Rust
+// crate with link-time optimization, that loop can then be half as fast.
 #[inline(always)]
 pub(crate) fn close_block(dest: &mut [u8], encoder: &UnbufferedEncoder) -> usize
     requires { IsPlaceIn (length dest.old) (reached_by encoder.now) }
@@ -347,11 +351,12 @@ pub(crate) fn close_block(dest: &mut [u8], encoder: &UnbufferedEncoder) -> usize
     index
 }
 
-/// Does what [`close_block`] does. On a target with SIMD vectors, `close` also stores a byte after a full block, if the
-/// slice has a byte there: it stores the value that the byte already has.
+/// Writes the code of the open block, unless the frame ends with a full block, and returns the frame's length, as
+/// [`close_block`] does. If the frame ends with a full block, and the target has SIMD vectors, `close` also stores the
+/// next byte of the slice, if the slice has one: it stores the value that this byte already has.
 // With this store, compilers keep the caller's loop over single bytes as it is written. If only an open block's code
-// were stored, this loop would be slower in the Rust crate on x86-64. Without vectors the code is `close_block`, which
-// needs fewer bytes of flash.
+// were stored, this loop would be slower in the Rust crate on x86-64. On a target without vectors `close` calls
+// `close_block`, which needs fewer bytes of flash.
 #[inline(always)]
 pub(crate) fn close(dest: &mut [u8], encoder: &UnbufferedEncoder) -> usize
     requires { IsPlaceIn (length dest.old) (reached_by encoder.now) }

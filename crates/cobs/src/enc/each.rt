@@ -7,9 +7,9 @@ use crate::block::FULL_CODE;
 use crate::enc::room::has_room;
 use crate::error::DestBufTooSmallError;
 
-/// Does what [`encode`](crate::encode) does, one byte at a time.
+/// Encodes a message as [`encode`](crate::encode) does, but one byte at a time.
 ///
-/// Each iteration of the outer loop takes at most as many bytes as the open block has room for, so the inner loop
+/// Each iteration of the outer loop encodes at most as many bytes as the open block has room for, so the inner loop
 /// doesn't test for each byte whether the block is full. A full block is closed when another byte follows. The last
 /// block is closed after the loop, whether it is full or not.
 pub(crate) fn write_each(source: &[u8], dest: &mut [u8]) -> usize
@@ -45,12 +45,12 @@ pub(crate) fn write_each(source: &[u8], dest: &mut [u8]) -> usize
     next
 }
 
-/// Does what [`try_encode`](crate::try_encode) does, one byte at a time. This function is smaller but slower, and is
-/// meant for small devices. The function reads the message twice only if `dest` is shorter than the longest frame of a
-/// message of the same length. (A choice of this library.)
+/// Encodes a message as [`try_encode`](crate::try_encode) does, but one byte at a time. The code of this function is
+/// smaller and slower; it is meant for small devices. The function reads the message twice only if `dest` is shorter
+/// than the longest frame of a message of the same length. (This function is this library's own.)
 ///
 /// # Errors
-/// Those of [`try_encode`](crate::try_encode).
+/// The errors are those of [`try_encode`](crate::try_encode).
 ///
 /// ```
 /// let mut dest = [170; 5];

@@ -1,4 +1,4 @@
-//! An encoder that writes to a slice, for a message that comes in pieces.
+//! An encoder that writes to a slice, for a message that comes in chunks.
 ghost use Rattle.std.specs.Prelude.{length};
 ghost use Rattle.cobs.specs.OpenBlock.{IsPlaceIn};
 ghost use Rattle.cobs.specs.Fields.Progress.{reached_by};
@@ -7,11 +7,11 @@ use crate::enc::UnbufferedEncoder;
 use crate::enc::blocks::close;
 use crate::error::DestBufTooSmallError;
 
-/// Encodes a message that comes in pieces, and writes the frame to a slice that the encoder borrows.
+/// Encodes a message that comes in chunks, and writes the frame to a slice that the encoder borrows.
 ///
-/// However the message is cut into pieces, the frame is the one that [`encode`](crate::encode) writes. After each push
-/// the slice begins with the frame of the bytes taken so far, except for the code of the open block;
-/// [`finalize`](CobsEncoder::finalize) writes this last code. The slice needn't be longer than the frame.
+/// The frame is the one that [`encode`](crate::encode) writes, however the message is cut into chunks. After each push
+/// the slice begins with the frame of all bytes pushed so far, except for the code of the open block;
+/// [`finalize`](CobsEncoder::finalize) writes this code. The slice needn't be longer than the frame.
 ///
 /// The blocks are those of the paper by Cheshire and Baker; the calls are those of the crate `cobs`.
 ///
@@ -36,7 +36,7 @@ impl<'a> CobsEncoder<'a> {
     ghost use Rattle.cobs.specs.Length.{encoded_len};
     ghost use Rattle.cobs.specs.Fields.Encoders.{slice_of, HasTaken, WritesTo, IsOverSameSlice, IsUnchanged};
 
-    /// Makes an encoder that has taken no byte yet, and that will write to the front of `out_buf`. This call changes no
+    /// Makes an encoder for a new message. The encoder will write to the front of `out_buf`, but this call changes no
     /// byte of `out_buf`.
     ///
     /// Precondition: the slice has at least one byte, because the frame of the empty message has one byte.
@@ -58,14 +58,14 @@ impl<'a> CobsEncoder<'a> {
         }
     }
 
-    /// Takes the next bytes of the message.
+    /// Encodes the next bytes of the message.
     ///
     /// An empty push always succeeds, and changes nothing. The bytes of the slice after the frame are never written.
     ///
     /// # Errors
-    /// `DestBufTooSmallError` exactly if the slice is shorter than the encoded frame of the bytes taken so far,
-    /// followed by these bytes. Then neither the encoder nor the slice has changed, so the caller may end the frame, or
-    /// push fewer bytes. (A choice of this library.)
+    /// `DestBufTooSmallError` exactly if the slice is shorter than the encoded frame of the message so far with `bytes`
+    /// appended. Then neither the encoder nor the slice has changed, so the caller may end the message, or push fewer
+    /// bytes. (This guarantee is this library's own.)
     ///
     /// ```
     /// let mut dest = [170; 4];
@@ -103,7 +103,7 @@ impl<'a> CobsEncoder<'a> {
     /// assert_eq!(rt; dest, [1, 1, 170]);
     /// ```
     pub fn finalize(self) -> usize
-        // `self.exit.0.now` is the slice, the first field, as it is at the return.
+        // `self.exit.0.now` is the content of the slice, the encoder's first field, when the call returns.
         ensures len { (m : List ℕ) → HasTaken self.entry m → result ≡ encoded_len m }
         ensures frame { (m : List ℕ) → HasTaken self.entry m → IsEncodedFrame (take result self.exit.0.now) m }
         ensures no_sentinel { (m : List ℕ) → HasTaken self.entry m → HasNoZero (take result self.exit.0.now) }

@@ -1,4 +1,4 @@
-//! A message that is encoded in its own buffer.
+//! Encodes a message in the buffer that holds the message.
 ghost use Rattle.std.specs.Prelude.{◌≡◌, ◌<◌, ◌≤◌, ◌+◌, ◌*◌, ◌++◌, [], ◌∷◌, ℕ, List, length, take, drop};
 ghost use Rattle.cobs.specs.Grammar.{HasNoZero, IsEncodedFrame};
 ghost use Rattle.cobs.specs.Length.{encoded_len, max_encoded_len};
@@ -10,15 +10,15 @@ use crate::enc::UnbufferedEncoder;
 use crate::enc::blocks::close_block;
 use crate::max_encoding_overhead;
 
-/// Encodes a message in its own buffer, and returns the length of its frame in bytes.
+/// Encodes a message in the buffer that holds it, and returns the length of the frame in bytes.
 ///
 /// The message has `len` bytes, and begins in `buffer` at the index that
-/// [`max_encoding_overhead`](crate::max_encoding_overhead) returns for `len`; the bytes before the message don't
-/// matter. After the call `buffer` begins with the frame that [`encode`](crate::encode) writes. Every byte of `buffer`
+/// [`max_encoding_overhead`](crate::max_encoding_overhead) returns for `len`. The bytes before the message may have any
+/// values. After the call `buffer` begins with the frame that [`encode`](crate::encode) writes. Every byte of `buffer`
 /// after the frame stays as it was, even if the byte belongs to the message.
 ///
-/// Precondition: `buffer` is at least as long as [`max_encoding_length`](crate::max_encoding_length) returns for `len`,
-/// so the whole message lies within `buffer`. (A choice of this library.)
+/// Precondition: `buffer` has at least as many bytes as [`max_encoding_length`](crate::max_encoding_length) returns for
+/// `len`. So the whole message lies within `buffer`. (This function is this library's own.)
 ///
 /// ```
 /// let mut buffer = *b"\0hello..";

@@ -1,4 +1,4 @@
-//! Pushes of any number of bytes to an encoder, and the end of a message.
+//! The calls of `UnbufferedEncoder` that encode any number of bytes, and that end a message.
 ghost use Rattle.std.specs.Prelude.{◌≡◌, ◌<◌, ◌≤◌, ◌++◌, ◌↔◌, [], ℕ, List, length, take, drop, IsOk, IfOk, OnOk, OnErr, false};
 ghost use Rattle.cobs.specs.Grammar.{HasNoZero, IsEncodedFrame};
 ghost use Rattle.cobs.specs.Length.{encoded_len};
@@ -12,14 +12,14 @@ use crate::error::DestBufTooSmallError;
 use cobs_bytes::window::has_vectors;
 
 impl UnbufferedEncoder {
-    /// Takes the next bytes of the message.
+    /// Encodes the next bytes of the message, with `dest` as the buffer.
     ///
     /// An empty push changes nothing. The bytes of the buffer after the frame are never written.
     ///
     /// # Errors
-    /// `DestBufTooSmallError` exactly if the buffer is shorter than the encoded frame of the bytes taken so far,
-    /// followed by these bytes, or if the encoder's state isn't possible in a buffer of this length. Then neither the
-    /// encoder nor the buffer has changed, so the caller may end the frame, or push fewer bytes.
+    /// `DestBufTooSmallError` exactly if the buffer is shorter than the encoded frame of the message so far with
+    /// `bytes` appended, or if the encoder's state isn't possible in a buffer of this length. Then neither the encoder
+    /// nor the buffer has changed, so the caller may end the message, or push fewer bytes.
     ///
     /// ```
     /// let mut buffer = [170; 3];
@@ -64,7 +64,7 @@ impl UnbufferedEncoder {
             self.set(append_short(bytes, dest, *self, true));
             return Ok(());
         }
-        // A copy of the encoder is passed, field by field, so that the encoder itself stays in registers.
+        // `try_append` gets a copy of the encoder, made field by field, so that the encoder itself stays in registers.
         let mut reached = UnbufferedEncoder { ..*self };
         if !try_append(bytes, dest, &mut reached) {
             return Err(DestBufTooSmallError);

@@ -1,4 +1,4 @@
-//! Frames for a sentinel other than 0, and frames between sentinels.
+//! Encoders that write frames for a sentinel other than 0, and frames between two sentinels.
 ghost use Rattle.std.specs.Prelude.{◌≡◌, ◌≤◌, ◌+◌, ◌↔◌, length, take, drop, IsOk, IfOk, OnErr};
 ghost use Rattle.cobs.specs.Length.{encoded_len};
 ghost use Rattle.cobs.specs.Grammar.{HasNoZero};
@@ -9,15 +9,16 @@ use crate::error::DestBufTooSmallError;
 use cobs_bytes::lanes::xor_bytes;
 use cobs_bytes::window::has_vectors;
 
-/// Writes the encoded frame of `source` for this sentinel to the front of `dest`, and returns the frame's length in
-/// bytes.
+/// Writes the encoded frame of `source` for `sentinel` to the front of `dest`, and returns the frame's length in bytes.
 ///
 /// The frame is the one that [`encode`] writes, with each byte XORed with `sentinel`, so no byte of the frame is the
 /// sentinel. No sentinel is written before or after the frame, and the bytes of `dest` after the frame stay as they
 /// were.
 ///
 /// Precondition: the frame fits `dest`. [`max_encoding_length`](crate::max_encoding_length) returns a length of `dest`
-/// that is always enough. Frames for a sentinel other than 0 are from Cheshire and Baker's paper.
+/// that is always enough.
+///
+/// Cheshire and Baker's paper describes frames for a sentinel other than 0.
 ///
 /// ```
 /// let mut dest = [170; 6];
@@ -37,11 +38,12 @@ pub fn encode_with_sentinel(source: &[u8], dest: &mut [u8], sentinel: u8) -> usi
     len
 }
 
-/// Does what [`encode_with_sentinel`] does, if the frame fits `dest`.
+/// Writes the encoded frame of `source` for `sentinel` to the front of `dest`, as [`encode_with_sentinel`] does, if the
+/// frame fits `dest`. Returns the frame's length in bytes.
 ///
 /// # Errors
-/// `DestBufTooSmallError` exactly if the frame is longer than `dest`. Then no byte of `dest` has changed. (A choice of
-/// this library.)
+/// `DestBufTooSmallError` exactly if the frame is longer than `dest`. Then no byte of `dest` has changed. (This
+/// guarantee is this library's own.)
 ///
 /// ```
 /// let mut dest = [170; 3];
@@ -76,12 +78,12 @@ pub fn try_encode_with_sentinel(
 
 /// Writes a 0, the encoded frame of `source` and another 0 to the front of `dest`, and returns how many bytes it wrote.
 ///
-/// The bytes of `dest` after the second 0 stay as they were. As in the crate `cobs`, there is a sentinel on each side
-/// of the frame.
+/// The bytes of `dest` after the second 0 stay as they were. As in the crate `cobs`, one sentinel is before the frame
+/// and one is after it.
 ///
 /// Precondition: the frame and both sentinels fit `dest`. Two bytes more than
-/// [`max_encoding_length`](crate::max_encoding_length) returns are always enough. If the frame and both sentinels may
-/// not fit, call [`try_encode_including_sentinels`], which tests whether they fit.
+/// [`max_encoding_length`](crate::max_encoding_length) returns are always enough. If you don't know whether the frame
+/// and both sentinels fit, call [`try_encode_including_sentinels`], which returns an error if they don't fit.
 ///
 /// ```
 /// let mut dest = [170; 8];
@@ -104,11 +106,12 @@ pub fn encode_including_sentinels(source: &[u8], dest: &mut [u8]) -> usize
     len + 2
 }
 
-/// Does what [`encode_including_sentinels`] does, if the frame and both sentinels fit `dest`.
+/// Writes a 0, the encoded frame of `source` and another 0 to the front of `dest`, as [`encode_including_sentinels`]
+/// does, if all of them fit. Returns how many bytes it wrote.
 ///
 /// # Errors
 /// `DestBufTooSmallError` exactly if the frame and both sentinels together are longer than `dest`. Then no byte of
-/// `dest` has changed. (A choice of this library.)
+/// `dest` has changed. (This guarantee is this library's own.)
 ///
 /// ```
 /// let mut dest = [170; 4];

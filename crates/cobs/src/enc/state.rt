@@ -7,7 +7,7 @@ use std::alloc::AllocError;
 use std::marker::Model;
 
 /// The change that a byte of the message makes to the encoded output. Indices count bytes from the start of the output.
-/// The names are those of the crate `cobs`.
+/// The names of the variants are those of the crate `cobs`.
 ///
 /// ```
 /// let mut state = EncoderState::default();
@@ -19,11 +19,13 @@ pub enum PushResult {
     /// This byte of the message is appended to the output.
     AddSingle(u8),
 
-    /// The output's byte at this index is replaced by this code, and a placeholder is appended to the output.
+    /// The first number is an index in the output, and the second number is a code. The code replaces the output's byte
+    /// at that index. Then a placeholder, which may have any value, is appended to the output.
     ModifyFromStartAndSkip((usize, u8)),
 
-    /// The output's byte at this index is replaced by this code. The third number, which is a byte of the message, and
-    /// then a placeholder are appended to the output.
+    /// The first number is an index in the output, the second number is a code, and the third number is a byte of the
+    /// message. The code replaces the output's byte at that index. Then the byte of the message is appended to the
+    /// output, and a placeholder after it.
     ModifyFromStartAndPushAndSkip((usize, u8, u8)),
 }
 
@@ -31,11 +33,12 @@ pub enum PushResult {
 /// from 1 to 254.
 ///
 /// The state doesn't hold the output, so a caller can write the encoded bytes to a container of its own. At first the
-/// output is one placeholder, a byte of any value. Each result of [`push`](EncoderState::push) says what a byte of the
-/// message changes in the output, and [`finalize`](EncoderState::finalize) returns the last change. A caller that
-/// carries out all changes has a frame of the message: the one whose last block isn't full. [`encode`](crate::encode)
-/// writes the same frame, unless the message ends in a run of nonzero bytes whose length is a positive multiple of 254.
-/// In that case the caller has the longer frame, which is the frame that `encode` writes, followed by the byte `1`.
+/// caller's output is one placeholder, a byte of any value. For each byte of the message, [`push`](EncoderState::push)
+/// returns the change that the caller makes to the output. At the end [`finalize`](EncoderState::finalize) returns the
+/// last change. After all changes the output is a frame of the message, and the last block of this frame isn't full.
+/// [`encode`](crate::encode) writes the same frame, unless the message ends in a run of nonzero bytes whose length is a
+/// positive multiple of 254. In that case the message has two frames, and the output is the longer one: the frame that
+/// `encode` writes, followed by the byte `1`.
 ///
 /// ```
 /// let mut output = [0; 3];
@@ -70,8 +73,8 @@ impl Model for EncoderState {
 impl Default for EncoderState {
     ghost is_default = { λ state. state ≡ record { index = 0; code = 1 } };
 
-    /// Makes the state at the start: the open block begins with the placeholder at index 0, and has no bytes after it
-    /// yet.
+    /// Makes the state before the first byte of a message. The open block begins with the placeholder at index 0, and
+    /// has no other bytes.
     ///
     /// ```
     /// let state = EncoderState::default();
@@ -116,8 +119,8 @@ impl Clone for EncoderState {
 }
 
 impl EncoderState {
-    /// Returns whether another byte can be pushed, that is, whether the index of the next block fits a `usize`,
-    /// whatever the byte is. (A choice of this library.)
+    /// Returns whether another byte can be pushed: the index of the next block must fit a `usize`, whatever the byte
+    /// is. (This function is this library's own.)
     ///
     /// ```
     /// assert!(rt; EncoderState::default().can_push());
@@ -128,9 +131,10 @@ impl EncoderState {
         self.code_index < usize::MAX - self.code as usize
     }
 
-    /// Takes the next byte of the message, and returns the change that this byte makes to the output.
+    /// Encodes the next byte of the message, and returns the change that this byte makes to the output.
     ///
-    /// Precondition: [`can_push`](EncoderState::can_push) is true. Indices count bytes from the start of the output.
+    /// Precondition: [`can_push`](EncoderState::can_push) returns true. Indices count bytes from the start of the
+    /// output.
     ///
     /// ```
     /// let mut state = EncoderState::default();
@@ -162,7 +166,8 @@ impl EncoderState {
         PushResult::ModifyFromStartAndSkip((index, code))
     }
 
-    /// Ends the message. Returns the index in the output at which the last code belongs, and that code.
+    /// Ends the message. Returns the index of the last placeholder in the output, and the code that replaces this
+    /// placeholder.
     ///
     /// ```
     /// assert_eq!(rt; EncoderState::default().finalize(), (0, 1));
@@ -178,8 +183,8 @@ impl EncoderState {
 }
 
 /// Returns the code of a full block.
-// Compilers assume that a branch to a cold function is rarely taken. Otherwise they would compute the results for all
-// three cases and choose one without a branch, which is slower.
+// The function is marked cold, because compilers assume that a branch to a cold function is rarely taken. Without this
+// mark, compilers would compute the results for all three cases and choose one without a branch, which is slower.
 #[cold]
 #[inline(never)]
 fn full_code() -> u8

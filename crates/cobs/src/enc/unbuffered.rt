@@ -1,13 +1,13 @@
-//! The state of an encoder for a message that comes in pieces. The encoder's buffer is passed to each call.
+//! The state of an encoder for a message that comes in chunks. The caller passes the encoder's buffer to each call.
 ghost use Rattle.std.specs.Prelude.{◌≡◌, ◌<◌, ◌↔◌, [], ℕ, List, length, IsTrue, false};
 ghost use Rattle.cobs.specs.OpenBlock.{CobsEncoderAfter, IsPlaceIn};
 ghost use Rattle.cobs.specs.Fields.Progress.{reached_by};
 
-/// Encodes a message that comes in pieces, straight into a buffer that the caller passes to each call.
+/// Encodes a message that comes in chunks, straight into a buffer that the caller passes to each call.
 ///
-/// This encoder writes the frame that [`CobsEncoder`](crate::CobsEncoder) writes, and has no buffer of its own. Three
-/// numbers, which are all 0 at the start, say how much of the frame is in the buffer. So an encoder can be in a struct
-/// together with its buffer, or be passed to another language.
+/// This encoder writes the frame that [`CobsEncoder`](crate::CobsEncoder) writes, but it neither owns nor borrows the
+/// buffer. It consists of three numbers, which say how much of the frame is in the buffer, and which are all 0 at the
+/// start. So a struct can contain both an encoder and its buffer, and an encoder can be passed to another language.
 ///
 /// From the first push to the end of the message, the caller must pass the same buffer to each call, and must not
 /// change the buffer between two calls. If the caller passes another buffer, of any length, or sets the three numbers
@@ -29,17 +29,17 @@ pub struct UnbufferedEncoder {
     /// The index in the buffer at which the code of the open block belongs.
     pub index: usize,
 
-    /// How many bytes the open block has, at most 253.
+    /// How many bytes the open block has after its code, at most 253.
     pub taken: u8,
 
-    /// Not 0 if the frame's last block is full. If `full` isn't 0, the open block is empty, and `index` is the place
-    /// after the full block.
+    /// Not 0 if the last block of the frame so far is full. If `full` isn't 0, the open block is empty, and `index` is
+    /// the index after the full block.
     pub full: u8,
 }
 
 impl UnbufferedEncoder {
-    /// Makes an encoder that has taken no byte yet. The buffer that you pass to the encoder needs at least one byte,
-    /// because the frame of the empty message has one byte.
+    /// Makes an encoder for a new message. The buffer that you pass to the encoder needs at least one byte, because the
+    /// frame of the empty message has one byte.
     ///
     /// ```
     /// let mut buffer = [170; 2];
@@ -57,7 +57,8 @@ impl UnbufferedEncoder {
         }
     }
 
-    /// Resets the encoder to its state at the start: the encoder has then taken no byte.
+    /// Makes the encoder ready for a new message. The encoder is then in the state that [`new`](UnbufferedEncoder::new)
+    /// returns.
     ///
     /// ```
     /// let mut buffer = [170; 2];
@@ -74,7 +75,7 @@ impl UnbufferedEncoder {
         *self = UnbufferedEncoder::new();
     }
 
-    /// Sets the three numbers.
+    /// Sets the three numbers of the encoder to those of `state`.
     // An assignment of the whole struct would also copy its padding.
     #[inline(always)]
     pub(crate) fn set(&mut self, state: UnbufferedEncoder)
@@ -90,7 +91,7 @@ impl UnbufferedEncoder {
     pub(crate) fn is_within(&self, len: usize) -> bool
         ensures { IsTrue result ↔ IsPlaceIn len (reached_by self.now) }
     {
-        // An open block has at most 253 bytes: a greater number doesn't come from these calls.
+        // An open block has at most 253 bytes; `taken` is greater only if the caller has changed the encoder's numbers.
         if 253 < self.taken || len < self.index {
             return false;
         }

@@ -1,4 +1,4 @@
-//! Frames as new vectors.
+//! Encoders that return a frame as a new vector.
 ghost use Rattle.std.specs.Prelude.{◌<◌, ◌+◌, ◌^◌, length, IfOk};
 ghost use Rattle.cobs.specs.Grammar.{HasNoZero, IsEncodedFrame};
 ghost use Rattle.cobs.specs.Length.{max_encoded_len};
@@ -9,10 +9,10 @@ use crate::enc::sentinel::{encode_including_sentinels, encode_with_sentinel};
 use crate::max_encoding_length;
 use std::alloc::{AllocError, Global};
 
-/// Returns the encoded frame of `source` as a vector, without a sentinel before or after it.
+/// Returns the encoded frame of `source` as a vector, without a sentinel before or after the frame.
 ///
 /// Precondition: [`max_encoding_length`](crate::max_encoding_length) of the message's length fits a `usize`. Memory is
-/// allocated once, for a frame of this greatest length.
+/// allocated once, for the longest frame that a message of this length can have.
 ///
 /// # Errors
 /// `AllocError` if memory runs out.
@@ -33,11 +33,11 @@ pub fn encode_vec(alloc: Global, source: &[u8]) -> Result<Vec<u8>, AllocError>
     Ok(frame)
 }
 
-/// Returns a 0, the encoded frame of `source` and another 0 as a vector.
+/// Returns a vector that contains a 0, the encoded frame of `source`, and another 0.
 ///
 /// Precondition: [`max_encoding_length`](crate::max_encoding_length) of the message's length, plus 2, fits a `usize`.
-/// Memory is allocated once, for a frame of this greatest length and both sentinels. The returned vector has only the
-/// bytes of the frame and both sentinels. (A choice of this library.)
+/// Memory is allocated once, for the longest frame that a message of this length can have, and both sentinels. The
+/// returned vector contains only the frame of `source` and both sentinels. (This guarantee is this library's own.)
 ///
 /// # Errors
 /// `AllocError` if memory runs out.
@@ -58,11 +58,11 @@ pub fn encode_vec_including_sentinels(alloc: Global, source: &[u8]) -> Result<Ve
     Ok(delimited)
 }
 
-/// Returns the encoded frame of `source` for this sentinel as a vector: the frame that [`encode_vec`] returns, with
-/// each byte XORed with `sentinel`.
+/// Returns the encoded frame of `source` for `sentinel` as a vector. This frame is the one that [`encode_vec`] returns,
+/// with each byte XORed with `sentinel`.
 ///
 /// Precondition: [`max_encoding_length`](crate::max_encoding_length) of the message's length fits a `usize`. Memory is
-/// allocated once, for a frame of this greatest length.
+/// allocated once, for the longest frame that a message of this length can have.
 ///
 /// # Errors
 /// `AllocError` if memory runs out.

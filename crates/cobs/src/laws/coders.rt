@@ -1,5 +1,5 @@
-//! Laws for your own coder: the length of a frame block by block, the states of an encoder and of a decoder after each
-//! byte, and the kind of a frame. `law_18` says what the streaming decoders return for a frame.
+//! Laws for your own encoder or decoder: the length of a frame block by block, the states of an encoder and of a
+//! decoder after each byte, and the kind of a frame. `law_18` states the results of the streaming decoders for a frame.
 ghost use Rattle.std.specs.Prelude.{◌≡◌, ◌≢◌, ◌↔◌, ◌<◌, ◌+◌, ℕ, List, [], ◌∷◌, ◌++◌, length, drop, false, Some, None};
 ghost use Rattle.cobs.specs.Feed.{DecoderAfter, Idle, Phase};
 ghost use Rattle.cobs.specs.FeedPiece.{TakesPiece, outcome_at};
@@ -12,10 +12,11 @@ ghost use Rattle.cobs.specs.declared.dec.frame_decoder.PieceEnd.{PieceEnd};
 
 /// The length of a frame, counted block by block.
 ///
-/// One block holds up to 254 nonzero bytes at the end of a message, up to 253 nonzero bytes before a zero, or 254
-/// nonzero bytes if the message continues after them. The values of the nonzero bytes don't matter.
+/// The length of an encoded frame is the sum of the lengths of its blocks. The first block stands for up to 253 nonzero
+/// bytes and the zero after them, for 254 nonzero bytes that are followed by other bytes, or for a whole message of up
+/// to 254 nonzero bytes. The length depends only on the number of nonzero bytes, not on their values.
 ///
-/// So one pass over the message decides whether its frame fits, before a byte is written.
+/// So an encoder can decide with one pass over the message, before it writes a byte, whether the frame fits.
 ///
 /// ```
 /// fn encode_short(message: &[u8], dest: &mut [u8]) -> usize
@@ -40,15 +41,16 @@ pub fn law_15()
 
 /// An encoder of your own, byte by byte.
 ///
-/// The encoder writes to a slice. At first the encoder has taken no byte. The encoder appends a nonzero byte to the
-/// open block. The 254th byte fills the block, and a zero ends the block; in both cases the encoder writes the block's
-/// code. At the end of the message the encoder writes the code of the open block, unless the last block is full.
+/// The encoder writes to a slice. At first the message so far is empty. The encoder appends a nonzero byte to the open
+/// block. A zero ends the open block, and the 254th byte of a block fills it; in both cases the encoder writes the
+/// block's code. At the end of the message the encoder writes the code of the open block, unless the last block is
+/// full.
 ///
-/// If more bytes of the message follow, the length of the whole frame is a sum: the index of the open block, plus the
-/// length of the encoded frame of the open block's bytes and the bytes that follow. The clause `goes_on` states this
-/// sum; its `a` stands for any nonzero bytes, as many as the open block has.
+/// If more bytes of the message follow, the length of the whole frame is the sum of two numbers: the index of the open
+/// block, and the length of the encoded frame of the open block's bytes followed by these other bytes. The clause
+/// `goes_on` states this sum; its `a` is any list of nonzero bytes that is as long as the open block.
 ///
-/// So your own encoder with these steps writes the frames of [`encode`](crate::encode).
+/// So an encoder of your own that makes these steps writes the frames that [`encode`](crate::encode) writes.
 ///
 /// ```
 /// fn take_nonzero(slice: &mut [u8], index: usize, code: u8, byte: u8)
@@ -75,13 +77,12 @@ pub fn law_16()
 
 /// A decoder of your own, byte by byte.
 ///
-/// In any phase and for any byte, the streaming decoders make the step that the table of
-/// [`DecoderState`](crate::DecoderState) describes, unless the output is too long for the buffer. A loop that feeds
-/// bytes one by one, and stops after the zero that ends the first piece or after the last byte, has the same result as
-/// one call of `feed_piece`.
+/// For any byte, the streaming decoders make the step that the table of [`DecoderState`](crate::DecoderState)
+/// describes, unless the output is too long for the buffer. This holds in any phase of the decoder. Consider a loop
+/// that feeds bytes one by one, and stops after the zero that ends the first piece, or after the last byte if no piece
+/// ends. This loop has the same result as one call of `feed_piece`.
 ///
-/// So your own decoder with this step decodes as the streaming decoders do, and a loop over `feed_byte` does what
-/// `feed_piece` does.
+/// So a decoder of your own that makes these steps decodes as the streaming decoders do.
 ///
 /// ```
 /// fn feed_one(decoder: &mut UnbufferedDecoder, buffer: &mut [u8], byte: u8)
@@ -107,13 +108,13 @@ pub fn law_17()
 
 /// A frame is decoded as its message however it is streamed, and nothing else is.
 ///
-/// After all bytes of a frame have been fed, feeding the zero after the frame returns the length of the message.
-/// `feed_piece` of an idle decoder stops after the zero that ends the first piece. If this piece is a frame,
-/// `feed_piece` returns the length of the message too. A push of a frame and its zero to an idle decoder also returns
-/// the length of the message. After each of these calls the buffer begins with the message. Each of these results
-/// requires that the buffer has room for the message. No piece that isn't a frame is decoded as a message.
+/// Assume that the buffer has room for the message of a frame. If all bytes of the frame have been fed, `feed` returns
+/// the length of the message for the zero after the frame. If an idle decoder gets a piece, a zero and any other bytes,
+/// `feed_piece` stops after that zero; if the piece is this frame, `feed_piece` returns the length of the message. A
+/// `push` of the frame and its zero to an idle decoder returns the length of the message too. After each of these calls
+/// the buffer begins with the message. No piece that isn't a frame is decoded as a message.
 ///
-/// So a frame that [`encode`](crate::encode) wrote is read by each of these calls.
+/// So each of these calls decodes the frames that [`encode`](crate::encode) writes.
 ///
 /// ```
 /// fn end_frame(decoder: &mut CobsDecoderOwned) -> Result<Option<usize>, DecodeError>
@@ -136,10 +137,10 @@ pub fn law_18()
 
 /// The kind of a frame, block by block.
 ///
-/// A single block is a canonical frame. A block with other bytes after it is a frame exactly if the other bytes are a
-/// frame. The whole frame is canonical exactly if the other bytes are a canonical frame, with one exception: a full
-/// block followed by the lone block, 01, is not canonical. Bytes aren't a frame if there are fewer of them than the
-/// first code says.
+/// A canonical frame is the frame that encoders write for its message. A single block is a canonical frame. A block
+/// with other bytes after it is a frame exactly if the other bytes are a frame. The whole frame is canonical exactly if
+/// the other bytes are a canonical frame, with one exception: a full block followed by only the block 01 isn't
+/// canonical. Bytes aren't a frame if there are fewer of them than the first code says.
 ///
 /// So your own reader that goes from code to code finds out whether the bytes are a frame, and which kind of frame they
 /// are.
@@ -167,10 +168,12 @@ pub fn law_19()
 
 /// The output of a piece, block by block.
 ///
-/// A single block is whole, and its output is its bytes without the code. A block with other bytes after it is whole
-/// exactly if the other bytes are whole. The kept output of both together is the block's output, then a zero unless the
-/// block is full, and then the kept output of the other bytes. Bytes are broken if there are fewer of them than the
-/// first code says, and their kept output is then empty. The kept output of a whole piece is its output.
+/// A piece is whole if its last block is complete. The kept output of a piece is its output without the bytes of an
+/// incomplete last block. A single block is whole, and its output is its bytes without the code. A block with other
+/// bytes after it is whole exactly if the other bytes are whole. The kept output of the block and the other bytes is
+/// the output of the block, then a zero unless the block is full, and then the kept output of the other bytes. If a
+/// piece has fewer bytes than its first code says, it isn't whole, and its kept output is empty. The kept output of a
+/// whole piece is its output.
 ///
 /// So your own decoder that goes from code to code writes the bytes that [`decode_in_place`](crate::decode_in_place)
 /// writes.
@@ -200,13 +203,14 @@ pub fn law_20()
 
 /// A loop over the pieces of a stream.
 ///
-/// If an idle decoder reads the first piece of a stream with `feed_piece`, the outcomes of the stream are the outcome
-/// of that piece, and then the outcomes of the bytes after the piece. The unended bytes of the stream (those after its
-/// last zero, or all bytes if it has no zero) are the unended bytes of the bytes after that piece and its zero. If no
-/// piece ends, the stream has no outcome, and the decoder has taken the unended bytes.
+/// If an idle decoder decodes the first piece of a stream with `feed_piece`, the outcomes of the stream are the outcome
+/// of that piece, followed by the outcomes of the bytes after that piece and its zero. The unended bytes of a stream
+/// are the bytes after its last zero, or all bytes if it has no zero. The unended bytes of the whole stream are those
+/// of the bytes after that piece and its zero. If no piece ends, the stream has no outcome, and the unended bytes have
+/// been fed to the decoder.
 ///
-/// So a loop over `feed_piece` is proved by one equation: the outcomes found so far, followed by those of the remaining
-/// bytes, are the outcomes of the stream.
+/// So the invariant of a loop over `feed_piece` is one equation: the outcomes found so far, followed by the outcomes of
+/// the remaining bytes, are the outcomes of the stream.
 ///
 /// ```
 /// fn first_outcome<D: FrameDecoder>(decoder: &mut D, stream: &[u8]) -> bool

@@ -1,13 +1,14 @@
 // Made by bindings/rust/translate.py from `crates/cobs/src/dec/each.rt`: change that file, and run it again.
-//! Decoders that take one byte after another, for targets without SIMD vectors.
+//! Decoders that decode one byte at a time, for targets without SIMD vectors.
 
 use crate::proved::block::{FULL, FULL_CODE};
 use crate::proved::dec::frame_decoder::PieceEnd;
 use crate::proved::error::{DecodeError, DecodeReport};
 use crate::proved::find::{leading_zeros, len_to, len_to_zero};
 
-/// Decodes the first `end` bytes of the buffer as one frame, in place and one byte after another, and returns the
-/// message's length. Every byte after the message is as it was. This function is small, and uses no SIMD vectors.
+/// Decodes the first `end` bytes of the buffer as one frame, in the buffer itself and one byte at a time. Returns the
+/// message's length in bytes. The message is then at the front of the buffer, and every byte after the message is as it
+/// was. The code of this function is small, and uses no SIMD vectors.
 ///
 /// Precondition: the buffer has at least `end` bytes, and none of its first `end` bytes is a zero.
 /// `len_to_zero` returns the number of bytes before the first zero.
@@ -30,7 +31,8 @@ pub fn decode_blocks_each(buffer: &mut [u8], end: usize) -> Result<usize, Decode
         }
         let next = read + code;
         read += 1;
-        // The inner loop tests at its end, because compilers that optimize for size leave the test where it is written.
+        // The test of the inner loop is written at the end of the loop, because compilers that optimize for size don't
+        // move a test there.
         if read != next {
             loop {
                 buffer[written] = buffer[read];
@@ -41,7 +43,7 @@ pub fn decode_blocks_each(buffer: &mut [u8], end: usize) -> Result<usize, Decode
                 }
             }
         }
-        // A zero joins this block to the next block, unless this block is full.
+        // A zero joins this block and the next block, unless this block is full.
         if code != FULL_CODE && read < end {
             buffer[written] = 0;
             written += 1;
@@ -50,7 +52,7 @@ pub fn decode_blocks_each(buffer: &mut [u8], end: usize) -> Result<usize, Decode
     Ok(written)
 }
 
-/// Does what [`decode_in_place_report`](crate::decode_in_place_report) does, one byte after another.
+/// Decodes a frame as [`decode_in_place_report`](crate::decode_in_place_report) does, but one byte at a time.
 pub(crate) fn decode_in_place_each(buf: &mut [u8]) -> Result<DecodeReport, DecodeError> {
     if buf.is_empty() {
         return Err(DecodeError::EmptyFrame);
@@ -63,8 +65,7 @@ pub(crate) fn decode_in_place_each(buf: &mut [u8]) -> Result<DecodeReport, Decod
     })
 }
 
-/// Skips the first `at` bytes of the source. Returns the index after the next zero, or the source's length if no zero
-/// follows.
+/// Returns the index after the first zero at index `at` or later, or the source's length if there is no such zero.
 // Not inlined, so that the loops of its caller can use all registers of a small processor.
 #[inline(never)]
 fn through_piece(source: &[u8], at: usize) -> usize {
@@ -88,12 +89,12 @@ fn ended(written: usize, missing: usize, at: usize) -> Option<(PieceEnd, usize)>
     Some((PieceEnd::Broken(written), at))
 }
 
-/// Decodes the first piece of the source into `dest`, one byte after another. Returns how the piece ended, and how many
-/// bytes were consumed: the leading zeros, the piece, and the zero after the piece if there is one. Returns `None` if
-/// the source has no piece.
+/// Decodes the first piece of the source into `dest`, one byte at a time. Returns how the piece ended, and how many
+/// bytes of the source were consumed: the leading zeros, the piece, and the zero after the piece if there is one.
+/// Returns `None` if the source has no piece.
 ///
-/// This function decodes as [`decode`](crate::decode) does, but it also reports the number of consumed bytes if the
-/// piece is broken or too long. The function is small, and uses no SIMD vectors.
+/// This function decodes as [`decode`](crate::decode) does, but it returns the number of consumed bytes even if the
+/// piece is broken or too long. The code of this function is small, and uses no SIMD vectors.
 #[inline(always)]
 pub fn decode_piece(source: &[u8], dest: &mut [u8]) -> Option<(PieceEnd, usize)> {
     let start = leading_zeros(source);
@@ -132,7 +133,7 @@ pub fn decode_piece(source: &[u8], dest: &mut [u8]) -> Option<(PieceEnd, usize)>
     ended(written, left, at)
 }
 
-/// Does what [`decode`](crate::decode) does, one byte after another.
+/// Decodes a source as [`decode`](crate::decode) does, but one byte at a time.
 pub(crate) fn decode_each(source: &[u8], dest: &mut [u8]) -> Result<DecodeReport, DecodeError> {
     if source.is_empty() {
         return Err(DecodeError::EmptyFrame);
@@ -150,7 +151,7 @@ pub(crate) fn decode_each(source: &[u8], dest: &mut [u8]) -> Result<DecodeReport
     }
 }
 
-/// Does what [`decode_with_sentinel`](crate::decode_with_sentinel) does, one byte after another.
+/// Decodes a source as [`decode_with_sentinel`](crate::decode_with_sentinel) does, but one byte at a time.
 pub(crate) fn decode_head_each(
     source: &[u8],
     dest: &mut [u8],

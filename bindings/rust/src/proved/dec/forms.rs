@@ -9,9 +9,9 @@ use crate::proved::dec::unbuffered::START;
 use crate::proved::error::DecodeError;
 use crate::proved::find::{len_without_end, position_or_len};
 
-/// Decodes a source that contains no sentinel, and returns the message's length.
+/// Decodes a source that contains no sentinel, and returns the message's length in bytes.
 fn decode_blocks(source: &[u8], dest: &mut [u8], sentinel: u8) -> Result<usize, DecodeError> {
-    // A block has at most 255 bytes, so a block that begins before the last 254 bytes is whole.
+    // A block has at most 255 bytes, so a block that begins before the last 254 bytes of the source is whole.
     let tail = source.len().saturating_sub(FULL_BLOCK_BYTES);
     let mut progress = START;
     if progress.take_blocks(dest, &source[..tail], sentinel) < tail {
@@ -24,10 +24,10 @@ fn decode_blocks(source: &[u8], dest: &mut [u8], sentinel: u8) -> Result<usize, 
     message_len(progress.written, whole)
 }
 
-/// Decodes the frame at the front of the source, for any sentinel, and returns the message's length.
+/// Decodes the frame at the front of the source, for any sentinel, and returns the message's length in bytes.
 ///
 /// The frame ends at the source's first sentinel, or at the end of the source. Each byte of the frame is XORed with the
-/// sentinel before it is decoded. The message is then at the front of `dest`, and every byte of `dest` after the
+/// sentinel before it is decoded. After the call `dest` begins with the message, and every byte of `dest` after the
 /// message is as it was. Unlike [`decode`](crate::decode), this function reads a leading sentinel as an empty message,
 /// and returns 0.
 ///
@@ -35,13 +35,13 @@ fn decode_blocks(source: &[u8], dest: &mut [u8], sentinel: u8) -> Result<usize, 
 ///
 /// - `EmptyFrame` if the source is empty; `dest` is as it was.
 /// - `TargetBufTooSmall` if the message is longer than `dest`, or if the frame breaks off and the output of its whole
-///   blocks is longer than `dest`. `dest` then holds the first bytes of that message or output.
+///   blocks is longer than `dest`. In both cases `dest` is then filled with the first bytes of that message or output.
 /// - `InvalidFrame` if the frame breaks off inside a block and the output of its whole blocks fits `dest`. Then `dest`
 ///   begins with that output, `decoded_bytes` is the length of the output, and every byte of `dest` after the output is
 ///   as it was. If the block before the broken block isn't full, the output ends with the zero that joins the two
 ///   blocks.
 ///
-/// Frames for a sentinel other than 0 are from Cheshire and Baker's paper; the results for broken frames are a choice
+/// Cheshire and Baker's paper describes frames for a sentinel other than 0; the results for broken frames are a choice
 /// of this library.
 #[inline]
 pub fn decode_with_sentinel(

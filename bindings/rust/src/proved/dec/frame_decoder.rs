@@ -1,6 +1,6 @@
 // Made by bindings/rust/translate.py from `crates/cobs/src/dec/frame_decoder.rt`: change that file, and run it again.
-//! The traits of the streaming decoders: one for decoding, which `stream` and `framed` use, and one for writing to the
-//! buffer.
+//! The traits of the streaming decoders: `FrameDecoder` for decoding, which `stream` and `framed` use, and
+//! `WriteBuffer` for writing to the decoder's buffer.
 
 use crate::proved::error::DecodeError;
 
@@ -23,13 +23,13 @@ pub enum PieceEnd {
     /// The piece breaks off inside a block. The piece decodes to this many bytes, including those of the broken block.
     Broken(usize),
 
-    /// The piece decodes to more bytes than the decoder's buffer holds.
+    /// The piece decodes to more bytes than the decoder's buffer has room for.
     TooLong,
 }
 
 impl PieceEnd {
-    /// Returns how a piece ended, given the result of `feed` for the zero that ended the piece. Returns `None` if no
-    /// piece had begun.
+    /// Converts `returned`, the result of `feed` for a zero, to the end of the piece that this zero ended. Returns
+    /// `None` if no piece had begun.
     ///
     /// ```
     /// use jcobs::{PieceEnd, UnbufferedDecoder};
@@ -54,7 +54,8 @@ impl PieceEnd {
     }
 }
 
-/// A decoder that takes a stream byte by byte or piece by piece, and owns or borrows the buffer for its output.
+/// A decoder that decodes a stream byte by byte or piece by piece. The decoder owns or borrows the buffer for its
+/// output.
 ///
 /// ```
 /// use jcobs::{CobsDecoderHeapless, FrameDecoder, PieceEnd};
@@ -64,7 +65,7 @@ impl PieceEnd {
 /// assert_eq!(decoder.feed_piece(&stream), Some((PieceEnd::Broken(1), 3)));
 /// ```
 pub trait FrameDecoder {
-    /// Takes the next byte of the stream, with the results and errors of
+    /// Decodes the next byte of the stream. The results and errors are those of
     /// [`CobsDecoder::feed`](crate::CobsDecoder::feed).
     ///
     /// ```
@@ -76,16 +77,17 @@ pub trait FrameDecoder {
     /// ```
     fn feed_byte(&mut self, byte: u8) -> Result<Option<usize>, DecodeError>;
 
-    /// Takes the next bytes of the stream, and stops after the first zero that ends a piece.
+    /// Decodes the next bytes of the stream, and stops after the first zero that ends a piece.
     ///
-    /// Returns `None` if no piece ended in these bytes; the decoder has then taken all of them. Returns `Some((end,
-    /// count))` if the zero at index `count - 1` ended a piece; `end` says how the piece ended. The bytes after that
-    /// zero had no effect. The bytes of the buffer after the piece's output are as they were. A piece that is too long
-    /// for the buffer also ends at its zero, so the caller continues with the bytes from index `count` on, as after
-    /// every other piece.
+    /// - Returns `None` if no piece ended in these bytes. Then all of them were decoded.
+    /// - Returns `Some((end, count))` if the zero at index `count - 1` ended a piece; `end` says how the piece ended.
+    ///   The bytes after that zero had no effect, so the caller continues with the byte at index `count`, even if the
+    ///   piece is too long for the buffer.
     ///
-    /// An implementation doesn't have to define this method: the provided method feeds one byte after another. On
-    /// targets with SIMD vectors, the decoders of this library copy many bytes at once instead.
+    /// The bytes of the buffer after the piece's output are as they were.
+    ///
+    /// An implementation doesn't have to define this method: the provided method feeds one byte after another. The
+    /// decoders of this library define it: on targets with SIMD vectors they copy many bytes in one step.
     ///
     /// ```
     /// use jcobs::{CobsDecoderHeapless, FrameDecoder, PieceEnd};

@@ -26,7 +26,7 @@ impl UnbufferedDecoder {
     fn take_part_in_place(&mut self, buffer: &mut [u8], read: usize, end: usize) -> usize {
         let code = buffer[read];
         let missing = self.missing;
-        if missing == 0 && (self.joint == 0 || code as usize > WIDE_WINDOW) {
+        if missing == 0 && code as usize > WIDE_WINDOW {
             self.take_joint(buffer, code);
             let at = self.written;
             let len = (self.missing as usize).min(end - read - 1);
@@ -34,6 +34,10 @@ impl UnbufferedDecoder {
             self.written = at + len;
             self.missing -= len as u8;
             return 1 + len;
+        }
+        if missing == 0 && self.joint == 0 {
+            self.take_joint(buffer, code);
+            return 1;
         }
         let at = self.written;
         let len = self.span_len((end - read).min(SPAN_MAX));

@@ -179,14 +179,19 @@ impl UnbufferedDecoder {
     }
 
     /// Takes the bytes of one step, and returns their number, which is 0 only if there is no room for the output of the
-    /// first byte. A step takes a block if this block begins the piece, follows a full block, or has at least 64 bytes
-    /// after its code. Otherwise it takes rows of 32 blocks 01 if the next bytes are such rows, or else a span.
+    /// first byte. A step takes a block if it has at least 64 bytes after its code. Of a shorter block that begins the
+    /// piece or follows a full block, a step takes only the code, because this code has no place in the output.
+    /// Otherwise it takes rows of 32 blocks 01 if the next bytes are such rows, or else a span.
     #[inline(always)]
     fn take_part(&mut self, dest: &mut [u8], bytes: &[u8], sentinel: u8) -> usize {
         if self.missing == 0 {
             let code = bytes[0] ^ sentinel;
-            if self.joint == 0 || code as usize > WIDE_WINDOW {
+            if code as usize > WIDE_WINDOW {
                 return self.take_block(dest, bytes, sentinel);
+            }
+            if self.joint == 0 {
+                self.take_joint(dest, code);
+                return 1;
             }
             if code == 1 {
                 let taken = write_rows(dest, self.written, bytes, 1 ^ sentinel);

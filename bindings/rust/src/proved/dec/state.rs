@@ -18,13 +18,13 @@ use crate::proved::error::DecodeError;
 /// ```
 #[derive(Debug, Clone, PartialEq, Eq, Hash)]
 pub enum DecoderState {
-    /// No nonzero byte has been taken since the last sentinel, or since the start.
+    /// No nonzero byte has been fed since the last sentinel, or since the start.
     Idle,
 
-    /// Inside a block with a code from 1 to 254. This many bytes of the block are missing.
+    /// Inside a block with a code from 1 to 254. This many bytes of the block are still missing.
     Grab(u8),
 
-    /// Inside a full block, which has the code 255. This many bytes of the block are missing.
+    /// Inside a full block, which has the code 255. This many bytes of the block are still missing.
     GrabChain(u8),
 }
 
@@ -54,7 +54,7 @@ pub enum DecodeResult {
 }
 
 impl Default for DecoderState {
-    /// Makes the state at the start: no byte has been taken.
+    /// Makes the state before the first byte of a stream, which is `Idle`.
     ///
     /// ```
     /// use jcobs::DecoderState;
@@ -67,7 +67,7 @@ impl Default for DecoderState {
 }
 
 impl DecoderState {
-    /// Returns the state in which the decoder has taken this code of a block, and none of the block's other bytes yet.
+    /// Returns the state after the code of a block was fed, and before the other bytes of the block are fed.
     fn opened(code: u8) -> DecoderState {
         if code == 255 {
             DecoderState::GrabChain(254)
@@ -76,7 +76,7 @@ impl DecoderState {
         }
     }
 
-    /// Returns the result for this byte in this state, and the next state.
+    /// Returns the result for `byte` in this state, and the next state.
     fn row(&self, byte: u8) -> (Result<DecodeResult, DecodeError>, DecoderState) {
         match (self, byte) {
             (DecoderState::Idle, 0) => (Ok(DecodeResult::NoData), DecoderState::Idle),
@@ -106,14 +106,14 @@ impl DecoderState {
         }
     }
 
-    /// Takes the next byte of a frame, and returns the result for this byte.
+    /// Decodes the next byte of a stream, and returns the result for this byte. The sentinel is the byte 0.
     ///
-    /// For a sentinel, the byte 0, the result is `DataComplete` if the last block has all the bytes that its code
-    /// counts, and `NoData` if no frame has begun. After each sentinel the state is `Idle`.
-    ///
-    /// Any other byte is a code if no block is open. For a code, the result is `DataStart` if the code is the first one
-    /// of a frame, `NoData` if it follows a full block, and otherwise `DataContinue(0)`, with the zero that joins the
-    /// two blocks. For a byte inside a block, the result is `DataContinue` with that byte.
+    /// - For a sentinel, the result is `DataComplete` if the last block has all bytes that its code counts, and
+    ///   `NoData` if no frame has begun. After each sentinel the state is `Idle`.
+    /// - For the first code of a frame, the result is `DataStart`.
+    /// - For a code after a full block, the result is `NoData`. For a code after any other block, it is
+    ///   `DataContinue(0)`, because a zero joins the two blocks.
+    /// - For a byte inside a block, the result is `DataContinue` with this byte.
     ///
     /// Every state has a result for every byte, even a state that no frame leads to, such as `Grab(255)`. The rules for
     /// blocks are those of the paper by Cheshire and Baker; the names of the results are those of the crate `cobs`.

@@ -1,5 +1,5 @@
 // Made by bindings/rust/translate.py from `crates/cobs/src/dec/step.rt`: change that file, and run it again.
-//! The step of a streaming decoder for one byte, and a loop of such steps.
+//! The step of a streaming decoder for one byte, and a loop that makes one step for each byte.
 
 use crate::proved::block::FULL;
 use crate::proved::dec::frame_decoder::PieceEnd;
@@ -13,7 +13,7 @@ pub(crate) fn joint_after(code: u8) -> u8 {
 }
 
 impl UnbufferedDecoder {
-    /// Takes a zero, which ends a piece if one has begun. `len` is the buffer's length.
+    /// Ends the open piece at a zero, and returns the result for this zero. `len` is the buffer's length.
     #[inline(always)]
     pub(crate) fn end(&mut self, len: usize) -> Result<Option<usize>, DecodeError> {
         let ended = *self;
@@ -26,8 +26,8 @@ impl UnbufferedDecoder {
                 decoded_bytes: ended.written,
             });
         }
-        // This happens only if the caller now passes a shorter buffer, or has set the state's numbers itself: `written`
-        // counts only bytes that fitted.
+        // `written` counts only bytes that fitted the buffer. So it is greater than `len` only if the caller now passes
+        // a shorter buffer, or has changed the decoder's numbers.
         if len < ended.written {
             return Err(DecodeError::TargetBufTooSmall);
         }
@@ -40,11 +40,11 @@ impl UnbufferedDecoder {
         }
     }
 
-    /// Takes a byte of a piece, writes its output to the buffer, and returns how many decoded bytes of the piece the
-    /// buffer then holds. If the output is too long for the buffer, this number is the buffer's length.
+    /// Decodes a nonzero byte of a piece into the buffer, and returns how many decoded bytes of the piece the buffer
+    /// then holds. If the output of the piece is too long for the buffer, the function returns the buffer's length.
     ///
-    /// This is the step of [`feed`](Self::feed) for a byte that isn't a zero. For a zero, which ends a piece, call
-    /// `feed`: if `take_byte` gets a zero, the result for the open piece and the bytes of the buffer are unspecified.
+    /// For a nonzero byte, [`feed`](Self::feed) makes the same step. For a zero, which ends a piece, call `feed`: if
+    /// you pass a zero to `take_byte`, the results for the open piece and the bytes of the buffer are unspecified.
     ///
     /// ```
     /// use jcobs::UnbufferedDecoder;
@@ -57,16 +57,17 @@ impl UnbufferedDecoder {
     /// assert_eq!(decoder.feed(&mut buffer, 0), Ok(Some(2)));
     /// assert!(buffer.starts_with(&[7, 8]));
     /// ```
-    // A byte inside a block has a return of its own, with a length that needs no test. So compilers generate fewer
-    // instructions for a call with one byte than if all cases shared a return.
+    // The case of a byte inside a block has a separate return, whose value needs no comparison with the buffer's
+    // length. Compilers generate fewer instructions for a call with one byte than they would if all cases shared one
+    // return.
     #[inline(always)]
     pub fn take_byte(&mut self, dest: &mut [u8], byte: u8) -> usize {
         let room = dest.len();
         if self.too_long != 0 {
             return room;
         }
-        // `written` is read only once, here: otherwise compilers would read it again after each write to the buffer.
-        // Each case has a write of its own: that is faster than choosing a byte first and writing it in one place.
+        // `written` is read only once, here; otherwise compilers would read it again after each write to the buffer.
+        // Each case writes its byte itself, because it is slower to choose the byte first and to write it in one place.
         let mut at = self.written;
         if self.missing != 0 {
             if at < room {
@@ -92,7 +93,7 @@ impl UnbufferedDecoder {
         at.min(room)
     }
 
-    /// Takes the next byte of the stream, and writes its output to the buffer.
+    /// Decodes the next byte of the stream, and writes the output of this byte to the buffer.
     #[inline(always)]
     pub(crate) fn step(&mut self, dest: &mut [u8], byte: u8) -> Result<Option<usize>, DecodeError> {
         if byte == 0 {
@@ -105,10 +106,10 @@ impl UnbufferedDecoder {
         Ok(None)
     }
 
-    /// Takes bytes of a stream of frames for this sentinel, one step for each byte. The function stops after the
-    /// sentinel that ends the first piece, or takes all bytes if no piece ends. For the sentinel 0 it does what
-    /// [`feed_piece`](Self::feed_piece) does. The function doesn't search ahead or copy slices, so it is small, and
-    /// fast for a few bytes.
+    /// Decodes bytes of a stream of frames for `sentinel`, one byte at a time. The function stops after the sentinel
+    /// that ends the first piece; if no piece ends, it decodes all bytes. For the sentinel 0, the effect and the result
+    /// are those of [`feed_piece`](Self::feed_piece). The function doesn't search ahead or copy slices, so its code is
+    /// small, and it is fast for a few bytes.
     ///
     /// ```
     /// use jcobs::{PieceEnd, UnbufferedDecoder};
@@ -128,8 +129,8 @@ impl UnbufferedDecoder {
         bytes: &[u8],
         sentinel: u8,
     ) -> Option<(PieceEnd, usize)> {
-        // `here` is a copy of the decoder, so that it stays in registers: otherwise compilers read the fields again
-        // after each byte that is written.
+        // The loop changes `here`, a copy of the decoder, which stays in registers. If the loop changed the decoder
+        // itself, compilers would read the fields again after each byte that is written.
         let mut here = *self;
         let mut taken = 0;
         if here.too_long == 0 {
@@ -156,8 +157,8 @@ impl UnbufferedDecoder {
                 return Some((PieceEnd::TooLong, taken));
             }
         }
-        // The fields are assigned one by one: if the whole decoder is assigned, rustc needs 24 bytes more for a push on
-        // a Cortex-M4.
+        // The fields are assigned one by one, because for an assignment of the whole decoder, rustc needs 24 bytes more
+        // for a push on a Cortex-M4.
         self.written = here.written;
         self.missing = here.missing;
         self.joint = here.joint;

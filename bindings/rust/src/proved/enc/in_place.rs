@@ -1,19 +1,19 @@
 // Made by bindings/rust/translate.py from `crates/cobs/src/enc/in_place.rt`: change that file, and run it again.
-//! A message that is encoded in its own buffer.
+//! Encodes a message in the buffer that holds the message.
 
 use crate::proved::enc::UnbufferedEncoder;
 use crate::proved::enc::blocks::close_block;
 use crate::proved::max_encoding_overhead;
 
-/// Encodes a message in its own buffer, and returns the length of its frame in bytes.
+/// Encodes a message in the buffer that holds it, and returns the length of the frame in bytes.
 ///
 /// The message has `len` bytes, and begins in `buffer` at the index that
-/// [`max_encoding_overhead`](crate::max_encoding_overhead) returns for `len`; the bytes before the message don't
-/// matter. After the call `buffer` begins with the frame that [`encode`](crate::encode) writes. Every byte of `buffer`
+/// [`max_encoding_overhead`](crate::max_encoding_overhead) returns for `len`. The bytes before the message may have any
+/// values. After the call `buffer` begins with the frame that [`encode`](crate::encode) writes. Every byte of `buffer`
 /// after the frame stays as it was, even if the byte belongs to the message.
 ///
-/// Precondition: `buffer` is at least as long as [`max_encoding_length`](crate::max_encoding_length) returns for `len`,
-/// so the whole message lies within `buffer`.
+/// Precondition: `buffer` has at least as many bytes as [`max_encoding_length`](crate::max_encoding_length) returns for
+/// `len`. So the whole message lies within `buffer`.
 pub fn encode_in_place(buffer: &mut [u8], len: usize) -> usize {
     let before = max_encoding_overhead(len);
     let mut encoder = UnbufferedEncoder::new();

@@ -1,5 +1,5 @@
 // Made by bindings/rust/translate.py from `crates/cobs/src/enc/push.rt`: change that file, and run it again.
-//! Pushes of any number of bytes to an encoder, and the end of a message.
+//! The calls of `UnbufferedEncoder` that encode any number of bytes, and that end a message.
 
 use crate::proved::cobs_bytes::window::has_vectors;
 use crate::proved::enc::UnbufferedEncoder;
@@ -8,14 +8,14 @@ use crate::proved::enc::room::try_append;
 use crate::proved::error::DestBufTooSmallError;
 
 impl UnbufferedEncoder {
-    /// Takes the next bytes of the message.
+    /// Encodes the next bytes of the message, with `dest` as the buffer.
     ///
     /// An empty push changes nothing. The bytes of the buffer after the frame are never written.
     ///
     /// # Errors
-    /// `DestBufTooSmallError` exactly if the buffer is shorter than the encoded frame of the bytes taken so far,
-    /// followed by these bytes, or if the encoder's state isn't possible in a buffer of this length. Then neither the
-    /// encoder nor the buffer has changed, so the caller may end the frame, or push fewer bytes.
+    /// `DestBufTooSmallError` exactly if the buffer is shorter than the encoded frame of the message so far with
+    /// `bytes` appended, or if the encoder's state isn't possible in a buffer of this length. Then neither the encoder
+    /// nor the buffer has changed, so the caller may end the message, or push fewer bytes.
     ///
     /// ```
     /// use jcobs::{DestBufTooSmallError, UnbufferedEncoder};
@@ -49,7 +49,7 @@ impl UnbufferedEncoder {
             self.set(append_short(bytes, dest, *self, true));
             return Ok(());
         }
-        // A copy of the encoder is passed, field by field, so that the encoder itself stays in registers.
+        // `try_append` gets a copy of the encoder, made field by field, so that the encoder itself stays in registers.
         let mut reached = UnbufferedEncoder { ..*self };
         if !try_append(bytes, dest, &mut reached) {
             return Err(DestBufTooSmallError);

@@ -7,10 +7,9 @@ use crate::proved::enc::blocks::{append, append_rest};
 use crate::proved::find::position_or_len;
 use memchr::memrchr;
 
-/// Counts full blocks, as if these bytes were appended to an open block of `taken` bytes. A block is counted if it
-/// becomes full before the last byte: it makes the frame one byte longer, because the next block needs a code. Returns
-/// whether fewer than `spare` blocks were counted. `spare` is the number of bytes that the buffer has for codes,
-/// including the code of the open block.
+/// Returns whether fewer than `spare` blocks become full if `bytes` are appended to an open block of `taken` bytes. A
+/// block that becomes full with the last byte isn't counted: no other block follows it, so the frame needs no further
+/// code. `spare` is the number of bytes that the buffer has for codes, including the code of the open block.
 fn fits_each(taken: u8, bytes: &[u8], spare: usize) -> bool {
     let mut left = spare;
     let mut taken = taken;
@@ -27,19 +26,22 @@ fn fits_each(taken: u8, bytes: &[u8], spare: usize) -> bool {
     true
 }
 
-/// Returns whether `spare` bytes cover the overhead of every message of `len` bytes, that is, whether `len` is at most
-/// 254 times `spare`. This is so exactly if half of `len`, rounded up, is at most 127 times `spare`. The function adds
-/// `spare` to both sides of this comparison, so that it divides only by 2 and by 128, and nothing overflows. Small
-/// processors have no instruction for other divisions. For up to 254 bytes, one spare byte is always enough.
+/// Returns whether `spare` bytes are enough for the overhead of every message of `len` bytes, that is, whether `len` is
+/// at most 254 times `spare`. For up to 254 bytes, one spare byte is always enough.
+///
+/// A direct comparison could overflow. Half of `len`, rounded up, is at most 127 times `spare` exactly if `len` is at
+/// most 254 times `spare`. The function adds `spare` to both sides of this comparison, and divides them by 128. So it
+/// divides only by 2 and by 128, which a small processor does with shifts.
 #[inline(always)]
 fn covers_overhead(len: usize, spare: usize) -> bool {
     len <= FULL_BLOCK_BYTES || (len - len / 2 + spare - 1) / 128 < spare
 }
 
-/// Returns whether the frame fits if these bytes are appended to an open block of `taken` bytes. The buffer has `room`
-/// bytes from the code of this block on. The bytes are read only if their number doesn't decide whether the frame fits.
-// Inlined, because usually the number of bytes and `room` decide: for a short message, a call would cost more than the
-// comparisons.
+/// Returns whether the frame fits the buffer after `bytes` are appended to an open block of `taken` bytes. `room` is
+/// the number of bytes that the buffer has from the open block's code to its end. The function reads `bytes` only if
+/// their number doesn't decide whether the frame fits.
+// Inlined, because usually the number of bytes and `room` decide the result: for a short message, a call would cost
+// more than the comparisons.
 #[inline(always)]
 pub(crate) fn has_room(taken: u8, bytes: &[u8], room: usize) -> bool {
     let held = taken as usize;
@@ -51,15 +53,15 @@ pub(crate) fn has_room(taken: u8, bytes: &[u8], room: usize) -> bool {
     covers_overhead(len, spare) || fits_each(taken, bytes, spare)
 }
 
-/// Returns `Some` if `room` bytes are enough for the encoded frame of the open block's `taken` bytes and the bytes of
-/// `source` after them. Otherwise returns `None`. `room` is counted from the code of the open block.
+/// Returns `Some` if the frame fits the buffer after `source` is appended to an open block of `taken` bytes, and
+/// otherwise `None`. `room` is the number of bytes that the buffer has from the open block's code to its end. The
+/// `Some` contains the length of the first run of `source`, so that the encoder needn't search for the end of this run
+/// again. If the function didn't search for the end of the first run, the `Some` contains 0.
 ///
 /// The function counts all full blocks except a full block at the end of the frame. It looks at the bytes that would
-/// fill the open block. If one of them is a zero, the block doesn't become full, and the function continues after the
-/// last zero among them. If none of them is a zero, the run fills the block, and another block with each further 254 of
-/// its bytes. So the function then searches for the end of the run. If the function searched for the end of the first
-/// run, the `Some` contains the length of this run, so that the encoder needn't search again; otherwise the `Some`
-/// contains 0.
+/// fill the open block. If one of these bytes is a zero, the block doesn't become full, and the function continues
+/// after the last zero of these bytes. If none of these bytes is a zero, the function searches for the end of the run.
+/// The run fills the open block, and each further 254 bytes of the run fill another block.
 #[inline(never)]
 fn fits(taken: u8, source: &[u8], room: usize) -> Option<usize> {
     if room < source.len() {
@@ -99,14 +101,17 @@ fn fits(taken: u8, source: &[u8], room: usize) -> Option<usize> {
     None
 }
 
-/// Takes `source`, as [`append`] does, but only if the frame then fits `dest`. Returns whether the frame fits. Usually
-/// the lengths of `source` and `dest` decide whether the frame fits, since among messages of one length those without
-/// zeros have the longest frames. Calling [`fits`] each time would be slower. A long run that [`fits`] has searched
-/// isn't searched again. This function isn't inlined, so that a short push doesn't save registers for it.
+/// Appends `source` to the message as [`append`] does, if the frame then fits `dest`. Returns whether the frame fits;
+/// if it doesn't, nothing has changed.
+///
+/// Usually the lengths of `source` and `dest` decide whether the frame fits, because among all messages of one length,
+/// those without zeros have the longest frames. [`fits`] is slower, so the function calls it only if the lengths don't
+/// decide. If [`fits`] has found the end of a long first run, the function doesn't search for this end again. The
+/// function isn't inlined, so that a short push doesn't save registers for it.
 #[inline(never)]
 pub(crate) fn try_append(source: &[u8], dest: &mut [u8], encoder: &mut UnbufferedEncoder) -> bool {
-    // Copied field by field, here and below: a load of all fields at once would have to wait, because they were stored
-    // one by one.
+    // The encoder is copied field by field, here and below. The fields were stored one by one, so a single load of all
+    // fields would have to wait for these stores.
     let start = UnbufferedEncoder { ..*encoder };
     let room = dest.len() - start.index;
     // `len` is the number of bytes that the message has from the open block on.

@@ -1,12 +1,13 @@
 // Made by bindings/rust/translate.py from `crates/cobs/src/enc/sentinel.rt`: change that file, and run it again.
-//! Frames for a sentinel other than 0, and frames between sentinels.
+//! Encoders that write frames for a sentinel other than 0, and frames between two sentinels.
 
 use crate::proved::cobs_bytes::lanes::xor_bytes;
 use crate::proved::cobs_bytes::window::has_vectors;
 use crate::proved::enc::{encode_few, try_encode, try_encode_any, try_encode_each};
 use crate::proved::error::DestBufTooSmallError;
 
-/// Does what [`encode_with_sentinel`](crate::encode_with_sentinel) does, if the frame fits `dest`.
+/// Writes the encoded frame of `source` for `sentinel` to the front of `dest`, as [`encode_with_sentinel`](crate::encode_with_sentinel) does, if the
+/// frame fits `dest`. Returns the frame's length in bytes.
 ///
 /// # Errors
 /// `DestBufTooSmallError` exactly if the frame is longer than `dest`. Then no byte of `dest` has changed.
@@ -27,7 +28,8 @@ pub fn try_encode_with_sentinel(
     Ok(written)
 }
 
-/// Does what [`encode_including_sentinels`](crate::encode_including_sentinels) does, if the frame and both sentinels fit `dest`.
+/// Writes a 0, the encoded frame of `source` and another 0 to the front of `dest`, as [`encode_including_sentinels`](crate::encode_including_sentinels)
+/// does, if all of them fit. Returns how many bytes it wrote.
 ///
 /// # Errors
 /// `DestBufTooSmallError` exactly if the frame and both sentinels together are longer than `dest`. Then no byte of

@@ -2,7 +2,7 @@
 //! The state machine of an encoder, without a buffer.
 
 /// The change that a byte of the message makes to the encoded output. Indices count bytes from the start of the output.
-/// The names are those of the crate `cobs`.
+/// The names of the variants are those of the crate `cobs`.
 ///
 /// ```
 /// use jcobs::{EncoderState, PushResult};
@@ -16,11 +16,13 @@ pub enum PushResult {
     /// This byte of the message is appended to the output.
     AddSingle(u8),
 
-    /// The output's byte at this index is replaced by this code, and a placeholder is appended to the output.
+    /// The first number is an index in the output, and the second number is a code. The code replaces the output's byte
+    /// at that index. Then a placeholder, which may have any value, is appended to the output.
     ModifyFromStartAndSkip((usize, u8)),
 
-    /// The output's byte at this index is replaced by this code. The third number, which is a byte of the message, and
-    /// then a placeholder are appended to the output.
+    /// The first number is an index in the output, the second number is a code, and the third number is a byte of the
+    /// message. The code replaces the output's byte at that index. Then the byte of the message is appended to the
+    /// output, and a placeholder after it.
     ModifyFromStartAndPushAndSkip((usize, u8, u8)),
 }
 
@@ -28,11 +30,12 @@ pub enum PushResult {
 /// from 1 to 254.
 ///
 /// The state doesn't hold the output, so a caller can write the encoded bytes to a container of its own. At first the
-/// output is one placeholder, a byte of any value. Each result of [`push`](EncoderState::push) says what a byte of the
-/// message changes in the output, and [`finalize`](EncoderState::finalize) returns the last change. A caller that
-/// carries out all changes has a frame of the message: the one whose last block isn't full. [`encode`](crate::encode)
-/// writes the same frame, unless the message ends in a run of nonzero bytes whose length is a positive multiple of 254.
-/// In that case the caller has the longer frame, which is the frame that `encode` writes, followed by the byte `1`.
+/// caller's output is one placeholder, a byte of any value. For each byte of the message, [`push`](EncoderState::push)
+/// returns the change that the caller makes to the output. At the end [`finalize`](EncoderState::finalize) returns the
+/// last change. After all changes the output is a frame of the message, and the last block of this frame isn't full.
+/// [`encode`](crate::encode) writes the same frame, unless the message ends in a run of nonzero bytes whose length is a
+/// positive multiple of 254. In that case the message has two frames, and the output is the longer one: the frame that
+/// `encode` writes, followed by the byte `1`.
 ///
 /// ```
 /// use jcobs::{EncoderState, PushResult};
@@ -56,8 +59,8 @@ pub struct EncoderState {
 }
 
 impl Default for EncoderState {
-    /// Makes the state at the start: the open block begins with the placeholder at index 0, and has no bytes after it
-    /// yet.
+    /// Makes the state before the first byte of a message. The open block begins with the placeholder at index 0, and
+    /// has no other bytes.
     ///
     /// ```
     /// use jcobs::EncoderState;
@@ -74,8 +77,8 @@ impl Default for EncoderState {
 }
 
 impl EncoderState {
-    /// Returns whether another byte can be pushed, that is, whether the index of the next block fits a `usize`,
-    /// whatever the byte is.
+    /// Returns whether another byte can be pushed: the index of the next block must fit a `usize`, whatever the byte
+    /// is.
     ///
     /// ```
     /// use jcobs::EncoderState;
@@ -87,13 +90,13 @@ impl EncoderState {
         self.code_index < usize::MAX - self.code as usize
     }
 
-    /// Takes the next byte of the message, and returns the change that this byte makes to the output.
+    /// Encodes the next byte of the message, and returns the change that this byte makes to the output.
     ///
     /// Indices count bytes from the start of the output.
     ///
     /// # Panics
     ///
-    /// With overflow checks, if [`can_push`](EncoderState::can_push) is false.
+    /// With overflow checks, if [`can_push`](EncoderState::can_push) returns false.
     ///
     /// ```
     /// use jcobs::{EncoderState, PushResult};
@@ -121,7 +124,8 @@ impl EncoderState {
         PushResult::ModifyFromStartAndSkip((index, code))
     }
 
-    /// Ends the message. Returns the index in the output at which the last code belongs, and that code.
+    /// Ends the message. Returns the index of the last placeholder in the output, and the code that replaces this
+    /// placeholder.
     ///
     /// ```
     /// use jcobs::EncoderState;
@@ -135,8 +139,8 @@ impl EncoderState {
 }
 
 /// Returns the code of a full block.
-// Compilers assume that a branch to a cold function is rarely taken. Otherwise they would compute the results for all
-// three cases and choose one without a branch, which is slower.
+// The function is marked cold, because compilers assume that a branch to a cold function is rarely taken. Without this
+// mark, compilers would compute the results for all three cases and choose one without a branch, which is slower.
 #[cold]
 #[inline(never)]
 fn full_code() -> u8 {

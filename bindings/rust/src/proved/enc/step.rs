@@ -8,10 +8,10 @@ use crate::proved::enc::room::has_room;
 use crate::proved::error::DestBufTooSmallError;
 
 impl UnbufferedEncoder {
-    /// Takes the next byte of the message, for which there is room, and returns the length that the frame has if the
-    /// message ends with this byte.
+    /// Encodes the next byte of the message, and returns the length in bytes that the frame has if the message ends
+    /// with this byte. The caller ensures that there is room for the byte.
     // This function calls no other function, so that the variables of the loop of `encode_in_place` stay in registers.
-    // In each case the frame ends after the byte at index `next`.
+    // In each case the byte at index `next` is the last byte of the frame.
     #[inline(always)]
     pub(crate) fn append_byte(&mut self, dest: &mut [u8], byte: u8) -> usize {
         let index = self.index;
@@ -35,12 +35,13 @@ impl UnbufferedEncoder {
         next + 1
     }
 
-    /// Takes the next byte of the message.
+    /// Encodes the next byte of the message, with `dest` as the buffer.
     ///
-    /// `feed` does what [`push`](UnbufferedEncoder::push) of this one byte does.
+    /// The effect and the result are those of a [`push`](UnbufferedEncoder::push) of this one byte.
     ///
     /// # Errors
-    /// `DestBufTooSmallError` if the byte doesn't fit. Then neither the encoder nor the buffer has changed.
+    /// `DestBufTooSmallError` if the buffer is shorter than the frame with this byte, or if the encoder's state isn't
+    /// possible in a buffer of this length. Then neither the encoder nor the buffer has changed.
     ///
     /// ```
     /// use jcobs::{DestBufTooSmallError, UnbufferedEncoder};
@@ -58,11 +59,11 @@ impl UnbufferedEncoder {
         Ok(())
     }
 
-    /// Takes the next byte of the message, as [`feed`](UnbufferedEncoder::feed) does, and returns the length that the frame has
-    /// if the message ends with this byte.
+    /// Encodes the next byte of the message as [`feed`](UnbufferedEncoder::feed) does, and returns the length in bytes
+    /// that the frame has if the message ends with this byte.
     ///
     /// # Errors
-    /// Those of [`feed`](UnbufferedEncoder::feed).
+    /// The errors are those of [`feed`](UnbufferedEncoder::feed).
     ///
     /// ```
     /// use jcobs::UnbufferedEncoder;
@@ -78,21 +79,22 @@ impl UnbufferedEncoder {
     pub fn feed_len(&mut self, dest: &mut [u8], byte: u8) -> Result<usize, DestBufTooSmallError> {
         let room = dest.len();
         let code = self.taken as usize + 1;
-        // An open block has a code of at most 254: a greater number doesn't come from these calls. The tests read the
-        // field, and not a copy of it, so that rustc sees that no index of the step is out of bounds.
+        // An open block has a code of at most 254; the code is greater only if the caller has changed the encoder's
+        // numbers. The tests read the field `index` itself, not a copy, so that rustc sees that no index of the step is
+        // out of bounds.
         if FULL_BLOCK_BYTES < code || room < self.index || room - self.index <= code {
             return Err(DestBufTooSmallError);
         }
         Ok(self.append_byte(dest, byte))
     }
 
-    /// Takes `bytes` as the next bytes of the message if they are 1 to 8 bytes, fit, and can't fill the open block.
-    /// Returns whether it took them. If it didn't, it changed nothing, and a call of
-    /// [`push`](UnbufferedEncoder::push) takes the bytes if they fit.
+    /// Encodes `bytes` as the next bytes of the message if there are 1 to 8 bytes, if the buffer has room for them, and
+    /// if they can't fill the open block. Returns whether it encoded the bytes. If it returns false, nothing has
+    /// changed, and the caller passes the bytes to [`push`](UnbufferedEncoder::push).
     ///
-    /// No branch tests whether a byte is a zero, because a processor could predict the branch wrong. So pushing single
-    /// bytes, or the fields of a record, is faster with `push_few` than with [`push`](UnbufferedEncoder::push) if zeros
-    /// are at random places, and slower if zeros are rare.
+    /// No branch tests whether a byte is a zero, because a processor could mispredict that branch. So for single bytes,
+    /// and for the fields of a record, `push_few` is faster than [`push`](UnbufferedEncoder::push) if zeros are at
+    /// random places. It is slower than `push` if zeros are rare.
     ///
     /// ```
     /// use jcobs::UnbufferedEncoder;
@@ -116,13 +118,13 @@ impl UnbufferedEncoder {
         true
     }
 
-    /// Takes the next bytes of the message, one at a time.
+    /// Encodes the next bytes of the message, one byte at a time.
     ///
-    /// `push_each` does what [`push`](UnbufferedEncoder::push) does, but is smaller and slower: `push_each` is meant
-    /// for small devices.
+    /// The effect and the result are those of [`push`](UnbufferedEncoder::push). The code of `push_each` is smaller and
+    /// slower; it is meant for small devices.
     ///
     /// # Errors
-    /// Those of [`push`](UnbufferedEncoder::push).
+    /// The errors are those of [`push`](UnbufferedEncoder::push).
     ///
     /// ```
     /// use jcobs::UnbufferedEncoder;
@@ -136,7 +138,7 @@ impl UnbufferedEncoder {
     /// ```
     #[inline]
     pub fn push_each(&mut self, dest: &mut [u8], bytes: &[u8]) -> Result<(), DestBufTooSmallError> {
-        // An open block has at most 253 bytes: a greater number doesn't come from these calls.
+        // An open block has at most 253 bytes; `taken` is greater only if the caller has changed the encoder's numbers.
         if 253 < self.taken || dest.len() < self.index {
             return Err(DestBufTooSmallError);
         }
@@ -147,7 +149,7 @@ impl UnbufferedEncoder {
             }
             return Err(DestBufTooSmallError);
         }
-        // If the bytes fit, the open block without them fits too.
+        // If there is room for the bytes, there is also room for the open block without them.
         if !has_room(self.taken, bytes, room) {
             return Err(DestBufTooSmallError);
         }
@@ -155,9 +157,9 @@ impl UnbufferedEncoder {
         Ok(())
     }
 
-    /// Takes the next bytes of the message, for which there is room, one at a time.
-    // The loop changes local variables, which stay in registers, and every block is closed by the same lines. On a
-    // small processor `append_byte` in the loop would need more instructions and more flash.
+    /// Encodes the next bytes of the message, one byte at a time. The caller ensures that there is room for the bytes.
+    // The loop changes local variables, which stay in registers, and every block is closed by the same lines. If the
+    // loop called `append_byte`, a small processor would need more instructions and more flash.
     #[inline(always)]
     fn append_each(&mut self, dest: &mut [u8], bytes: &[u8]) {
         let mut index = self.index;
