@@ -8,7 +8,7 @@ use crate::fault::CaseFault;
 use crate::short::words_of;
 use std::alloc::{AllocError, Global};
 
-/// The verdict on a line.
+/// The result of comparing a line's call with its expected result.
 #[derive(Debug, Drop)]
 pub enum Verdict {
     /// The line is empty or a comment.
@@ -17,12 +17,12 @@ pub enum Verdict {
     /// The result is the expected one.
     Agrees,
 
-    /// The result isn't the expected one, or there is no result. The text names the case or the line, and says how the
-    /// results differ or why there is no result.
+    /// The result of the call isn't the expected one, or the line has no result, because it isn't a case or can't be
+    /// run. The text says how the results differ or why there is no result.
     Differs(String),
 }
 
-/// The words of a line, by their meaning.
+/// The words of a case, grouped by meaning.
 #[derive(Debug, Drop)]
 struct Case<'a> {
     name: &'a str,
@@ -67,7 +67,7 @@ pub fn verdict_of(alloc: Global, line: &str) -> Result<Verdict, AllocError>
     }
 }
 
-/// Sorts the words of a line by their meaning, or returns `None` if the line isn't a case.
+/// Groups the words of a line by meaning, or returns `None` if the line isn't a case.
 fn case_of<'a>(words: &'a [&'a str]) -> Option<Case<'a>>
     ensures call { IfSome result (λ case. case.call ≡ slice_index_or words.now 2 case.call) }
     ensures each_word { IfSome result (λ case.
