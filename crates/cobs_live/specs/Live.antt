@@ -19,8 +19,8 @@ use Rattle.cobs_live.specs.declared.shown.Settings.{Settings}
 use Rattle.cobs_live.specs.declared.shown.View.{View}
 use Rattle.cobs_live.specs.declared.tally.Tally.{Tally}
 
--- a run so far: the text of each piece that ended in the bytes read so far has been written, and the decoder has taken
--- all these bytes
+-- the state of a run between two reads: the text of each piece that ended in the bytes read so far has been written,
+-- and the decoder has consumed all these bytes
 pub record HasShownSoFar (settings : Settings) (from to before after : Option (List ℕ)) (watch : Watch) : Type 0 where
   pub ended : HasWritten (shown_lines settings) from to before after
   pub taken : DecoderAfter watch.message.items (phase_of watch.decoder) (unended (open_stream settings ended.gone ended.bytes))
@@ -52,8 +52,8 @@ ShowsNext settings (Ok true) from to before after watch = HasShownSoFar settings
 ShowsNext settings (Ok false) from to before after watch = HasShown settings (Ok watch.tally) from to before after
 ShowsNext settings (Err fault) from to before after watch = HasShown settings (Err fault) from to before after
 
--- A decoder over n bytes had taken the front p of a piece, and has now taken these bytes too. The pieces that ended in
--- these bytes are shown and counted. `gone` has the outcomes of the earlier pieces.
+-- A decoder over n bytes had consumed p, the front of a piece, and has now consumed `bytes` too. The pieces that ended
+-- in `bytes` are shown and counted. `gone` has the outcomes of the earlier pieces.
 pub record ShowsBytes (view : View) (times : ℕ → Moment) (n : ℕ) (p bytes : List ℕ) (gone : List Outcome) (read : ℕ) (buffer : List ℕ) (phase : Phase) (before after : Option (List ℕ)) (tally : Tally) (clock : Times) : Type 0 where
   pub written : Appends before after (shown_from view times (length gone) (all_ended (p ++ bytes) n))
   pub taken : DecoderAfter buffer phase (unended (p ++ bytes))

@@ -19,9 +19,9 @@ given (Ok (Bytes n)) chunk = map Some (take n chunk)
 given (Ok HungUp) chunk = None ∷ []
 given (Err error) chunk = []
 
--- the effect of a read on the bytes that an input has left, if they are known: the returned bytes are the first of
--- them, and are removed. A read returns no bytes only at the end of the input, or if `chunk` is empty. An input whose
--- bytes are known doesn't hang up.
+-- the effect of a read on the unread bytes of an input, if they are known: the read returns the first of these bytes
+-- and removes them. A read returns no bytes only at the end of the input, or if `chunk` is empty. An input whose bytes
+-- are known doesn't hang up.
 abbrev pub Takes : (from to : Option (List ℕ)) → Came → List ℕ → Type 0
 Takes from to (Bytes n) chunk = (n ≤ length chunk) × Consumes from to (take n chunk) × (n ≡ 0 → 0 < length chunk → IsAtEnd to)
 Takes from to HungUp chunk = (from ≡ None) × (to ≡ None)
@@ -30,7 +30,7 @@ Takes from to HungUp chunk = (from ≡ None) × (to ≡ None)
 abbrev pub ReadTakes : {E : Type 0} → (from to : Option (List ℕ)) → Result Came E → List ℕ → Type 0
 ReadTakes from to result chunk = MatchResult result (λ came. Takes from to came chunk) (λ _. Keeps from to)
 
--- the result is bytes, and if the input's bytes are known, they are the first bytes that it had left
+-- the result is bytes; if the unread bytes of the input are known, the result is the first of them
 pub record GivesBytes (from to : Option (List ℕ)) (came : List (Option ℕ)) : Type 0 where
   pub bytes : List ℕ
   pub are : came ≡ map Some bytes
@@ -63,7 +63,7 @@ pub record IsLive {S A : Type 0} (step : S → Read A → S → Type 0) (source 
   pub runs : Runs step source reads source'
   pub live : IsLiveAfter IsRight [] reads
 
--- at a read, the output held these bytes, and no earlier read had a result
+-- at a read, the output held the bytes `written`, and no earlier read had a result
 abbrev pub HeldWhileNothing : {A : Type 0} → Option (List ℕ) → List (List A) → Option (List ℕ) → Type 0
 HeldWhileNothing written gone held = (joined gone ≡ []) × (held ≡ written)
 

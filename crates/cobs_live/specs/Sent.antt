@@ -14,7 +14,7 @@ use Rattle.cobs_live.specs.declared.send.Settings.{Settings}
 abbrev pub text_of : List ℕ → List ℕ
 text_of line = if nat_lt 0 (length line) && (slice_index line (length line - 1) == 10) then take (length line - 1) line else line
 
--- the bytes are the message's frame and its sentinel
+-- the bytes are the message's frame for this sentinel, followed by the sentinel
 pub record IsSent (sentinel : ℕ) (message bytes : List ℕ) : Type 0 where
   pub frame : List ℕ
   pub encoded : IsEncodedFrameFor sentinel frame message
@@ -34,7 +34,7 @@ abbrev pub digits_of : List ℕ → List ℕ
 digits_of text = filter is_digit text
 
 -- the bytes that are written for the text of a line. Without `hex`, the text is the message. With `hex`, the text is
--- the digits of the message, and nothing is written if it isn't digits.
+-- the digits of the message; if the text isn't digits, nothing is written.
 abbrev pub SendsAs : (hex : Bool) → Settings → List ℕ → List ℕ → Type 0
 SendsAs false settings text bytes = SendsMessage settings text bytes
 SendsAs true settings text bytes = MatchResult (decode_of (digits_of text)) (λ message. SendsMessage settings message bytes) (λ error. bytes ≡ [])
@@ -42,7 +42,7 @@ SendsAs true settings text bytes = MatchResult (decode_of (digits_of text)) (λ 
 abbrev pub SendsText : Settings → List ℕ → List ℕ → Type 0
 SendsText settings text bytes = SendsAs settings.hex settings text bytes
 
--- the text of a line can be sent: if it should be digits, it is
+-- the text of a line can be sent; with `hex`, only digits can be sent
 abbrev pub IsSendable : Settings → List ℕ → Type 0
 IsSendable settings text = IsTrue settings.hex → IsOk (decode_of (digits_of text))
 

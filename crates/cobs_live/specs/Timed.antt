@@ -28,7 +28,7 @@ padded width n = padded_integral (format_spec 32 0 4 width (2 ^ 64 - 1)) false [
 abbrev pub seconds : ℕ → List ℕ
 seconds time = decimal (time / 1000) ++ codes "." ++ padded 3 (time % 1000)
 
--- how far a clock is ahead of UTC; UTC itself is Z
+-- the offset of a time zone from UTC; the text for UTC itself is `Z`
 abbrev pub zone_text : Offset → List ℕ
 zone_text offset = if int_eq offset.seconds (pos 0) then codes "Z" else offset_text offset
 

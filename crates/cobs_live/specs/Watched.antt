@@ -80,8 +80,8 @@ abbrev pub shown_ended : Settings → (ℕ → Moment) → List (List ℕ) → L
 shown_ended settings times gone bytes = shown_lines settings times gone bytes ++ shown_end settings.view (is_nonempty (unended (open_stream settings gone bytes)))
 
 -- Lines were read, and their pieces were read at `times`. All lines except the last one hung up. A writer's contents
--- grew by the text of these lines, from `before` to `after`. If it is known that the reader had `from` left and has
--- `to` left, only one line was read, which didn't hang up.
+-- grew by the text of these lines, from `before` to `after`. The reader's unread bytes were `from` and are now `to`, if
+-- they are known. If they are known, only one line was read, and it didn't hang up.
 pub record HasWritten (text : (ℕ → Moment) → List (List ℕ) → List ℕ → List ℕ) (from to before after : Option (List ℕ)) : Type 0 where
   pub gone : List (List ℕ)
   pub bytes : List ℕ
@@ -97,9 +97,9 @@ pub record HasShownAll (settings : Settings) (tally : Tally) (from to before aft
   pub tallied : IsTallyOf settings.view.checksum tally (all_outcomes settings all.gone all.bytes) (count_bytes all.gone all.bytes)
   pub end : IsAtEnd to
 
--- the effects of a run of `show` with this result. At the end of the input, and also if a read failed, all that was
--- read is shown, and whether a piece has begun. After a failed write nothing is claimed: part of the text may have been
--- written.
+-- the effects of a run of `show` with this result. At the end of the input, and also if a read failed, the text of all
+-- pieces that were read has been written, and if a piece has begun, the text says so. After a failed write nothing is
+-- claimed: part of the text may have been written.
 abbrev pub HasShown : Settings → Result Tally WatchFault → (from to before after : Option (List ℕ)) → Type 0
 HasShown settings (Ok tally) from to before after = HasShownAll settings tally from to before after
 HasShown settings (Err ReadFailed) from to before after = HasWritten (shown_ended settings) from to before after

@@ -15,8 +15,8 @@ pub fn is_hidden(c: char) -> bool
     ensures hidden { result ≡ is_hidden c }
 {
     let code = u32::from(c);
-    // Characters below 127 need no look-up of their category: those below 32 are control characters, and no other is
-    // hidden.
+    // Of the characters below 127, only those below 32 are hidden: they are control characters. So the category of
+    // these characters isn't looked up.
     if code < 127 {
         return code < 32;
     }
@@ -85,7 +85,7 @@ fn needs_escape(c: char) -> bool
     is_hidden(c) || c == '"' || c == '\\'
 }
 
-/// Returns how many ASCII characters at the front of the text need no escape.
+/// Returns the number of characters at the front of the text that are ASCII and need no escape.
 fn plain_run(text: &str) -> usize
     ensures boundary { IsCharBoundary text.now result }
     ensures plain { All (λ byte. IsTrue (is_plain_byte byte)) (take result text.now) }
@@ -120,8 +120,8 @@ fn write_char<W: Write>(output: &mut W, c: char) -> io::Result<()>
     output.write_all(c.encode_utf8(&mut [0; 4]).as_bytes())
 }
 
-/// Writes the escape of the character with this code. The escape has the code or, if the code has more than 16 bits,
-/// two surrogates.
+/// Writes the escape of the character with this code. If the code has more than 16 bits, writes the escapes of two
+/// surrogates instead.
 fn write_escape<W: Write>(output: &mut W, code: u32) -> io::Result<()>
     ensures written { OnOk result
         (Appends (W.contents output.old) (W.contents output.new) (char_escape code)) }

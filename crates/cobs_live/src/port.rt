@@ -1,6 +1,5 @@
-//! Readers and writers that add a task to another reader or writer. [`Port`] tries a call again if the call would
-//! block, and records why a call failed. [`Reopened`] opens a line again after a hang-up. [`Logged`] also writes to a
-//! log.
+//! Readers and writers that wrap another reader or writer. [`Port`] tries a call again if the call would block, and
+//! records why a call failed. [`Reopened`] opens a line again after a hang-up. [`Logged`] also writes to a log.
 
 use crate::input::{Came, LiveInput};
 use std::cell::Cell;
@@ -38,9 +37,9 @@ impl<'a, C: Clock + Drop, F: Drop> Port<'a, C, F> {
         }
     }
 
-    /// Returns whether the port has to try the call again. If the call would have blocked, pauses and returns true.
-    /// Otherwise returns false. The system's error number of a failure is stored in `reason`. An interruption isn't
-    /// stored, because the port's caller tries again after it.
+    /// Returns whether the port has to try the call again: pauses and returns true if the call would have blocked. For
+    /// a failure, stores the system's error number in `reason`. The number of an interruption isn't stored, because the
+    /// port's caller tries again after an interruption.
     fn tries_again(&self, done: &io::Result<usize>) -> bool
         ensures failed { IsOk done.now → result ≡ false }
     {
@@ -116,7 +115,7 @@ pub struct Reopened<C, O, R> {
 impl<C: Clock + Drop, O: Opener<R> + Drop, R: Read + Drop> Reopened<C, O, R> {
     ghost use Rattle.std.specs.Prelude.{◌≡◌, IsSome};
 
-    /// Makes an input over the line that `opener` opens. `line` is the line, or `None` if the line isn't open yet.
+    /// Makes an input over the line that `opener` opens. `line` is the open line, or `None` if the line isn't open yet.
     pub fn new(clock: C, opener: O, line: Option<R>) -> Self
         ensures line { result.line ≡ line }
     {
@@ -186,7 +185,7 @@ pub struct Logged<W, L> {
     inner: W,
     log: Option<L>,
 
-    /// The error of the last write to the log, until the next flush returns it.
+    /// The error of a failed write to the log, until the next flush returns it.
     failed: Option<io::Error>,
 }
 
@@ -230,7 +229,7 @@ impl<W: Write + Drop, L: Write + Drop> Write for Logged<W, L> {
 
     ghost contents = { λ logged. W.contents (logged_inner logged) };
 
-    /// Writes the bytes, and then writes to the log those that the writer has accepted.
+    /// Writes the bytes to the writer, and then writes the bytes that the writer has accepted to the log.
     fn write(&mut self, buf: &[u8]) -> io::Result<usize>
         ensures bound { WritesAtMost result buf.now }
         ensures bytes { WriteAppends (W.contents self.old.inner) (W.contents self.new.inner) result buf.now }
