@@ -12,7 +12,8 @@ pub fn three_messages(alloc: Global) -> Result<Vec<Vec<u8>>, AllocError> {
     Ok(messages)
 }
 
-/// Encodes messages by `encode_frames`, which requires that they are few and short enough.
+/// Encodes messages with `encode_frames`. It limits the total length of the frames, so the messages must be few and
+/// short.
 pub fn encode_few(
     rt: &impl Abort,
     alloc: Global,

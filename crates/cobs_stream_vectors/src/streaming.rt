@@ -8,21 +8,21 @@ use std::alloc::Global;
 use std::process::Abort;
 use std::test::Fail;
 
-/// A streaming decoder, with methods that the library's traits don't have.
+/// A streaming decoder, with methods that the traits of the library don't have.
 pub trait StreamingDecoder: FrameDecoder + WriteBuffer {
-    /// Feeds a byte, by `feed`.
+    /// Feeds a byte with `feed`.
     fn feed_one(&mut self, byte: u8) -> Result<Option<usize>, DecodeError>;
 
-    /// Pushes bytes, by `push`.
+    /// Pushes bytes with `push`.
     fn push_some(&mut self, bytes: &[u8]) -> Result<Option<DecodeReport>, PushError>;
 
-    /// Returns the whole buffer, by `dest`.
+    /// Returns the whole buffer with `dest`.
     fn whole_buffer(&self) -> &[u8];
 
-    /// Returns whether the buffer begins with these bytes, by `dest` and by `dest_mut`.
+    /// Returns whether the buffer begins with these bytes, both in `dest` and in `dest_mut`.
     fn begins_with(&mut self, bytes: &[u8]) -> bool;
 
-    /// Resets the decoder, and returns whether it can be reset.
+    /// Resets the decoder if it has a `reset`, and returns whether it has one.
     fn begin_anew(&mut self) -> bool;
 }
 
@@ -94,7 +94,7 @@ impl StreamingDecoder for CobsDecoderOwned {
     }
 }
 
-/// A test that is run with each of the three streaming decoders, each of them new.
+/// A test that runs with a new decoder of each of the three types.
 pub trait Check {
     fn check<D: StreamingDecoder + Drop>(
         &self,
@@ -104,7 +104,7 @@ pub trait Check {
     ) -> Result<(), Fail>;
 }
 
-/// Checks each of the three decoders over a buffer of `room` zeros.
+/// Runs the test with each of the three decoders. Each decoder has a buffer of `room` zeros.
 pub fn check_all(
     rt: &impl Abort,
     alloc: Global,
