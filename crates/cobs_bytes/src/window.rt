@@ -58,7 +58,7 @@ pub fn zeros_at<const N: usize>(bytes: &[u8], at: usize) -> u64
 }
 
 /// Copies the `N` bytes of `source` from index `read` on to `dest`, from index `at` on. Returns a mask of the zeros
-/// among these bytes: bit `i` is set if byte `i` of them is zero.
+/// among these bytes: bit `i` is set if the byte at index `read + i` is zero.
 #[inline(always)]
 pub fn copy_at<const N: usize>(source: &[u8], read: usize, dest: &mut [u8], at: usize) -> u64
     requires lanes { N ≤ 64 }
