@@ -31,7 +31,7 @@ pub record HasShownSoFar (settings : Settings) (from to before after : Option (L
   -- whether the run is still skipping bytes, up to the first sentinel
   pub skips : watch.skipping ≡ skips_on (skips_behind settings.skip_first ended.gone) (xor_each settings.sentinel ended.bytes)
 
--- the text that was written is that of all pieces and hang-ups in the results of the reads
+-- the text that was written is the text of all pieces and hang-ups in the results of the reads
 pub record HoldsText (settings : Settings) (before : Option (List ℕ)) (came : List (List (Option ℕ))) (after : Option (List ℕ)) : Type 0 where
   pub gone : List (List ℕ)
   pub bytes : List ℕ
@@ -61,13 +61,14 @@ pub record ShowsBytes (view : View) (times : ℕ → Moment) (n : ℕ) (p bytes 
   pub timed : IsReadAt times (length (gone ++ stream_outcomes (p ++ bytes) n)) clock
   pub len : length buffer ≡ n
 
--- the input has ended, and the text that says whether a piece had begun is written
+-- the input has ended; if a piece had begun, the text that says so is written
 pub record ShowsEnd (phase : Phase) (view : View) (before after : Option (List ℕ)) : Type 0 where
   pub begun : Bool
   pub idle : (begun ≡ false) ↔ (phase ≡ Idle)
   pub written : Appends before after (shown_end view begun)
 
--- a line hung up, and two texts are written: whether a piece had begun, and that the line hung up
+-- a line hung up; if a piece had begun, the text that says so is written, and then the text that says that the line
+-- hung up
 pub record ShowsHangUp (phase : Phase) (view : View) (before after : Option (List ℕ)) : Type 0 where
   pub begun : Bool
   pub idle : (begun ≡ false) ↔ (phase ≡ Idle)

@@ -20,8 +20,8 @@ pub record IsSent (sentinel : ℕ) (message bytes : List ℕ) : Type 0 where
   pub encoded : IsEncodedFrameFor sentinel frame message
   pub ended : bytes ≡ frame ++ sentinel ∷ []
 
--- the bytes that are written for a message: the frame of the message, or of the message followed by its checksum if the
--- settings have a checksum, and then the sentinel
+-- the bytes that are written for a message: the frame of the message (with its checksum, if the settings have one),
+-- followed by the sentinel
 abbrev pub SendsMessage : Settings → List ℕ → List ℕ → Type 0
 SendsMessage settings message bytes = IsSent settings.sentinel (with_sum settings.checksum message) bytes
 

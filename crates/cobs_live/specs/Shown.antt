@@ -33,8 +33,8 @@ abbrev pub spaced : List ℕ → List ℕ
 spaced [] = []
 spaced (byte ∷ bytes) = codes " " ++ (byte ∷ bytes)
 
--- the line of a piece: with the piece's bytes as digits, as text (`text_line`), or sixteen per line below the line
--- (`dump_lines`). With `color`, the kind has a colour.
+-- the line of a piece, with the bytes of the piece as digits (`hex_line`) or as text (`text_line`), or with the bytes
+-- below the line, sixteen per line (`dump_lines`). With `color`, the kind has a colour.
 abbrev pub hex_line : (color : Bool) → Seen → List ℕ
 hex_line color seen = heading color seen ++ spaced_digits seen.bytes ++ codes "\n"
 

@@ -17,7 +17,7 @@ use Rattle.cobs_live.specs.declared.fault.WatchFault.TheVariants.{ReadFailed, Wr
 use Rattle.cobs_live.specs.declared.shown.Settings.{Settings}
 use Rattle.cobs_live.specs.declared.tally.Tally.{Tally}
 
--- the bytes after the first zero if the flag says that the bytes up to the first zero are skipped, otherwise all bytes
+-- all bytes, or only the bytes after the first zero if the flag is set
 abbrev pub begun : Bool → List ℕ → List ℕ
 begun false t = t
 begun true [] = []
@@ -115,7 +115,7 @@ IsFlushed (Err OutOfMemory) held = held ≡ []
 IsFlushed (Err WriteFailed) held = Unit {0}
 IsFlushed (Err OutputClosed) held = Unit {0}
 
--- the fault for a write that failed: `OutputClosed` if the pipe was closed, because nobody reads the output any more,
--- otherwise `WriteFailed`
+-- the fault for a write that failed: `OutputClosed` if nobody reads the output any more (`BrokenPipe`), and otherwise
+-- `WriteFailed`
 abbrev pub IsWriteFault : Error → WatchFault → Type 0
 IsWriteFault error fault = ((error_kind error ≡ BrokenPipe) × (fault ≡ OutputClosed)) ⊎ ((error_kind error ≢ BrokenPipe) × (fault ≡ WriteFailed))

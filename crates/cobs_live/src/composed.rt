@@ -87,10 +87,10 @@ impl Composed {
         ROOM - LINE - 2 * SHORT_LEN < self.len
     }
 
-    /// Adds the text of a piece and returns true, or adds nothing and returns false. It returns true only if the piece
-    /// is a short message, its text fits, and the view shows raw messages without numbers, or digits without colours,
-    /// numbers and times. If the view's filter hides the message, its text is empty. The text is written later, so one
-    /// write can contain the text of many messages.
+    /// Adds the text of a piece and returns true, or adds nothing and returns false. It returns true only if three
+    /// conditions hold: the piece is a short message; its text fits; and the view shows raw messages without numbers,
+    /// or digits without colours, numbers and times. If the view's filter hides the message, its text is empty. The
+    /// text is written later, so one write can contain the text of many messages.
     #[inline(always)]
     pub fn keep(&mut self, view: &View, piece: &Sight<'_>) -> bool
         ensures kept { IsTrue result → (number : ℕ) (times : Times) → take self.new.len self.new.bytes

@@ -159,7 +159,7 @@ impl<'a> Watch<'a> {
     ) -> Result<bool, WatchFault>
         requires some { 0 < length chunk.old }
         requires flushed { writer_buffer output.old ≡ [] }
-        // If all pieces that had ended were shown before the call, this is also true after it.
+        // If all pieces that had ended were shown before the call, this is also true after the call.
         ensures shown { (settings : Settings) (from before : Option (List ℕ)) → HasShownSoFar settings from
             (S.remaining input.old) before (W.contents (writer_inner output.old)) self.old
             → ShowsNext settings result from (S.remaining input.new) before
@@ -296,8 +296,8 @@ fn change_sentinel(bytes: &mut [u8], sentinel: u8)
     }
 }
 
-/// Returns the bytes after the first zero and clears `skipping`, if `skipping` is set. If there is no zero, returns no
-/// bytes, and `skipping` stays set. If `skipping` isn't set, returns all bytes.
+/// Returns all bytes if `skipping` isn't set. Otherwise returns the bytes after the first zero and clears `skipping`,
+/// or returns no bytes if there is no zero.
 fn behind_first<'a>(skipping: &mut bool, bytes: &'a [u8]) -> &'a [u8]
     ensures begun { result.now ≡ begun skipping.old bytes.now }
     ensures skips { skipping.new ≡ skips_on skipping.old bytes.now }
