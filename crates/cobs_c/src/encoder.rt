@@ -68,7 +68,7 @@ pub extern "C" fn jcobs_encoder_feed(
     encode_byte(encoder, buffer, byte)
 }
 
-/// Ends the message, as `jcobs_encoder_finish` does, but changes its frame to a frame for this sentinel.
+/// Ends the message, as `jcobs_encoder_finish` does, but writes a frame for this sentinel.
 #[unsafe(no_mangle)]
 pub extern "C" fn jcobs_encoder_finish_with_sentinel(
     encoder: &mut UnbufferedEncoder,

@@ -3,7 +3,8 @@ ghost use Rattle.std.specs.Prelude.{◌↔◌, IsTrue, string_bytes};
 ghost use Rattle.std.specs.List.{AllZip};
 ghost use Rattle.cobs_conformance.specs.Agree.{Agrees, IsErrorWord};
 
-/// Returns whether there are as many words as expected words, and each word agrees with its expected word.
+/// Returns whether the words agree with the expected words: there are as many words as expected words, and each word
+/// agrees with the expected word at the same place.
 pub fn agree(wanted: &[&str], came: &[String]) -> bool
     ensures same { IsTrue result
         ↔ AllZip (λ one other. Agrees one.now (string_bytes other)) wanted.now came.now }

@@ -1,4 +1,4 @@
-//! Runs one case: reads its line, makes its call, and compares the result with the expected one.
+//! Runs one case: reads the line, makes the call, and compares the result with the expected one.
 ghost use Rattle.std.specs.Prelude.{◌≡◌, ◌↔◌, ◌+◌, length, slice_index_or, IfSome};
 ghost use Rattle.cobs_conformance.specs.Case.{IsNoCase};
 
@@ -8,7 +8,7 @@ use crate::fault::CaseFault;
 use crate::short::words_of;
 use std::alloc::{AllocError, Global};
 
-/// The result of comparing a line's call with its expected result.
+/// The verdict on a line: whether the line's call has the expected result.
 #[derive(Debug, Drop)]
 pub enum Verdict {
     /// The line is empty or a comment.
@@ -17,8 +17,8 @@ pub enum Verdict {
     /// The result is the expected one.
     Agrees,
 
-    /// The result of the call isn't the expected one, or the line has no result, because it isn't a case or can't be
-    /// run. The text says how the results differ or why there is no result.
+    /// The call has another result than the expected one, or no result. The text says how the results differ, or why
+    /// there is no result.
     Differs(String),
 }
 

@@ -83,7 +83,7 @@ pub fn decode_in_place_report(alloc: Global, arguments: &[&str]) -> Result<CallR
     Ok(returned)
 }
 
-/// Runs `decode_in_place_with_sentinel`, which decodes a frame for a sentinel in place.
+/// Runs `decode_in_place_with_sentinel`, which decodes, in place, a frame for a sentinel.
 pub fn decode_in_place_with_sentinel(
     alloc: Global,
     arguments: &[&str],
@@ -115,8 +115,8 @@ pub fn frame_kind(alloc: Global, arguments: &[&str]) -> Result<CallResult, CaseF
     Ok(returned)
 }
 
-/// Returns the words for the result of a call that returns a message in a vector: `ok`, the length and the message, or
-/// the error.
+/// Returns three words for the result of a call that returns a message in a vector: `ok`, the length and the message.
+/// For an error, returns its name, its number of decoded bytes (or `-`), and `-`.
 fn said_message(
     alloc: Global,
     decoded: Result<Vec<u8>, DecodeVecError>,

@@ -38,7 +38,8 @@ pub fn encoder_state(alloc: Global, arguments: &[&str]) -> Result<CallResult, Ca
     Ok(returned)
 }
 
-/// Changes the frame so far as the result of a push says. For a code that isn't known yet, appends a 0.
+/// Changes the frame that has been built so far, as the result of a push says. For a code that isn't known yet, appends
+/// a 0.
 fn carry_out(pushed: &PushResult, frame: &mut Vec<u8>) -> Result<(), CaseFault> {
     match pushed {
         PushResult::AddSingle(byte) => frame.push(*byte)?,

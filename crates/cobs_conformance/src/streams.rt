@@ -101,8 +101,8 @@ impl Streaming for ByBytes {
 }
 
 /// Runs each of the three streaming decoders three times with the same buffer and input: with `push`, with single
-/// bytes, and with `feed_piece`. If the result of a run isn't as expected, the run's words are added to the result, so
-/// that the case differs.
+/// bytes, and with `feed_piece`. Returns the words of the first run. The words of each run with a wrong result are
+/// added to them, so that the case differs.
 ///
 /// # Errors
 /// `Malformed` if an argument can't be parsed, or if [`heapless`] has no buffer of this length. `OutOfMemory` if memory
@@ -353,7 +353,8 @@ fn buffer_of(alloc: Global, room: &str) -> Result<Vec<u8>, CaseFault> {
 }
 
 /// Runs a [`FrameReader`] with a source that returns these reads. For each call of `next_frame`, returns the number of
-/// reads that it made, and its result. The last call is the one that reports the end of the source after the last read.
+/// reads that it made, and its result. Stops when the source has ended and all reads were made, or after [`MOST_CALLS`]
+/// calls.
 pub fn next_frame(alloc: Global, arguments: &[&str]) -> Result<CallResult, CaseFault> {
     let [room, reads @ ..] = arguments else {
         return Err(CaseFault::Malformed);
