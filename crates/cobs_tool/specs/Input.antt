@@ -17,6 +17,6 @@ pub record HasRead {A : Type 0} (old new : Option (List ℕ)) (result : Result A
   -- the call has read more bytes than the limit exactly if the result says that the input is too long
   pub too_long : (result ≡ Err InputTooLong) ↔ (max_input < length bytes)
   pub stopped : length bytes ≤ max_input + READ_LEN
-  -- these bytes are the whole input if the call succeeds or has begun to write
+  -- `bytes` is the whole input if the call succeeds or has begun to write
   pub whole : OnOk result (IsAtEnd new)
   pub whole_at_write : result ≡ Err WriteFailed → IsAtEnd new

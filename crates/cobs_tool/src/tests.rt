@@ -192,8 +192,8 @@ fn check_read(rt: &impl Abort, alloc: Global, row: &Row, fault: ErrorKind, faili
     }
 }
 
-/// Checks each row with failing reads. For each read, the row's mode runs twice, and this read fails with another fault
-/// in each run. In the last two runs no read fails, because the number of the failing read is too great.
+/// Checks each row with failing reads. For each read, the row's mode runs twice, and this read fails with a different
+/// fault in each run. In the last two runs no read fails, because the number of the failing read is too great.
 fn check_reads(rt: &impl Abort, alloc: Global, rows: &[Row]) {
     for row in rows {
         let (_, bytes, _) = row;
@@ -250,8 +250,8 @@ fn each_write_and_each_flush_may_fail(rt: HostRuntime) {
     check_writes(&rt, rt.alloc(), &ROWS);
 }
 
-/// Checks the greatest length of the input. `zeros` is one byte longer than this length. Without its last byte, the
-/// mode accepts the input and writes `count` bytes. The mode rejects all of `zeros`, and an input that never ends.
+/// Checks the greatest length of the input. `zeros` is one byte longer than this length. The mode must accept `zeros`
+/// without the last byte, and write `count` bytes. It must reject all of `zeros`, and an input that never ends.
 fn check_limit(rt: &impl Abort, alloc: Global, mode: &Mode, zeros: &[u8], count: usize) {
     let mut output = Vec::new(alloc);
     let mut longest = zeros.split_last().map_or(zeros, |(_, front)| front);

@@ -3,7 +3,7 @@
 //! `cobs_watch` shows each piece of a stream of frames as soon as the piece's sentinel arrives: `message N` with the N
 //! bytes as hexadecimal digits, `broken N` for a piece that breaks off inside a block and decodes to N bytes, or `too
 //! long` for a piece that decodes to more bytes than the buffer holds. The program reads the device, FIFO or file at a
-//! path, or standard input, as long as bytes arrive. Options change the output; `cobs_watch --help` lists them.
+//! path, or standard input, until the input ends. Options change the output; `cobs_watch --help` lists them.
 //! `cobs_watch send` reads lines, and sends each line as a frame, followed by the sentinel.
 //!
 //! At the end of the input, `unfinished` is printed if a piece has begun and no sentinel has ended it. The exit status
@@ -38,8 +38,7 @@ use std::io::{self, BufReader, BufWriter, ErrorKind, IsTerminal, Read, Write};
 use std::process::ExitCode;
 use values::wrong;
 
-/// How many bytes of output are collected before they are written: 128 KiB, the number of hexadecimal digits of a chunk
-/// of input.
+/// The length of the output buffer in bytes, 128 KiB. It has room for the hexadecimal digits of a chunk of input.
 const OUTPUT_LEN: usize = 131_072;
 
 /// The system's error number of the last read or write that failed, if there is one.
@@ -51,7 +50,7 @@ struct Reasons {
     /// The last error of the input or of standard output.
     stream: Reason,
 
-    /// The error of the log. After this error, nothing is written to the log.
+    /// The last error of the log. After an error, nothing is written to the log.
     log: Reason,
 }
 
@@ -96,7 +95,7 @@ fn words_of(rt: &HostRuntime) -> Result<Vec<String>, clap::Error> {
     }
 }
 
-/// Prints the help, the version or the error that the arguments lead to, and returns the status.
+/// Prints the text of this error: the help, the version, or the mistake in the arguments. Returns the exit status.
 fn no_task(rt: &HostRuntime, error: &clap::Error) -> ExitCode {
     if error.kind() == CommandErrorKind::OutOfMemory {
         return faulted(rt, WatchFault::OutOfMemory, None);
@@ -110,8 +109,8 @@ fn no_task(rt: &HostRuntime, error: &clap::Error) -> ExitCode {
 }
 
 /// Returns whether lines have colours with `--color auto`. They have colours if standard output is a terminal, the
-/// variable `TERM` is set and not `dumb`, and `NO_COLOR` is unset or empty. A value that isn't UTF-8 counts as set and
-/// as not empty.
+/// variable `TERM` is set and not `dumb`, and the variable `NO_COLOR` is unset or empty. A variable whose value isn't
+/// UTF-8 counts as set and as not empty.
 fn auto_color(rt: &HostRuntime) -> bool {
     let no_color = match env::var(rt, "NO_COLOR") {
         Ok(value) => !value.is_empty(),
@@ -154,7 +153,7 @@ fn report_utc(rt: &HostRuntime) {
     let _ = eprintln!(rt; "cobs_watch: the time zone in TZ can't be read: dates are in UTC");
 }
 
-/// Shows standard input, or the file at the task's path, with dates in this zone, and returns the status.
+/// Shows standard input, or the file at the task's path, with dates in this zone, and returns the exit status.
 fn show(rt: &HostRuntime, task: &ShowTask<'_>, zone: TimeZone<'_>) -> anyhow::Result<ExitCode> {
     let reasons = Reasons {
         stream: Cell::new(None),

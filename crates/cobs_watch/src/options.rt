@@ -31,7 +31,7 @@ pub(crate) enum Task<'a> {
     Send(send::Settings),
 }
 
-/// Which stream is shown, and how.
+/// The stream that is shown, and how it is shown.
 #[derive(Debug, PartialEq, Eq, Drop)]
 pub(crate) struct ShowTask<'a> {
     pub(crate) settings: Settings,
@@ -113,7 +113,7 @@ fn style<'a>(alloc: Global, name: &'a str) -> Result<Arg<'a>, AllocError> {
     flag(alloc, name).group("style")
 }
 
-/// Makes an option for a style that writes messages without a number or a time, and no other pieces.
+/// Makes an option for a style that shows only messages, without a number or a time before them.
 fn bare_style<'a>(alloc: Global, name: &'a str) -> Result<Arg<'a>, AllocError> {
     style(alloc, name)?.conflicts_with_all(["number", "time", "partial"].as_slice())
 }

@@ -8,7 +8,7 @@ use cobs_live::crc::{Crc, Params};
 use cobs_live::shown::Filter;
 use std::alloc::Global;
 
-/// Returns an error of the command line. `message` is its text.
+/// Returns an error about the command line. `message` is its text.
 pub(crate) fn wrong<T>(alloc: Global, message: &str) -> Result<T, Error>
     ensures error { IsErr result }
 {
@@ -16,7 +16,7 @@ pub(crate) fn wrong<T>(alloc: Global, message: &str) -> Result<T, Error>
 }
 
 /// Parses the value of the option with this name as a number: decimal, or hexadecimal after `0x`. Returns `None` if the
-/// option has no value.
+/// option isn't given.
 ///
 /// # Errors
 /// Returns an error that names the option if the value isn't a number, or if the number is above `max`.
@@ -105,8 +105,8 @@ struct Written {
 }
 
 impl Written {
-    /// Reads a part of the text, such as `poly=0x1021`. Returns whether the part is a parameter that wasn't given
-    /// before.
+    /// Parses a part of the value of `--crc`, such as `poly=0x1021`. Returns whether the part is a parameter that
+    /// wasn't given before.
     fn take(&mut self, part: &str) -> bool {
         if part == "reflected" {
             let first = !self.reflected;
