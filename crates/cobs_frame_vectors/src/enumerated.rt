@@ -1,5 +1,5 @@
-//! Decodes all lists of a few parts with each call for whole frames, encodes them as messages, and compares the results
-//! with the plain reference.
+//! Decodes all lists of a few parts with each call for whole frames, encodes the same lists as messages, and compares
+//! the results with the plain reference.
 use crate::slices::{CallResult, Decoder, VectorCall, check_decoder, vector};
 use cobs::{DestBufTooSmallError, FrameKind, frame_kind, try_encode};
 use cobs_vectors::bytes::{LONG_FRAME, LONG_MESSAGE, ONES, chosen, joined, repeated};

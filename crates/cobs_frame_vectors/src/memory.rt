@@ -127,7 +127,7 @@ fn check_idle<D: FrameDecoder + Drop>(rt: &impl Abort, alloc: Global, mut decode
     }
 }
 
-/// Checks the outcomes of [`STREAM`] with a decoder that owns its buffer, and allocates it.
+/// Checks the outcomes of [`STREAM`] with a `CobsDecoderOwned`, which allocates its buffer.
 fn find_owned(rt: &impl Abort, alloc: Global) -> Result<(), AllocError> {
     let decoder = CobsDecoderOwned::new(alloc, 2)?;
     assert_eq!(rt; decoder.dest(), [0, 0].as_slice());

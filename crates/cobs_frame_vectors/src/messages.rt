@@ -12,8 +12,8 @@ pub fn three_messages(alloc: Global) -> Result<Vec<Vec<u8>>, AllocError> {
     Ok(messages)
 }
 
-/// Encodes messages with `encode_frames`. It limits the total length of the frames, so the messages must be few and
-/// short.
+/// Encodes messages with `encode_frames`. Its precondition limits the total length of the frames, so the messages must
+/// be few and short.
 pub fn encode_few(
     rt: &impl Abort,
     alloc: Global,

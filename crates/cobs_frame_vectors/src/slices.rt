@@ -38,7 +38,7 @@ pub enum CallResult {
     /// There was no byte to decode.
     EmptyFrame,
 
-    /// The frame breaks off, with this many bytes decoded.
+    /// The frame breaks off after this many decoded bytes.
     InvalidFrame(usize),
 
     /// The message doesn't fit the buffer.
@@ -97,7 +97,7 @@ pub fn check_decoder(
     Ok(())
 }
 
-/// Makes a call that returns a vector, for a source of less than 10,000 bytes.
+/// Makes a call that returns a vector, for a source of fewer than 10,000 bytes.
 pub fn vector(
     rt: &impl Abort,
     alloc: Global,

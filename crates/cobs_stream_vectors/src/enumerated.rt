@@ -15,7 +15,7 @@ struct Fed<'a> {
 }
 
 impl Check for Fed<'_> {
-    /// Checks the result of each byte, and the front of the buffer after the byte, with the reference.
+    /// Compares the result of each byte, and the front of the buffer after the byte, with the reference.
     fn check<D: StreamingDecoder + Drop>(
         &self,
         rt: &impl Abort,
@@ -60,7 +60,7 @@ impl Check for Fed<'_> {
     }
 }
 
-/// Bytes that are decoded as a stream, followed by a zero, with a buffer of `room` bytes.
+/// Bytes that are decoded, with a zero after them, as a stream with a buffer of `room` bytes.
 #[derive(Drop)]
 struct Streamed<'a> {
     list: &'a [u8],

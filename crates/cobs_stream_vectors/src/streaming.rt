@@ -145,14 +145,14 @@ pub enum CallResult {
     /// A message of this many bytes has ended.
     Length(usize),
 
-    /// The frame breaks off, with this many bytes decoded.
+    /// The frame breaks off after this many decoded bytes.
     InvalidFrame(usize),
 
-    /// The message doesn't fit.
+    /// The message doesn't fit the buffer.
     TooSmall,
 }
 
-/// Returns the error of a decoder in words of these tests.
+/// Converts the error of a decoder to a [`CallResult`].
 fn rejected(error: &DecodeError) -> CallResult {
     match error {
         DecodeError::EmptyFrame => CallResult::Nothing,
@@ -161,7 +161,7 @@ fn rejected(error: &DecodeError) -> CallResult {
     }
 }
 
-/// Returns the result for a byte.
+/// Converts the result of feeding a byte to a [`CallResult`].
 pub fn fed(returned: Result<Option<usize>, DecodeError>) -> CallResult {
     match returned {
         Ok(None) => CallResult::Nothing,
@@ -170,7 +170,7 @@ pub fn fed(returned: Result<Option<usize>, DecodeError>) -> CallResult {
     }
 }
 
-/// Returns the result for this many bytes, and how many of them were consumed.
+/// Converts the result of a push of `count` bytes to a [`CallResult`] and the number of consumed bytes.
 pub fn pushed(
     returned: Result<Option<DecodeReport>, PushError>,
     count: usize,
@@ -185,7 +185,7 @@ pub fn pushed(
     }
 }
 
-/// Feeds the bytes, and returns the last result. Each earlier result has to be that no piece has ended.
+/// Feeds the bytes, and returns the result of the last byte. The result of each other byte must be `Nothing`.
 pub fn feed_all<D: StreamingDecoder>(rt: &impl Abort, decoder: &mut D, bytes: &[u8]) -> CallResult {
     let mut last = CallResult::Nothing;
     for byte in bytes {

@@ -76,7 +76,8 @@ pub fn decode_either_in_place(buffer: &mut [u8]) -> Result<DecodeReport, DecodeE
     }
 }
 
-/// Decodes a frame that is known to be short. Returns true, because [`decode_short`] always decodes such a frame.
+/// Decodes a frame that is known to have 2 to 65 bytes. Returns true, because [`decode_short`] always decodes such a
+/// frame.
 pub fn decode_known_short(frame: &[u8], dest: &mut [u8]) -> bool
     requires nonzero { HasNoZero frame.now }
     requires few { (2 ≤ length frame.now) × (length frame.now ≤ 65) }
@@ -87,7 +88,7 @@ pub fn decode_known_short(frame: &[u8], dest: &mut [u8]) -> bool
     decode_short(frame, dest).is_some()
 }
 
-/// Decodes in place a frame that is known to be short, and whose blocks are all whole. Returns true, because
+/// Decodes in place a frame that is known to have 2 to 65 bytes, and only whole blocks. Returns true, because
 /// [`decode_short_in_place`] always decodes such a frame.
 pub fn decode_known_short_in_place(frame: &mut [u8]) -> bool
     requires nonzero { HasNoZero frame.old }
@@ -386,8 +387,8 @@ pub fn buffer_len<const N: usize>(decoder: &CobsDecoderHeapless<N>) -> usize
     decoder.dest().len()
 }
 
-/// Does nothing when it runs. Its contract says that for each length there is a message whose frame is as long as
-/// `max_encoded_len` allows.
+/// Does nothing when it runs. Its contract says that for each length there is a message whose frame has the greatest
+/// length that a frame of such a message can have.
 pub fn longest_frame(len: usize)
     ensures { (m : List ℕ) × (f : List ℕ) × (length m ≡ len) × All (λ byte. byte < 256) m × IsEncodedFrame f m
         × All (λ byte. byte < 256) f × (length f ≡ max_encoded_len len) }

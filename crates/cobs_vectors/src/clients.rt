@@ -300,8 +300,8 @@ pub fn frame_two(
 }
 
 /// Appends the frame of a message and a zero to a log that is empty or ends in a zero. The outcomes of the log don't
-/// change, and the message follows them. The greatest length of a frame of such a message must fit a `usize`, because
-/// `encode_vec` allocates that many bytes.
+/// change, and the message follows them. The greatest length of a frame of a message of this length must fit a `usize`,
+/// because `encode_vec` allocates that many bytes.
 pub fn append_to_log(alloc: Global, log: &[u8], message: &[u8]) -> Result<Vec<u8>, AllocError>
     requires at_sentinel { IsAtSentinel log.now }
     requires fits { max_encoded_len (length message.now) < 2 ^ 64 }

@@ -45,7 +45,7 @@ pub struct Reading {
     pub output: Vec<u8>,
 
     /// The number of bytes of the output that are kept: all bytes or, if the last block breaks off, only the bytes
-    /// before that block's bytes.
+    /// before it.
     pub kept: usize,
 
     /// Whether the last block has as many bytes as its code says.
@@ -84,7 +84,8 @@ pub fn reading_of(alloc: Global, piece: &[u8]) -> Result<Reading, AllocError> {
     })
 }
 
-/// Returns the bytes before the first zero, and the bytes after it if there is one.
+/// Returns the bytes before the first zero, and the bytes after this zero. If there is no zero, returns all bytes, and
+/// `None`.
 pub fn split_at_zero(bytes: &[u8]) -> (&[u8], Option<&[u8]>) {
     for (at, byte) in bytes.iter().enumerate() {
         if *byte == 0 {

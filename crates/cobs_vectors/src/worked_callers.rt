@@ -67,7 +67,8 @@ pub fn write_first<D: WriteBuffer>(decoder: &mut D, byte: u8)
     dest[0] = byte;
 }
 
-/// Writes the first byte of a borrowed slice. The phase doesn't change, and the decoder still borrows the same slice.
+/// Writes a byte to the front of the slice that a decoder borrows. The decoder's phase doesn't change, and the decoder
+/// still borrows the same slice.
 pub fn write_first_borrowed(decoder: &mut CobsDecoder<'_>, byte: u8)
     requires { 0 < length (borrowed_buffer decoder.old) }
     ensures phase { borrowed_phase decoder.new ≡ borrowed_phase decoder.old }
