@@ -42,7 +42,7 @@ pub extern "C" fn jcobs_decoder_push(
     result_of(decoder, found, bytes.len(), buffer.len())
 }
 
-/// Decodes the next byte of the stream. The contract is that of `jcobs_decoder_push` for one byte.
+/// Decodes the next byte of the stream. The contract is the same as for a `jcobs_decoder_push` of this byte.
 #[unsafe(no_mangle)]
 pub extern "C" fn jcobs_decoder_feed(
     decoder: &mut UnbufferedDecoder,

@@ -810,7 +810,7 @@ static JCOBS_RARE jcobs_answer jcobs_decoder_feed_zero(jcobs_decoder *decoder, u
     return jcobs_decoder_answer(decoder, piece, 1, buffer_size);
 }
 
-/* Decodes the next byte of the stream. The contract is that of jcobs_decoder_push for one byte.
+/* Decodes the next byte of the stream. The contract is the same as for a jcobs_decoder_push of this byte.
  * Proved, by the contract in decoder.rt: the result, the state and the buffer are those that the definition of the
  * stream gives after these bytes, however the stream is cut into calls. In every state consumed is at most the
  * number of bytes passed, and length is at most buffer_size. */
@@ -934,7 +934,7 @@ static jcobs_answer jcobs_encoder_feed_byte(jcobs_encoder *encoder, unsigned cha
     return jcobs_ok_answer(1, jcobs_encoder_append_byte(encoder, buffer, byte));
 }
 
-/* Encodes the next byte of a message. The contract is that of jcobs_encoder_push for one byte.
+/* Encodes the next byte of a message. The contract is the same as for a jcobs_encoder_push of this byte.
  * Proved, by the contract in encoder.rt: the status is OK exactly if the frame of the message so far, with these
  * bytes, fits. If it isn't OK, the state and the buffer are as they were. In every state consumed is at most the
  * number of bytes passed, and length is at most buffer_size. */
