@@ -7,7 +7,7 @@ use Rattle.std.specs.Str.Parse.{digits_value, without_leading_plus}
 abbrev pub number_text : List ℕ → ℕ
 number_text digits = digits_value 10 (without_leading_plus digits)
 
--- digits without a number stand for themselves; digits and a number stand for that many repetitions of the digits
+-- digits without a number stand for themselves; digits and a number n stand for the digits, repeated n times
 abbrev pub repeated : List (List ℕ) → List ℕ
 repeated [] = []
 repeated (digits ∷ []) = digits

@@ -134,7 +134,7 @@ fn find_owned(rt: &impl Abort, alloc: Global) -> Result<(), AllocError> {
     find_outcomes(rt, alloc, decoder)
 }
 
-/// Checks a call that returns a vector. Each such call has a test of its own.
+/// Checks a call that returns a vector. The test of each call of this kind calls this function.
 fn check_vector(
     rt: &impl Abort,
     alloc: Global,

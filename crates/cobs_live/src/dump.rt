@@ -51,7 +51,7 @@ fn write_cells<W: Write>(output: &mut W, row: &[u8], from: usize) -> io::Result<
     Ok(())
 }
 
-/// Writes the digits of the byte at index `i` and a space, or three spaces if the row has no such byte.
+/// Writes the digits of the byte at index `i` and a space, or three spaces if the row ends before this index.
 fn write_cell<W: Write>(output: &mut W, row: &[u8], i: usize) -> io::Result<()>
     ensures written { OnOk result
         (Appends (W.contents output.old) (W.contents output.new) (cell row.now i)) }

@@ -13,8 +13,8 @@ use cobs_live::shown::{View, show_piece, sight_of, sum_law};
 use std::alloc::Global;
 use std::io::Write;
 
-/// Adds the view's checksum to a message, and shows the result as a received message. The text is that of the message
-/// without its checksum.
+/// Adds the view's checksum to a message, and shows the result as a received message. The text is the same as for the
+/// message without a checksum.
 pub fn show_sent<W: Write>(
     alloc: Global,
     output: &mut W,

@@ -110,8 +110,8 @@ pub fn decode_before_zero(buffer: &mut [u8]) -> Result<usize, DecodeError>
     decode_blocks_each(buffer, end)
 }
 
-/// Decodes the first piece of the source, and returns the bytes after the piece and its zero. The piece may be a frame
-/// or broken.
+/// Decodes the first piece of the source, and returns the bytes after the piece and its zero. The piece needn't be a
+/// frame.
 pub fn decode_first<'a>(source: &'a [u8], dest: &mut [u8]) -> &'a [u8]
     ensures rest { (p : List ℕ) → first_piece source.now ≡ Some p
         → result.now ≡ drop (len_through_piece source.now p) source.now }
@@ -387,8 +387,8 @@ pub fn buffer_len<const N: usize>(decoder: &CobsDecoderHeapless<N>) -> usize
     decoder.dest().len()
 }
 
-/// Does nothing when it runs. Its contract says that for each length there is a message whose frame has the greatest
-/// length that a frame of such a message can have.
+/// Does nothing when it runs. Its contract says that for each length `len` there is a message whose frame has exactly
+/// `max_encoded_len len` bytes.
 pub fn longest_frame(len: usize)
     ensures { (m : List ℕ) × (f : List ℕ) × (length m ≡ len) × All (λ byte. byte < 256) m × IsEncodedFrame f m
         × All (λ byte. byte < 256) f × (length f ≡ max_encoded_len len) }

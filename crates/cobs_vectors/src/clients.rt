@@ -301,7 +301,7 @@ pub fn frame_two(
 
 /// Appends the frame of a message and a zero to a log that is empty or ends in a zero. The outcomes of the log don't
 /// change, and the message follows them. The greatest length of a frame of a message of this length must fit a `usize`,
-/// because `encode_vec` allocates that many bytes.
+/// because `encode_vec` allocates a vector of this greatest length.
 pub fn append_to_log(alloc: Global, log: &[u8], message: &[u8]) -> Result<Vec<u8>, AllocError>
     requires at_sentinel { IsAtSentinel log.now }
     requires fits { max_encoded_len (length message.now) < 2 ^ 64 }
@@ -397,8 +397,8 @@ pub fn pieces_in(
     Ok(found)
 }
 
-/// Collects the pieces of a stream that comes in two chunks. The collected pieces are those of the whole stream,
-/// wherever the stream is cut.
+/// Collects the pieces of a stream that comes in two chunks. The result has the pieces of the whole stream, no matter
+/// where the stream is cut.
 pub fn pieces_in_two(
     alloc: Global,
     first: &[u8],
