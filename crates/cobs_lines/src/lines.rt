@@ -10,7 +10,7 @@ use std::io::{self, Write};
 /// The greatest number of bytes of a message that are converted to digits before the digits are written.
 const AT_ONCE: usize = 256;
 
-/// From this many bytes on, it is faster to compute digits than to look them up.
+/// The least number of bytes for which computing the digits is faster than looking them up.
 const MANY: usize = 8;
 
 /// The hexadecimal digits.

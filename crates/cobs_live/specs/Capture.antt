@@ -6,8 +6,8 @@ use Rattle.std.specs.Int.{to_le_bytes, w32}
 abbrev pub word : ℕ → List ℕ
 word n = to_le_bytes w32 (n % 2 ^ 32)
 
--- the header of a capture file: the number that marks the format, the format's version 2.4, the time zone UTC, the
--- greatest length of a record, 16 MiB, and the type of the records' contents, 147, which is free for private use
+-- the header of a capture file: the number that marks the format; the format's version, 2.4; the time zone, UTC; the
+-- greatest length of a record, 16 MiB; and the type of the records' contents, 147, which is free for private use
 abbrev pub capture_head : List ℕ
 capture_head = 0xD4 ∷ 0xC3 ∷ 0xB2 ∷ 0xA1 ∷ 2 ∷ 0 ∷ 4 ∷ 0 ∷ 0 ∷ 0 ∷ 0 ∷ 0 ∷ 0 ∷ 0 ∷ 0 ∷ 0 ∷ 0 ∷ 0 ∷ 0 ∷ 1 ∷ 147 ∷ 0 ∷ 0 ∷ 0 ∷ []
 

@@ -40,7 +40,7 @@ pub record HoldsText (settings : Settings) (before : Option (List ℕ)) (came : 
   pub timeline : IsTimeline times
   pub written : Appends before after (shown_lines settings times gone bytes)
 
--- a run so far that is live (`IsLive`), and whose reads returned exactly the bytes that are shown
+-- the state of a run that has been live so far (`IsLive`), and whose reads returned exactly the bytes that are shown
 pub record IsLiveSoFar {S : Type 0} (step : S → Read (Option ℕ) → S → Type 0) (source source' : S) (settings : Settings) (from to before after : Option (List ℕ)) (watch : Watch) : Type 0 where
   pub so_far : HasShownSoFar settings from to before after watch
   pub live : IsLive step source source' (HoldsText settings before)

@@ -68,7 +68,7 @@ pub record HasSentLines (settings : Settings) (rest : List ℕ) (from to before 
   pub read : Consumes from to (concat lines ++ rest)
   pub written : Appends before after (concat sent)
 
--- all lines of the reader were read, and `all_sent` says whether each could be sent
+-- all lines of the reader were read, and `all_sent` says whether each line could be sent
 pub record HasSentAll (settings : Settings) (all_sent : Bool) (from to before after : Option (List ℕ)) : Type 0 where
   pub so_far : HasSentLines settings [] from to before after
   pub all : IfSome from (λ bytes. so_far.lines ≡ lines_of bytes)

@@ -44,8 +44,8 @@ text_line color seen = heading color seen ++ (if is_plain seen.bytes then spaced
 abbrev pub dump_lines : (color : Bool) → Seen → List ℕ
 dump_lines color seen = heading color seen ++ codes "\n" ++ dump seen.bytes
 
--- the bytes that are written for a message in a style that shows only messages: its bytes, its bytes and a newline, or
--- a record of a capture
+-- the bytes that are written for a message in a style that shows only messages: the message, the message and a newline,
+-- or a record of a capture
 abbrev pub alone : Style → ℕ → List ℕ → List ℕ
 alone Hex time bytes = bytes
 alone Text time bytes = bytes

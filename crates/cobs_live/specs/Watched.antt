@@ -68,8 +68,8 @@ count_bytes gone bytes = length (concat gone) + length bytes
 abbrev pub all_outcomes : Settings → List (List ℕ) → List ℕ → List Outcome
 all_outcomes settings gone bytes = outcomes_of (gone_streams settings gone) settings.length ++ stream_outcomes (open_stream settings gone bytes) settings.length
 
--- THE TEXT OF LINES: the pieces and the hang-up of each line that hung up, and the pieces that have ended in the open
--- line
+-- THE TEXT OF LINES: for each line that hung up, the text of its pieces and of its hang-up; then the text of the pieces
+-- that have ended in the open line
 abbrev pub shown_lines : Settings → (ℕ → Moment) → List (List ℕ) → List ℕ → List ℕ
 shown_lines settings times gone bytes =
     shown_gone settings.view times settings.length 0 (gone_streams settings gone)

@@ -214,7 +214,7 @@ impl Composed {
         self.put(b"}\n")
     }
 
-    /// Adds the members of a JSON object for the message's length, for its bytes and, if it is UTF-8, for its text.
+    /// Adds the members of a JSON object for a message: its length, its bytes and, if the message is UTF-8, its text.
     fn put_json_message(&mut self, len: usize, bytes: &[u8]) -> Result<(), Full>
         ensures put { OnOk result (Appends (contents_of self.old) (contents_of self.new)
             (json_message len bytes.now)) }
@@ -250,8 +250,8 @@ impl Composed {
         Ok(())
     }
 
-    /// Adds the characters before the first one that needs an escape, in one copy, and then that character in its
-    /// escaped form. Returns the rest of the text.
+    /// Adds, in one copy, the characters before the first character that needs an escape. Then adds this character in
+    /// its escaped form. Returns the rest of the text.
     fn put_run<'a>(&mut self, text: &'a str) -> Result<&'a str, Full>
         ensures put { IfOk result (λ rest. WritesFront (contents_of self.old) (contents_of self.new) text.now rest.now) }
         ensures shorter { IfOk result (λ rest. 0 < length text.now → length rest.now < length text.now) }

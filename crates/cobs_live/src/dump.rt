@@ -81,7 +81,7 @@ fn write_characters<W: Write>(output: &mut W, row: &[u8]) -> io::Result<()>
     output.write_all(shown)
 }
 
-/// Replaces each byte with a dot, unless it is a visible ASCII character or a blank.
+/// Replaces each byte with a dot, unless the byte is a visible ASCII character or a space.
 fn to_characters(bytes: &mut [u8])
     ensures shown { bytes.new ≡ map character bytes.old }
 {
@@ -90,7 +90,7 @@ fn to_characters(bytes: &mut [u8])
     }
 }
 
-/// Returns the byte if it is a visible ASCII character or a blank, and otherwise a dot.
+/// Returns the byte if it is a visible ASCII character or a space, and otherwise a dot.
 fn character(byte: u8) -> u8
     ensures shown { result ≡ character byte }
 {

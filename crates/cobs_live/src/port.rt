@@ -194,7 +194,7 @@ impl<W: Write + Drop, L: Write + Drop> Logged<W, L> {
     ghost use Rattle.std.specs.Io.KnownBytes.{Appends};
     ghost use Rattle.cobs_live.specs.Ports.{log_contents, logged_inner};
 
-    /// Makes a writer that also writes to this log, if there is one.
+    /// Makes a writer that also writes to this log, if there is a log.
     pub fn new(inner: W, log: Option<L>) -> Self
         ensures inner { logged_inner result ≡ inner }
         ensures log { (result.log ≡ log) × (result.failed ≡ None) }
@@ -206,7 +206,7 @@ impl<W: Write + Drop, L: Write + Drop> Logged<W, L> {
         }
     }
 
-    /// Writes to the log, if there is one and `failed` has no error.
+    /// Writes the bytes to the log, if there is a log and `failed` has no error.
     fn write_log(&mut self, bytes: &[u8])
         ensures inner { self.new.inner ≡ self.old.inner }
         ensures logged { self.new.failed ≡ None

@@ -119,7 +119,7 @@ fn send_text<W: Write + Drop>(
     }
 }
 
-/// Returns the text of a line without its blanks, tabs and carriage returns.
+/// Returns the text of a line without its spaces, tabs and carriage returns.
 fn digits_of(alloc: Global, text: &[u8]) -> Result<Vec<u8>, AllocError>
     ensures digits { IfOk result (λ digits. digits.items ≡ digits_of text.now) }
 {
@@ -132,7 +132,7 @@ fn digits_of(alloc: Global, text: &[u8]) -> Result<Vec<u8>, AllocError>
     Ok(digits)
 }
 
-/// Returns whether a byte of a line should be a digit, that is, whether it isn't a blank, a tab or a carriage return.
+/// Returns whether a byte of a line should be a digit: it isn't a space, a tab or a carriage return.
 fn is_digit(byte: u8) -> bool
     ensures digit { result ≡ is_digit byte }
 {

@@ -102,7 +102,7 @@ pub struct Settings {
     /// Which pieces are shown, and how.
     pub view: View,
 
-    /// The length in bytes of the longest message that is shown, including its checksum if it has one. A piece that
+    /// The length in bytes of the longest message that is shown, including the message's checksum, if any. A piece that
     /// decodes to more bytes is too long.
     pub length: usize,
 
