@@ -13,7 +13,7 @@ use cobs::{DecodeError, FrameKind, decode_short, decode_short_in_place, leading_
 use cobs_abi::{Answer, CANONICAL, EMPTY, LONGER, NOT_A_FRAME, OK, done, result_by};
 use memchr::memchr;
 
-/// Returns the index of the first sentinel, or the number of bytes if there is none.
+/// Returns the index of the first sentinel, or the number of bytes if there is no sentinel.
 fn first_sentinel(bytes: &[u8], sentinel: u8) -> usize
     ensures within { result ≤ length bytes.now }
     ensures before { All (λ byte. byte ≢ sentinel) (take result bytes.now) }

@@ -19,7 +19,7 @@ pub fn agree(wanted: &[&str], came: &[String]) -> bool
 }
 
 /// Returns whether a word agrees with the expected word `wanted`. The word `?` agrees with any word, `refused` agrees
-/// with the name of any error, and any other word only with itself.
+/// with the name of any error, and any other word agrees only with itself.
 fn agrees(wanted: &str, came: &str) -> bool
     ensures agrees { IsTrue result ↔ Agrees wanted.now came.now }
 {

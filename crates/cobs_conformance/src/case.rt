@@ -31,7 +31,7 @@ struct Case<'a> {
     wanted: &'a [&'a str],
 }
 
-/// Makes the call of a line, and compares its result with the expected result in the line.
+/// Makes the call of a line, and compares the call's result with the expected result in the line.
 pub fn verdict_of(alloc: Global, line: &str) -> Result<Verdict, AllocError>
     ensures no_case { (result ≡ Ok Verdict.NoCase) ↔ IsNoCase line.now }
 {

@@ -41,7 +41,7 @@ pub fn encode_vec(alloc: Global, arguments: &[&str]) -> Result<CallResult, CaseF
     said(alloc, &frame)
 }
 
-/// Runs `encode_vec_including_sentinels`, which returns the frame between two zeros.
+/// Runs `encode_vec_including_sentinels`, which returns a zero, the frame and another zero.
 pub fn encode_vec_including_sentinels(
     alloc: Global,
     arguments: &[&str],
@@ -81,7 +81,8 @@ pub fn encode(alloc: Global, arguments: &[&str]) -> Result<CallResult, CaseFault
     said_in(alloc, len, &buffer)
 }
 
-/// Runs `encode_including_sentinels`, which writes the frame between two zeros to a buffer that has room for it.
+/// Runs `encode_including_sentinels`, which writes a zero, the frame and another zero to a buffer that has room for
+/// them.
 pub fn encode_including_sentinels(
     alloc: Global,
     arguments: &[&str],
@@ -129,7 +130,7 @@ pub fn try_encode(alloc: Global, arguments: &[&str]) -> Result<CallResult, CaseF
     Ok(returned)
 }
 
-/// Runs `try_encode_including_sentinels`, which writes the frame between two zeros to a buffer if it fits.
+/// Runs `try_encode_including_sentinels`, which writes a zero, the frame and another zero to a buffer if they fit.
 pub fn try_encode_including_sentinels(
     alloc: Global,
     arguments: &[&str],

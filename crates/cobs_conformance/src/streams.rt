@@ -198,7 +198,7 @@ fn by_bytes(alloc: Global, buffer: &[u8], pieces: &[&str]) -> Result<CallResult,
     given(alloc, &mut ByBytes { decoder }, pieces, &Feeding::Pieces)
 }
 
-/// Writes bytes over a slice of the same length. For another length it does nothing.
+/// Overwrites a slice with bytes of the same length. If the lengths differ, does nothing.
 fn write_over(dest: &mut [u8], bytes: &[u8]) {
     if dest.len() == bytes.len() {
         dest.copy_from_slice(bytes);
@@ -324,7 +324,7 @@ fn say_event(
     Ok(())
 }
 
-/// Runs `decode_stream`, which returns the outcomes of a stream that comes in pieces.
+/// Runs `decode_stream` on each part of a stream, and returns the outcomes of the stream.
 pub fn decode_stream(alloc: Global, arguments: &[&str]) -> Result<CallResult, CaseFault> {
     let [room, pieces @ ..] = arguments else {
         return Err(CaseFault::Malformed);

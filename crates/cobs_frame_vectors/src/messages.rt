@@ -3,7 +3,7 @@ use cobs::{encode_frames, max_encoding_length};
 use std::alloc::{AllocError, Global};
 use std::process::Abort;
 
-/// Returns three messages: the empty one, a zero, and two bytes.
+/// Returns three messages: the empty message, a message of one zero, and a message of two bytes.
 pub fn three_messages(alloc: Global) -> Result<Vec<Vec<u8>>, AllocError> {
     let mut messages = Vec::new(alloc);
     messages.push(Vec::new(alloc))?;

@@ -3,7 +3,7 @@ use cobs::{DecodeError, DecodeResult, DecoderState};
 use std::process::Abort;
 use std::test::Fail;
 
-/// The 513 states: idle, and in a block of either kind with 0 to 255 bytes missing.
+/// The 513 states of a decoder: idle, or inside a block, full or not, with 0 to 255 missing bytes.
 #[derive(Clone, Copy, Debug, PartialEq, Eq)]
 enum State {
     Idle,

@@ -132,7 +132,7 @@ fn find_in_each<D: FrameDecoder + Drop>(
 /// The result at the end of a reader, if no piece is unfinished.
 const END: Wanted = Wanted::End { unfinished: false };
 
-/// A stream with a message, a broken piece, a piece that is too long for four bytes, and a message.
+/// A stream with a message, a broken piece, a piece that decodes to more than four bytes, and another message.
 const DAMAGED: &[u8] = &[0, 3, 7, 8, 0, 5, 1, 0, 6, 1, 2, 3, 4, 5, 0, 2, 9, 0];
 
 /// The outcomes of [`DAMAGED`] in a buffer of four bytes.
