@@ -106,8 +106,8 @@ COMMENTS = {
     )],
     "UnbufferedEncoder::append_each": [(", one byte at a time.", ", one byte at a time. There is at least one byte.")],
     "UnbufferedEncoder::feed_len": [(
-        "if the frame of all bytes so far fits the buffer.",
-        "if the frame of all bytes so far fits the buffer. It is a separate function: as a part of jcobs_encoder_feed it would"
+        "if the frame of the message up to and including this byte fits the buffer.",
+        "if the frame of the message up to and including this byte fits the buffer. It is a separate function: as a part of jcobs_encoder_feed it would"
         " take a tenth more time in avr-gcc's code.",
     )],
     "UnbufferedEncoder::finalize": [(
@@ -138,7 +138,7 @@ COMMENTS = {
     )],
     "jcobs_decoder_reset": [("Makes the decoder idle, even if its state is corrupt.", "Resets the decoder to the initial state, from any state.")],
     "jcobs_encoder_reset": [(
-        "Puts the encoder back to the start, even if its state is corrupt. After the reset, the encoder has taken no bytes.",
+        "Resets the encoder to the start of a message, even if its state is corrupt.",
         "Resets the encoder to the initial state, from any state.",
     )],
     "kind_by_blocks": [(
@@ -152,9 +152,9 @@ COMMENTS = {
         " instructions.",
     )],
     "result_by": [(
-        "a call that took `consumed` bytes and decoded them into a buffer of `room` bytes. `size` is the message's length, or the"
-        " error.",
-        "a call that decodes in place, and took `consumed` bytes of the `room` bytes of a buffer. `size` says how the frame"
+        "a call that consumed `consumed` bytes and decoded them into a buffer of `room` bytes. `size` is the length of the message,"
+        " or the decoder's error.",
+        "a call that decodes in place, and consumed `consumed` bytes of the `room` bytes of a buffer. `size` says how the frame"
         " ended."
         " JCOBS_END_TOO_LONG and JCOBS_END_NONE don't occur: a message is shorter than its frame, and an empty buffer isn't"
         " decoded.",

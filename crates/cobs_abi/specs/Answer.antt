@@ -8,8 +8,8 @@ use Rattle.cobs.specs.declared.DecodeError.TheVariants.{EmptyFrame, InvalidFrame
 use Rattle.cobs_abi.specs.declared.answer.Answer.{Answer}
 use Rattle.cobs_abi.specs.declared.answer.TheConstants.{OK, TOO_SMALL, BROKEN, EMPTY}
 
--- the result of a call that took `consumed` bytes and decoded them into a buffer of n bytes, given the message's length
--- or the error
+-- the result of a call that consumed `consumed` bytes and decoded them into a buffer of n bytes; the last argument is
+-- the message's length or the decoder's error
 abbrev pub result_by : ℕ → ℕ → Result ℕ DecodeError → Answer
 result_by consumed n (Ok size) = record { status = OK; consumed = consumed; length = size }
 result_by consumed n (Err EmptyFrame) = record { status = EMPTY; consumed = consumed; length = 0 }
@@ -20,7 +20,8 @@ result_by consumed n (Err TargetBufTooSmall) = record { status = TOO_SMALL; cons
 abbrev pub head_end : List ℕ → ℕ
 head_end source = min (length source) (length (head source) + 1)
 
--- the meaning of a push's result: how a piece of the stream ended, and after how many bytes
+-- how a piece of the stream ended, and after how many bytes, as the result of a push reports it; `None` if the result
+-- reports no end of a piece
 abbrev pub piece_end_of : Answer → Option (PieceEnd × ℕ)
 piece_end_of returned =
     if returned.status == OK then Some (Message returned.length, returned.consumed)

@@ -6,8 +6,8 @@ use Rattle.cobs_abi.specs.Frames.{IsFrameOnWire, IsFrameOnWireFor, IsTerminatedF
 use Rattle.cobs_abi.specs.declared.answer.Answer.{Answer}
 use Rattle.cobs_abi.specs.declared.answer.TheConstants.{OK, TOO_SMALL}
 
--- If `size` bytes fit the buffer, the buffer begins with `size` bytes for which `IsWanted` holds, and the call has
--- taken `taken` bytes. Otherwise the call takes and changes nothing.
+-- If `size` bytes fit the buffer, the call consumes `taken` bytes, and after the call the buffer begins with `size`
+-- bytes for which `IsWanted` holds. Otherwise the call consumes and changes nothing.
 pub record Writes (size taken : ℕ) (IsWanted : List ℕ → Type 0) (buffer : List ℕ) (result : Answer) (buffer' : List ℕ) : Type 0 where
   pub fits : size ≤ length buffer → result ≡ record { status = OK; consumed = taken; length = size }
   pub wanted : size ≤ length buffer → IsWanted (take result.length buffer')
@@ -28,9 +28,9 @@ abbrev pub EncodesTerminated : ℕ → List ℕ → List ℕ → Answer → List
 EncodesTerminated s message buffer result buffer' =
     Writes (encoded_len message + 1) (length message) (λ f. IsTerminatedFrame s f message) buffer result buffer'
 
--- `jcobs_encode_in_place`, for a message of n bytes: if the longest frame of such a message fits the buffer, the
--- message is within the buffer, and after the call the buffer begins with the frame. Otherwise the call takes and
--- changes nothing.
+-- `jcobs_encode_in_place`, for a message of n bytes that is in the buffer: if the buffer has room for the longest frame
+-- of n bytes, the buffer begins with the message's frame after the call. Otherwise the call consumes and changes
+-- nothing.
 pub record EncodesInPlace (n : ℕ) (buffer : List ℕ) (result : Answer) (buffer' : List ℕ) : Type 0 where
   pub fits : max_encoded_len n ≤ length buffer → result ≡ record { status = OK; consumed = n; length = encoded_len (message_in n buffer) }
   pub wanted : max_encoded_len n ≤ length buffer → IsFrameOnWire (take result.length buffer') (message_in n buffer)

@@ -1,4 +1,4 @@
--- The postconditions of the calls over a state and a buffer of the caller.
+-- The postconditions of the calls whose state and buffer belong to the caller.
 use Rattle.std.specs.Prelude.{◌≡◌, ◌≢◌, ◌≤◌, ◌<◌, ◌+◌, ◌↔◌, ◌++◌, [], ℕ, List, length, drop, false}
 use Rattle.cobs.specs.Feed.{DecoderAfter, Idle}
 use Rattle.cobs.specs.FeedPiece.{TakesPiece}
@@ -14,43 +14,44 @@ use Rattle.cobs_abi.specs.Encode.{Writes}
 use Rattle.cobs_abi.specs.declared.answer.Answer.{Answer}
 use Rattle.cobs_abi.specs.declared.answer.TheConstants.{OK, MORE, TOO_SMALL, BROKEN}
 
--- `jcobs_decoder_reset`: the decoder has taken nothing
+-- `jcobs_decoder_reset`: the decoder is idle, and has consumed nothing
 pub record IsFreshDecoder (decoder : UnbufferedDecoder) : Type 0 where
   pub idle : phase_of decoder ≡ Idle
   pub after : (buffer : List ℕ) → DecoderAfter buffer (phase_of decoder) []
 
--- `jcobs_decoder_is_idle`
+-- `jcobs_decoder_is_idle`: the result is 1 if no piece is open, and 0 otherwise
 pub record ReportsIdle (decoder : UnbufferedDecoder) (result : ℕ) : Type 0 where
   pub idle : phase_of decoder ≡ Idle → result ≡ 1
   pub open_piece : phase_of decoder ≢ Idle → result ≡ 0
 
--- `jcobs_decoder_push`, `jcobs_decoder_feed` of one byte, and `jcobs_decoder_push_with_sentinel` of bytes that are XORed
--- with the sentinel: the decoder takes the bytes through the zero that ends the first piece, or all of them
+-- `jcobs_decoder_push`, `jcobs_decoder_feed` of one byte, and `jcobs_decoder_push_with_sentinel` of bytes that are
+-- XORed with the sentinel: the decoder consumes the bytes up to and including the zero that ends the first piece, or
+-- all bytes if no piece ends
 pub record DecodesNext (decoder : UnbufferedDecoder) (buffer bytes : List ℕ) (result : Answer) (decoder' : UnbufferedDecoder) (buffer' : List ℕ) : Type 0 where
   pub takes : TakesPiece buffer (phase_of decoder) bytes (piece_end_of result) buffer' (phase_of decoder')
   pub more : result.status ≡ MORE
       → result ≡ record { status = MORE; consumed = length bytes; length = held (length buffer) (phase_of decoder') }
   pub too_small : result.status ≡ TOO_SMALL → result.length ≡ length buffer
-  -- in every state
+  -- in every state, even a corrupt one
   pub status : result.status ≤ BROKEN
   pub consumed : result.consumed ≤ length bytes
   pub bound : result.length ≤ length buffer
   pub len : length buffer' ≡ length buffer
 
--- `jcobs_encoder_reset`: the encoder has taken nothing
+-- `jcobs_encoder_reset`: the encoder has consumed nothing
 pub record IsFreshEncoder (encoder : UnbufferedEncoder) : Type 0 where
   pub start : reached_by encoder ≡ record { block = record { index = 0; code = 1 }; full = false }
   pub taken : (buffer : List ℕ) → 0 < length buffer → CobsEncoderAfter buffer (reached_by encoder) []
 
--- `jcobs_encoder_push`, and `jcobs_encoder_feed` of one byte: the encoder takes the bytes, if the frame of all bytes so
--- far fits
+-- `jcobs_encoder_push`, and `jcobs_encoder_feed` of one byte: the encoder consumes the bytes, if the frame of the
+-- message up to and including these bytes fits the buffer
 pub record EncodesNext (encoder : UnbufferedEncoder) (buffer bytes : List ℕ) (result : Answer) (encoder' : UnbufferedEncoder) (buffer' : List ℕ) : Type 0 where
   pub fits : (m : List ℕ) → CobsEncoderAfter buffer (reached_by encoder) m
       → ((result.status ≡ OK) ↔ (encoded_len (m ++ bytes) ≤ length buffer))
   pub taken : result.status ≡ OK → (m : List ℕ) → CobsEncoderAfter buffer (reached_by encoder) m
       → CobsEncoderAfter buffer' (reached_by encoder') (m ++ bytes)
   pub counted : result.status ≡ OK → (m : List ℕ) → CobsEncoderAfter buffer (reached_by encoder) m → result.length ≡ encoded_len (m ++ bytes)
-  -- in every state
+  -- in every state, even a corrupt one
   pub returned : result.status ≡ OK
       → result ≡ record { status = OK; consumed = length bytes; length = end_of (reached_by encoder') }
   pub too_small : result.status ≢ OK → result ≡ record { status = TOO_SMALL; consumed = 0; length = 0 }
@@ -59,12 +60,13 @@ pub record EncodesNext (encoder : UnbufferedEncoder) (buffer bytes : List ℕ) (
   pub bound : result.length ≤ length buffer
   pub len : length buffer' ≡ length buffer
 
--- `jcobs_encoder_finish` and its forms, given how many bytes are added to a frame, and the bytes that are written for a
--- message: the encoder ends the message, if these bytes fit
+-- `jcobs_encoder_finish` and its forms, which write a sentinel after the frame or encode for another sentinel: the
+-- encoder ends the message, if the bytes to write fit the buffer. `added` is the number of bytes after the frame.
+-- `IsWanted` says which bytes are right for a message.
 pub record Finishes (added : ℕ) (IsWanted : List ℕ → List ℕ → Type 0) (encoder : UnbufferedEncoder) (buffer : List ℕ) (result : Answer) (encoder' : UnbufferedEncoder) (buffer' : List ℕ) : Type 0 where
   pub writes : (m : List ℕ) → CobsEncoderAfter buffer (reached_by encoder) m
       → Writes (encoded_len m + added) 0 (λ bytes. IsWanted bytes m) buffer result buffer'
-  -- in every state
+  -- in every state, even a corrupt one
   pub place : result.status ≡ OK → result.length ≡ end_of (reached_by encoder) + added
   pub fresh : result.status ≡ OK → IsFreshEncoder encoder'
   pub too_small : result.status ≢ OK → result ≡ record { status = TOO_SMALL; consumed = 0; length = 0 }

@@ -7,7 +7,7 @@ use cobs::DecodeError;
 /// The call succeeded.
 pub const OK: u32 = 0;
 
-/// All bytes were taken, and no piece has ended in them.
+/// The call consumed all its bytes, and no piece ended in them.
 pub const MORE: u32 = 1;
 
 /// The buffer is too short.
@@ -19,8 +19,8 @@ pub const BROKEN: u32 = 3;
 /// There is no frame.
 pub const EMPTY: u32 = 4;
 
-/// The result of a call: its status, how many bytes the call took, and how many bytes of output are at the front of the
-/// buffer.
+/// The result of a call: the status, the number of bytes that the call consumed, and the number of bytes of output at
+/// the front of the buffer.
 #[repr(C)]
 #[derive(Clone, Copy)]
 pub struct Answer {
@@ -29,8 +29,8 @@ pub struct Answer {
     pub length: usize,
 }
 
-/// Returns the result of a call that succeeded. It took `consumed` bytes, and `length` bytes of output are at the front
-/// of the buffer.
+/// Returns the result of a successful call: the call consumed `consumed` bytes, and `length` bytes of output are at the
+/// front of the buffer.
 pub fn done(consumed: usize, length: usize) -> Answer
     ensures { result ≡ record { status = OK; consumed = consumed; length = length } }
 {
@@ -52,8 +52,8 @@ pub fn too_small() -> Answer
     }
 }
 
-/// Returns the result of a call that took `consumed` bytes and decoded them into a buffer of `room` bytes. `size` is
-/// the message's length, or the error.
+/// Returns the result of a call that consumed `consumed` bytes and decoded them into a buffer of `room` bytes. `size`
+/// is the length of the message, or the decoder's error.
 pub fn result_by(consumed: usize, room: usize, size: Result<usize, DecodeError>) -> Answer
     ensures { result ≡ result_by consumed room size }
 {

@@ -1,4 +1,4 @@
-//! The results of the streaming decoder's steps, as C sees them.
+//! The calls of the streaming decoder. Each call returns an [`Answer`], the result as C sees it.
 ghost use Rattle.std.specs.Prelude.{◌≡◌, ◌≢◌, ◌≤◌, ◌-◌, ℕ, List, [], ◌∷◌, length};
 ghost use Rattle.cobs.specs.FeedPiece.{TakesPiece};
 ghost use Rattle.cobs.specs.Fields.Decoders.{phase_of};
@@ -11,7 +11,7 @@ use crate::answer::{Answer, BROKEN, MORE, TOO_SMALL, done};
 use cobs::laws::law_17;
 use cobs::{PieceEnd, UnbufferedDecoder};
 
-/// Returns how many decoded bytes of the open piece are in a buffer of `room` bytes.
+/// Returns the number of decoded bytes of the open piece that are in the buffer. The buffer has `room` bytes.
 #[inline(always)]
 fn held(decoder: &UnbufferedDecoder, room: usize) -> usize
     ensures { result ≡ held room (phase_of decoder.now) }
@@ -23,9 +23,9 @@ fn held(decoder: &UnbufferedDecoder, room: usize) -> usize
     }
 }
 
-/// Returns the result of a call that got `len` bytes of the stream, and has a buffer of `room` bytes. If a piece has
-/// ended, `found` says how it ended, and how many bytes the call took, up to and including the zero that ended the
-/// piece.
+/// Returns the result of a call with `len` bytes of the stream and a buffer of `room` bytes. If a piece has ended in
+/// these bytes, `found` says how the piece ended, and how many bytes there are up to and including the zero that ended
+/// it.
 #[inline(always)]
 pub fn result_of(
     decoder: &UnbufferedDecoder,
@@ -61,8 +61,8 @@ pub fn result_of(
     }
 }
 
-/// Takes bytes of a stream of frames for this sentinel: those up to and including the sentinel that ends the first
-/// piece, or all bytes if no piece ends.
+/// Decodes bytes of a stream of frames for this sentinel, and stops after the sentinel that ends the first piece. If no
+/// piece ends, decodes all the bytes.
 #[inline(always)]
 pub fn decode_each(
     decoder: &mut UnbufferedDecoder,
@@ -77,7 +77,7 @@ pub fn decode_each(
     result_of(decoder, found, bytes.len(), buffer.len())
 }
 
-/// Takes a zero of the stream, which ends a piece if one has begun.
+/// Feeds a zero of the stream to the decoder. If a piece is open, the zero ends that piece.
 #[inline(always)]
 fn decode_zero(decoder: &mut UnbufferedDecoder, buffer: &mut [u8]) -> Answer
     ensures decodes { DecodesNext decoder.old buffer.old (0 ∷ []) result
@@ -93,7 +93,7 @@ fn decode_zero(decoder: &mut UnbufferedDecoder, buffer: &mut [u8]) -> Answer
     result_of(decoder, found, 1, room)
 }
 
-/// Takes the next byte of a stream of frames, whose sentinel is zero.
+/// Feeds the next byte of a stream to the decoder. The sentinel of the stream's frames is zero.
 #[inline(always)]
 pub fn decode_byte(decoder: &mut UnbufferedDecoder, buffer: &mut [u8], byte: u8) -> Answer
     ensures decodes { DecodesNext decoder.old buffer.old (byte ∷ []) result

@@ -1,5 +1,5 @@
-//! The calls of the streaming encoder, whose state a program in C keeps, and the call that encodes a message in its own
-//! buffer. Each call returns its result as C sees it.
+//! The calls of the streaming encoder, and the call that encodes a message in place. A program in C keeps the encoder's
+//! state. Each call returns an [`Answer`], the result as C sees it.
 ghost use Rattle.std.specs.Prelude.{◌≡◌, ◌<◌, ◌^◌, [], ◌∷◌};
 ghost use Rattle.cobs.specs.Fields.Encoders.{reached_by};
 ghost use Rattle.cobs.specs.OpenBlock.{end_of};
@@ -25,7 +25,7 @@ pub fn end_of(encoder: &UnbufferedEncoder) -> usize
     }
 }
 
-/// Takes the next bytes of a message, if the frame of all bytes so far fits the buffer.
+/// Encodes the next bytes of a message, if the frame of the message up to and including these bytes fits the buffer.
 #[inline]
 pub fn encode_each(encoder: &mut UnbufferedEncoder, buffer: &mut [u8], bytes: &[u8]) -> Answer
     ensures encodes { EncodesNext encoder.old buffer.old bytes.now result
@@ -38,7 +38,7 @@ pub fn encode_each(encoder: &mut UnbufferedEncoder, buffer: &mut [u8], bytes: &[
     done(bytes.len(), end_of(encoder))
 }
 
-/// Takes the next byte of a message, if the frame of all bytes so far fits the buffer.
+/// Encodes the next byte of a message, if the frame of the message up to and including this byte fits the buffer.
 #[inline]
 pub fn encode_byte(encoder: &mut UnbufferedEncoder, buffer: &mut [u8], byte: u8) -> Answer
     ensures encodes { EncodesNext encoder.old buffer.old (byte ∷ []) result
@@ -66,7 +66,8 @@ pub fn finish(encoder: &mut UnbufferedEncoder, buffer: &mut [u8]) -> Answer
     }
 }
 
-/// Ends the message, and writes a zero after its frame, if the frame and the zero fit the buffer.
+/// Ends the message, and writes a zero after its frame. If the frame and the zero don't fit the buffer, nothing
+/// changes.
 #[inline]
 pub fn finish_terminated(encoder: &mut UnbufferedEncoder, buffer: &mut [u8]) -> Answer
     ensures finishes { Finishes 1 (IsTerminatedFrame 0) encoder.old buffer.old result
@@ -88,7 +89,8 @@ pub fn finish_terminated(encoder: &mut UnbufferedEncoder, buffer: &mut [u8]) -> 
     }
 }
 
-/// Encodes a message of `message_len` bytes in its own buffer, if the longest frame of a message of that length fits.
+/// Encodes a message of `message_len` bytes in place, if the buffer has room for the longest frame of a message of this
+/// length.
 #[inline]
 pub fn encode_within(buffer: &mut [u8], message_len: usize) -> Answer
     ensures encodes { EncodesInPlace message_len buffer.old result buffer.new }

@@ -3,8 +3,8 @@
 /// The bytes aren't a frame.
 pub const NOT_A_FRAME: u32 = 0;
 
-/// The bytes are a frame: the one that encoders write for its message.
+/// The bytes are a frame, and it is the frame that encoders write for its message.
 pub const CANONICAL: u32 = 1;
 
-/// The bytes are a frame: the one that encoders write for its message, with a 1 after it.
+/// The bytes are a frame, but encoders write a shorter one for its message: the same bytes without the 1 at the end.
 pub const LONGER: u32 = 2;

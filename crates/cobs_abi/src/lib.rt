@@ -1,9 +1,9 @@
-//! The code that the libraries for C share: the structs and numbers that are passed to C, and the postcondition of each
-//! exported call.
+//! The code that the libraries for C share: the structs and numbers that are passed to C, and the postconditions of the
+//! exported calls.
 //!
-//! `cobs_c` exports all calls. `cobs_small` exports some of these calls, with other bodies. The contract of each
-//! exported function is one definition of `specs/`, whose name says what the call does. So a call has the same contract
-//! in both crates.
+//! `cobs_c` exports all calls. `cobs_small` exports some of the calls, with other implementations. For most calls, one
+//! definition in `specs/` is the postcondition. The definition's name says what the call does. Both crates use these
+//! definitions, so a call has the same contract in both crates.
 #![tactic(auto)]
 
 mod answer;

@@ -5,9 +5,9 @@ ghost use Rattle.cobs_abi.specs.Frames.{IsFrameOnWire};
 
 use cobs::try_encode_each;
 
-/// Writes the frame of the message to the front of the buffer, if it fits, and returns the frame's length in bytes.
-/// Otherwise it returns 0, and nothing is written.
-// The function returns a number, because each call would need more code if the function returned a `Result`.
+/// Writes the frame of the message to the front of the buffer, and returns the frame's length in bytes. If the frame
+/// doesn't fit, writes nothing and returns 0.
+// The function returns a number, because a `Result` would need more code at each call.
 #[inline(never)]
 pub fn write_frame(message: &[u8], buffer: &mut [u8]) -> usize
     ensures fits { encoded_len message.now ≤ length buffer.old → result ≡ encoded_len message.now }

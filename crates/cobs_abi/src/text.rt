@@ -7,7 +7,7 @@ use crate::answer::{BROKEN, EMPTY, MORE, OK, TOO_SMALL};
 /// The version as one number: 10,000 times the major number, plus 100 times the minor number, plus the patch number.
 pub const VERSION: u32 = 10000;
 
-/// Returns the meaning of a status.
+/// Returns the meaning of a status as text.
 pub fn words(status: u32) -> &'static str
     ensures { result.now ≡ words status }
 {

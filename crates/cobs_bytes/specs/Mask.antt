@@ -1,4 +1,4 @@
--- Which bytes are zeros, one bit for each.
+-- Masks of the zeros among bytes, with one bit for each byte.
 use Rattle.std.specs.Prelude.{ℕ, ◌+◌, ◌-◌, ◌*◌, ◌==◌, if◌then◌else◌, List, [], ◌∷◌, bit_and}
 use Rattle.std.specs.Int.Count.{count_trailing_zeros}
 
@@ -7,7 +7,7 @@ abbrev pub zero_mask : List ℕ → ℕ
 zero_mask [] = 0
 zero_mask (byte ∷ bytes) = (if byte == 0 then 1 else 0) + 2 * zero_mask bytes
 
--- the index of the first zero byte that a mask marks, that is, of the mask's lowest set bit, or 64 if no bit is set
+-- the index of the mask's lowest set bit, which marks the first zero, or 64 if no bit is set
 abbrev pub lowest : ℕ → ℕ
 lowest mask = count_trailing_zeros 64 mask
 

@@ -1,6 +1,6 @@
-//! Functions over windows and slices of bytes, in vectors: they find zeros, copy, XOR, move and write.
+//! Functions that find zeros, and copy, XOR, move and write bytes, in vectors.
 //!
-//! This crate is the part of `cobs` that knows nothing about frames. Its names aren't stable, so programs should call
+//! This crate has the code of `cobs` that doesn't depend on frames. Its names aren't stable, so programs should call
 //! `cobs`.
 #![tactic(auto)]
 

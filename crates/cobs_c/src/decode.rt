@@ -13,7 +13,7 @@ use cobs::{DecodeError, FrameKind, decode_short, decode_short_in_place, leading_
 use cobs_abi::{Answer, CANONICAL, EMPTY, LONGER, NOT_A_FRAME, OK, done, result_by};
 use memchr::memchr;
 
-/// Returns the index of the first sentinel, or the number of bytes if there is none.
+/// Returns the index of the first sentinel, or the number of bytes if there is no sentinel.
 fn first_sentinel(bytes: &[u8], sentinel: u8) -> usize
     ensures within { result ≤ length bytes.now }
     ensures before { All (λ byte. byte ≢ sentinel) (take result bytes.now) }
@@ -51,9 +51,9 @@ fn first_piece_end(source: &[u8]) -> Option<usize>
     Some(if end < source.len() { end + 1 } else { end })
 }
 
-/// Returns the status and the length for a source whose first frame was rejected with this error, or that has no frame.
-/// The message's buffer has `room` bytes. The number of bytes taken is stored in `consumed`. The function returns two
-/// numbers, which stay in registers, instead of an `Answer`.
+/// Returns the status and the length of the result for a source whose decoding failed with `error`. The message's
+/// buffer has `room` bytes. The number of consumed bytes is stored in `consumed`. The function returns two numbers
+/// instead of an `Answer`, because two numbers stay in registers.
 #[inline(never)]
 fn rejected(source: &[u8], room: usize, error: DecodeError, consumed: &mut usize) -> (u32, usize)
     requires { Err error ≡ result_of_decode source.now room }
@@ -71,9 +71,9 @@ fn rejected(source: &[u8], room: usize, error: DecodeError, consumed: &mut usize
     (returned.status, returned.length)
 }
 
-/// Does what [`jcobs_decode`] does for a source that [`decode_short`] doesn't decode. It returns the status and the
-/// length, as [`rejected`] does. It is a separate function, so that no registers are saved before a short frame is
-/// decoded.
+/// Decodes the first frame of a source that [`decode_short`] doesn't decode. Returns the status and the length of the
+/// result, and stores the number of consumed bytes in `consumed`. This code is a separate function, so that
+/// [`jcobs_decode`] saves no registers before it decodes a short frame.
 #[inline(never)]
 fn decode_long(source: &[u8], message: &mut [u8], consumed: &mut usize) -> (u32, usize)
     ensures decodes { Decodes source.now message.old
@@ -106,7 +106,7 @@ pub extern "C" fn jcobs_decode(source: &[u8], message: &mut [u8]) -> Answer
     }
 }
 
-/// Decodes the frame at the front of the source, for this sentinel, to the front of `message`.
+/// Decodes the bytes before the source's first `sentinel`, as a frame for that sentinel, to the front of `message`.
 #[unsafe(no_mangle)]
 pub extern "C" fn jcobs_decode_with_sentinel(
     source: &[u8],
@@ -124,16 +124,17 @@ pub extern "C" fn jcobs_decode_with_sentinel(
     )
 }
 
-/// Returns the number of bytes up to and including the zero at index `end`, or `len` if `end` equals `len`, because
-/// there is no zero then.
+/// Returns `end + 1`, the number of bytes up to and including the zero at index `end`. If `end` equals `len`, there is
+/// no zero, and the result is `len`.
 fn with_zero(end: usize, len: usize) -> usize
     ensures { result ≡ min len (end + 1) }
 {
     if end < len { end + 1 } else { len }
 }
 
-/// Does what [`jcobs_decode_in_place`] does for a buffer that [`decode_short_in_place`] doesn't decode. It is a
-/// separate function, and returns two numbers, for the same reasons as [`decode_long`].
+/// Decodes, in place, the frame at the front of a buffer that [`decode_short_in_place`] doesn't decode. Returns the
+/// status and the length of the result, and stores the number of consumed bytes in `consumed`. This code is a separate
+/// function for the same reason as [`decode_long`].
 #[inline(never)]
 fn decode_long_in_place(buffer: &mut [u8], consumed: &mut usize) -> (u32, usize)
     ensures decodes { DecodesInPlace buffer.old
@@ -148,8 +149,8 @@ fn decode_long_in_place(buffer: &mut [u8], consumed: &mut usize) -> (u32, usize)
             result_by(consumed, room, Ok(report.frame_size()))
         }
         Err(DecodeError::InvalidFrame { decoded_bytes }) => {
-            // The frame is longer than the decoded bytes. The buffer hasn't changed after the decoded bytes, so the
-            // frame's end can still be found.
+            // The frame is longer than the decoded bytes, and the buffer hasn't changed after the decoded bytes. So the
+            // search for the frame's end can begin after them.
             let end = decoded_bytes + first_sentinel(&buffer[decoded_bytes..], 0);
             let error = DecodeError::InvalidFrame { decoded_bytes };
             result_by(with_zero(end, room), room, Err(error))
@@ -160,7 +161,7 @@ fn decode_long_in_place(buffer: &mut [u8], consumed: &mut usize) -> (u32, usize)
     (returned.status, returned.length)
 }
 
-/// Decodes the frame at the front of the buffer in place.
+/// Decodes the frame at the front of the buffer, in place.
 #[unsafe(no_mangle)]
 pub extern "C" fn jcobs_decode_in_place(buffer: &mut [u8]) -> Answer
     ensures decodes { DecodesInPlace buffer.old result buffer.new }
@@ -179,7 +180,7 @@ pub extern "C" fn jcobs_decode_in_place(buffer: &mut [u8]) -> Answer
     }
 }
 
-/// Decodes the frame at the front of the buffer, for this sentinel, in place.
+/// Decodes the bytes before the buffer's first `sentinel`, as a frame for that sentinel, in place.
 #[unsafe(no_mangle)]
 pub extern "C" fn jcobs_decode_in_place_with_sentinel(buffer: &mut [u8], sentinel: u8) -> Answer
     ensures decodes { DecodesInPlaceFor sentinel buffer.old result buffer.new }
@@ -201,7 +202,7 @@ pub extern "C" fn jcobs_decode_in_place_with_sentinel(buffer: &mut [u8], sentine
     )
 }
 
-/// Returns whether the bytes are a frame, and whether that frame is the one that encoders write for its message.
+/// Returns the kind of the bytes: a frame that encoders write, another frame, or no frame.
 #[unsafe(no_mangle)]
 pub extern "C" fn jcobs_frame_kind(bytes: &[u8]) -> u32
     ensures kind { IsKindOf bytes.now result }

@@ -22,8 +22,8 @@ pub extern "C" fn jcobs_decoder_is_idle(decoder: &UnbufferedDecoder) -> u32
     if decoder.is_idle() { 1 } else { 0 }
 }
 
-/// Takes bytes of the stream: those up to and including the zero that ends the first piece, or all bytes if no piece
-/// ends. Even if the state is corrupt, the buffer keeps its length, `consumed` is at most the number of bytes, and
+/// Decodes bytes of the stream, and stops after the zero that ends the first piece. If no piece ends, decodes all the
+/// bytes. Even if the state is corrupt, the buffer keeps its length, `consumed` is at most the number of bytes, and
 /// `length` is at most the buffer's length.
 #[unsafe(no_mangle)]
 pub extern "C" fn jcobs_decoder_push(
@@ -34,7 +34,7 @@ pub extern "C" fn jcobs_decoder_push(
     ensures decodes { DecodesNext decoder.old buffer.old bytes.now result
         decoder.new buffer.new }
 {
-    // For one byte, a search and a copy would take longer than a step.
+    // For one byte, `decode_byte` is faster than a search for a zero and a copy.
     if bytes.len() == 1 {
         return decode_byte(decoder, buffer, bytes[0]);
     }
@@ -42,7 +42,7 @@ pub extern "C" fn jcobs_decoder_push(
     result_of(decoder, found, bytes.len(), buffer.len())
 }
 
-/// Takes the next byte of the stream, as `jcobs_decoder_push` does.
+/// Decodes the next byte of the stream. The contract is the same as for a `jcobs_decoder_push` of this byte.
 #[unsafe(no_mangle)]
 pub extern "C" fn jcobs_decoder_feed(
     decoder: &mut UnbufferedDecoder,
@@ -55,7 +55,8 @@ pub extern "C" fn jcobs_decoder_feed(
     decode_byte(decoder, buffer, byte)
 }
 
-/// Takes bytes of a stream of frames for this sentinel, as `jcobs_decoder_push` does for the sentinel 0.
+/// Decodes bytes of a stream of frames for this sentinel, and stops after the sentinel that ends the first piece. If no
+/// piece ends, decodes all the bytes.
 #[unsafe(no_mangle)]
 pub extern "C" fn jcobs_decoder_push_with_sentinel(
     decoder: &mut UnbufferedDecoder,

@@ -14,7 +14,7 @@ const FULL_CODE: usize = 255;
 /// A message of fewer bytes than this number is encoded byte by byte.
 const FEW: usize = 8;
 
-/// Returns the length of the longest frame of a message of `message_len` bytes, or 0 if that length doesn't fit the
+/// Returns the length of the longest frame of a message of `message_len` bytes, or 0 if this length doesn't fit the
 /// type of the result.
 #[unsafe(no_mangle)]
 pub extern "C" fn jcobs_max_length(message_len: usize) -> usize
@@ -26,9 +26,9 @@ pub extern "C" fn jcobs_max_length(message_len: usize) -> usize
         .unwrap_or(0)
 }
 
-/// Does what [`jcobs_encode`] does, for a message of any length. Returns how many bytes were taken, and the length of
-/// the frame. The length is 0 if the frame doesn't fit. `encode_long` is a separate function, so that no registers are
-/// saved before a short message is encoded.
+/// Encodes a message of any length to the front of the buffer `frame`. Returns the number of consumed bytes and the
+/// length of the frame. Both are 0 if the frame doesn't fit. This code is a separate function, so that [`jcobs_encode`]
+/// saves no registers before it encodes a short message.
 #[inline(never)]
 fn encode_long(message: &[u8], frame: &mut [u8]) -> (usize, usize)
     ensures encodes { Encodes message.now frame.old
@@ -49,10 +49,10 @@ pub extern "C" fn jcobs_encode(message: &[u8], frame: &mut [u8]) -> Answer
 {
     law_4(); // The length of a frame, and its bound
     let len = message.len();
-    // A message of up to 254 bytes fits if `frame` is longer than the message. Then the message is encoded here,
-    // without a call. The first test is for messages of fewer than `FEW` bytes, so that compilers generate code for
-    // them without the other cases. The message's length is computed from the frame's length, so that no register has
-    // to keep the message's length. All this makes the encoding of short messages faster.
+    // The frame of a message of up to 254 bytes fits if `frame` is longer than the message. Such a message is encoded
+    // here, without a call. A message of fewer than `FEW` bytes has its own branch, so that compilers generate code for
+    // it without the cases of longer messages. The message's length is computed as `length - 1`, so that no register
+    // has to keep it. All this makes the encoding of short messages faster.
     if len < frame.len() {
         if len < FEW {
             let length = encode(message, frame);
@@ -128,9 +128,9 @@ pub extern "C" fn jcobs_encode_terminated_with_sentinel(
     done(returned.consumed, returned.length + 1)
 }
 
-/// Encodes a message of `message_len` bytes in its own buffer, if the longest frame of such a message fits. Otherwise
-/// nothing is written. The message begins in the buffer at the index JCOBS_MAX_OVERHEAD(message_len), and its frame is
-/// written to the front of the buffer.
+/// Encodes a message of `message_len` bytes in place. The message begins at index JCOBS_MAX_OVERHEAD(message_len) of
+/// the buffer. The frame is written to the front of the buffer. If the longest frame of a message of this length
+/// doesn't fit the buffer, nothing is written.
 #[unsafe(no_mangle)]
 pub extern "C" fn jcobs_encode_in_place(buffer: &mut [u8], message_len: usize) -> Answer
     ensures encodes { EncodesInPlace message_len buffer.old result buffer.new }

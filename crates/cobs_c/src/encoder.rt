@@ -8,7 +8,7 @@ use cobs::laws::{law_2, law_6, law_13};
 use cobs_abi::{Answer, OK, done, encode_byte, end_of, finish, finish_terminated, too_small};
 use cobs_bytes::lanes::xor_bytes;
 
-/// Puts the encoder back to the start, even if its state is corrupt. After the reset, the encoder has taken no bytes.
+/// Resets the encoder to the start of a message, even if its state is corrupt.
 #[unsafe(no_mangle)]
 pub extern "C" fn jcobs_encoder_reset(encoder: &mut UnbufferedEncoder)
     ensures fresh { IsFreshEncoder encoder.new }
@@ -16,8 +16,9 @@ pub extern "C" fn jcobs_encoder_reset(encoder: &mut UnbufferedEncoder)
     *encoder = UnbufferedEncoder::new();
 }
 
-/// Takes the next bytes of a message, if the frame of all bytes so far fits the buffer. Even if the state is corrupt,
-/// the buffer keeps its length, `consumed` is at most the number of bytes, and `length` is at most the buffer's length.
+/// Encodes the next bytes of a message, if the frame of the message up to and including these bytes fits the buffer.
+/// Even if the state is corrupt, the buffer keeps its length, `consumed` is at most the number of bytes, and `length`
+/// is at most the buffer's length.
 #[unsafe(no_mangle)]
 pub extern "C" fn jcobs_encoder_push(
     encoder: &mut UnbufferedEncoder,
@@ -28,7 +29,7 @@ pub extern "C" fn jcobs_encoder_push(
         encoder.new buffer.new }
 {
     law_13(); // The open frame of a streaming encoder
-    // Up to 8 bytes that can't fill the open block are taken here, without a call.
+    // Up to 8 bytes that can't fill the open block are encoded here, without a call.
     if encoder.push_few(buffer, bytes) {
         return done(bytes.len(), end_of(encoder));
     }
@@ -50,7 +51,7 @@ pub extern "C" fn jcobs_encoder_finish(encoder: &mut UnbufferedEncoder, buffer: 
     Answer { ..returned }
 }
 
-/// Takes the next byte of a message, as `jcobs_encoder_push` does.
+/// Encodes the next byte of a message. The contract is the same as for a `jcobs_encoder_push` of this byte.
 #[unsafe(no_mangle)]
 pub extern "C" fn jcobs_encoder_feed(
     encoder: &mut UnbufferedEncoder,
@@ -67,7 +68,7 @@ pub extern "C" fn jcobs_encoder_feed(
     encode_byte(encoder, buffer, byte)
 }
 
-/// Ends the message, as `jcobs_encoder_finish` does, with a frame for this sentinel.
+/// Ends the message, as `jcobs_encoder_finish` does, but writes a frame for this sentinel.
 #[unsafe(no_mangle)]
 pub extern "C" fn jcobs_encoder_finish_with_sentinel(
     encoder: &mut UnbufferedEncoder,
@@ -83,8 +84,8 @@ pub extern "C" fn jcobs_encoder_finish_with_sentinel(
     returned
 }
 
-/// Ends the message, as `jcobs_encoder_finish_with_sentinel` does, and writes the sentinel after its frame, if the
-/// frame and the sentinel fit.
+/// Ends the message, as `jcobs_encoder_finish_with_sentinel` does, and writes the sentinel after its frame. If the
+/// frame and the sentinel don't fit the buffer, nothing changes.
 #[unsafe(no_mangle)]
 pub extern "C" fn jcobs_encoder_finish_terminated_with_sentinel(
     encoder: &mut UnbufferedEncoder,
@@ -109,7 +110,8 @@ pub extern "C" fn jcobs_encoder_finish_terminated_with_sentinel(
     done(returned.consumed, returned.length + 1)
 }
 
-/// Ends the message, as `jcobs_encoder_finish` does, and writes a zero after its frame, if the frame and the zero fit.
+/// Ends the message, as `jcobs_encoder_finish` does, and writes a zero after its frame. If the frame and the zero don't
+/// fit the buffer, nothing changes.
 #[unsafe(no_mangle)]
 pub extern "C" fn jcobs_encoder_finish_terminated(
     encoder: &mut UnbufferedEncoder,

@@ -1,4 +1,4 @@
-//! The library `jcobs` for C: one function for each call, over slices, plain structs and numbers.
+//! The library `jcobs` for C. Each call is one function, whose parameters are slices, plain structs and numbers.
 //!
 //! `bindings/c/include/jcobs.h` declares these functions and states their preconditions. Nothing checks that a caller
 //! in C meets the preconditions. For a slice, C passes the pointer and then the length.

@@ -5,9 +5,9 @@ ghost use Rattle.cobs_abi.specs.Text.{words};
 
 use cobs_abi::{VERSION, words};
 
-/// Writes the text of a status, followed by a zero, to the front of `text`. If they don't fit, only the first bytes of
-/// the text are written, followed by the zero; if `text` has no bytes, nothing is written. Returns the length of the
-/// whole text.
+/// Writes the text of a status, followed by a zero, to the front of `text`. If the text and the zero don't fit, only
+/// the first bytes of the text are written, followed by the zero. If `text` is empty, nothing is written. Returns the
+/// length of the whole text, without the zero.
 #[unsafe(no_mangle)]
 pub extern "C" fn jcobs_strerror(status: u32, text: &mut [u8]) -> usize
     ensures len { result ≡ length (words status) }
@@ -32,8 +32,8 @@ pub extern "C" fn jcobs_version() -> u32
     VERSION
 }
 
-/// Returns 1, the version of the interface. The function's name contains this version, so that a program for another
-/// version can't be linked.
+/// Returns 1, the version of the interface. The function's name contains this version. So a program that was compiled
+/// for another version of the interface can't be linked with this library.
 #[unsafe(no_mangle)]
 pub extern "C" fn jcobs_abi_1() -> u32
     ensures { result ≡ 1 }

@@ -5,7 +5,7 @@ use Rattle.std.specs.Prelude.{ℕ, ◌≡◌, ◌⊎◌, List, codes}
 abbrev pub IsErrorWord : List ℕ → Type 0
 IsErrorWord word = (word ≡ codes "empty") ⊎ (word ≡ codes "invalid") ⊎ (word ≡ codes "too_small") ⊎ (word ≡ codes "broken") ⊎ (word ≡ codes "too_long")
 
--- the actual word agrees with the expected word: any actual word agrees with `?`, the name of any error agrees with
+-- the actual word agrees with the expected word: every word agrees with `?`, the name of every error agrees with
 -- `refused`, and each word agrees with itself
 abbrev pub Agrees : List ℕ → List ℕ → Type 0
 Agrees wanted came = (wanted ≡ codes "?") ⊎ (wanted ≡ came) ⊎ ((wanted ≡ codes "refused") × IsErrorWord came)

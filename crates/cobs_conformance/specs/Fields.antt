@@ -1,4 +1,4 @@
--- The words by which contracts describe a decoder that feeds one byte after another.
+-- The buffer and the phase of a `ByBytes`, a decoder that feeds one byte after another.
 use Rattle.std.specs.Prelude.{ℕ, List}
 use Rattle.cobs.specs.Feed.{Phase}
 use Rattle.cobs.specs.Fields.Decoders.{owned_buffer, owned_phase}

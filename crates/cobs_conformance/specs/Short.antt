@@ -1,4 +1,4 @@
--- The meaning of a short word.
+-- The digits that an abbreviated word stands for.
 use Rattle.std.specs.Prelude.{ℕ, ◌==◌, List, [], ◌∷◌}
 use Rattle.std.specs.List.{slice_split, flat_map, repeat}
 use Rattle.std.specs.Str.Parse.{digits_value, without_leading_plus}
@@ -7,16 +7,16 @@ use Rattle.std.specs.Str.Parse.{digits_value, without_leading_plus}
 abbrev pub number_text : List ℕ → ℕ
 number_text digits = digits_value 10 (without_leading_plus digits)
 
--- digits without a number mean themselves; digits and a number mean that many repetitions of them
+-- digits without a number stand for themselves; digits and a number n stand for the digits, repeated n times
 abbrev pub repeated : List (List ℕ) → List ℕ
 repeated [] = []
 repeated (digits ∷ []) = digits
 repeated (digits ∷ count ∷ more) = repeat (number_text count) digits
 
--- a part: digits, or digits, a star (42) and a number
+-- the digits that a part stands for; a part is digits, or digits, a star (42) and a number
 abbrev pub part_text : List ℕ → List ℕ
 part_text part = repeated (slice_split (λ byte. byte == 42) part)
 
--- a word: parts with a plus sign (43) between each two of them
+-- the digits that a word stands for; there is a plus sign (43) between each two of its parts
 abbrev pub word_text : List ℕ → List ℕ
 word_text word = flat_map part_text (slice_split (λ byte. byte == 43) word)

@@ -3,7 +3,8 @@ ghost use Rattle.std.specs.Prelude.{◌↔◌, IsTrue, string_bytes};
 ghost use Rattle.std.specs.List.{AllZip};
 ghost use Rattle.cobs_conformance.specs.Agree.{Agrees, IsErrorWord};
 
-/// Returns whether there are as many words as expected words, and each word agrees with its expected word.
+/// Returns whether the words agree with the expected words: there are as many words as expected words, and each word
+/// agrees with the expected word at the same place.
 pub fn agree(wanted: &[&str], came: &[String]) -> bool
     ensures same { IsTrue result
         ↔ AllZip (λ one other. Agrees one.now (string_bytes other)) wanted.now came.now }
@@ -18,7 +19,7 @@ pub fn agree(wanted: &[&str], came: &[String]) -> bool
 }
 
 /// Returns whether a word agrees with the expected word `wanted`. The word `?` agrees with any word, `refused` agrees
-/// with the name of any error, and any other word only with itself.
+/// with the name of any error, and any other word agrees only with itself.
 fn agrees(wanted: &str, came: &str) -> bool
     ensures agrees { IsTrue result ↔ Agrees wanted.now came.now }
 {

@@ -7,19 +7,20 @@ use crate::fault::CaseFault;
 use hex::FromHexError;
 use std::alloc::Global;
 
-/// The most bytes that a word may stand for. With this limit, the length of each frame fits a `usize`.
+/// The greatest number of bytes that a word may stand for. With this limit, the length of each frame fits a `usize`.
 pub const MAX_BYTES: usize = 131_072;
 
-/// The most hexadecimal digits that a word may have.
+/// The greatest number of hexadecimal digits that a word may have.
 pub const MAX_DIGITS: usize = 2 * MAX_BYTES;
 
 /// The word that means no bytes, or no number.
 pub const NONE: &str = "-";
 
-/// Returns the bytes whose hexadecimal digits the word has, or no bytes for the word `-`.
+/// Parses the word as hexadecimal digits, and returns the bytes. The word `-` stands for no bytes.
 ///
 /// # Errors
-/// `Malformed` for any other word, and for more than [`MAX_BYTES`] bytes. `OutOfMemory` if memory ran out.
+/// `Malformed` if the word isn't hexadecimal digits or `-`, or stands for more than [`MAX_BYTES`] bytes. `OutOfMemory`
+/// if memory ran out.
 pub fn bytes_of(alloc: Global, word: &str) -> Result<Vec<u8>, CaseFault>
     ensures none { word.now ≡ codes "-" → IfOk result (λ bytes. bytes.items ≡ []) }
     ensures digits { word.now ≢ codes "-"
@@ -41,10 +42,10 @@ pub fn bytes_of(alloc: Global, word: &str) -> Result<Vec<u8>, CaseFault>
     }
 }
 
-/// Returns the one byte that a word means.
+/// Returns the one byte that a word stands for.
 ///
 /// # Errors
-/// The errors of [`bytes_of`], and `Malformed` if the word means no byte or several bytes.
+/// The errors of [`bytes_of`], and `Malformed` if the word stands for no byte or for several bytes.
 pub fn byte_of(alloc: Global, word: &str) -> Result<u8, CaseFault> {
     let bytes = bytes_of(alloc, word)?;
     match bytes.as_slice() {
@@ -53,10 +54,10 @@ pub fn byte_of(alloc: Global, word: &str) -> Result<u8, CaseFault> {
     }
 }
 
-/// Returns the decimal number that a word means.
+/// Parses the word as a decimal number.
 ///
 /// # Errors
-/// `Malformed` for any other word.
+/// `Malformed` if the word isn't a decimal number that fits a `usize`.
 pub fn number_of(word: &str) -> Result<usize, CaseFault>
     ensures value { IfOk result (λ number. number ≡ number_text word.now) }
 {

@@ -4,11 +4,11 @@ use crate::fault::CaseFault;
 use crate::{decoding, encoding, machines, streams};
 use std::alloc::Global;
 
-/// Makes the call with this name, and returns its result.
+/// Calls the function of the library that `call` names, and returns the call's result.
 ///
 /// # Errors
-/// `Malformed` if no call has the name, or the arguments aren't those of the call; `NotCallable` if the arguments break
-/// the call's precondition; `OutOfMemory` if memory ran out.
+/// `Malformed` if `call` names no function, or if the arguments aren't arguments of that function. `NotCallable` if the
+/// arguments break the function's precondition. `OutOfMemory` if memory ran out.
 pub fn result_of_call(
     alloc: Global,
     call: &str,

@@ -3,7 +3,7 @@ use crate::arguments::NONE;
 use cobs::{DecodeError, DecodeReport, DestBufTooSmallError, FrameOutcome};
 use std::alloc::{AllocError, Global};
 
-/// The words after the `->` of a case that describe the result of a call.
+/// The result of a call, as the words that follow `->` in a case.
 #[derive(Debug, Drop)]
 pub struct CallResult {
     alloc: Global,
@@ -25,7 +25,7 @@ impl CallResult {
         }
     }
 
-    /// Returns the words so far.
+    /// Returns the words that have been added.
     pub fn words(&self) -> &[String]
         ensures words { map string_bytes result.now ≡ words_of self.now }
     {
@@ -51,8 +51,8 @@ impl CallResult {
         self.words.append(&mut other.words)
     }
 
-    /// Adds the words of `other` if they differ from the words of this result. The clause doesn't say which of the two
-    /// holds.
+    /// Adds the words of `other` if they differ from the words of this result. The contract only says that either no
+    /// words or all words of `other` are added.
     pub fn append_other(&mut self, other: CallResult) -> Result<(), AllocError>
         ensures words { OnOk result ((words_of self.new ≡ words_of self.old)
             ⊎ (words_of self.new ≡ words_of self.old ++ words_of other)) }
@@ -63,8 +63,8 @@ impl CallResult {
         self.append(other)
     }
 
-    /// Adds the words of `other` if they differ from the words of `wanted`. The clause doesn't say which of the two
-    /// holds.
+    /// Adds the words of `other` if they differ from the words of `wanted`. The contract only says that either no words
+    /// or all words of `other` are added.
     pub fn append_unlike(
         &mut self,
         wanted: &CallResult,
@@ -88,7 +88,7 @@ impl CallResult {
         Ok(())
     }
 
-    /// Adds a decimal number.
+    /// Adds a number as a word of decimal digits.
     pub fn say_number(&mut self, number: usize) -> Result<(), AllocError>
         ensures words { OnOk result (words_of self.new ≡ words_of self.old ++ decimal number ∷ []) }
     {
@@ -97,7 +97,7 @@ impl CallResult {
         Ok(())
     }
 
-    /// Adds hexadecimal digits, or `-` if there is no byte.
+    /// Adds bytes as a word of hexadecimal digits, or the word `-` for no bytes.
     pub fn say_bytes(&mut self, bytes: &[u8]) -> Result<(), AllocError>
         ensures words { OnOk result (words_of self.new ≡ words_of self.old ++ bytes_word bytes.now ∷ []) }
     {
@@ -109,7 +109,7 @@ impl CallResult {
         Ok(())
     }
 
-    /// Adds `ok` and the length, or the error.
+    /// Adds `ok` and the number of written bytes, or `too_small` and `-`.
     pub fn say_written(
         &mut self,
         written: &Result<usize, DestBufTooSmallError>,
@@ -126,7 +126,8 @@ impl CallResult {
         }
     }
 
-    /// Adds `ok` and the message's length, or the error and its number of decoded bytes.
+    /// Adds `ok` and the length of the message. For an error, adds the error's name and the number of decoded bytes
+    /// that the error reports.
     pub fn say_decoded(&mut self, decoded: &Result<usize, DecodeError>) -> Result<(), AllocError> {
         match decoded {
             Ok(len) => {
@@ -140,7 +141,8 @@ impl CallResult {
         }
     }
 
-    /// Adds `ok`, the number of consumed bytes and the message's length, or the error and its number of decoded bytes.
+    /// Adds `ok`, the number of consumed bytes, and the length of the message. For an error, adds the error's name,
+    /// `-`, and the number of decoded bytes that the error reports.
     pub fn say_report(
         &mut self,
         report: &Result<DecodeReport, DecodeError>,
@@ -159,7 +161,7 @@ impl CallResult {
         }
     }
 
-    /// Adds the number of decoded bytes that an error has, or `-` if it has none.
+    /// Adds the number of decoded bytes that the error reports, or `-` if it reports none.
     fn say_count(&mut self, error: &DecodeError) -> Result<(), AllocError> {
         match error {
             DecodeError::InvalidFrame { decoded_bytes } => self.say_number(*decoded_bytes),
@@ -167,7 +169,8 @@ impl CallResult {
         }
     }
 
-    /// Adds the outcome of a piece: its kind, and its message or its number of decoded bytes.
+    /// Adds the kind of an outcome, and then its message, its number of decoded bytes, or `-` for a piece that is too
+    /// long.
     pub fn say_outcome(&mut self, outcome: &FrameOutcome) -> Result<(), AllocError> {
         match outcome {
             FrameOutcome::Message(message) => {

@@ -1,4 +1,4 @@
-//! Runs one case: reads its line, makes its call, and compares the result with the expected one.
+//! Runs one case: reads the line, makes the call, and compares the result with the expected one.
 ghost use Rattle.std.specs.Prelude.{◌≡◌, ◌↔◌, ◌+◌, length, slice_index_or, IfSome};
 ghost use Rattle.cobs_conformance.specs.Case.{IsNoCase};
 
@@ -8,7 +8,7 @@ use crate::fault::CaseFault;
 use crate::short::words_of;
 use std::alloc::{AllocError, Global};
 
-/// The verdict on a line.
+/// The verdict on a line: whether the line's call has the expected result.
 #[derive(Debug, Drop)]
 pub enum Verdict {
     /// The line is empty or a comment.
@@ -17,12 +17,12 @@ pub enum Verdict {
     /// The result is the expected one.
     Agrees,
 
-    /// The result isn't the expected one, or there is no result. The text names the case or the line, and says how the
-    /// results differ or why there is no result.
+    /// The call has another result than the expected one, or no result. The text says how the results differ, or why
+    /// there is no result.
     Differs(String),
 }
 
-/// The words of a line, by their meaning.
+/// The words of a case, grouped by meaning.
 #[derive(Debug, Drop)]
 struct Case<'a> {
     name: &'a str,
@@ -31,7 +31,7 @@ struct Case<'a> {
     wanted: &'a [&'a str],
 }
 
-/// Makes the call of a line, and compares its result with the expected result in the line.
+/// Makes the call of a line, and compares the call's result with the expected result in the line.
 pub fn verdict_of(alloc: Global, line: &str) -> Result<Verdict, AllocError>
     ensures no_case { (result ≡ Ok Verdict.NoCase) ↔ IsNoCase line.now }
 {
@@ -67,7 +67,7 @@ pub fn verdict_of(alloc: Global, line: &str) -> Result<Verdict, AllocError>
     }
 }
 
-/// Sorts the words of a line by their meaning, or returns `None` if the line isn't a case.
+/// Groups the words of a line by meaning, or returns `None` if the line isn't a case.
 fn case_of<'a>(words: &'a [&'a str]) -> Option<Case<'a>>
     ensures call { IfSome result (λ case. case.call ≡ slice_index_or words.now 2 case.call) }
     ensures each_word { IfSome result (λ case.

@@ -14,7 +14,7 @@ pub fn decode_vec(alloc: Global, arguments: &[&str]) -> Result<CallResult, CaseF
     said_message(alloc, decoded)
 }
 
-/// Runs `decode_vec_with_sentinel`, which returns the message of a frame for a sentinel.
+/// Runs `decode_vec_with_sentinel`, which decodes a frame for a sentinel and returns the message.
 pub fn decode_vec_with_sentinel(
     alloc: Global,
     arguments: &[&str],
@@ -41,7 +41,7 @@ pub fn decode(alloc: Global, arguments: &[&str]) -> Result<CallResult, CaseFault
     Ok(returned)
 }
 
-/// Runs `decode_with_sentinel`, which writes the message of a frame for a sentinel to a buffer.
+/// Runs `decode_with_sentinel`, which decodes a frame for a sentinel and writes the message to a buffer.
 pub fn decode_with_sentinel(alloc: Global, arguments: &[&str]) -> Result<CallResult, CaseFault> {
     let [sentinel, source, buffer] = arguments else {
         return Err(CaseFault::Malformed);
@@ -56,7 +56,7 @@ pub fn decode_with_sentinel(alloc: Global, arguments: &[&str]) -> Result<CallRes
     Ok(returned)
 }
 
-/// Runs `decode_in_place`, which writes the message over its own frame.
+/// Runs `decode_in_place`, which decodes a frame in place.
 pub fn decode_in_place(alloc: Global, arguments: &[&str]) -> Result<CallResult, CaseFault> {
     let [buffer] = arguments else {
         return Err(CaseFault::Malformed);
@@ -69,8 +69,8 @@ pub fn decode_in_place(alloc: Global, arguments: &[&str]) -> Result<CallResult, 
     Ok(returned)
 }
 
-/// Runs `decode_in_place_report`, which writes the message over its own frame, and returns the message's length and the
-/// number of bytes consumed.
+/// Runs `decode_in_place_report`, which decodes a frame in place, and returns the message's length and the number of
+/// consumed bytes.
 pub fn decode_in_place_report(alloc: Global, arguments: &[&str]) -> Result<CallResult, CaseFault> {
     let [buffer] = arguments else {
         return Err(CaseFault::Malformed);
@@ -83,7 +83,7 @@ pub fn decode_in_place_report(alloc: Global, arguments: &[&str]) -> Result<CallR
     Ok(returned)
 }
 
-/// Runs `decode_in_place_with_sentinel`, which writes the message over its own frame for a sentinel.
+/// Runs `decode_in_place_with_sentinel`, which decodes, in place, a frame for a sentinel.
 pub fn decode_in_place_with_sentinel(
     alloc: Global,
     arguments: &[&str],
@@ -100,8 +100,7 @@ pub fn decode_in_place_with_sentinel(
     Ok(returned)
 }
 
-/// Runs `frame_kind`, which returns whether the bytes are a frame, and whether that frame is the one that encoders
-/// write for its message.
+/// Runs `frame_kind`, which returns the kind of the bytes: a frame that encoders write, another frame, or no frame.
 pub fn frame_kind(alloc: Global, arguments: &[&str]) -> Result<CallResult, CaseFault> {
     let [bytes] = arguments else {
         return Err(CaseFault::Malformed);
@@ -116,7 +115,8 @@ pub fn frame_kind(alloc: Global, arguments: &[&str]) -> Result<CallResult, CaseF
     Ok(returned)
 }
 
-/// Returns the status, the length and the message, in words.
+/// Returns three words for the result of a call that returns a message in a vector: `ok`, the length and the message.
+/// For an error, returns its name, its number of decoded bytes (or `-`), and `-`.
 fn said_message(
     alloc: Global,
     decoded: Result<Vec<u8>, DecodeVecError>,

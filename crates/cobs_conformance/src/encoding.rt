@@ -7,8 +7,8 @@ use crate::fault::CaseFault;
 use cobs::CobsEncoder;
 use std::alloc::Global;
 
-/// Runs `max_encoding_overhead`, which returns the greatest number of bytes by which a frame is longer than its
-/// message.
+/// Runs `max_encoding_overhead`, which returns the greatest difference between the length of a frame and the length of
+/// its message.
 pub fn max_encoding_overhead(alloc: Global, arguments: &[&str]) -> Result<CallResult, CaseFault> {
     let [length] = arguments else {
         return Err(CaseFault::Malformed);
@@ -18,7 +18,7 @@ pub fn max_encoding_overhead(alloc: Global, arguments: &[&str]) -> Result<CallRe
     Ok(returned)
 }
 
-/// Runs `max_encoding_length`, which returns the greatest length of a message's frame.
+/// Runs `max_encoding_length`, which returns the length of the longest frame of a message of a given length.
 pub fn max_encoding_length(alloc: Global, arguments: &[&str]) -> Result<CallResult, CaseFault> {
     let [length] = arguments else {
         return Err(CaseFault::Malformed);
@@ -42,7 +42,7 @@ pub fn encode_vec(alloc: Global, arguments: &[&str]) -> Result<CallResult, CaseF
     said(alloc, &frame)
 }
 
-/// Runs `encode_vec_including_sentinels`, which returns the frame between two zeros.
+/// Runs `encode_vec_including_sentinels`, which returns a zero, the frame and another zero.
 pub fn encode_vec_including_sentinels(
     alloc: Global,
     arguments: &[&str],
@@ -83,7 +83,8 @@ pub fn encode(alloc: Global, arguments: &[&str]) -> Result<CallResult, CaseFault
     said_in(alloc, len, &buffer)
 }
 
-/// Runs `encode_including_sentinels`, which writes the frame between two zeros to a buffer that has room for it.
+/// Runs `encode_including_sentinels`, which writes a zero, the frame and another zero to a buffer that has room for
+/// them.
 pub fn encode_including_sentinels(
     alloc: Global,
     arguments: &[&str],
@@ -131,7 +132,7 @@ pub fn try_encode(alloc: Global, arguments: &[&str]) -> Result<CallResult, CaseF
     Ok(returned)
 }
 
-/// Runs `try_encode_including_sentinels`, which writes the frame between two zeros to a buffer if it fits.
+/// Runs `try_encode_including_sentinels`, which writes a zero, the frame and another zero to a buffer if they fit.
 pub fn try_encode_including_sentinels(
     alloc: Global,
     arguments: &[&str],
@@ -166,7 +167,7 @@ pub fn try_encode_with_sentinel(
     Ok(returned)
 }
 
-/// Runs a streaming encoder over a buffer, and pushes pieces to it.
+/// Runs a `CobsEncoder` with this buffer, and pushes each part of the message to it.
 pub fn encoder(alloc: Global, arguments: &[&str]) -> Result<CallResult, CaseFault> {
     let [buffer, pieces @ ..] = arguments else {
         return Err(CaseFault::Malformed);
@@ -182,8 +183,8 @@ pub fn encoder(alloc: Global, arguments: &[&str]) -> Result<CallResult, CaseFaul
     Ok(returned)
 }
 
-/// Pushes each piece to a new encoder, adds a word that says whether the piece was taken, and returns the frame's
-/// length.
+/// Pushes each part of the message to a new encoder, ends the message, and returns the frame's length. For each part,
+/// adds to `taken` the word `ok`, or `too_small` if the push failed.
 fn push_pieces(
     alloc: Global,
     buffer: &mut [u8],
@@ -200,7 +201,7 @@ fn push_pieces(
     Ok(encoder.finalize())
 }
 
-/// Runs `encode_frames`, which returns a stream of frames, each with a zero after it.
+/// Runs `encode_frames`, which returns a stream of frames, each followed by a zero.
 pub fn encode_frames(alloc: Global, arguments: &[&str]) -> Result<CallResult, CaseFault> {
     let mut messages = Vec::new(alloc);
     for message in arguments {
@@ -213,14 +214,14 @@ pub fn encode_frames(alloc: Global, arguments: &[&str]) -> Result<CallResult, Ca
     said(alloc, &stream)
 }
 
-/// Returns the result that has only these bytes.
+/// Returns a result with one word: these bytes.
 fn said(alloc: Global, bytes: &[u8]) -> Result<CallResult, CaseFault> {
     let mut returned = CallResult::new(alloc);
     returned.say_bytes(bytes)?;
     Ok(returned)
 }
 
-/// Returns the result that has a length, and the buffer after the call.
+/// Returns a result with two words: this length, and the buffer after the call.
 fn said_in(alloc: Global, len: usize, buffer: &[u8]) -> Result<CallResult, CaseFault> {
     let mut returned = CallResult::new(alloc);
     returned.say_number(len)?;

@@ -7,8 +7,8 @@ use std::alloc::{AllocError, AllocFailed};
 /// The reason why a case has no result that can be compared.
 #[derive(Debug, PartialEq, Eq, Drop)]
 pub enum CaseFault {
-    /// The line isn't in the format: no call has its name, it has too few or too many arguments, or a word can't be
-    /// read.
+    /// The line isn't in the format: its call doesn't exist, the call has too few or too many arguments, or a word
+    /// can't be parsed.
     Malformed,
 
     /// The arguments break the call's precondition: for example, the buffer has no room for the frame.

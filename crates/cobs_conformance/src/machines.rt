@@ -1,15 +1,15 @@
-//! Runs the two state machines.
+//! Runs the state machines `EncoderState` and `DecoderState`.
 use crate::arguments::{NONE, byte_of, bytes_of, number_of};
 use crate::call_result::CallResult;
 use crate::fault::CaseFault;
 use cobs::{DecodeResult, DecoderState, EncoderState, PushResult};
 use std::alloc::Global;
 
-/// Runs an `EncoderState` that has taken a message. Returns its result for one more byte, its state after that, and the
-/// frame of a caller that carries out each result.
+/// Pushes a message and then one more byte to an `EncoderState`. Returns the result of the last push, the index and the
+/// code that `finalize` returns, and the frame that a caller builds from all results.
 ///
-/// `NotCallable`: `push` requires that `can_push` is true. It is false only if the index of the next block may not fit a
-/// `usize`.
+/// Returns `NotCallable` if `can_push` is false before a push, because `push` requires that it is true. It is false
+/// only if the index of the next block may be too great for a `usize`.
 pub fn encoder_state(alloc: Global, arguments: &[&str]) -> Result<CallResult, CaseFault> {
     let [message, byte] = arguments else {
         return Err(CaseFault::Malformed);
@@ -38,7 +38,8 @@ pub fn encoder_state(alloc: Global, arguments: &[&str]) -> Result<CallResult, Ca
     Ok(returned)
 }
 
-/// Carries out the result of a push on the frame so far. At the place of a code that isn't known yet, it writes a 0.
+/// Changes the frame that has been built so far, as the result of a push says. For a code that isn't known yet, appends
+/// a 0.
 fn carry_out(pushed: &PushResult, frame: &mut Vec<u8>) -> Result<(), CaseFault> {
     match pushed {
         PushResult::AddSingle(byte) => frame.push(*byte)?,
@@ -55,15 +56,15 @@ fn carry_out(pushed: &PushResult, frame: &mut Vec<u8>) -> Result<(), CaseFault> 
     Ok(())
 }
 
-/// Writes a code over the 0 at its place.
+/// Overwrites the 0 at this index with the code.
 fn write_code(frame: &mut Vec<u8>, index: usize, code: u8) {
     if let Some(placeholder) = frame.get_mut(index) {
         *placeholder = code;
     }
 }
 
-/// Adds the result of a push: its name, the index, the code and the byte, with `-` in place of each value that the
-/// result doesn't have.
+/// Adds four words for the result of a push: its name, its index, its code and its byte. A value that the result
+/// doesn't have is the word `-`.
 fn say_pushed(returned: &mut CallResult, pushed: &PushResult) -> Result<(), CaseFault> {
     match pushed {
         PushResult::AddSingle(byte) => {
@@ -88,7 +89,8 @@ fn say_pushed(returned: &mut CallResult, pushed: &PushResult) -> Result<(), Case
     Ok(())
 }
 
-/// Runs a `DecoderState` from a given state. Returns its result for a byte, and the next state.
+/// Feeds a byte to a `DecoderState`. The arguments are the state, its number of missing bytes, and the byte. Returns
+/// the result and the next state.
 pub fn decoder_state(alloc: Global, arguments: &[&str]) -> Result<CallResult, CaseFault> {
     let [state, left, byte] = arguments else {
         return Err(CaseFault::Malformed);
@@ -110,14 +112,14 @@ pub fn decoder_state(alloc: Global, arguments: &[&str]) -> Result<CallResult, Ca
     Ok(returned)
 }
 
-/// Adds a name, and `-` in place of a byte.
+/// Adds the name of a result or a state that has no value, and `-` for the value.
 fn say_without_byte(returned: &mut CallResult, name: &str) -> Result<(), CaseFault> {
     returned.say(name)?;
     returned.say(NONE)?;
     Ok(())
 }
 
-/// Returns the state with this name, and with this number of missing bytes.
+/// Returns the state with this name. `left` is the number of missing bytes of the state's block.
 fn state_of(name: &str, left: &str) -> Result<DecoderState, CaseFault> {
     if name == "idle" {
         return Ok(DecoderState::Idle);
@@ -130,7 +132,7 @@ fn state_of(name: &str, left: &str) -> Result<DecoderState, CaseFault> {
     }
 }
 
-/// Adds a state: its name, and how many bytes are missing.
+/// Adds the name of a state and the number of missing bytes of its block, or `-` if the state has no block.
 fn say_state(returned: &mut CallResult, state: &DecoderState) -> Result<(), CaseFault> {
     match state {
         DecoderState::Idle => say_without_byte(returned, "idle")?,

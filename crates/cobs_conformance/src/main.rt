@@ -1,10 +1,10 @@
 //! Runs the conformance cases through this library.
 //!
 //! `cobs_conformance` reads cases from standard input, one per line, in the format of conformance/README.md. It makes
-//! the call of each case, and compares the result and every byte of the buffer after the call with those of the case.
-//! For each case that differs it prints a line: the name of the case, the expected result and the actual result. The
-//! last line is `N cases, M differ`. The exit status is 0 if M is 0, and otherwise 1. It is 2 if the input can't be
-//! read to its end or memory runs out.
+//! the call of each case. The case has the expected result and the expected bytes of the buffer after the call, and the
+//! program compares them with the actual ones. For each case that differs it prints a line: the name of the case, the
+//! expected result and the actual result. The last line is `N cases, M differ`. The exit status is 0 if M is 0, and
+//! otherwise 1. It is 2 if the input can't be read to its end or memory runs out.
 #![tactic(auto)]
 
 mod agree;

@@ -1,17 +1,17 @@
-//! A source of bytes whose reads are those of a case.
+//! A source of bytes whose reads are listed in a case.
 use crate::arguments::bytes_of;
 use crate::fault::CaseFault;
 use cobs::FrameSource;
 use std::alloc::Global;
 
-/// One read: a failure, or the bytes that it returns.
+/// The result of one read: a failure, or bytes.
 #[derive(Debug, Drop)]
 enum Reading {
     Fails,
     Gives(Vec<u8>),
 }
 
-/// The reads, one after another. After the last of these reads, each read returns 0 bytes.
+/// A source with a list of the results of its reads. After the last result of the list, each read returns 0 bytes.
 #[derive(Debug, Drop)]
 pub struct Reads {
     reads: Vec<Reading>,
@@ -19,7 +19,7 @@ pub struct Reads {
 }
 
 impl Reads {
-    /// Returns the reads that the words mean: each word is `fail`, or the bytes of a read.
+    /// Makes a source. Each word stands for one read: `fail`, or the bytes that the read returns.
     pub fn of_words(alloc: Global, words: &[&str]) -> Result<Reads, CaseFault> {
         let mut reads = Vec::new(alloc);
         for word in words {
@@ -33,12 +33,12 @@ impl Reads {
         Ok(Reads { reads, made: 0 })
     }
 
-    /// Returns how many reads were made.
+    /// Returns the number of reads that were made.
     pub fn made(&self) -> usize {
         self.made
     }
 
-    /// Returns whether all of the reads were made.
+    /// Returns whether all reads of the list were made.
     pub fn is_at_end(&self) -> bool {
         self.made >= self.reads.len()
     }

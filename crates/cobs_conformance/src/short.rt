@@ -1,4 +1,5 @@
-//! Writes out long words. Their parts are joined by `+`, and each part is digits, perhaps followed by `*` and a count.
+//! Expands abbreviated words. A `+` separates the parts of a word. Each part is digits, or digits followed by `*` and a
+//! number of repetitions: `00*3+ff` stands for `000000ff`.
 ghost use Rattle.std.specs.Prelude.{◌≡◌, ◌==◌, ◌<◌, ◌≤◌, IfOk, length, map, string_bytes};
 ghost use Rattle.std.specs.List.{slice_split};
 ghost use Rattle.cobs_conformance.specs.Short.{repeated, word_text};
@@ -7,7 +8,7 @@ use crate::arguments::{MAX_DIGITS, number_of};
 use crate::fault::CaseFault;
 use std::alloc::{AllocError, Global};
 
-/// Returns the words of a line, each written out.
+/// Splits a line into its words, and expands each word.
 ///
 /// # Errors
 /// The errors of [`written_out`].
@@ -22,10 +23,11 @@ pub fn words_of(alloc: Global, line: &str) -> Result<Vec<String>, CaseFault>
     Ok(words)
 }
 
-/// Writes out a word: the digits of its parts, one after another.
+/// Expands a word: expands each part, and joins the digits of all parts.
 ///
 /// # Errors
-/// `Malformed` for a part that can't be read, and for more than [`MAX_DIGITS`] digits. `OutOfMemory` if memory ran out.
+/// `Malformed` if a part has two `*`, or no number after its `*`, or if there are more than [`MAX_DIGITS`] digits.
+/// `OutOfMemory` if memory ran out.
 fn written_out(alloc: Global, word: &str) -> Result<String, CaseFault>
     ensures text { IfOk result (λ text. string_bytes text ≡ word_text word.now) }
     ensures limit { IfOk result (λ text. length (string_bytes text) ≤ MAX_DIGITS) }
@@ -50,8 +52,7 @@ fn split(alloc: Global, text: &str, separator: char) -> Result<Vec<&str>, AllocE
     text.split(separator).collect(alloc)
 }
 
-/// Returns the digits of a part, repeated as often as the number after them says. `fields` are the digits and, if there
-/// is one, the number.
+/// Expands a part of a word. `fields` has the part's digits and, if the part has one, the number of repetitions.
 fn repeated(alloc: Global, fields: &[&str]) -> Result<String, CaseFault>
     ensures text { IfOk result (λ text. string_bytes text
         ≡ repeated (map (λ field. field.now) fields.now)) }

@@ -1,4 +1,4 @@
-//! Runs the calls over streams.
+//! Runs the calls that decode streams.
 ghost use Rattle.std.specs.Prelude.{◌≤◌};
 
 use crate::arguments::{MAX_BYTES, NONE, bytes_of, number_of};
@@ -11,26 +11,26 @@ use cobs::{
 };
 use std::alloc::Global;
 
-/// The most calls of `next_frame` in one case.
+/// The greatest number of calls of `next_frame` in one case.
 const MOST_CALLS: usize = 1000;
 
-/// The calls by which a streaming decoder gets its bytes.
+/// The calls that pass the bytes to a streaming decoder.
 #[derive(Debug, Drop)]
 enum Feeding {
     Pushes,
     Bytes,
-    /// Byte by byte; only the results for zeros are added to the result of the case.
+    /// Single bytes, as for `Bytes`. Only the results for zeros are added to the result of the case.
     Zeros,
-    /// By `feed_piece`, which returns how each piece ended.
+    /// Calls of `feed_piece`, which returns how each piece ended.
     Pieces,
 }
 
-/// Methods of streaming decoders that the cases need and `FrameDecoder` doesn't have.
+/// The methods of streaming decoders that the cases need and that `FrameDecoder` doesn't have.
 trait Streaming: FrameDecoder {
-    /// Pushes bytes, as [`CobsDecoder::push`] does: up to the first byte whose result isn't `Ok(None)`.
+    /// Pushes bytes, and stops at the first message or error. Returns `None` if there is no message and no error.
     fn push_bytes(&mut self, bytes: &[u8]) -> Result<Option<DecodeReport>, PushError>;
 
-    /// Makes the decoder idle, and leaves the buffer as it is.
+    /// Makes the decoder idle, and doesn't change the buffer.
     fn restart(&mut self);
 }
 
@@ -59,14 +59,14 @@ impl Streaming for CobsDecoder<'_> {
         self.push(bytes)
     }
 
-    /// Feeds a zero, because this decoder has no `reset`. The zero makes the decoder idle too, and changes no byte of
-    /// the buffer.
+    /// Feeds a zero, because this decoder has no `reset`. The zero makes the decoder idle, and changes no byte of the
+    /// buffer.
     fn restart(&mut self) {
         let _ = self.feed(0);
     }
 }
 
-/// A decoder whose `feed_piece` is the one that the trait provides: it feeds one byte after another.
+/// A decoder that uses the `feed_piece` that the trait provides. This `feed_piece` feeds one byte after another.
 #[derive(Drop)]
 struct ByBytes {
     decoder: CobsDecoderOwned,
@@ -100,11 +100,13 @@ impl Streaming for ByBytes {
     }
 }
 
-/// Runs each of the three streaming decoders over a buffer: by pushes, byte by byte, and by `feed_piece`. A result that
-/// isn't as expected is added to the text, so that the case differs.
+/// Runs each of the three streaming decoders three times with the same buffer and input: with `push`, with single
+/// bytes, and with `feed_piece`. Returns the words of the first run. The words of each run with a wrong result are
+/// added to them, so that the case differs.
 ///
 /// # Errors
-/// `Malformed` also if [`heapless`] has no buffer of this length.
+/// `Malformed` if an argument can't be parsed, or if [`heapless`] has no buffer of this length. `OutOfMemory` if memory
+/// ran out.
 pub fn decoder(alloc: Global, arguments: &[&str]) -> Result<CallResult, CaseFault> {
     let [buffer, pieces @ ..] = arguments else {
         return Err(CaseFault::Malformed);
@@ -116,8 +118,9 @@ pub fn decoder(alloc: Global, arguments: &[&str]) -> Result<CallResult, CaseFaul
     returned.append_other(borrowed(alloc, &buffer, pieces, &Feeding::Bytes)?)?;
     returned.append_other(heapless(alloc, &buffer, pieces, &Feeding::Pushes)?)?;
     returned.append_other(heapless(alloc, &buffer, pieces, &Feeding::Bytes)?)?;
-    // Pushes and single bytes also have a result for each byte that doesn't fit the buffer, and `feed_piece` only for
-    // the zero that ends a piece. So the results of `feed_piece` are compared with those for the zeros (`ends`).
+    // `push` and single bytes have a result for each byte that doesn't fit the buffer, and for the zero that ends a
+    // piece. `feed_piece` has a result only for this zero. So the results of `feed_piece` are compared with the results
+    // of single bytes for zeros (`ends`).
     let ends = owned(alloc, &buffer, pieces, &Feeding::Zeros)?;
     returned.append_unlike(&ends, owned(alloc, &buffer, pieces, &Feeding::Pieces)?)?;
     returned.append_unlike(&ends, borrowed(alloc, &buffer, pieces, &Feeding::Pieces)?)?;
@@ -150,7 +153,7 @@ fn borrowed(
     given(alloc, &mut decoder, pieces, feeding)
 }
 
-/// Calls a function with a decoder whose buffer has one of these lengths.
+/// Calls [`in_itself`] for the length of the buffer. Returns `Malformed` if this length isn't in the list.
 macro_rules! of_length {
     ($($len:literal)*; $alloc:expr, $buffer:expr, $pieces:expr, $feeding:expr) => {
         match $buffer.len() {
@@ -160,7 +163,7 @@ macro_rules! of_length {
     };
 }
 
-/// Runs a decoder whose buffer is part of the decoder. Each buffer length in the cases has to be in the list here.
+/// Runs a decoder whose buffer is part of the decoder. Each buffer length in the cases must be in this function's list.
 fn heapless(
     alloc: Global,
     buffer: &[u8],
@@ -188,21 +191,22 @@ fn in_itself<const N: usize>(
     given(alloc, &mut decoder, pieces, feeding)
 }
 
-/// Runs a decoder whose `feed_piece` is the one that the trait provides.
+/// Runs a [`ByBytes`], which uses the `feed_piece` that the trait provides.
 fn by_bytes(alloc: Global, buffer: &[u8], pieces: &[&str]) -> Result<CallResult, CaseFault> {
     let mut decoder = CobsDecoderOwned::new(alloc, buffer.len())?;
     write_over(decoder.dest_mut(), buffer);
     given(alloc, &mut ByBytes { decoder }, pieces, &Feeding::Pieces)
 }
 
-/// Writes bytes over a slice of the same length. For another length it does nothing.
+/// Overwrites a slice with bytes of the same length. If the lengths differ, does nothing.
 fn write_over(dest: &mut [u8], bytes: &[u8]) {
     if dest.len() == bytes.len() {
         dest.copy_from_slice(bytes);
     }
 }
 
-/// Passes the pieces to a decoder. Returns the decoder's buffer after the last piece, and each result except `Ok(None)`.
+/// Passes each argument to a decoder: the bytes of a part of the stream, or the word `reset`. Returns the decoder's
+/// buffer at the end, and then each message and error.
 fn given<D: Streaming>(
     alloc: Global,
     decoder: &mut D,
@@ -231,8 +235,8 @@ fn given<D: Streaming>(
     Ok(returned)
 }
 
-/// Pushes a piece, and then repeatedly the bytes that the push hasn't consumed. `taken` is the number of bytes of the
-/// pieces before this piece.
+/// Pushes a part of the stream. A push stops at a message or an error, so the bytes that it hasn't consumed are pushed
+/// again. `taken` is the number of bytes before this part.
 fn push_piece<D: Streaming>(
     decoder: &mut D,
     piece: &[u8],
@@ -254,8 +258,8 @@ fn push_piece<D: Streaming>(
     Ok(())
 }
 
-/// Feeds a piece byte by byte. Adds the result for each byte if `all` is set, and otherwise only the results for the
-/// zeros. `taken` is the number of bytes of the pieces before this piece.
+/// Feeds a part of the stream byte by byte. Adds the result for each byte if `all` is set, and otherwise only the
+/// results for zeros. `taken` is the number of bytes before this part.
 fn feed_bytes<D: Streaming>(
     decoder: &mut D,
     piece: &[u8],
@@ -274,8 +278,8 @@ fn feed_bytes<D: Streaming>(
     Ok(())
 }
 
-/// Feeds a piece by `feed_piece`, and then repeatedly the bytes that the call hasn't consumed. `taken` is the number of
-/// bytes of the pieces before this piece.
+/// Passes a part of the stream to `feed_piece`. A call stops at the end of a piece, so the bytes that it hasn't
+/// consumed are passed to another call. `taken` is the number of bytes before this part.
 fn feed_pieces<D: Streaming>(
     decoder: &mut D,
     piece: &[u8],
@@ -300,8 +304,8 @@ fn feed_pieces<D: Streaming>(
     Ok(())
 }
 
-/// Adds the result for a byte, unless the result is `Ok(None)`: the number of bytes taken, the kind of the result, and
-/// the front of the buffer.
+/// Adds three words for a result, unless it is `Ok(None)`: the number of bytes of the stream so far, the kind of the
+/// result, and the front of the buffer.
 fn say_event(
     events: &mut CallResult,
     taken: usize,
@@ -320,7 +324,7 @@ fn say_event(
     Ok(())
 }
 
-/// Runs `decode_stream`, which returns the outcomes of a stream that comes in pieces.
+/// Runs `decode_stream` on each part of a stream, and returns the outcomes of the stream.
 pub fn decode_stream(alloc: Global, arguments: &[&str]) -> Result<CallResult, CaseFault> {
     let [room, pieces @ ..] = arguments else {
         return Err(CaseFault::Malformed);
@@ -338,7 +342,7 @@ pub fn decode_stream(alloc: Global, arguments: &[&str]) -> Result<CallResult, Ca
     Ok(returned)
 }
 
-/// Makes a buffer of zeros. `room` is its length, a decimal number.
+/// Makes a buffer of zeros. `room` is the buffer's length as a decimal number.
 ///
 /// # Errors
 /// `Malformed` if `room` isn't a number, or is more than [`MAX_BYTES`]. `OutOfMemory` if memory ran out.
@@ -351,8 +355,9 @@ fn buffer_of(alloc: Global, room: &str) -> Result<Vec<u8>, CaseFault> {
     Ok(buffer)
 }
 
-/// Runs a reader of frames over a source with these reads. Returns the result of each call, until the source has ended
-/// and all reads were made.
+/// Runs a [`FrameReader`] with a source that returns these reads. For each call of `next_frame`, returns the number of
+/// reads that it made, and its result. Stops when the source has ended and all reads were made, or after [`MOST_CALLS`]
+/// calls.
 pub fn next_frame(alloc: Global, arguments: &[&str]) -> Result<CallResult, CaseFault> {
     let [room, reads @ ..] = arguments else {
         return Err(CaseFault::Malformed);
@@ -396,7 +401,7 @@ fn say_next(
     Ok(())
 }
 
-/// Adds the kind of a result that has no number, and `-` in place of the number.
+/// Adds the kind of a result that has no value, and `-` for the value.
 fn say_alone(returned: &mut CallResult, kind: &str) -> Result<(), CaseFault> {
     returned.say(kind)?;
     returned.say(NONE)?;

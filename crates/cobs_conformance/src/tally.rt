@@ -1,10 +1,10 @@
-//! Counts the cases, and those that differ.
+//! Counts the cases, and the cases whose result differs.
 ghost use Rattle.std.specs.Prelude.{◌≡◌, ◌+◌, ◌<◌, ◌++◌, ◌↔◌, IsTrue, IfOk, codes, if◌then◌else◌, string_bytes};
 ghost use Rattle.std.specs.Fmt.{decimal};
 
 use std::alloc::{AllocError, Global};
 
-/// Counts of cases.
+/// The number of cases, and the number of cases whose result differs.
 #[derive(Debug, Drop)]
 pub struct Tally {
     pub cases: u64,

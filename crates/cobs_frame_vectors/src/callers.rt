@@ -1,4 +1,4 @@
-//! The callers that a test runs.
+//! Tests that run the functions of `cobs_vectors::worked_callers`.
 use crate::messages::{encode_few, three_messages};
 use cobs::{CobsDecoder, DestBufTooSmallError, FrameOutcome, encode_frames_room};
 use cobs_vectors::bytes::ONES;

@@ -1,5 +1,5 @@
-//! Decodes all lists of a few parts with each call for whole frames, encodes them as messages, and compares the results
-//! with the plain reference.
+//! Decodes all lists of a few parts with each call for whole frames, encodes the same lists as messages, and compares
+//! the results with the plain reference.
 use crate::slices::{CallResult, Decoder, VectorCall, check_decoder, vector};
 use cobs::{DestBufTooSmallError, FrameKind, frame_kind, try_encode};
 use cobs_vectors::bytes::{LONG_FRAME, LONG_MESSAGE, ONES, chosen, joined, repeated};
@@ -8,8 +8,8 @@ use std::alloc::{AllocError, Global};
 use std::process::Abort;
 use std::test::Fail;
 
-/// Returns a buffer of `room` bytes of 170, whose first bytes are overwritten with the output, as far as the output
-/// fits.
+/// Returns the contents of a buffer of `room` bytes after `output` was written to its front, as far as it fits. All
+/// bytes of the buffer were 170 before.
 fn written(alloc: Global, output: &[u8], room: usize) -> Result<Vec<u8>, AllocError> {
     let mut filled = output.to_vec(alloc)?;
     filled.resize(filled.len().max(room), 170)?;
@@ -17,7 +17,7 @@ fn written(alloc: Global, output: &[u8], room: usize) -> Result<Vec<u8>, AllocEr
     Ok(filled)
 }
 
-/// Checks `decode` with a buffer of `room` bytes of 170.
+/// Checks `decode` with a buffer of `room` bytes that are all 170.
 fn check_decode(rt: &impl Abort, alloc: Global, source: &[u8], room: usize) -> Result<(), Fail> {
     let zeros = source.iter().take_while(|byte| **byte == 0).count();
     let (_, behind_zeros) = source.split_at(zeros.min(source.len()));
@@ -50,7 +50,8 @@ fn check_decode(rt: &impl Abort, alloc: Global, source: &[u8], room: usize) -> R
     )
 }
 
-/// Checks `decode_in_place_report`. The buffer then begins with the decoded bytes, and has its other bytes as before.
+/// Checks `decode_in_place_report`. The buffer must begin with the decoded bytes after the call, and its other bytes
+/// must be unchanged.
 fn check_in_place(rt: &impl Abort, alloc: Global, source: &[u8]) -> Result<(), Fail> {
     let (head, _) = split_at_zero(source);
     let Reading {
@@ -78,7 +79,7 @@ fn check_in_place(rt: &impl Abort, alloc: Global, source: &[u8]) -> Result<(), F
     )
 }
 
-/// Checks `decode_with_sentinel` with a buffer of `room` bytes of 170.
+/// Checks `decode_with_sentinel` with a buffer of `room` bytes that are all 170.
 fn check_with_sentinel(
     rt: &impl Abort,
     alloc: Global,
@@ -112,8 +113,8 @@ fn check_with_sentinel(
     )
 }
 
-/// Checks `frame_kind`: a frame is a whole piece without zeros. It is the longer of two frames if the encoder writes
-/// another frame for its message.
+/// Checks `frame_kind`. The bytes are a frame if they contain no zero and their last block is whole. The kind of a
+/// frame is `Canonical` if the reference encodes its message as the same frame, and `Longer` otherwise.
 fn check_kind(rt: &impl Abort, alloc: Global, source: &[u8]) -> Result<(), Fail> {
     let reading = reading_of(alloc, source)?;
     let wanted = if source.contains(&0) || !reading.is_whole {
@@ -127,7 +128,7 @@ fn check_kind(rt: &impl Abort, alloc: Global, source: &[u8]) -> Result<(), Fail>
     Ok(())
 }
 
-/// Checks every call that decodes a list, with buffers of these lengths.
+/// Checks every call that decodes whole frames with this list as its input, and with buffers of these lengths.
 fn check_list(rt: &impl Abort, alloc: Global, list: &[u8], rooms: &[usize]) -> Result<(), Fail> {
     check_in_place(rt, alloc, list)?;
     check_kind(rt, alloc, list)?;
@@ -138,7 +139,8 @@ fn check_list(rt: &impl Abort, alloc: Global, list: &[u8], rooms: &[usize]) -> R
     Ok(())
 }
 
-/// Checks all lists of these parts. Each pair of `counts` says how many parts a list has, and how many such lists there are.
+/// Checks all lists of these parts. Each pair of `counts` has the number of parts of a list, and the number of lists
+/// with this number of parts.
 fn check_lists(
     rt: &impl Abort,
     alloc: Global,
@@ -185,8 +187,8 @@ fn a_frame_of_two_thousand_bytes_decodes_as_the_reference_says(
     check_list(&rt, rt.alloc(), &frame, &[1000, 2000, 2001])
 }
 
-/// Checks the frame of a message in three ways: in a buffer that is a byte too short, in a buffer that the frame fits,
-/// and as vectors, encoded and decoded.
+/// Checks the frame of a message with four calls: `try_encode` with a buffer that is a byte too short, `try_encode`
+/// with a buffer as long as the frame, and the calls that return the frame and the message as vectors.
 fn check_message(rt: &impl Abort, alloc: Global, message: &[u8], frame: &[u8]) -> Result<(), Fail> {
     let room = frame.len().saturating_sub(1);
     let mut short = repeated(alloc, 170, room)?;
@@ -210,7 +212,8 @@ fn check_message(rt: &impl Abort, alloc: Global, message: &[u8], frame: &[u8]) -
     Ok(())
 }
 
-/// Checks all messages of these parts. Each pair of `counts` says how many parts a message has, and how many such messages there are.
+/// Checks all messages of these parts. Each pair of `counts` has the number of parts of a message, and the number of
+/// messages with this number of parts.
 fn check_messages(
     rt: &impl Abort,
     alloc: Global,

@@ -1,9 +1,10 @@
 //! Tests of each call with too little memory.
 //!
-//! Each call that allocates has a test of its own, in which it succeeds. `tests/fail-alloc.sh` runs copies in which one
-//! allocation of each test fails: in the first copy the first one, in the second copy the second, and so on. Then the
-//! call returns an error exactly if the failed allocation was one of its own, and its test ends with the words `out of
-//! memory`. The script stops at the first copy in which no test ends with these words.
+//! Each call that allocates has its own test, in which the call succeeds. `tests/fail-alloc.sh` runs changed copies of
+//! these tests. In each copy, one allocation of each test fails: in the first copy the first allocation, in the second
+//! copy the second, and so on. If the call made this allocation, it must return an error, and the test ends with the
+//! words `out of memory`. Otherwise the call must succeed. The script stops at the first copy in which no test ends
+//! with these words.
 use crate::messages::encode_few;
 use crate::slices::{CallResult, VectorCall, rejected, vector};
 use cobs::{
@@ -30,7 +31,7 @@ const FRAME_FOR_10: &[u8] = &[9, 0, 1, 8, 6];
 /// A broken frame.
 const BROKEN: &[u8] = &[2, 5, 3, 1];
 
-/// Returns whether one of the next growths fails.
+/// Returns whether one of the next 1,000 allocations fails.
 fn is_next_failing(alloc: Global) -> bool {
     for _ in 0..1000 {
         if repeated(alloc, 0, 1).is_err() {
@@ -40,9 +41,9 @@ fn is_next_failing(alloc: Global) -> bool {
     false
 }
 
-/// Checks that the call returned an error for memory exactly if one of its own allocations failed. Only one allocation
-/// fails in each test, so an allocation of the call has failed exactly if no later one fails. The test then ends with
-/// the words `out of memory`.
+/// Checks that the call returned an error exactly if one of its own allocations failed. Only one allocation of each
+/// test fails. So if no allocation after the call fails, an allocation of the call has failed. The test of a failed
+/// call ends with the words `out of memory`.
 fn check_growths(rt: &impl Abort, alloc: Global, returned: Result<(), AllocError>) {
     let has_failed = ONE_GROWTH_FAILS && !is_next_failing(alloc);
     assert_eq!(rt;
@@ -53,7 +54,7 @@ fn check_growths(rt: &impl Abort, alloc: Global, returned: Result<(), AllocError
     assert!(rt; !has_failed, "out of memory");
 }
 
-/// Checks that a call which returns a vector returns this vector or this error, or is out of memory.
+/// Checks that a call that returns a vector returns this vector or this error. Returns an error if memory runs out.
 fn find_vector(
     rt: &impl Abort,
     alloc: Global,
@@ -69,7 +70,7 @@ fn find_vector(
     Ok(())
 }
 
-/// Checks that `encode_frames` returns the frames, or is out of memory.
+/// Checks that `encode_frames` returns the right frames. Returns an error if memory runs out.
 fn find_frames(rt: &impl Abort, alloc: Global) -> Result<(), AllocError> {
     let messages = [Vec::new(alloc), [0].to_vec(alloc)?, [1, 2].to_vec(alloc)?];
     let found = encode_few(rt, alloc, &messages)?;
@@ -77,8 +78,8 @@ fn find_frames(rt: &impl Abort, alloc: Global) -> Result<(), AllocError> {
     Ok(())
 }
 
-/// A stream whose pieces, in a buffer of two bytes, are: a piece that is too long, a message, a broken piece, and the
-/// empty message.
+/// A stream of four pieces for a decoder with a buffer of two bytes: a piece that is too long, a message, a broken
+/// piece, and the empty message.
 const STREAM: [u8; 14] = [4, 7, 8, 9, 0, 2, 5, 0, 3, 1, 0, 0, 1, 0];
 
 /// Returns whether these are the outcomes of [`STREAM`] in a buffer of two bytes.
@@ -94,7 +95,8 @@ fn are_its_outcomes(outcomes: &[FrameOutcome]) -> bool {
     }
 }
 
-/// Checks that `decode_stream` returns the outcomes of the stream, or is out of memory and leaves an idle decoder.
+/// Checks that `decode_stream` returns the outcomes of [`STREAM`]. If memory runs out, checks that the decoder is idle,
+/// and returns an error.
 fn find_outcomes<D: FrameDecoder + Drop>(
     rt: &impl Abort,
     alloc: Global,
@@ -112,7 +114,7 @@ fn find_outcomes<D: FrameDecoder + Drop>(
     }
 }
 
-/// Checks that the decoder begins a new piece, now that there is memory.
+/// Checks that the decoder is idle: with enough memory, it decodes the next frame.
 fn check_idle<D: FrameDecoder + Drop>(rt: &impl Abort, alloc: Global, mut decoder: D) {
     match decode_stream(alloc, &mut decoder, &[2, 5, 0]) {
         Ok(outcomes) => match outcomes.as_slice() {
@@ -125,14 +127,14 @@ fn check_idle<D: FrameDecoder + Drop>(rt: &impl Abort, alloc: Global, mut decode
     }
 }
 
-/// Checks the outcomes with a decoder that owns its buffer, which allocates when it is made.
+/// Checks the outcomes of [`STREAM`] with a `CobsDecoderOwned`, which allocates its buffer.
 fn find_owned(rt: &impl Abort, alloc: Global) -> Result<(), AllocError> {
     let decoder = CobsDecoderOwned::new(alloc, 2)?;
     assert_eq!(rt; decoder.dest(), [0, 0].as_slice());
     find_outcomes(rt, alloc, decoder)
 }
 
-/// Checks a call that returns a vector, in a test of its own.
+/// Checks a call that returns a vector. The test of each call of this kind calls this function.
 fn check_vector(
     rt: &impl Abort,
     alloc: Global,

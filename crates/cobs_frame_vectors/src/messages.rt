@@ -3,7 +3,7 @@ use cobs::{encode_frames, max_encoding_length};
 use std::alloc::{AllocError, Global};
 use std::process::Abort;
 
-/// Returns three messages: the empty one, a zero, and two bytes.
+/// Returns three messages: the empty message, a message of one zero, and a message of two bytes.
 pub fn three_messages(alloc: Global) -> Result<Vec<Vec<u8>>, AllocError> {
     let mut messages = Vec::new(alloc);
     messages.push(Vec::new(alloc))?;
@@ -12,7 +12,8 @@ pub fn three_messages(alloc: Global) -> Result<Vec<Vec<u8>>, AllocError> {
     Ok(messages)
 }
 
-/// Encodes messages by `encode_frames`, which requires that they are few and short enough.
+/// Encodes messages with `encode_frames`. Its precondition limits the total length of the frames, so the messages must
+/// be few and short.
 pub fn encode_few(
     rt: &impl Abort,
     alloc: Global,

@@ -1,4 +1,4 @@
-//! Calls over slices: the call, its arguments, its result, and the bytes of the buffer after it.
+//! Runs calls over slices, and compares the result and the buffer after the call with the expected ones.
 use cobs::{
     DecodeError, DecodeReport, DecodeVecError, decode, decode_in_place_report, decode_vec,
     decode_vec_with_sentinel, decode_with_sentinel, encode_vec, encode_vec_including_sentinels,
@@ -8,7 +8,7 @@ use std::alloc::{AllocError, Global};
 use std::process::Abort;
 use std::test::Fail;
 
-/// A call that decodes into a buffer, or a buffer in place.
+/// A call that decodes a source into a buffer, or that decodes a buffer in place.
 #[derive(Clone, Copy)]
 pub enum Decoder {
     Decode,
@@ -38,10 +38,10 @@ pub enum CallResult {
     /// There was no byte to decode.
     EmptyFrame,
 
-    /// The frame breaks off, with this many bytes decoded.
+    /// The frame breaks off after this many decoded bytes.
     InvalidFrame(usize),
 
-    /// The message doesn't fit.
+    /// The message doesn't fit the buffer.
     TooSmall,
 }
 
@@ -54,7 +54,7 @@ pub fn rejected(error: &DecodeError) -> CallResult {
     }
 }
 
-/// Converts the result of a decoder that returns a number of bytes.
+/// Converts the result of a decoder that returns a number of bytes to a [`CallResult`].
 fn counted(returned: Result<usize, DecodeError>) -> CallResult {
     match returned {
         Ok(count) => CallResult::Length(count),
@@ -62,7 +62,7 @@ fn counted(returned: Result<usize, DecodeError>) -> CallResult {
     }
 }
 
-/// Converts the result of a decoder that returns a report.
+/// Converts the result of a decoder that returns a report to a [`CallResult`].
 fn reported(returned: Result<DecodeReport, DecodeError>) -> CallResult {
     match returned {
         Ok(report) => CallResult::Sizes(report.frame_size(), report.parsed_size()),
@@ -70,7 +70,7 @@ fn reported(returned: Result<DecodeReport, DecodeError>) -> CallResult {
     }
 }
 
-/// Makes the call.
+/// Makes this call, and converts its result to a [`CallResult`].
 fn decoded(call: Decoder, source: &[u8], buffer: &mut [u8]) -> CallResult {
     match call {
         Decoder::Decode => reported(decode(source, buffer)),
@@ -79,8 +79,8 @@ fn decoded(call: Decoder, source: &[u8], buffer: &mut [u8]) -> CallResult {
     }
 }
 
-/// Makes a call with this source (a call in place has none) and this buffer, and compares its result and the buffer
-/// after the call.
+/// Makes a call with this source and this buffer, and compares its result and the buffer after the call with the
+/// expected ones. A call in place ignores the source.
 pub fn check_decoder(
     rt: &impl Abort,
     alloc: Global,
@@ -97,7 +97,7 @@ pub fn check_decoder(
     Ok(())
 }
 
-/// Makes a call that returns a vector, for a source of less than 10,000 bytes.
+/// Makes a call that returns a vector, for a source of fewer than 10,000 bytes.
 pub fn vector(
     rt: &impl Abort,
     alloc: Global,

@@ -1,9 +1,9 @@
-//! The state machine of a decoder: every state that a caller can build, with every byte.
+//! Tests the state machine of a decoder in every state that a caller can build, with every byte.
 use cobs::{DecodeError, DecodeResult, DecoderState};
 use std::process::Abort;
 use std::test::Fail;
 
-/// The 513 states: idle, and in a block of either kind with 0 to 255 bytes missing.
+/// The 513 states of a decoder: idle, or inside a block, full or not, with 0 to 255 missing bytes.
 #[derive(Clone, Copy, Debug, PartialEq, Eq)]
 enum State {
     Idle,
@@ -20,7 +20,7 @@ enum CallResult {
     Rejected,
 }
 
-/// Returns the decoder's state for a state of this table.
+/// Converts a [`State`] to the decoder's own type.
 fn built(state: State) -> DecoderState {
     match state {
         State::Idle => DecoderState::Idle,
@@ -29,7 +29,7 @@ fn built(state: State) -> DecoderState {
     }
 }
 
-/// Returns the state of this table for a decoder's state.
+/// Converts the decoder's state to a [`State`].
 fn seen(state: &DecoderState) -> State {
     match state {
         DecoderState::Idle => State::Idle,
@@ -44,7 +44,7 @@ fn seen(state: &DecoderState) -> State {
     }
 }
 
-/// Returns the decoder's result in words of this table.
+/// Converts the decoder's result to a [`CallResult`]. Returns `None` for a result that no state should have.
 fn known_result(returned: &Result<DecodeResult, DecodeError>) -> Option<CallResult> {
     match returned {
         Ok(DecodeResult::NoData) => Some(CallResult::NoData),
@@ -56,7 +56,7 @@ fn known_result(returned: &Result<DecodeResult, DecodeError>) -> Option<CallResu
     }
 }
 
-/// Returns the expected result.
+/// Returns the expected result of this state for this byte.
 fn wanted_result(state: State, byte: u8) -> CallResult {
     match (state, byte) {
         (State::Idle, 0) => CallResult::NoData,
@@ -96,7 +96,7 @@ fn wanted_state(state: State, byte: u8) -> State {
     }
 }
 
-/// Feeds each byte to the state.
+/// Feeds each byte to a decoder in this state, and checks the result and the next state.
 fn check_each_byte(rt: &impl Abort, state: State) {
     for byte in 0..=255u8 {
         let mut decoder = built(state);

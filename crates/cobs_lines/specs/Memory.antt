@@ -6,8 +6,8 @@ use Rattle.cobs_lines.specs.declared.memory.InMemory.{InMemory}
 abbrev pub bytes_left : InMemory → List ℕ
 bytes_left source = source.left.now
 
--- a read of a source that has the bytes `before` left before the read, and the bytes `after` left after it: the read
--- returns the first 64 bytes of `before`, or all of them if there are fewer
+-- a read of a source, whose unread bytes are `before` before the read and `after` after it: the read returns the first
+-- 64 bytes of `before`, or all of `before` if it is shorter
 pub record TakesChunk (before : List ℕ) (read : Option (List ℕ)) (after : List ℕ) : Type 0 where
   pub gives : read ≡ Some (take 64 before)
   pub leaves : after ≡ drop 64 before

@@ -1,5 +1,5 @@
-//! Shared by the programs `cobs_tool` and `cobs_watch`: the lines that they print for the pieces of a stream, and a
-//! stream in memory as a source of bytes.
+//! The code that the programs `cobs_tool` and `cobs_watch` share: the lines that they print for the pieces of a stream,
+//! and a source of bytes that are in memory.
 #![tactic(auto)]
 
 mod lines;

@@ -7,18 +7,17 @@ ghost use Rattle.cobs_lines.specs.Lines.{outcome_line};
 
 use std::io::{self, Write};
 
-/// How many bytes of a message are converted to digits at once.
+/// The greatest number of bytes of a message that are converted to digits before the digits are written.
 const AT_ONCE: usize = 256;
 
-/// From this many bytes on, it is faster to compute digits than to look them up.
+/// The least number of bytes for which computing the digits is faster than looking them up.
 const MANY: usize = 8;
 
 /// The hexadecimal digits.
 const DIGITS: [u8; 16] = *b"0123456789abcdef";
 
-/// Writes the line of a message of N bytes, and a newline. The line is `message N HEX`; HEX stands for the bytes as
-/// lower-case hexadecimal digits. For the empty message the line is `message 0`. Nothing is allocated, however long the
-/// message is.
+/// Writes the line `message N HEX` for a message of N bytes, and a newline. HEX stands for the message as lower-case
+/// hexadecimal digits. For the empty message the line is `message 0`. Nothing is allocated.
 ///
 /// # Errors
 /// Returns the error of a write that failed. Part of the line may have been written.
@@ -35,7 +34,7 @@ pub fn write_message<W: Write>(output: &mut W, message: &[u8]) -> io::Result<()>
     output.write_all(b"\n")
 }
 
-/// Writes the bytes as lower-case hexadecimal digits. It allocates nothing.
+/// Writes the bytes as lower-case hexadecimal digits. Nothing is allocated.
 ///
 /// # Errors
 /// Returns the error of a write that failed. Some of the digits may have been written.
@@ -68,8 +67,8 @@ pub fn fill_digits(room: &mut [u8], bytes: &[u8])
     }
 }
 
-/// Fills `room` with the digits of the bytes, and looks up each digit. For fewer than [`MANY`] bytes this is faster
-/// than computing the digits.
+/// Fills `room` with the hexadecimal digits of the bytes. Each digit is looked up in a table. For fewer than [`MANY`]
+/// bytes this is faster than [`compute_digits`].
 #[inline(always)]
 fn look_up_digits(room: &mut [u8], bytes: &[u8])
     requires room { length room.old ≡ 2 * length bytes.now }
@@ -81,8 +80,8 @@ fn look_up_digits(room: &mut [u8], bytes: &[u8])
     }
 }
 
-/// Fills `room` with the digits of the bytes, and computes each digit. For [`MANY`] or more bytes this is faster than
-/// looking up the digits.
+/// Fills `room` with the hexadecimal digits of the bytes. Each digit is computed. For [`MANY`] or more bytes this is
+/// faster than [`look_up_digits`].
 #[inline(always)]
 fn compute_digits(room: &mut [u8], bytes: &[u8])
     requires room { length room.old ≡ 2 * length bytes.now }
@@ -94,8 +93,8 @@ fn compute_digits(room: &mut [u8], bytes: &[u8])
     }
 }
 
-/// Returns the lower-case hexadecimal digit of a number below 16. It computes the digit instead of looking it up, so
-/// that compilers can compute the digits of many bytes at once.
+/// Returns the lower-case hexadecimal digit of a number below 16. The digit is computed, not looked up, so that
+/// compilers can compute the digits of many bytes in vectors.
 #[inline(always)]
 fn digit(number: u8) -> u8
     requires below { number < 16 }

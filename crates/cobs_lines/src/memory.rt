@@ -2,8 +2,8 @@
 use cobs::FrameSource;
 use std::io::Read;
 
-/// The bytes of a stream in memory. A read never fails. It returns the next 64 bytes, or all remaining bytes if there
-/// are fewer.
+/// The bytes of a stream in memory. A read returns the next 64 bytes, or all remaining bytes if there are fewer. A read
+/// never fails.
 #[derive(Drop)]
 pub struct InMemory<'a> {
     left: &'a [u8],

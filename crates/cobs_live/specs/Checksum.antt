@@ -13,7 +13,7 @@ in_order c bytes = if c.little then bytes else reverse bytes
 abbrev pub sum_of : Checksum → List ℕ → List ℕ
 sum_of c message = in_order c (take c.params.size (to_le_bytes w32 (crc c.params message)))
 
--- a message with its checksum after it, or without one if there should be no checksum
+-- a message followed by its checksum, or only the message if there is no checksum
 abbrev pub with_sum : Option Checksum → List ℕ → List ℕ
 with_sum None message = message
 with_sum (Some c) message = message ++ sum_of c message
@@ -22,6 +22,6 @@ with_sum (Some c) message = message ++ sum_of c message
 abbrev pub body_of : Checksum → List ℕ → List ℕ
 body_of c bytes = take (length bytes - c.params.size) bytes
 
--- whether the bytes end with the checksum of their other bytes
+-- whether the bytes end with the checksum of the bytes before it
 abbrev pub is_checked : Checksum → List ℕ → Bool
 is_checked c bytes = ends_with (λ a b. a == b) bytes (sum_of c (body_of c bytes))

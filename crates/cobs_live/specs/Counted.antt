@@ -26,7 +26,7 @@ counted n = min n (2 ^ 64 - 1)
 abbrev pub count_of : Option Checksum → Kind → List Outcome → ℕ
 count_of checksum kind outcomes = counted (length (filter (is_of_kind checksum kind) outcomes))
 
--- the tally counts these outcomes and this many bytes, if messages should end with this checksum
+-- the tally has the counts for these outcomes and for `read` bytes; if there is a checksum, messages should end with it
 pub record IsTallyOf (checksum : Option Checksum) (tally : Tally) (outcomes : List Outcome) (read : ℕ) : Type 0 where
   pub messages : tally.messages ≡ count_of checksum Message outcomes
   pub broken : tally.broken ≡ count_of checksum Broken outcomes

@@ -24,7 +24,7 @@ params_of Crc32 = record { size = 4; poly = 0x04C11DB7; init = 0xFFFFFFFF; refle
 abbrev pub shifted : ℕ → ℕ → ℕ
 shifted poly r = if nat_lt r (2 ^ 31) then 2 * r else bit_xor (2 * r - 2 ^ 32) poly
 
--- the register after n such steps
+-- the register after n steps of the division
 unfoldable pub after_bits : ℕ → ℕ → ℕ → ℕ
 after_bits poly zero r = r
 after_bits poly (suc n) r = shifted poly (after_bits poly n r)

@@ -4,7 +4,7 @@ use Rattle.std.specs.Prelude.{ℕ, zero, suc, ◌+◌, ◌*◌, ◌/◌, ◌^◌
 use Rattle.std.specs.Fmt.{digits, padded_integral, format_spec}
 use Rattle.hex.specs.Hex.{encode_lower}
 
--- the texts of the numbers 0 to n - 1, one after the other
+-- the texts of f for the numbers 0 to n - 1, one after the other
 unfoldable pub upto : (ℕ → List ℕ) → ℕ → List ℕ
 upto f zero = []
 upto f (suc n) = upto f n ++ f n

@@ -11,8 +11,8 @@ use Rattle.unicode.specs.GeneralCategory.{general_category, general_category_num
 abbrev pub is_unseen : ℕ → Bool
 is_unseen c = (general_category_number (general_category c) == 25) || ((general_category_number (general_category c) == 26) || ((general_category_number (general_category c) == 23) || (general_category_number (general_category c) == 24)))
 
--- whether a character is hidden, because a terminal may act on it, or because it is invisible; the hidden ASCII
--- characters are the control characters
+-- whether a character is hidden: a terminal may act on it, or it is invisible; the hidden ASCII characters are the
+-- control characters
 abbrev pub is_hidden : ℕ → Bool
 is_hidden c = if nat_lt c 127 then nat_lt c 32 else is_unseen c
 
@@ -25,7 +25,7 @@ is_plain_byte byte = nat_le 32 byte && (nat_lt byte 127 && (not (byte == 34) && 
 abbrev pub unit_escape : ℕ → List ℕ
 unit_escape unit = codes "\\u" ++ encode_lower (unit / 256 ∷ unit % 256 ∷ [])
 
--- the escape of a character: that of its code, or those of two surrogates if the code has more than 16 bits
+-- the escape of a character: the escape of its code, or the escapes of two surrogates if the code has more than 16 bits
 abbrev pub char_escape : ℕ → List ℕ
 char_escape c = if nat_lt c 65536 then unit_escape c else unit_escape (0xD800 + (c - 65536) / 1024 % 1024) ++ unit_escape (0xDC00 + c % 1024)
 

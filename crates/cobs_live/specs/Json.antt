@@ -24,8 +24,8 @@ abbrev pub json_partial : List ℕ → List ℕ
 json_partial [] = []
 json_partial (byte ∷ bytes) = codes ",\"hex\":\"" ++ encode_lower (byte ∷ bytes) ++ codes "\""
 
--- the value of the member `kind`, and then the members with the length of the piece, unless it is too long, and with
--- its bytes
+-- the value of the member `kind`, and the members after it: the length of the piece, unless the piece is too long, and
+-- the bytes of the piece
 abbrev pub json_kind : Kind → ℕ → List ℕ → List ℕ
 json_kind Message len bytes = codes "\"message\"" ++ json_message len bytes
 json_kind Broken len bytes = codes "\"broken\",\"length\":" ++ decimal len ++ json_partial bytes

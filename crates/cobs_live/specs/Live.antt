@@ -19,8 +19,8 @@ use Rattle.cobs_live.specs.declared.shown.Settings.{Settings}
 use Rattle.cobs_live.specs.declared.shown.View.{View}
 use Rattle.cobs_live.specs.declared.tally.Tally.{Tally}
 
--- a run so far: the text of each piece that ended in the bytes read so far has been written, and the decoder has taken
--- all these bytes
+-- the state of a run between two reads: the text of each piece that ended in the bytes read so far has been written,
+-- and the decoder has consumed all these bytes
 pub record HasShownSoFar (settings : Settings) (from to before after : Option (List ℕ)) (watch : Watch) : Type 0 where
   pub ended : HasWritten (shown_lines settings) from to before after
   pub taken : DecoderAfter watch.message.items (phase_of watch.decoder) (unended (open_stream settings ended.gone ended.bytes))
@@ -31,7 +31,7 @@ pub record HasShownSoFar (settings : Settings) (from to before after : Option (L
   -- whether the run is still skipping bytes, up to the first sentinel
   pub skips : watch.skipping ≡ skips_on (skips_behind settings.skip_first ended.gone) (xor_each settings.sentinel ended.bytes)
 
--- the text that was written is that of all pieces and hang-ups in the results of the reads
+-- the text that was written is the text of all pieces and hang-ups in the results of the reads
 pub record HoldsText (settings : Settings) (before : Option (List ℕ)) (came : List (List (Option ℕ))) (after : Option (List ℕ)) : Type 0 where
   pub gone : List (List ℕ)
   pub bytes : List ℕ
@@ -40,7 +40,7 @@ pub record HoldsText (settings : Settings) (before : Option (List ℕ)) (came : 
   pub timeline : IsTimeline times
   pub written : Appends before after (shown_lines settings times gone bytes)
 
--- a run so far that is live (`IsLive`), and whose reads returned exactly the bytes that are shown
+-- the state of a run that has been live so far (`IsLive`), and whose reads returned exactly the bytes that are shown
 pub record IsLiveSoFar {S : Type 0} (step : S → Read (Option ℕ) → S → Type 0) (source source' : S) (settings : Settings) (from to before after : Option (List ℕ)) (watch : Watch) : Type 0 where
   pub so_far : HasShownSoFar settings from to before after watch
   pub live : IsLive step source source' (HoldsText settings before)
@@ -52,8 +52,8 @@ ShowsNext settings (Ok true) from to before after watch = HasShownSoFar settings
 ShowsNext settings (Ok false) from to before after watch = HasShown settings (Ok watch.tally) from to before after
 ShowsNext settings (Err fault) from to before after watch = HasShown settings (Err fault) from to before after
 
--- A decoder over n bytes had taken the front p of a piece, and has now taken these bytes too. The pieces that ended in
--- these bytes are shown and counted. `gone` has the outcomes of the earlier pieces.
+-- A decoder over n bytes had consumed p, the front of a piece, and has now consumed `bytes` too. The pieces that ended
+-- in `bytes` are shown and counted. `gone` has the outcomes of the earlier pieces.
 pub record ShowsBytes (view : View) (times : ℕ → Moment) (n : ℕ) (p bytes : List ℕ) (gone : List Outcome) (read : ℕ) (buffer : List ℕ) (phase : Phase) (before after : Option (List ℕ)) (tally : Tally) (clock : Times) : Type 0 where
   pub written : Appends before after (shown_from view times (length gone) (all_ended (p ++ bytes) n))
   pub taken : DecoderAfter buffer phase (unended (p ++ bytes))
@@ -61,13 +61,14 @@ pub record ShowsBytes (view : View) (times : ℕ → Moment) (n : ℕ) (p bytes 
   pub timed : IsReadAt times (length (gone ++ stream_outcomes (p ++ bytes) n)) clock
   pub len : length buffer ≡ n
 
--- the input has ended, and the text that says whether a piece had begun is written
+-- the input has ended; if a piece had begun, the text that says so is written
 pub record ShowsEnd (phase : Phase) (view : View) (before after : Option (List ℕ)) : Type 0 where
   pub begun : Bool
   pub idle : (begun ≡ false) ↔ (phase ≡ Idle)
   pub written : Appends before after (shown_end view begun)
 
--- a line hung up, and two texts are written: whether a piece had begun, and that the line hung up
+-- a line hung up; if a piece had begun, the text that says so is written, and then the text that says that the line
+-- hung up
 pub record ShowsHangUp (phase : Phase) (view : View) (before after : Option (List ℕ)) : Type 0 where
   pub begun : Bool
   pub idle : (begun ≡ false) ↔ (phase ≡ Idle)

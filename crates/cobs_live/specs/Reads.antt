@@ -5,8 +5,8 @@ use Rattle.cobs_live.specs.declared.input.AnyInput.{AnyInput}
 use Rattle.cobs_live.specs.declared.input.Came.{Came}
 use Rattle.cobs_live.specs.declared.input.Came.TheVariants.{Bytes, HungUp}
 
--- a read: the bytes in the output's buffer when the read began, the bytes that had been written to the output by then,
--- if they are known, and the result. If the line may hang up, the result has a byte as `Some` and a hang-up as `None`.
+-- a read: the bytes in the output's buffer when the read began; the bytes that had been written to the output by then,
+-- if they are known; and the result. If the line may hang up, the result has a byte as `Some` and a hang-up as `None`.
 -- The result of a failed read is empty.
 pub record Read (A : Type 0) : Type 0 where
   pub back : List ℕ
@@ -19,18 +19,18 @@ given (Ok (Bytes n)) chunk = map Some (take n chunk)
 given (Ok HungUp) chunk = None ∷ []
 given (Err error) chunk = []
 
--- the effect of a read on the bytes that an input has left, if they are known: the returned bytes are the first of
--- them, and are removed. A read returns no bytes only at the end of the input, or if `chunk` is empty. An input whose
--- bytes are known doesn't hang up.
+-- the effect of a read on the unread bytes of an input, if they are known: the read returns the first of these bytes
+-- and removes them. A read returns no bytes only at the end of the input, or if `chunk` is empty. An input whose bytes
+-- are known doesn't hang up.
 abbrev pub Takes : (from to : Option (List ℕ)) → Came → List ℕ → Type 0
 Takes from to (Bytes n) chunk = (n ≤ length chunk) × Consumes from to (take n chunk) × (n ≡ 0 → 0 < length chunk → IsAtEnd to)
 Takes from to HungUp chunk = (from ≡ None) × (to ≡ None)
 
--- `Takes` for the result of the call; a read that failed removes nothing
+-- the effect of a read with this result (`Takes`); a read that failed removes nothing
 abbrev pub ReadTakes : {E : Type 0} → (from to : Option (List ℕ)) → Result Came E → List ℕ → Type 0
 ReadTakes from to result chunk = MatchResult result (λ came. Takes from to came chunk) (λ _. Keeps from to)
 
--- the result is bytes, and if the input's bytes are known, they are the first bytes that it had left
+-- the result is bytes; if the unread bytes of the input are known, the result is the first of them
 pub record GivesBytes (from to : Option (List ℕ)) (came : List (Option ℕ)) : Type 0 where
   pub bytes : List ℕ
   pub are : came ≡ map Some bytes
@@ -45,7 +45,7 @@ joined (xs ∷ xss) = xs ++ joined xss
 abbrev pub came : {A : Type 0} → List (Read A) → List (List A)
 came reads = map (λ read. read.came) reads
 
--- the reads change an input from the one state to the other, each by a step
+-- the reads change an input from the state `from` to the state `to`, each read by one step
 abbrev pub Runs : {S A : Type 0} → (S → Read A → S → Type 0) → S → List (Read A) → S → Type 0
 Runs step from [] to = from ≡ to
 Runs {S} step from (read ∷ reads) to = (next : S) × step from read next × Runs step next reads to
@@ -56,19 +56,19 @@ abbrev pub IsLiveAfter : {A : Type 0} → (List (List A) → Option (List ℕ) �
 IsLiveAfter IsRight gone [] = Unit {0}
 IsLiveAfter IsRight gone (read ∷ reads) = (read.back ≡ []) × IsRight gone read.written × IsLiveAfter IsRight (gone ++ read.came ∷ []) reads
 
--- LIVE: a run made reads that changed the input from the one state to the other. At each read the output's buffer was
--- empty, and the text written so far was right for the results of the earlier reads.
+-- LIVE: a run made reads that changed the input from the state `source` to the state `source'`. At each read the
+-- output's buffer was empty, and the text written so far was right for the results of the earlier reads.
 pub record IsLive {S A : Type 0} (step : S → Read A → S → Type 0) (source source' : S) (IsRight : List (List A) → Option (List ℕ) → Type 0) : Type 0 where
   pub reads : List (Read A)
   pub runs : Runs step source reads source'
   pub live : IsLiveAfter IsRight [] reads
 
--- at a read, the output held these bytes, and no earlier read had a result
+-- at a read, the output held the bytes `written`, and no earlier read had a result
 abbrev pub HeldWhileNothing : {A : Type 0} → Option (List ℕ) → List (List A) → Option (List ℕ) → Type 0
 HeldWhileNothing written gone held = (joined gone ≡ []) × (held ≡ written)
 
--- `all` has the results of all reads. No read was made after a read that had a result, and at each read the output was
--- as it is now.
+-- `all` has the results of all reads. No read was made after a read that had a result, and at each read the output held
+-- the bytes `written`.
 pub record ReadsOnce {S A : Type 0} (step : S → Read A → S → Type 0) (source source' : S) (written : Option (List ℕ)) (all : List A) : Type 0 where
   pub live : IsLive step source source' (HeldWhileNothing written)
   pub given : joined (came live.reads) ≡ all

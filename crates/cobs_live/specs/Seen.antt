@@ -53,7 +53,7 @@ abbrev pub seen_message : Option Checksum → List ℕ → Seen
 seen_message None message = whole Message message
 seen_message (Some checksum) message = if is_checked checksum message then whole Message (body_of checksum message) else whole BadCrc message
 
--- the piece for an outcome; a piece that is too long is longer than each limit
+-- the piece for an outcome; the length of a piece that is too long is the greatest `u64`
 abbrev pub seen_of : Option Checksum → Outcome → Seen
 seen_of checksum (OfMessage message) = seen_message checksum message
 seen_of checksum (OfBroken count) = record { kind = Broken; len = count; bytes = [] }
@@ -79,7 +79,7 @@ part_of Broken message decoded = decoded
 part_of TooLong message decoded = decoded
 part_of BadCrc message decoded = message
 
--- the piece. If the flag is set, the bytes of a broken or too long piece are these decoded bytes.
+-- the piece; if the flag is set, a broken or too long piece gets these decoded bytes
 abbrev pub with_part : Bool → Seen → List ℕ → Seen
 with_part false seen decoded = seen
 with_part true seen decoded = record { kind = seen.kind; len = seen.len; bytes = part_of seen.kind seen.bytes decoded }

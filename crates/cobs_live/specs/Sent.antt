@@ -14,14 +14,14 @@ use Rattle.cobs_live.specs.declared.send.Settings.{Settings}
 abbrev pub text_of : List ℕ → List ℕ
 text_of line = if nat_lt 0 (length line) && (slice_index line (length line - 1) == 10) then take (length line - 1) line else line
 
--- the bytes are the message's frame and its sentinel
+-- the bytes are the message's frame for this sentinel, followed by the sentinel
 pub record IsSent (sentinel : ℕ) (message bytes : List ℕ) : Type 0 where
   pub frame : List ℕ
   pub encoded : IsEncodedFrameFor sentinel frame message
   pub ended : bytes ≡ frame ++ sentinel ∷ []
 
--- the bytes that are written for a message: the frame of the message, or of the message followed by its checksum if the
--- settings have a checksum, and then the sentinel
+-- the bytes that are written for a message: the frame of the message (with its checksum, if the settings have one),
+-- followed by the sentinel
 abbrev pub SendsMessage : Settings → List ℕ → List ℕ → Type 0
 SendsMessage settings message bytes = IsSent settings.sentinel (with_sum settings.checksum message) bytes
 
@@ -35,7 +35,7 @@ abbrev pub digits_of : List ℕ → List ℕ
 digits_of text = filter is_digit text
 
 -- the bytes that are written for the text of a line. Without `hex`, the text is the message. With `hex`, the text is
--- the digits of the message, and nothing is written if it isn't digits.
+-- the digits of the message; if the text isn't digits, nothing is written.
 abbrev pub SendsAs : (hex : Bool) → Settings → List ℕ → List ℕ → Type 0
 SendsAs false settings text bytes = SendsMessage settings text bytes
 SendsAs true settings text bytes = MatchResult (decode_of (digits_of text)) (λ message. SendsMessage settings message bytes) (λ error. bytes ≡ [])
@@ -44,7 +44,7 @@ SendsAs true settings text bytes = MatchResult (decode_of (digits_of text)) (λ 
 abbrev pub SendsText : Settings → List ℕ → List ℕ → Type 0
 SendsText settings text bytes = SendsAs settings.hex settings text bytes
 
--- the text of a line can be sent: if it should be digits, it is
+-- the text of a line can be sent; with `hex`, only digits can be sent
 abbrev pub IsSendable : Settings → List ℕ → Type 0
 IsSendable settings text = IsTrue settings.hex → IsOk (decode_of (digits_of text))
 
@@ -59,7 +59,7 @@ lines_of [] = []
 lines_of (byte ∷ bytes) = if byte == 10 then (byte ∷ []) ∷ lines_of bytes else in_front byte (lines_of bytes)
 
 -- The first lines of the reader, `lines`, were read, and `sent` has the bytes that were written for each line. `rest`
--- was read after these lines and not sent: a failed read cut it off, or memory ran out for its frame.
+-- was read after these lines and not sent: a failed read cut `rest` off, or memory ran out for the frame of `rest`.
 pub record HasSentLines (settings : Settings) (rest : List ℕ) (from to before after : Option (List ℕ)) : Type 0 where
   pub lines : List (List ℕ)
   pub first : IfSome from (λ bytes. (more : List (List ℕ)) × (lines_of bytes ≡ lines ++ more))
@@ -70,7 +70,7 @@ pub record HasSentLines (settings : Settings) (rest : List ℕ) (from to before 
   pub read : Consumes from to (concat lines ++ rest)
   pub written : Appends before after (concat sent)
 
--- all lines of the reader were read, and `all_sent` says whether each could be sent
+-- all lines of the reader were read, and `all_sent` says whether each line could be sent
 pub record HasSentAll (settings : Settings) (all_sent : Bool) (from to before after : Option (List ℕ)) : Type 0 where
   pub so_far : HasSentLines settings [] from to before after
   pub all : IfSome from (λ bytes. so_far.lines ≡ lines_of bytes)

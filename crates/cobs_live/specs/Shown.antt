@@ -1,4 +1,4 @@
--- The text that is shown of a stream.
+-- The text that is shown for a stream.
 use Rattle.std.specs.Prelude.{ℕ, ◌+◌, ◌==◌, ◌&&◌, nat_le, Bool, true, false, not, List, [], ◌∷◌, ◌++◌, length, codes, if◌then◌else◌}
 use Rattle.std.specs.Fmt.{decimal}
 use Rattle.std.specs.List.{list_all, starts_with}
@@ -33,7 +33,8 @@ abbrev pub spaced : List ℕ → List ℕ
 spaced [] = []
 spaced (byte ∷ bytes) = codes " " ++ (byte ∷ bytes)
 
--- the line of a piece, with the piece's bytes as digits. With `color`, the title has a colour.
+-- the line of a piece, with the bytes of the piece as digits (`hex_line`) or as text (`text_line`), or with the bytes
+-- below the line, sixteen per line (`dump_lines`). With `color`, the kind has a colour.
 abbrev pub hex_line : (color : Bool) → Seen → List ℕ
 hex_line color seen = heading color seen ++ spaced_digits seen.bytes ++ codes "\n"
 
@@ -45,8 +46,8 @@ text_line color seen = heading color seen ++ (if is_plain seen.bytes then spaced
 abbrev pub dump_lines : (color : Bool) → Seen → List ℕ
 dump_lines color seen = heading color seen ++ codes "\n" ++ dump seen.bytes
 
--- the bytes that are written for a message in a style that shows only messages: its bytes (`Bytes`), its bytes and a
--- newline (`Raw`), or a record of a capture (`Pcap`); `styled` doesn't use the other rows
+-- the bytes that are written for a message in a style that shows only messages: the message (`Bytes`), the message and a
+-- newline (`Raw`), or a record of a capture (`Pcap`). `styled` doesn't use the other rows.
 abbrev pub alone : Style → ℕ → List ℕ → List ℕ
 alone Hex time bytes = bytes
 alone Text time bytes = bytes
@@ -73,8 +74,8 @@ styled Json color number stamp times seen = json number stamp times seen
 styled Bytes color number stamp times seen = of_message seen.kind (alone Bytes times.next.millis seen.bytes)
 styled Pcap color number stamp times seen = of_message seen.kind (alone Pcap times.next.millis seen.bytes)
 
--- the time before the line of a piece. A JSON object contains the time itself, and a style that shows only messages has
--- none here.
+-- the time before the line of a piece. It is empty for a JSON object, which contains the time itself, and for the
+-- styles that show only messages.
 abbrev pub in_front : Style → Stamp → Times → List ℕ
 in_front Hex stamp times = stamped stamp times
 in_front Text stamp times = stamped stamp times
@@ -123,7 +124,7 @@ unfinished_in Json = codes "{\"kind\":\"unfinished\"}\n"
 unfinished_in Bytes = []
 unfinished_in Pcap = []
 
--- the text after a stream that has ended. The text says that a piece has begun, if one has, and is empty otherwise.
+-- the text after a stream that has ended: if a piece has begun, the text says so; otherwise it is empty
 abbrev pub shown_end : View → Bool → List ℕ
 shown_end view begun = if begun && view.filter.unfinished then unfinished_in view.style else []
 
@@ -137,8 +138,8 @@ hung_up_in Json = codes "{\"kind\":\"hung-up\"}\n"
 hung_up_in Bytes = []
 hung_up_in Pcap = []
 
--- the text after the stream of a line that hung up. The text says whether a piece has begun, which the hang-up doesn't
--- end, and then that the line hung up.
+-- the text after the stream of a line that hung up. If a piece has begun, the text says so, because the hang-up doesn't
+-- end the piece. Then the text says that the line hung up.
 abbrev pub shown_hang_up : View → Bool → List ℕ
 shown_hang_up view begun = shown_end view begun ++ (if view.filter.unfinished then hung_up_in view.style else [])
 

@@ -9,7 +9,7 @@ use Rattle.cobs_live.specs.declared.clock.Stamp.{Stamp}
 use Rattle.cobs_live.specs.declared.clock.Stamp.TheVariants.{Untimed, Start, Last, Date}
 use Rattle.cobs_live.specs.declared.clock.Times.{Times}
 
--- `times` has the time of each piece, by the piece's number. The times never decrease. The time with number 0, before
+-- `times number` is the time of the piece with this number. The times never decrease. The time with number 0, before
 -- the first piece, is 0 milliseconds: the start of the run, or of 1970 for `Date`.
 pub record IsTimeline (times : ℕ → Moment) : Type 0 where
   pub start : (times 0).millis ≡ 0
@@ -21,7 +21,7 @@ pub record IsReadAt (times : ℕ → Moment) (number : ℕ) (clock : Times) : Ty
   pub last : clock.last ≡ times number
   pub now : (later : ℕ) → number < later → times later ≡ clock.next
 
--- a number with as many zeros before it as the width needs
+-- a decimal number, with zeros before it up to this width
 abbrev pub padded : ℕ → ℕ → List ℕ
 padded width n = padded_integral (format_spec 32 0 4 width (2 ^ 64 - 1)) false [] (digits 10 false n)
 
@@ -29,11 +29,11 @@ padded width n = padded_integral (format_spec 32 0 4 width (2 ^ 64 - 1)) false [
 abbrev pub seconds : ℕ → List ℕ
 seconds time = decimal (time / 1000) ++ codes "." ++ padded 3 (time % 1000)
 
--- how far a clock is ahead of UTC; UTC itself is Z
+-- the offset of a time zone from UTC; the text for UTC itself is `Z`
 abbrev pub zone_text : Offset → List ℕ
 zone_text offset = if int_eq offset.seconds (pos 0) then codes "Z" else offset_text offset
 
--- the date and time of day as in RFC 3339: in upper case, with a T (84) between them, and three decimals
+-- the date and the time of day as in RFC 3339, with an upper-case T (84) between them and three decimals of the second
 abbrev pub date_time : Moment → List ℕ
 date_time moment = datetime_text false 84 (Some 3) moment.civil ++ zone_text moment.offset
 

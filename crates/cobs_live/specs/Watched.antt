@@ -17,7 +17,7 @@ use Rattle.cobs_live.specs.declared.fault.WatchFault.TheVariants.{ReadFailed, Wr
 use Rattle.cobs_live.specs.declared.shown.Settings.{Settings}
 use Rattle.cobs_live.specs.declared.tally.Tally.{Tally}
 
--- the bytes after the first zero if the flag says that the bytes up to the first zero are skipped, otherwise all bytes
+-- all bytes, or only the bytes after the first zero if the flag is set
 abbrev pub begun : Bool → List ℕ → List ℕ
 begun false t = t
 begun true [] = []
@@ -68,8 +68,8 @@ count_bytes gone bytes = length (concat gone) + length bytes
 abbrev pub all_outcomes : Settings → List (List ℕ) → List ℕ → List Outcome
 all_outcomes settings gone bytes = outcomes_of (gone_streams settings gone) settings.length ++ stream_outcomes (open_stream settings gone bytes) settings.length
 
--- THE TEXT OF LINES: the pieces and the hang-up of each line that hung up, and the pieces that have ended in the open
--- line
+-- THE TEXT OF LINES: for each line that hung up, the text of its pieces and of its hang-up; then the text of the pieces
+-- that have ended in the open line
 abbrev pub shown_lines : Settings → (ℕ → Moment) → List (List ℕ) → List ℕ → List ℕ
 shown_lines settings times gone bytes =
     shown_gone settings.view times settings.length 0 (gone_streams settings gone)
@@ -80,8 +80,8 @@ abbrev pub shown_ended : Settings → (ℕ → Moment) → List (List ℕ) → L
 shown_ended settings times gone bytes = shown_lines settings times gone bytes ++ shown_end settings.view (is_nonempty (unended (open_stream settings gone bytes)))
 
 -- Lines were read, and their pieces were read at `times`. All lines except the last one hung up. A writer's contents
--- grew by the text of these lines, from `before` to `after`. If it is known that the reader had `from` left and has
--- `to` left, only one line was read, which didn't hang up.
+-- grew by the text of these lines, from `before` to `after`. The reader's unread bytes were `from` and are now `to`, if
+-- they are known. If they are known, only one line was read, and it didn't hang up.
 pub record HasWritten (text : (ℕ → Moment) → List (List ℕ) → List ℕ → List ℕ) (from to before after : Option (List ℕ)) : Type 0 where
   pub gone : List (List ℕ)
   pub bytes : List ℕ
@@ -97,9 +97,9 @@ pub record HasShownAll (settings : Settings) (tally : Tally) (from to before aft
   pub tallied : IsTallyOf settings.view.checksum tally (all_outcomes settings all.gone all.bytes) (count_bytes all.gone all.bytes)
   pub end : IsAtEnd to
 
--- the effects of a run of `show` with this result. At the end of the input, and also if a read failed, all that was
--- read is shown, and whether a piece has begun. After a failed write nothing is claimed: part of the text may have been
--- written.
+-- the effects of a run of `show` with this result. At the end of the input, and also if a read failed, the text of all
+-- pieces that were read has been written, and if a piece has begun, the text says so. After a failed write nothing is
+-- claimed: part of the text may have been written.
 abbrev pub HasShown : Settings → Result Tally WatchFault → (from to before after : Option (List ℕ)) → Type 0
 HasShown settings (Ok tally) from to before after = HasShownAll settings tally from to before after
 HasShown settings (Err ReadFailed) from to before after = HasWritten (shown_ended settings) from to before after
@@ -115,7 +115,7 @@ IsFlushed (Err OutOfMemory) held = held ≡ []
 IsFlushed (Err WriteFailed) held = Unit {0}
 IsFlushed (Err OutputClosed) held = Unit {0}
 
--- the fault for a write that failed: `OutputClosed` if the pipe was closed, because nobody reads the output any more,
--- otherwise `WriteFailed`
+-- the fault for a write that failed: `OutputClosed` if nobody reads the output any more (`BrokenPipe`), and otherwise
+-- `WriteFailed`
 abbrev pub IsWriteFault : Error → WatchFault → Type 0
 IsWriteFault error fault = ((error_kind error ≡ BrokenPipe) × (fault ≡ OutputClosed)) ⊎ ((error_kind error ≢ BrokenPipe) × (fault ≡ WriteFailed))

@@ -141,7 +141,7 @@ impl Times {
     ghost use Rattle.std.specs.Io.KnownBytes.{Appends};
     ghost use Rattle.cobs_live.specs.Timed.{json_time, seconds, stamped, time_text};
 
-    /// Makes two times of 0, for a stream of which nothing has been read.
+    /// Makes two times of 0, for a stream before its first bytes are read.
     pub fn new() -> Self
         ensures start { result.last.millis ≡ 0 }
     {
@@ -201,7 +201,7 @@ impl Times {
         }
     }
 
-    /// Writes the time of a piece: in seconds, as date and time of day for `Stamp::Date`, or nothing for
+    /// Writes the time of a piece: a number of seconds, the date and the time of day for `Stamp::Date`, or nothing for
     /// `Stamp::Untimed`.
     fn write_time<W: Write>(&self, output: &mut W, stamp: Stamp) -> io::Result<()>
         ensures written { OnOk result

@@ -26,8 +26,8 @@ use std::str;
 /// The length in bytes of the longest message whose text is composed.
 const SHORT_LEN: usize = 256;
 
-/// The most bytes that a line can have besides the digits of its message: the word `message` and a space, a number of
-/// up to 40 digits, a space and a newline.
+/// The greatest length in bytes of a line without the digits of its message: the word `message` and a space, a number
+/// of up to 40 digits, a space and a newline.
 const LINE: usize = 50;
 
 /// The greatest length in bytes of a composed text.
@@ -38,7 +38,7 @@ const ROOM: usize = 2_048;
 struct Full;
 
 /// A text that is composed in memory and then written in one call. The result of each write has to be tested, and this
-/// test costs more than composing the text of a short message. So there is at most one write for each message.
+/// test takes longer than composing the text of a short message. So there is at most one write for each message.
 #[derive(Drop)]
 pub struct Composed {
     bytes: [u8; ROOM],
@@ -87,10 +87,10 @@ impl Composed {
         ROOM - LINE - 2 * SHORT_LEN < self.len
     }
 
-    /// Adds the text of a piece and returns true if three conditions hold: the piece is a short message, its text fits,
-    /// and the view shows either raw messages without numbers, or digits without colours, numbers or times. Otherwise
-    /// adds nothing and returns false. If the view's filter holds the message back, its text is empty. The text is
-    /// written later, so one write can contain the text of many messages.
+    /// Adds the text of a piece and returns true, or adds nothing and returns false. It returns true only if three
+    /// conditions hold: the piece is a short message; its text fits; and the view shows raw messages without numbers,
+    /// or digits without colours, numbers and times. If the view's filter hides the message, its text is empty. The
+    /// text is written later, so one write can contain the text of many messages.
     #[inline(always)]
     pub fn keep(&mut self, view: &View, piece: &Sight<'_>) -> bool
         ensures kept { IsTrue result → (number : ℕ) (times : Times) → take self.new.len self.new.bytes
@@ -104,7 +104,7 @@ impl Composed {
         }
     }
 
-    /// Does what [`keep`](Composed::keep) does for a view with the style `Hex`.
+    /// Adds the text of a piece for a view with the style `Hex`, under the conditions of [`keep`](Composed::keep).
     #[inline(always)]
     fn keep_hex(&mut self, view: &View, piece: &Sight<'_>) -> bool
         requires style { view.now.style ≡ Hex }
@@ -124,7 +124,7 @@ impl Composed {
         true
     }
 
-    /// Does what [`keep`](Composed::keep) does for a view with the style `Raw`.
+    /// Adds the text of a piece for a view with the style `Raw`, under the conditions of [`keep`](Composed::keep).
     #[inline(always)]
     fn keep_raw(&mut self, view: &View, piece: &Sight<'_>) -> bool
         requires style { view.now.style ≡ Raw }
@@ -145,10 +145,10 @@ impl Composed {
         true
     }
 
-    /// Replaces the composed text by the text of a piece and returns true if three conditions hold: the piece is a
-    /// short message, its text fits, and the view shows JSON without colour, number or time. Otherwise returns false.
-    /// After `compose` has returned false, the composed text may be only a part of the piece's text, so the caller
-    /// clears it. If the view's filter holds the message back, its text is empty.
+    /// Replaces the composed text by the text of a piece, and returns whether this succeeded. It succeeds only if the
+    /// piece is a short message, its text fits, and the view shows JSON without colour, number or time. If it fails,
+    /// the composed text may be only a part of the piece's text, so the caller clears it. If the view's filter hides
+    /// the message, its text is empty.
     #[inline(always)]
     pub fn compose(&mut self, view: &View, number: u64, times: &Times, piece: &Sight<'_>) -> bool
         ensures shown { IsTrue result → take self.new.len self.new.bytes
@@ -167,8 +167,8 @@ impl Composed {
         self.put_message(view.style, number, piece).is_ok()
     }
 
-    /// Adds a message with this number as JSON. Only JSON is composed here. For other styles, `put_message` returns
-    /// `Full`, and the caller writes the text directly.
+    /// Adds a message with this number, if the style is `Json`. For other styles, `put_message` returns `Full`, and the
+    /// caller writes the text directly.
     #[inline(always)]
     fn put_message(&mut self, style: Style, number: u64, piece: &Sight<'_>) -> Result<(), Full>
         requires message { piece.now.kind ≡ Message }
@@ -214,7 +214,7 @@ impl Composed {
         self.put(b"}\n")
     }
 
-    /// Adds the members of a JSON object for the message's length, for its bytes and, if it is UTF-8, for its text.
+    /// Adds the members of a JSON object for a message: its length, its bytes and, if the message is UTF-8, its text.
     fn put_json_message(&mut self, len: usize, bytes: &[u8]) -> Result<(), Full>
         ensures put { OnOk result (Appends (contents_of self.old) (contents_of self.new)
             (json_message len bytes.now)) }
@@ -250,8 +250,8 @@ impl Composed {
         Ok(())
     }
 
-    /// Adds the characters before the first one that needs an escape, in one copy, and then that character in its
-    /// escaped form. Returns the rest of the text.
+    /// Adds, in one copy, the characters before the first character that needs an escape. Then adds this character in
+    /// its escaped form. Returns the rest of the text.
     fn put_run<'a>(&mut self, text: &'a str) -> Result<&'a str, Full>
         ensures put { IfOk result (λ rest. WritesFront (contents_of self.old) (contents_of self.new) text.now rest.now) }
         ensures shorter { IfOk result (λ rest. 0 < length text.now → length rest.now < length text.now) }
@@ -281,8 +281,8 @@ impl Composed {
         self.put(c.encode_utf8(&mut [0; 4]).as_bytes())
     }
 
-    /// Adds the escape of the character with this code. The escape has the code or, if the code has more than 16 bits,
-    /// two surrogates.
+    /// Adds the escape of the character with this code. If the code has more than 16 bits, adds the escapes of two
+    /// surrogates instead.
     fn put_escape(&mut self, code: u32) -> Result<(), Full>
         ensures put { OnOk result (Appends (contents_of self.old) (contents_of self.new) (char_escape code)) }
     {
@@ -328,7 +328,7 @@ impl Composed {
     }
 
     /// Adds a decimal number. The caller makes sure that there are 40 bytes of room, more than any number needs. A
-    /// number below 10 is added in a faster way of its own.
+    /// number below 10 is added without `itoa`, which is faster.
     #[inline(always)]
     fn append_decimal(&mut self, number: u64)
         requires room { self.old.len + 40 ≤ 2048 }
@@ -369,8 +369,8 @@ impl Composed {
         Ok(())
     }
 
-    /// Adds bytes. The caller makes sure that the bytes fit. From 1 to `WINDOW` bytes are copied in vectors, without a
-    /// call.
+    /// Adds bytes. The caller makes sure that the bytes fit. If there are 1 to `WINDOW` bytes, they are copied in
+    /// vectors, without a call.
     #[inline(always)]
     fn append(&mut self, bytes: &[u8])
         requires room { self.old.len + length bytes.now ≤ 2048 }

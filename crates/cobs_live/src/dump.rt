@@ -51,7 +51,7 @@ fn write_cells<W: Write>(output: &mut W, row: &[u8], from: usize) -> io::Result<
     Ok(())
 }
 
-/// Writes the digits of the byte at index `i` and a space, or three spaces if the row has no such byte.
+/// Writes the digits of the byte at index `i` and a space, or three spaces if the row ends before this index.
 fn write_cell<W: Write>(output: &mut W, row: &[u8], i: usize) -> io::Result<()>
     ensures written { OnOk result
         (Appends (W.contents output.old) (W.contents output.new) (cell row.now i)) }
@@ -82,7 +82,7 @@ fn write_characters<W: Write>(output: &mut W, row: &[u8]) -> io::Result<()>
     output.write_all(shown)
 }
 
-/// Replaces each byte with a dot, unless it is a visible ASCII character or a blank.
+/// Replaces each byte with a dot, unless the byte is a visible ASCII character or a space.
 fn to_characters(bytes: &mut [u8])
     ensures shown { bytes.new ≡ map character bytes.old }
 {
@@ -91,7 +91,7 @@ fn to_characters(bytes: &mut [u8])
     }
 }
 
-/// Returns the byte if it is a visible ASCII character or a blank, and otherwise a dot.
+/// Returns the byte if it is a visible ASCII character or a space, and otherwise a dot.
 fn character(byte: u8) -> u8
     ensures shown { result ≡ character byte }
 {

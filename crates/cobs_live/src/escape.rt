@@ -15,8 +15,8 @@ pub fn is_hidden(c: char) -> bool
     ensures hidden { result ≡ is_hidden c }
 {
     let code = u32::from(c);
-    // Characters below 127 need no look-up of their category: those below 32 are control characters, and no other is
-    // hidden.
+    // Of the characters below 127, only those below 32 are hidden: they are control characters. So the category of
+    // these characters isn't looked up.
     if code < 127 {
         return code < 32;
     }
@@ -39,8 +39,8 @@ pub fn write_escaped<W: Write>(output: &mut W, text: &str) -> io::Result<()>
     Ok(())
 }
 
-/// Writes the characters before the first one that needs an escape, in one write, and then that character in its
-/// escaped form. Returns the rest of the text.
+/// Writes, in one write, the characters before the first character that needs an escape. Then writes this character in
+/// its escaped form. Returns the rest of the text.
 fn write_run<'a, W: Write>(output: &mut W, text: &'a str) -> io::Result<&'a str>
     ensures written { IfOk result (λ rest. WritesFront (W.contents output.old) (W.contents output.new) text.now rest.now) }
     ensures shorter { IfOk result (λ rest. 0 < length text.now → length rest.now < length text.now) }
@@ -57,8 +57,8 @@ fn write_run<'a, W: Write>(output: &mut W, text: &'a str) -> io::Result<&'a str>
     }
 }
 
-/// Returns the length in bytes of the characters at the front of the text that need no escape. ASCII characters are
-/// tested as bytes, because decoding each character takes longer.
+/// Returns the length in bytes of the text before its first character that needs an escape. ASCII characters are tested
+/// as bytes, because decoding each character takes longer.
 pub(crate) fn visible_run(text: &str) -> usize
     ensures boundary { IsCharBoundary text.now result }
     ensures same { text_escaped text.now ≡ take result text.now ++ text_escaped (drop result text.now) }
@@ -85,7 +85,7 @@ fn needs_escape(c: char) -> bool
     is_hidden(c) || c == '"' || c == '\\'
 }
 
-/// Returns how many ASCII characters at the front of the text need no escape.
+/// Returns the number of characters before the first character that isn't ASCII or needs an escape.
 fn plain_run(text: &str) -> usize
     ensures boundary { IsCharBoundary text.now result }
     ensures plain { All (λ byte. IsTrue (is_plain_byte byte)) (take result text.now) }
@@ -120,8 +120,8 @@ fn write_char<W: Write>(output: &mut W, c: char) -> io::Result<()>
     output.write_all(c.encode_utf8(&mut [0; 4]).as_bytes())
 }
 
-/// Writes the escape of the character with this code. The escape has the code or, if the code has more than 16 bits,
-/// two surrogates.
+/// Writes the escape of the character with this code. If the code has more than 16 bits, writes the escapes of two
+/// surrogates instead.
 fn write_escape<W: Write>(output: &mut W, code: u32) -> io::Result<()>
     ensures written { OnOk result
         (Appends (W.contents output.old) (W.contents output.new) (char_escape code)) }

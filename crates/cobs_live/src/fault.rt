@@ -9,8 +9,8 @@ use thiserror::Error;
 /// The reason why `run_show` or `run_send` failed.
 #[derive(Debug, PartialEq, Eq, Drop, Error)]
 pub enum WatchFault {
-    /// A read failed for a reason other than an interruption, or memory ran out while `send` read a line. All pieces
-    /// that had ended have been shown, or all earlier lines have been sent.
+    /// A read failed for a reason other than an interruption, or memory ran out while `run_send` read a line.
+    /// `run_show` has shown all pieces that had ended, and `run_send` has sent all earlier lines.
     #[error("read failed")]
     ReadFailed,
 
@@ -23,8 +23,8 @@ pub enum WatchFault {
     #[error("output closed")]
     OutputClosed,
 
-    /// Memory ran out. In `show`, this happens only at the start, before anything is read or written. In `send`, this
-    /// happens only while the message or the frame of a line is made.
+    /// Memory ran out. In `run_show`, this happens only at the start, before anything is read or written. In
+    /// `run_send`, this happens only while the message or the frame of a line is made.
     #[error("out of memory")]
     OutOfMemory,
 }

@@ -1,5 +1,5 @@
-//! Inputs whose reads have the output as an argument, so that contracts can say what had been written when each read
-//! began.
+//! Inputs whose reads have the output as an argument, so that contracts can describe the text that had been written
+//! when each read began.
 ghost use Rattle.std.specs.Prelude.{◌≡◌, ◌+◌, ◌++◌, List, Option, ℕ, IfOk, OnOk, IfSome, vec_len};
 ghost use Rattle.std.specs.Prelude.{length};
 ghost use Rattle.std.specs.Io.{StopsAt, appended_bytes};
@@ -24,7 +24,7 @@ pub enum Came {
 ///
 /// Contracts describe an input by a relation, `step`, between a state of the input, a read, and the state after that
 /// read. The record of the read includes the contents of the output when the read began. So a theorem about any input
-/// can say what had been written when each read began.
+/// can describe the text that had been written when each read began.
 pub trait LiveInput<W: Write + Drop> {
     /// The bytes that the next reads will return, if they are known.
     ghost remaining: { Self → Option (List ℕ) };

@@ -57,7 +57,7 @@ fn write_kind<W: Write>(output: &mut W, piece: &Sight<'_>) -> io::Result<()>
     }
 }
 
-/// Writes the member `hex` for the decoded bytes of a broken or too long piece, if there are any.
+/// Writes the member `hex` with the decoded bytes of a broken or too long piece. Without decoded bytes, writes nothing.
 fn write_partial<W: Write>(output: &mut W, bytes: &[u8]) -> io::Result<()>
     ensures written { OnOk result
         (Appends (W.contents output.old) (W.contents output.new) (json_partial bytes.now)) }
@@ -70,7 +70,7 @@ fn write_partial<W: Write>(output: &mut W, bytes: &[u8]) -> io::Result<()>
     output.write_all(b"\"")
 }
 
-/// Writes the members for the message's length, for its bytes and, if it is UTF-8, for its text.
+/// Writes the members for a message: its length, its bytes and, if the message is UTF-8, its text.
 fn write_message<W: Write>(output: &mut W, len: usize, bytes: &[u8]) -> io::Result<()>
     ensures written { OnOk result (Appends (W.contents output.old) (W.contents output.new)
         (json_message len bytes.now)) }

@@ -16,7 +16,7 @@ use cobs_lines::write_digits;
 use std::io::{self, Write};
 use std::str;
 
-/// Writes a piece, which has this number and these times, in the style of the view.
+/// Writes the piece with this number and these times in the style of the view.
 pub fn write_line<W: Write>(
     output: &mut W,
     view: &View,
@@ -86,7 +86,7 @@ fn write_heading<W: Write>(output: &mut W, color: bool, piece: &Sight<'_>) -> io
     write_mark(output, piece.kind, piece.bytes)
 }
 
-/// Writes a mark before the decoded bytes of a broken or too long piece, if there are any.
+/// Writes the mark `partial` if decoded bytes of a broken or too long piece follow.
 fn write_mark<W: Write>(output: &mut W, kind: Kind, bytes: &[u8]) -> io::Result<()>
     ensures written { OnOk result
         (Appends (W.contents output.old) (W.contents output.new) (mark kind bytes.now)) }

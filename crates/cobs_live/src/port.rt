@@ -1,6 +1,5 @@
-//! Readers and writers that add a task to another reader or writer. [`Port`] tries a call again if the call would
-//! block, and records why a call failed. [`Reopened`] opens a line again after a hang-up. [`Logged`] also writes to a
-//! log.
+//! Readers and writers that wrap another reader or writer. [`Port`] tries a call again if the call would block, and
+//! records why a call failed. [`Reopened`] opens a line again after a hang-up. [`Logged`] also writes to a log.
 
 use crate::input::{Came, LiveInput};
 use std::cell::Cell;
@@ -38,9 +37,9 @@ impl<'a, C: Clock + Drop, F: Drop> Port<'a, C, F> {
         }
     }
 
-    /// Returns whether the port has to try the call again. If the call would have blocked, pauses and returns true.
-    /// Otherwise returns false. The system's error number of a failure is stored in `reason`. An interruption isn't
-    /// stored, because the port's caller tries again after it.
+    /// Returns whether the port has to try the call again: pauses and returns true if the call would have blocked. For
+    /// a failure, stores the system's error number in `reason`. The number of an interruption isn't stored, because the
+    /// port's caller tries again after an interruption.
     fn tries_again(&self, done: &io::Result<usize>) -> bool
         ensures failed { IsOk done.now → result ≡ false }
     {
@@ -117,7 +116,7 @@ pub struct Reopened<C, O, R> {
 impl<C: Clock + Drop, O: Opener<R> + Drop, R: Read + Drop> Reopened<C, O, R> {
     ghost use Rattle.std.specs.Prelude.{◌≡◌, IsSome};
 
-    /// Makes an input over the line that `opener` opens. `line` is the line, or `None` if the line isn't open yet.
+    /// Makes an input over the line that `opener` opens. `line` is the open line, or `None` if the line isn't open yet.
     pub fn new(clock: C, opener: O, line: Option<R>) -> Self
         ensures line { result.line ≡ line }
     {
@@ -187,7 +186,7 @@ pub struct Logged<W, L> {
     inner: W,
     log: Option<L>,
 
-    /// The error of the last write to the log, until the next flush returns it.
+    /// The error of a failed write to the log, until the next flush returns it.
     failed: Option<io::Error>,
 }
 
@@ -196,7 +195,7 @@ impl<W: Write + Drop, L: Write + Drop> Logged<W, L> {
     ghost use Rattle.std.specs.Io.KnownBytes.{Appends};
     ghost use Rattle.cobs_live.specs.Ports.{log_contents, logged_inner};
 
-    /// Makes a writer that also writes to this log, if there is one.
+    /// Makes a writer that also writes to this log, if there is a log.
     pub fn new(inner: W, log: Option<L>) -> Self
         ensures inner { logged_inner result ≡ inner }
         ensures log { (result.log ≡ log) × (result.failed ≡ None) }
@@ -208,7 +207,7 @@ impl<W: Write + Drop, L: Write + Drop> Logged<W, L> {
         }
     }
 
-    /// Writes to the log, if there is one and `failed` has no error.
+    /// Writes the bytes to the log, if there is a log and `failed` has no error.
     fn write_log(&mut self, bytes: &[u8])
         ensures inner { self.new.inner ≡ self.old.inner }
         ensures logged { self.new.failed ≡ None
@@ -231,7 +230,7 @@ impl<W: Write + Drop, L: Write + Drop> Write for Logged<W, L> {
 
     ghost contents = { λ logged. W.contents (logged_inner logged) };
 
-    /// Writes the bytes, and then writes to the log those that the writer has accepted.
+    /// Writes the bytes to the writer, and then writes the bytes that the writer has accepted to the log.
     fn write(&mut self, buf: &[u8]) -> io::Result<usize>
         ensures bound { WritesAtMost result buf.now }
         ensures bytes { WriteAppends (W.contents self.old.inner) (W.contents self.new.inner) result buf.now }

@@ -16,17 +16,17 @@ pub enum Kind {
     BadCrc,
 }
 
-/// The kind, length and bytes of a piece, as far as they can be shown.
+/// The kind, length and bytes of a piece, as they are shown.
 #[derive(Clone, Copy)]
 pub struct Sight<'a> {
     /// The kind of the piece.
     pub kind: Kind,
 
-    /// How many bytes the piece decodes to, not counting its checksum if that is right; `usize::MAX` if it decodes to
-    /// more than the buffer holds.
+    /// The number of bytes that the piece decodes to, without its checksum if the checksum is right. For a piece that
+    /// is too long, `usize::MAX`.
     pub len: usize,
 
-    /// The bytes of a message, without its checksum if that is right. For a broken or too long piece, the decoded bytes
-    /// that the buffer holds, or none if they aren't shown.
+    /// The bytes of a message, without its checksum if the checksum is right. For a broken or too long piece, the
+    /// decoded bytes that the buffer holds, or no bytes if they aren't shown.
     pub bytes: &'a [u8],
 }

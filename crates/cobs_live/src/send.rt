@@ -29,14 +29,14 @@ pub struct Settings {
     pub sentinel: u8,
 }
 
-/// Sends the message of each line of the input: writes its frame and the sentinel, and flushes the output before the
-/// next line is read. If `settings.hex` is set, the line has the hexadecimal digits of the message. Otherwise the
-/// message is the line without its newline. If `settings.checksum` is set, the checksum follows the message in the
-/// frame.
+/// Sends the message of each line of the input: writes the message's frame and the sentinel, and flushes the output
+/// before the next line is read. If `settings.hex` is set, the line has the hexadecimal digits of the message.
+/// Otherwise the message is the line without its newline. If `settings.checksum` is set, the checksum follows the
+/// message in the frame.
 ///
 /// Returns whether every line was sent. If `settings.hex` is set, a line that isn't hexadecimal digits is skipped, and
-/// its number, counted from 1, is reported on `errors`. An interrupted read is tried again. Memory is allocated for one
-/// line at a time, with its message and its frame.
+/// its number, counted from 1, is reported on `errors`. An interrupted read is tried again. At any time, memory is
+/// allocated for only one line, its message and its frame.
 ///
 /// - `ReadFailed`: a read failed, or memory ran out while a line was read. All earlier lines were sent.
 /// - `WriteFailed`: a write or a flush failed. Part of a frame may have been written.
@@ -86,7 +86,7 @@ fn without_newline(line: &[u8]) -> &[u8]
     }
 }
 
-/// Sends the message of a line's text. Returns false if the text should be hexadecimal digits and isn't.
+/// Sends the message of a line's text. Returns false if the text should be hexadecimal digits but isn't.
 fn send_text<W: Write + Drop>(
     alloc: Global,
     settings: &Settings,
@@ -120,7 +120,7 @@ fn send_text<W: Write + Drop>(
     }
 }
 
-/// Returns the text of a line without its blanks, tabs and carriage returns.
+/// Returns the text of a line without its spaces, tabs and carriage returns.
 fn digits_of(alloc: Global, text: &[u8]) -> Result<Vec<u8>, AllocError>
     ensures digits { IfOk result (λ digits. digits.items ≡ digits_of text.now) }
 {
@@ -133,7 +133,7 @@ fn digits_of(alloc: Global, text: &[u8]) -> Result<Vec<u8>, AllocError>
     Ok(digits)
 }
 
-/// Returns whether a byte of a line should be a digit, that is, whether it isn't a blank, a tab or a carriage return.
+/// Returns whether a byte of a line should be a digit: it isn't a space, a tab or a carriage return.
 fn is_digit(byte: u8) -> bool
     ensures digit { result ≡ is_digit byte }
 {
@@ -193,7 +193,7 @@ pub fn with_sum(alloc: Global, checksum: &Checksum, message: &[u8]) -> Result<Ve
 fn ended_frame(alloc: Global, sentinel: u8, message: &[u8]) -> Result<Vec<u8>, AllocError>
     ensures frame { IfOk result (λ bytes. IsSent sentinel message.now bytes.items) }
 {
-    // The frame of a longer message could have a length that doesn't fit a `usize`.
+    // For a longer message, the length of the frame could be too great for a `usize`.
     if usize::MAX / 2 < message.len() {
         return Err(AllocError);
     }

@@ -32,28 +32,28 @@ use std::alloc::{AllocError, Global};
 use std::io::{BufWriter, ErrorKind, Write};
 use std::rt::Clock;
 
-/// The zero after a short frame is first searched for in this many bytes, which fill one vector, and then in [`NEAR`]
-/// bytes.
+/// The number of bytes in which the zero of a short frame is searched for first. They fill one vector. The second
+/// search is in [`NEAR`] bytes.
 const NEAREST: usize = 16;
 
-/// A zero is searched for in at most this many bytes before all bytes are passed to the decoder.
+/// The number of bytes in which the zero of a short frame is searched for, before all bytes are passed to the decoder.
 const NEAR: usize = 64;
 
-/// The most bytes that one read can return, 64 KiB. If a read returns fewer bytes, the pieces that end in them are
+/// The greatest number of bytes of one read: 64 KiB. If a read returns fewer bytes, the pieces that end in them are
 /// shown before more bytes are read.
 pub const CHUNK_LEN: usize = 65_536;
 
-/// Shows each piece of the input when its sentinel arrives. At the end of the input, shows `unfinished` if another
-/// piece has begun. A hang-up of the line doesn't end a piece. At a hang-up, shows `unfinished` if a piece has begun,
-/// and then `hung up`. After a hang-up, all bytes up to the next sentinel are skipped.
+/// Shows each piece of the input when the piece's sentinel arrives. At the end of the input, shows `unfinished` if a
+/// piece has begun and not ended. A hang-up of the line doesn't end a piece. After a hang-up, `run_show` shows
+/// `unfinished` in the same case, then shows `hung up`, and skips all bytes up to the next sentinel.
 ///
 /// `run_show` calls [`Watch::show_next`] repeatedly. Each call reads once, shows the pieces that ended, and flushes the
 /// output. So all pieces that have ended so far have been written before the program waits for more bytes. Memory is
 /// allocated only before the first read: for a message of the greatest length, and for a chunk of the input.
 ///
-/// If `counting.at_end` is set, the counts are written to `errors` at the end, even after a fault. With
-/// `counting.every`, the counts so far are also written when bytes arrive, if at least that many milliseconds have
-/// passed since the start, or since the counts were last written. A failure to write the counts isn't a fault.
+/// If `counting.at_end` is set, the counts are written to `errors` at the end, even after a fault. `counting.every` is
+/// an interval in milliseconds, or `None`. With an interval, the counts so far are also written while bytes arrive, at
+/// most once per interval. A failure to write the counts isn't a fault.
 ///
 /// - `ReadFailed`: a read failed, for example because a serial line was unplugged. All pieces that had ended have been
 ///   shown, and then `unfinished` if another piece had begun.
@@ -145,8 +145,8 @@ impl<'a> Watch<'a> {
     /// input continues. At the end of the input, after a failed read or after a hang-up, shows `unfinished` if a piece
     /// has begun and not ended. After a hang-up, shows `hung up` too.
     ///
-    /// Nothing is written before the read. When the read begins, all output has been passed on (`flushed`), so all
-    /// pieces that had ended have been shown. An interrupted read is tried again.
+    /// Nothing is written before the read. When the read begins, the output has been flushed (`flushed`), so all pieces
+    /// that had ended have been shown. An interrupted read is tried again.
     ///
     /// # Errors
     /// `ReadFailed` if the read failed; no piece has ended in this call. `WriteFailed` if a write or a flush failed. If
@@ -160,7 +160,7 @@ impl<'a> Watch<'a> {
     ) -> Result<bool, WatchFault>
         requires some { 0 < length chunk.old }
         requires flushed { writer_buffer output.old ≡ [] }
-        // If all pieces that had ended were shown before the call, this is also true after it.
+        // If all pieces that had ended were shown before the call, this is also true after the call.
         ensures shown { (settings : Settings) (from before : Option (List ℕ)) → HasShownSoFar settings from
             (S.remaining input.old) before (W.contents (writer_inner output.old)) self.old
             → ShowsNext settings result from (S.remaining input.new) before
@@ -231,8 +231,8 @@ impl<'a> Watch<'a> {
         Ok(())
     }
 
-    /// Shows `unfinished` if a piece has begun and not ended, and then `hung up`. The bytes of the next connection are
-    /// skipped up to its first sentinel, because the connection may begin in the middle of a frame.
+    /// Shows `unfinished` if a piece has begun and not ended. Then shows `hung up`. The bytes of the next connection
+    /// are skipped up to its first sentinel, because the connection may begin in the middle of a frame.
     fn hang_up<W: Write + Drop>(&mut self, output: &mut BufWriter<W>) -> Result<(), WatchFault>
         requires flushed { writer_buffer output.old ≡ [] }
         ensures shown { OnOk result (ShowsHangUp (phase_of self.old.decoder) self.old.settings.now.view
@@ -279,7 +279,7 @@ fn read_chunk<S: LiveInput<W>, W: Write + Drop>(
     Err(WatchFault::ReadFailed)
 }
 
-/// Returns whether a piece has begun.
+/// Returns whether a piece has begun and not ended.
 fn has_begun(decoder: &UnbufferedDecoder) -> bool
     ensures idle { (result ≡ false) ↔ (phase_of decoder.now ≡ Idle) }
 {
@@ -297,8 +297,8 @@ fn change_sentinel(bytes: &mut [u8], sentinel: u8)
     }
 }
 
-/// Returns the bytes after the first zero if `skipping` is set, and otherwise all bytes. If `skipping` is set and there
-/// is no zero, returns no bytes. The zero clears `skipping`.
+/// Returns all bytes if `skipping` isn't set. Otherwise returns the bytes after the first zero and clears `skipping`,
+/// or returns no bytes if there is no zero.
 fn behind_first<'a>(skipping: &mut bool, bytes: &'a [u8]) -> &'a [u8]
     ensures begun { result.now ≡ begun skipping.old bytes.now }
     ensures skips { skipping.new ≡ skips_on skipping.old bytes.now }
@@ -357,7 +357,7 @@ fn show_bytes<W: Write>(
 
 /// Returns the bytes to pass to the decoder in one call: the bytes up to and including the first zero if this zero is
 /// among the first [`NEAR`] bytes, and otherwise all bytes. So the decoder gets a short frame without the bytes after
-/// it, and decodes it in the way that is fastest for a short frame.
+/// it, and uses the code that is fastest for a short frame.
 #[inline(always)]
 fn front(bytes: &[u8]) -> &[u8]
     requires some { 0 < length bytes.now }
@@ -377,7 +377,7 @@ fn front(bytes: &[u8]) -> &[u8]
     bytes
 }
 
-/// Returns the index after the first zero if this zero is among the first `most` bytes.
+/// Returns the index after the first zero if this zero is among the first `most` bytes, and otherwise `None`.
 #[inline(always)]
 fn end_within(bytes: &[u8], most: usize) -> Option<usize>
     requires few { most ≤ 64 }
@@ -388,7 +388,7 @@ fn end_within(bytes: &[u8], most: usize) -> Option<usize>
     if zero < near { Some(zero + 1) } else { None }
 }
 
-/// Shows a piece with this number and these times. If the piece's text can be composed, the text is written in one
+/// Shows the piece with this number and these times. If the piece's text can be composed, the text is written in one
 /// call, or is kept and later written with the text of other pieces.
 #[inline(always)]
 fn show_at_once<W: Write>(

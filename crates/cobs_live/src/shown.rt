@@ -65,8 +65,8 @@ pub struct Filter {
     pub min: usize,
     pub max: usize,
 
-    /// A piece is shown only if its bytes begin with this prefix. If the prefix isn't empty, a piece whose bytes aren't
-    /// shown is held back.
+    /// A piece is shown only if its bytes begin with this prefix. Without [`View::partial`], broken and too long pieces
+    /// have no bytes.
     pub prefix: Vec<u8>,
 }
 
@@ -89,7 +89,7 @@ pub struct View {
     /// Which pieces are shown.
     pub filter: Filter,
 
-    /// The checksum with which each message should end, if any. The checksum isn't shown if it is right.
+    /// The checksum at the end of each message, or `None`. A right checksum isn't shown.
     pub checksum: Option<Checksum>,
 
     /// Whether the decoded bytes of a broken or too long piece are shown, as far as the buffer holds them.
@@ -102,7 +102,7 @@ pub struct Settings {
     /// Which pieces are shown, and how.
     pub view: View,
 
-    /// The length in bytes of the longest message that is shown, including its checksum if it has one. A piece that
+    /// The length in bytes of the longest message that is shown, including the message's checksum, if any. A piece that
     /// decodes to more bytes is too long.
     pub length: usize,
 
@@ -114,8 +114,8 @@ pub struct Settings {
     pub skip_first: bool,
 }
 
-/// Returns the piece that ended as `end` says. Its output is at the front of `buffer`. If there is a checksum, each
-/// message should end with it.
+/// Converts the end of a piece to a [`Sight`]. The front of `buffer` has the bytes that the piece decodes to. If there
+/// is a checksum, a message should end with it.
 pub fn sight_of<'a>(checksum: &Option<Checksum>, end: PieceEnd, buffer: &'a [u8]) -> Sight<'a>
     requires within { IsWithin (length buffer.now) end }
     ensures seen { seen_in result ≡ seen_of checksum.now (outcome_at end buffer.now) }
@@ -135,7 +135,8 @@ pub fn sight_of<'a>(checksum: &Option<Checksum>, end: PieceEnd, buffer: &'a [u8]
     }
 }
 
-/// Returns the piece for a message, which should end with the checksum if there is one.
+/// Returns the [`Sight`] of a message. If there is a checksum, the message should end with it: a right checksum is
+/// removed from the message, and a wrong one makes the kind `BadCrc`.
 fn message_sight<'a>(checksum: &Option<Checksum>, message: &'a [u8]) -> Sight<'a>
     ensures seen { seen_in result ≡ seen_message checksum.now message.now }
 {
@@ -148,15 +149,15 @@ fn message_sight<'a>(checksum: &Option<Checksum>, message: &'a [u8]) -> Sight<'a
     }
 }
 
-/// A message that is sent with a checksum is shown as the sender had it, without the checksum. (A law: this function
-/// does nothing when it runs.)
+/// States a law: if a message is sent with a checksum, it is shown as the sender had it, without the checksum. This
+/// function does nothing when it runs.
 pub fn sum_law()
     ensures back { (checksum : Checksum) (message : List ℕ)
         → seen_message (Some checksum) (with_sum (Some checksum) message)
         ≡ whole Message message }
 {}
 
-/// Returns a piece of this kind, all of whose bytes are shown.
+/// Returns a piece with this kind and these bytes.
 fn whole(kind: Kind, bytes: &[u8]) -> Sight<'_>
     ensures seen { seen_in result ≡ whole kind bytes.now }
 {
@@ -167,8 +168,8 @@ fn whole(kind: Kind, bytes: &[u8]) -> Sight<'_>
     }
 }
 
-/// Returns the piece. If `partial` is set, and the piece is broken or too long, the bytes of the returned piece are
-/// those decoded bytes that `buffer` holds.
+/// Returns a copy of the piece. If `partial` is set, the copy of a broken or too long piece also has the piece's
+/// decoded bytes, as far as `buffer` holds them.
 pub fn with_part<'a>(partial: bool, piece: &Sight<'a>, buffer: &'a [u8]) -> Sight<'a>
     ensures seen { seen_in result
         ≡ with_part partial (seen_in piece.now) (held piece.now.kind piece.now.len buffer.now) }
@@ -214,7 +215,7 @@ impl Filter {
     }
 }
 
-/// Shows a piece with this number and these times, unless the view's filter holds it back.
+/// Shows the piece with this number and these times, unless the view's filter hides it.
 pub fn show_piece<W: Write>(
     output: &mut W,
     view: &View,
@@ -235,7 +236,7 @@ pub fn show_piece<W: Write>(
     write_line(output, view, number, times, piece)
 }
 
-/// Writes the time of a piece before its line, if the style shows it there.
+/// Writes the time that precedes the line of a piece, or nothing if the style has no such time.
 fn write_time<W: Write>(output: &mut W, view: &View, times: &Times) -> io::Result<()>
     ensures written { OnOk result (Appends (W.contents output.old) (W.contents output.new)
         (in_front view.now.style view.now.stamp times.now)) }
@@ -246,7 +247,7 @@ fn write_time<W: Write>(output: &mut W, view: &View, times: &Times) -> io::Resul
     }
 }
 
-/// Shows the end of a stream: writes `unfinished` if a piece had begun.
+/// Shows the end of a stream: writes `unfinished` if a piece had begun and not ended.
 pub fn show_end<W: Write>(output: &mut W, view: &View, unfinished: bool) -> io::Result<()>
     ensures shown { OnOk result (Appends (W.contents output.old) (W.contents output.new)
         (shown_end view.now unfinished)) }
@@ -261,7 +262,7 @@ pub fn show_end<W: Write>(output: &mut W, view: &View, unfinished: bool) -> io::
     }
 }
 
-/// Shows that a line hung up. If a piece had begun before the hang-up, `unfinished` is shown first.
+/// Shows that a line hung up. If a piece had begun and not ended, `unfinished` is shown first.
 pub fn show_hang_up<W: Write>(output: &mut W, view: &View, unfinished: bool) -> io::Result<()>
     ensures shown { OnOk result (Appends (W.contents output.old) (W.contents output.new)
         (shown_hang_up view.now unfinished)) }
@@ -270,7 +271,7 @@ pub fn show_hang_up<W: Write>(output: &mut W, view: &View, unfinished: bool) -> 
     write_hung_up(output, view)
 }
 
-/// Writes that a line hung up.
+/// Writes the text that says that a line hung up, unless the filter hides this text.
 fn write_hung_up<W: Write>(output: &mut W, view: &View) -> io::Result<()>
     ensures written { OnOk result (Appends (W.contents output.old) (W.contents output.new)
         (if view.now.filter.unfinished then hung_up_in view.now.style else [])) }

@@ -30,16 +30,16 @@ pub struct Counting {
     /// Whether the tally is written when the program ends: at the end of the input, or after a fault.
     pub at_end: bool,
 
-    /// With a number, the tally is also written when bytes arrive, if at least this many milliseconds have passed since
-    /// the tally was last written, or since the start.
+    /// An interval in milliseconds, or `None`. With an interval, the tally is also written while bytes arrive, at most
+    /// once per interval.
     pub every: Option<u64>,
 }
 
 impl Counting {
     ghost use Rattle.std.specs.Prelude.{◌≡◌, ◌≤◌, ◌↔◌, IfSome, IsTrue, None, false};
 
-    /// Returns whether the tally should be written, given the milliseconds since it was last written, or since the
-    /// start.
+    /// Returns whether the tally should be written. `passed` is the number of milliseconds since the tally was last
+    /// written, or since the start if it hasn't been written.
     pub fn is_due(&self, passed: u64) -> bool
         ensures unasked { self.now.every ≡ None → result ≡ false }
         ensures due { IfSome self.now.every (λ every. IsTrue result ↔ every ≤ passed) }

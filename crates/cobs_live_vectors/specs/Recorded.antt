@@ -1,4 +1,4 @@
--- The number that a `Recorder` keeps: how many bytes had been written at its last read.
+-- The number that a `Recorder` records: how many bytes had been written when its last read began.
 use Rattle.std.specs.Prelude.{ℕ, ◌≡◌, ◌⊎◌, List, length, Option, Some, None}
 
 -- how many bytes had been written to an output in memory

@@ -1,6 +1,6 @@
-//! Tests of `cobs_live` with readers and writers that pass on few bytes, are interrupted, or fail. No contract says
-//! with which result a call then ends. The crate also has callers that use the promise of `cobs_live` to show a piece
-//! before the next read.
+//! Tests of `cobs_live` with readers and writers that pass on few bytes per call, are interrupted, or fail. No contract
+//! states the result of a call in these cases. The crate also has callers whose contracts are proved from the promise
+//! of `cobs_live`: a piece that has ended is shown before the next read.
 #![tactic(auto)]
 
 pub mod recorder;

@@ -1,5 +1,5 @@
-//! An input that records how many bytes had been written at the last read, and callers whose contracts say what that
-//! number is.
+//! An input that records how many bytes had been written when its last read began, and callers whose contracts describe
+//! this number.
 ghost use Rattle.std.specs.Prelude.{◌≡◌, [], List, ℕ, Some};
 ghost use Rattle.std.specs.Io.Buffered.{writer_buffer, writer_inner};
 ghost use Rattle.cobs_live.specs.Live.{HoldsText};
@@ -17,7 +17,7 @@ use std::alloc::Global;
 use std::io::{self, BufRead, BufWriter, Read};
 use std::rt::Clock;
 
-/// Reads from some bytes, and records how many bytes had been written to the output at the last read.
+/// An input of bytes in memory. It records how many bytes had been written to the output when its last read began.
 #[derive(Drop)]
 pub struct Recorder<'a> {
     pub bytes: &'a [u8],
@@ -61,7 +61,8 @@ impl LiveLines<Vec<u8>> for Recorder<'_> {
     }
 }
 
-/// Shows a stream. At the last read, the text of all pieces that had ended was written, as the recorded number says.
+/// Shows a stream. The recorded number is the length of the text that had been written when the last read began: the
+/// text of all pieces that had ended.
 pub fn show_recorded<C: Clock + Drop>(
     alloc: Global,
     settings: &Settings,
@@ -87,7 +88,8 @@ pub fn show_recorded<C: Clock + Drop>(
     )
 }
 
-/// Sends lines. When the last line was read, the frames of all earlier lines were written, as the recorded number says.
+/// Sends lines. The recorded number is the length of the frames that had been written when the last read began: the
+/// frames of all earlier lines.
 pub fn send_recorded(
     alloc: Global,
     settings: &send::Settings,

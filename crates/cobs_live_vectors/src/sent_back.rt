@@ -13,7 +13,8 @@ use cobs_live::shown::{View, show_piece, sight_of, sum_law};
 use std::alloc::Global;
 use std::io::Write;
 
-/// Shows the frame of a message that is sent with the checksum of the view. It is shown as that message.
+/// Adds the view's checksum to a message, and shows the result as a received message. The text is the same as for the
+/// message without a checksum.
 pub fn show_sent<W: Write>(
     alloc: Global,
     output: &mut W,

@@ -21,8 +21,8 @@ pub extern "C" fn jcobs_decoder_is_idle(decoder: &UnbufferedDecoder) -> u32
     if decoder.is_idle() { 1 } else { 0 }
 }
 
-/// Takes bytes of the stream: those up to and including the zero that ends the first piece, or all bytes if no piece
-/// ends. Even if the state is corrupt, nothing outside the buffers is accessed, `consumed` is at most the number of
+/// Decodes bytes of the stream, and stops after the zero that ends the first piece. If no piece ends, decodes all the
+/// bytes. Even if the state is corrupt, nothing outside the buffers is accessed, `consumed` is at most the number of
 /// bytes, and `length` is at most the buffer's length.
 #[unsafe(no_mangle)]
 pub extern "C" fn jcobs_decoder_push(
@@ -36,7 +36,7 @@ pub extern "C" fn jcobs_decoder_push(
     decode_each(decoder, buffer, bytes, 0)
 }
 
-/// Takes the next byte of the stream, as `jcobs_decoder_push` does.
+/// Decodes the next byte of the stream. The contract is the same as for a `jcobs_decoder_push` of this byte.
 #[unsafe(no_mangle)]
 pub extern "C" fn jcobs_decoder_feed(
     decoder: &mut UnbufferedDecoder,

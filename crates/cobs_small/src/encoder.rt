@@ -6,7 +6,7 @@ ghost use Rattle.cobs_abi.specs.Stream.{EncodesNext, Finishes, IsFreshEncoder};
 use cobs::UnbufferedEncoder;
 use cobs_abi::{Answer, encode_byte, encode_each, finish, finish_terminated};
 
-/// Puts the encoder back to the start, even if its state is corrupt. After the reset, the encoder has taken no bytes.
+/// Resets the encoder to the start of a message, even if its state is corrupt.
 #[unsafe(no_mangle)]
 pub extern "C" fn jcobs_encoder_reset(encoder: &mut UnbufferedEncoder)
     ensures fresh { IsFreshEncoder encoder.new }
@@ -14,9 +14,9 @@ pub extern "C" fn jcobs_encoder_reset(encoder: &mut UnbufferedEncoder)
     *encoder = UnbufferedEncoder::new();
 }
 
-/// Takes the next bytes of a message, if the frame of all bytes so far fits the buffer. Even if the state is corrupt,
-/// nothing outside the buffers is accessed, `consumed` is at most the number of bytes, and `length` is at most the
-/// buffer's length.
+/// Encodes the next bytes of a message, if the frame of the message up to and including these bytes fits the buffer.
+/// Even if the state is corrupt, nothing outside the buffers is accessed, `consumed` is at most the number of bytes,
+/// and `length` is at most the buffer's length.
 #[unsafe(no_mangle)]
 pub extern "C" fn jcobs_encoder_push(
     encoder: &mut UnbufferedEncoder,
@@ -29,7 +29,7 @@ pub extern "C" fn jcobs_encoder_push(
     encode_each(encoder, buffer, bytes)
 }
 
-/// Takes the next byte of a message, as `jcobs_encoder_push` does.
+/// Encodes the next byte of a message. The contract is the same as for a `jcobs_encoder_push` of this byte.
 #[unsafe(no_mangle)]
 pub extern "C" fn jcobs_encoder_feed(
     encoder: &mut UnbufferedEncoder,
@@ -42,8 +42,8 @@ pub extern "C" fn jcobs_encoder_feed(
     encode_byte(encoder, buffer, byte)
 }
 
-/// Ends the message, if its frame fits the buffer. Even if the state is corrupt, nothing outside the buffers is accessed,
-/// and the returned length is at most the buffer's.
+/// Ends the message, if its frame fits the buffer. Even if the state is corrupt, nothing outside the buffers is
+/// accessed, and the returned `length` is at most the buffer's length.
 #[unsafe(no_mangle)]
 pub extern "C" fn jcobs_encoder_finish(encoder: &mut UnbufferedEncoder, buffer: &mut [u8]) -> Answer
     ensures finishes { Finishes 0 IsFrameOnWire encoder.old buffer.old result
@@ -52,7 +52,8 @@ pub extern "C" fn jcobs_encoder_finish(encoder: &mut UnbufferedEncoder, buffer: 
     finish(encoder, buffer)
 }
 
-/// Ends the message, as `jcobs_encoder_finish` does, and writes a zero after its frame, if the frame and the zero fit.
+/// Ends the message, as `jcobs_encoder_finish` does, and writes a zero after its frame. If the frame and the zero don't
+/// fit the buffer, nothing changes.
 #[unsafe(no_mangle)]
 pub extern "C" fn jcobs_encoder_finish_terminated(
     encoder: &mut UnbufferedEncoder,

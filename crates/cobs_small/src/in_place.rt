@@ -1,11 +1,11 @@
-//! Decodes a frame in its own buffer.
+//! Decodes a frame in place.
 ghost use Rattle.cobs_abi.specs.Decode.{DecodesInPlace};
 
 use cobs::laws::law_12;
 use cobs::{DecodeError, decode_blocks_each, len_to_zero};
 use cobs_abi::{Answer, result_by};
 
-/// Decodes the frame at the front of the buffer in place.
+/// Decodes the frame at the front of the buffer, in place.
 #[unsafe(no_mangle)]
 pub extern "C" fn jcobs_decode_in_place(buffer: &mut [u8]) -> Answer
     ensures decodes { DecodesInPlace buffer.old result buffer.new }

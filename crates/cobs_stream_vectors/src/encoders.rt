@@ -1,4 +1,4 @@
-//! A streaming encoder over a slice: the frame is the same wherever its message is cut.
+//! Tests a streaming encoder over a slice: the frame doesn't depend on where the message is cut.
 use cobs::CobsEncoder;
 use cobs_vectors::bytes::{LONG_FRAME, LONG_MESSAGE, ONES, chosen, joined, repeated};
 use cobs_vectors::reference::frame_of;
@@ -6,7 +6,7 @@ use std::alloc::Global;
 use std::process::Abort;
 use std::test::Fail;
 
-/// Encodes a message that comes in these pieces, and returns the length of its frame.
+/// Encodes a message that comes in these pieces, and returns the frame's length.
 fn encode_pieces(rt: &impl Abort, pieces: &[&[u8]], slice: &mut [u8]) -> usize {
     assert!(rt; !slice.is_empty());
     let mut encoder = CobsEncoder::new(slice);
@@ -16,7 +16,7 @@ fn encode_pieces(rt: &impl Abort, pieces: &[&[u8]], slice: &mut [u8]) -> usize {
     encoder.finalize()
 }
 
-/// Encodes the message in pieces of one size; the last piece has the bytes that are left.
+/// Encodes the message in pieces of `size` bytes. The last piece may be shorter.
 pub fn encode_in_pieces(
     rt: &impl Abort,
     alloc: Global,
@@ -30,7 +30,7 @@ pub fn encode_in_pieces(
 }
 
 /// Checks that the message has this frame if it comes in two pieces, with an empty piece between them and another empty
-/// piece after them. The slice has the frame's length, or one byte more, which stays as it was.
+/// piece after them. The slice is as long as the frame, or has one more byte, which must not change.
 fn check_two_pieces<'a>(
     rt: &impl Abort,
     alloc: Global,
@@ -73,7 +73,8 @@ fn the_frame_is_the_same_for_pieces_of_any_size(rt: HostRuntime) -> Result<(), F
     Ok(())
 }
 
-/// Checks all messages of these parts. Each pair of `counts` says how many parts a message has, and how many such messages there are.
+/// Checks all messages of these parts. Each pair of `counts` has the number of parts of a message, and the number of
+/// messages with this number of parts.
 fn check_messages(
     rt: &impl Abort,
     alloc: Global,

@@ -7,7 +7,7 @@ use std::alloc::{AllocError, Global};
 use std::process::Abort;
 use std::test::Fail;
 
-/// Bytes that are fed to a streaming decoder with a buffer of `room` bytes.
+/// Bytes that are fed one by one to a streaming decoder with a buffer of `room` bytes.
 #[derive(Drop)]
 struct Fed<'a> {
     list: &'a [u8],
@@ -15,7 +15,7 @@ struct Fed<'a> {
 }
 
 impl Check for Fed<'_> {
-    /// Checks that the result for each zero is that of the piece that the zero ends.
+    /// Compares the result of each byte, and the front of the buffer after the byte, with the reference.
     fn check<D: StreamingDecoder + Drop>(
         &self,
         rt: &impl Abort,
@@ -60,14 +60,14 @@ impl Check for Fed<'_> {
     }
 }
 
-/// Bytes and a zero, as a stream for a decoder with a buffer of `room` bytes.
+/// Bytes that are decoded, with a zero after them, as a stream with a buffer of `room` bytes.
 #[derive(Drop)]
 struct Streamed<'a> {
     list: &'a [u8],
     room: usize,
 }
 
-/// Returns the outcomes of the pieces of a stream, in a buffer of `room` bytes.
+/// Returns the outcomes of the pieces of a stream, for a buffer of `room` bytes, as the reference computes them.
 fn outcomes_of(alloc: Global, stream: &[u8], room: usize) -> Result<Vec<FrameOutcome>, AllocError> {
     let mut outcomes = Vec::new(alloc);
     let mut rest = stream;
@@ -95,7 +95,7 @@ fn outcomes_of(alloc: Global, stream: &[u8], room: usize) -> Result<Vec<FrameOut
 }
 
 impl Check for Streamed<'_> {
-    /// Checks that each piece has the outcome that the reference has.
+    /// Checks that each piece has the outcome that the reference computes.
     fn check<D: StreamingDecoder + Drop>(
         &self,
         rt: &impl Abort,
@@ -111,8 +111,8 @@ impl Check for Streamed<'_> {
     }
 }
 
-/// Checks each decoder with buffers of these lengths. Only a short list is fed byte by byte, because for each byte the
-/// reference reads all bytes before it again.
+/// Checks each decoder with buffers of these lengths. Only a short list is also fed byte by byte, because for each byte
+/// the reference decodes the whole piece so far again.
 fn check_list(rt: &impl Abort, alloc: Global, list: &[u8], rooms: &[usize]) -> Result<(), Fail> {
     for room in rooms {
         check_all(rt, alloc, *room, &Streamed { list, room: *room })?;
@@ -123,7 +123,8 @@ fn check_list(rt: &impl Abort, alloc: Global, list: &[u8], rooms: &[usize]) -> R
     Ok(())
 }
 
-/// Checks all lists of these parts. Each pair of `counts` says how many parts a list has, and how many such lists there are.
+/// Checks all lists of these parts. Each pair of `counts` has the number of parts of a list, and the number of lists
+/// with this number of parts.
 fn check_lists(
     rt: &impl Abort,
     alloc: Global,

@@ -1,11 +1,11 @@
-//! Tests of decoders in states that no careful caller causes.
+//! Tests of decoders after writes to the buffer inside a piece, and after resets inside a piece.
 use crate::streaming::{CallResult, Check, StreamingDecoder, check_all, feed_all, overwrite};
 use cobs_vectors::bytes::{ONES, Parts, joined};
 use std::alloc::Global;
 use std::process::Abort;
 use std::test::Fail;
 
-/// The length of a buffer, and bytes that lead an idle decoder over this buffer to a phase: a row for each phase.
+/// A row for each phase of a decoder: the length of the buffer, and the bytes that bring an idle decoder to this phase.
 const FRONTS: [(usize, Parts); 10] = [
     // idle, at the start and after a frame
     (4, &[]),
@@ -23,11 +23,11 @@ const FRONTS: [(usize, Parts); 10] = [
     (4, &[&[6, 1, 2, 3, 4, 5]]),
 ];
 
-/// The bytes that follow the write.
+/// The bytes that are passed to the decoder after the write.
 const BEHIND: [&[u8]; 5] = [&[], &[1], &[3], &[2, 9], &[7, 8, 9, 1, 1, 1]];
 
-/// Writes to the buffer inside a piece, and passes more bytes. Whatever their results are, the decoder is idle after
-/// the next zero.
+/// A test that writes to the buffer after the bytes `front`, and then passes the bytes `behind`. The results of these
+/// bytes don't matter, but the decoder must be idle after the next zero.
 #[derive(Drop)]
 struct Written<'a> {
     front: &'a [u8],
@@ -35,7 +35,7 @@ struct Written<'a> {
     is_pushed: bool,
 }
 
-/// Passes bytes to the decoder. Their results don't matter.
+/// Passes bytes to the decoder, and ignores the results.
 fn give<D: StreamingDecoder>(decoder: &mut D, bytes: &[u8], is_pushed: bool) {
     if is_pushed {
         let _ = decoder.push_some(bytes);
@@ -68,7 +68,8 @@ impl Check for Written<'_> {
     }
 }
 
-/// Resets the decoder inside a piece. The decoder is idle at once, and its buffer is unchanged.
+/// A test that resets the decoder after the bytes `front`. After the reset, the decoder must be idle, and its buffer
+/// unchanged.
 #[derive(Drop)]
 struct Resets<'a> {
     front: &'a [u8],
@@ -96,7 +97,7 @@ impl Check for Resets<'_> {
     }
 }
 
-/// Writes to the buffer, and resets the decoder, after each front.
+/// Runs tests for each row of `fronts`: the test of a reset, and the tests of a write with each of `behinds`.
 fn check_fronts(
     rt: &impl Abort,
     alloc: Global,
@@ -125,7 +126,8 @@ fn a_decoder_forgets_at_a_zero_and_at_a_reset(rt: HostRuntime) -> Result<(), Fai
     check_fronts(&rt, rt.alloc(), &FRONTS, &BEHIND)
 }
 
-/// The bytes that are written to the buffer inside a piece are in its message, and stay after a reset.
+/// A test that writes bytes to the buffer inside a piece. The piece's message must contain these bytes, and a reset
+/// must not change them.
 #[derive(Drop)]
 struct Overwritten;
 

@@ -1,5 +1,5 @@
-//! Tests of frames from readers that fail, that end and that never end, as a table. `conformance/reader.txt` has more
-//! reads.
+//! Tests of `FrameReader` with readers that fail, that end or that never end, as a table. `conformance/reader.txt` has
+//! more cases.
 use cobs::{
     CobsDecoder, CobsDecoderHeapless, CobsDecoderOwned, FrameDecoder, FrameReader, FrameSource,
     Next, ReadFault, Recorded,
@@ -10,7 +10,7 @@ use std::io::Read;
 use std::process::Abort;
 use std::test::Fail;
 
-/// The bytes that a reader returns, and in which reads.
+/// The bytes that a reader returns, and how many bytes each read returns.
 #[derive(Clone, Copy)]
 enum Given {
     /// The bytes, at most this many per read.
@@ -70,8 +70,8 @@ impl Read for Counted {
     }
 }
 
-/// An expected result of `next_frame`: its `Ok` or its `Err`, with the message's bytes in place of their number, so
-/// that it can be a constant.
+/// An expected result of `next_frame`, as a constant. For a message, it has the message's bytes instead of their
+/// number.
 #[derive(Clone, Copy)]
 enum Wanted {
     Message(&'static [u8]),
@@ -83,7 +83,7 @@ enum Wanted {
     TooManyReads,
 }
 
-/// Returns the result of `next_frame` that is expected.
+/// Returns the expected result as the type that `next_frame` returns.
 fn result_of(wanted: Wanted) -> Result<Next, ReadFault> {
     match wanted {
         Wanted::Message(message) => Ok(Next::Message(message.len())),
@@ -95,10 +95,10 @@ fn result_of(wanted: Wanted) -> Result<Next, ReadFault> {
     }
 }
 
-/// A reader, the result of each call, and how often the reader has been read after these calls.
+/// A reader, the expected results of the calls of `next_frame`, and the number of reads that these calls make together.
 type ReaderRow = (Given, &'static [Wanted], usize);
 
-/// Finds the frames of a reader, and checks the result of each call. `row` is the number that a failed check prints.
+/// Calls `next_frame` once for each expected result, and compares the results and the number of reads.
 fn find_all<D: FrameDecoder>(
     rt: &impl Abort,
     frames: &mut FrameReader<D>,
@@ -117,7 +117,7 @@ fn find_all<D: FrameDecoder>(
     assert_eq!(rt; source.into_inner().reads, *reads, "row {row}");
 }
 
-/// Finds the frames of some readers, one reader after the other, with the same `FrameReader`.
+/// Checks some readers, one after another, with the same `FrameReader`.
 fn find_in_each<D: FrameDecoder + Drop>(
     rt: &impl Abort,
     mut frames: FrameReader<D>,
@@ -132,7 +132,7 @@ fn find_in_each<D: FrameDecoder + Drop>(
 /// The result at the end of a reader, if no piece is unfinished.
 const END: Wanted = Wanted::End { unfinished: false };
 
-/// A stream with a message, a broken piece, a piece that is too long for four bytes, and a message.
+/// A stream with a message, a broken piece, a piece that decodes to more than four bytes, and another message.
 const DAMAGED: &[u8] = &[0, 3, 7, 8, 0, 5, 1, 0, 6, 1, 2, 3, 4, 5, 0, 2, 9, 0];
 
 /// The outcomes of [`DAMAGED`] in a buffer of four bytes.
@@ -144,7 +144,7 @@ const OUTCOMES: &[Wanted] = &[
     END,
 ];
 
-/// Readers, for a decoder with a buffer of four bytes. The readers of a row are read one after another by one decoder.
+/// Rows of readers. For each row, one decoder with a buffer of four bytes gets the row's readers, one after another.
 const READERS: [&[ReaderRow]; 12] = [
     // an unfinished piece continues with another reader
     &[
@@ -204,7 +204,7 @@ const READERS: [&[ReaderRow]; 12] = [
     )],
 ];
 
-/// Finds the frames of each row's readers, by each of the three decoders.
+/// Checks the readers of each row with each of the three decoders.
 fn check_readers(rt: &impl Abort, alloc: Global, rows: &[&[ReaderRow]]) -> Result<(), Fail> {
     for (at, readers) in rows.iter().enumerate() {
         let mut buffer = [0; 4];

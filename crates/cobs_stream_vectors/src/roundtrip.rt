@@ -7,7 +7,7 @@ use std::alloc::Global;
 use std::process::Abort;
 use std::test::Fail;
 
-/// Returns the bytes from `first` to `2 * first - 1`, each modulo 256.
+/// Returns the numbers from `first` to `2 * first - 1`, each modulo 256, as bytes.
 fn ascending_from(alloc: Global, first: u16) -> Result<Vec<u8>, Fail> {
     let mut bytes = Vec::new(alloc);
     for number in first..first.saturating_mul(2) {
@@ -46,7 +46,7 @@ fn streams_go_there_and_back(rt: HostRuntime) -> Result<(), Fail> {
     Ok(())
 }
 
-/// A frame of two blocks or more, in pieces of one size, and then a sentinel.
+/// A test of a frame of two blocks or more. The frame comes in pieces of `size` bytes, and then a sentinel follows.
 #[derive(Drop)]
 struct Pieces<'a> {
     frame: &'a [u8],
@@ -55,8 +55,9 @@ struct Pieces<'a> {
 }
 
 impl Check for Pieces<'_> {
-    /// Checks that each piece has no result or an error, and that the sentinel has the result `returned`. After a piece
-    /// with an error, each later piece has an error too. At the end, the buffer has the bytes of the message that fit.
+    /// Checks that each piece of the frame returns no message, and that the sentinel returns `returned`. If a piece
+    /// returns an error, each later piece must return an error too. At the end, the buffer must have the bytes of the
+    /// message that fit.
     fn check<D: StreamingDecoder + Drop>(
         &self,
         rt: &impl Abort,
@@ -96,8 +97,8 @@ impl Check for Pieces<'_> {
 #[test]
 fn pieces_of_any_size_give_the_message_or_overflow(rt: HostRuntime) -> Result<(), Fail> {
     let mut frame = joined(rt.alloc(), LONG_FRAME)?;
-    // The message has 2,001 bytes, so it fits the first buffer, and the second buffer is a byte too short. The frame
-    // has 2,008 bytes.
+    // The message has 2,001 bytes. It fits the first buffer, and the second buffer is a byte too short. The frame has
+    // 2,008 bytes.
     for (room, returned) in [
         (2001, CallResult::Length(2001)),
         (2000, CallResult::TooSmall),
@@ -123,8 +124,8 @@ fn pieces_of_any_size_give_the_message_or_overflow(rt: HostRuntime) -> Result<()
     Ok(())
 }
 
-/// Tests of the original crate: `stream_continuously_heapless` and `test_decoder_heapless_push_function`.
-/// `conformance/original.txt` has the same streams, which the conformance program decodes with each decoder.
+/// Runs two tests of the original crate: `stream_continuously_heapless` and `test_decoder_heapless_push_function`.
+/// `conformance/original.txt` has the original crate's tests of all decoders.
 #[test]
 fn the_decoder_with_its_buffer_inside(rt: HostRuntime) {
     let mut decoder = CobsDecoderHeapless::<32>::new();

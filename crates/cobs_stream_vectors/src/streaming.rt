@@ -8,21 +8,21 @@ use std::alloc::Global;
 use std::process::Abort;
 use std::test::Fail;
 
-/// A streaming decoder, with methods that the library's traits don't have.
+/// A streaming decoder, with methods that the traits of the library don't have.
 pub trait StreamingDecoder: FrameDecoder + WriteBuffer {
-    /// Feeds a byte, by `feed`.
+    /// Feeds a byte with `feed`.
     fn feed_one(&mut self, byte: u8) -> Result<Option<usize>, DecodeError>;
 
-    /// Pushes bytes, by `push`.
+    /// Pushes bytes with `push`.
     fn push_some(&mut self, bytes: &[u8]) -> Result<Option<DecodeReport>, PushError>;
 
-    /// Returns the whole buffer, by `dest`.
+    /// Returns the whole buffer with `dest`.
     fn whole_buffer(&self) -> &[u8];
 
-    /// Returns whether the buffer begins with these bytes, by `dest` and by `dest_mut`.
+    /// Returns whether the buffer begins with these bytes, both in `dest` and in `dest_mut`.
     fn begins_with(&mut self, bytes: &[u8]) -> bool;
 
-    /// Resets the decoder, and returns whether it can be reset.
+    /// Resets the decoder if it has a `reset`, and returns whether it has one.
     fn begin_anew(&mut self) -> bool;
 }
 
@@ -94,7 +94,7 @@ impl StreamingDecoder for CobsDecoderOwned {
     }
 }
 
-/// A test that is run with each of the three streaming decoders, each of them new.
+/// A test that runs with a new decoder of each of the three types.
 pub trait Check {
     /// Runs the test with a new decoder.
     fn check<D: StreamingDecoder + Drop>(
@@ -105,7 +105,7 @@ pub trait Check {
     ) -> Result<(), Fail>;
 }
 
-/// Checks each of the three decoders over a buffer of `room` zeros.
+/// Runs the test with each of the three decoders. Each decoder has a buffer of `room` zeros.
 pub fn check_all(
     rt: &impl Abort,
     alloc: Global,
@@ -146,14 +146,14 @@ pub enum CallResult {
     /// A message of this many bytes has ended.
     Length(usize),
 
-    /// The frame breaks off, with this many bytes decoded.
+    /// The frame breaks off after this many decoded bytes.
     InvalidFrame(usize),
 
-    /// The message doesn't fit.
+    /// The message doesn't fit the buffer.
     TooSmall,
 }
 
-/// Returns the error of a decoder in words of these tests.
+/// Converts the error of a decoder to a [`CallResult`].
 fn rejected(error: &DecodeError) -> CallResult {
     match error {
         DecodeError::EmptyFrame => CallResult::Nothing,
@@ -162,7 +162,7 @@ fn rejected(error: &DecodeError) -> CallResult {
     }
 }
 
-/// Returns the result for a byte.
+/// Converts the result of feeding a byte to a [`CallResult`].
 pub fn fed(returned: Result<Option<usize>, DecodeError>) -> CallResult {
     match returned {
         Ok(None) => CallResult::Nothing,
@@ -171,7 +171,7 @@ pub fn fed(returned: Result<Option<usize>, DecodeError>) -> CallResult {
     }
 }
 
-/// Returns the result for this many bytes, and how many of them were consumed.
+/// Converts the result of a push of `count` bytes to a [`CallResult`] and the number of consumed bytes.
 pub fn pushed(
     returned: Result<Option<DecodeReport>, PushError>,
     count: usize,
@@ -186,7 +186,7 @@ pub fn pushed(
     }
 }
 
-/// Feeds the bytes, and returns the last result. Each earlier result has to be that no piece has ended.
+/// Feeds the bytes, and returns the result of the last byte. The result of each other byte must be `Nothing`.
 pub fn feed_all<D: StreamingDecoder>(rt: &impl Abort, decoder: &mut D, bytes: &[u8]) -> CallResult {
     let mut last = CallResult::Nothing;
     for byte in bytes {

@@ -7,7 +7,7 @@ use Rattle.cobs_tool.specs.Text.{hex_line}
 use Rattle.cobs_tool.specs.declared.mode.Mode.{Mode}
 use Rattle.cobs_tool.specs.declared.mode.Mode.TheVariants.{Show, Encode, Decode}
 
--- if the contents of a writer are known, they have grown by some bytes, for which P holds
+-- some bytes, for which P holds, have been appended to the contents of a writer, if these contents are known
 abbrev pub WritesSome : (List ℕ → Type 0) → Option (List ℕ) → Option (List ℕ) → Type 0
 WritesSome P old new = (bytes : List ℕ) × P bytes × Appends old new bytes
 

@@ -16,7 +16,7 @@ pub enum ToolFault {
     /// Memory ran out. Nothing has been written.
     OutOfMemory,
 
-    /// The input has more bytes than the program reads. Nothing has been written.
+    /// The input is longer than the program accepts. Nothing has been written.
     InputTooLong,
 }
 

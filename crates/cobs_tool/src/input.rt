@@ -6,10 +6,10 @@ use crate::fault::ToolFault;
 use std::alloc::Global;
 use std::io::Read;
 
-/// The most bytes of input that the program reads, 1 MiB.
+/// The greatest length of the input in bytes: 1 MiB.
 pub const MAX_INPUT: usize = 1_048_576;
 
-/// The most bytes of one read, 8 KiB. So at most this many bytes are read after the first [`MAX_INPUT`] bytes.
+/// The greatest number of bytes of one read: 8 KiB. So the program reads at most 8 KiB more than [`MAX_INPUT`].
 pub const READ_LEN: usize = 8_192;
 
 /// Reads to the end of the input, that is, to the first read that returns 0 bytes.

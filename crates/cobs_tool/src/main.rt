@@ -6,10 +6,11 @@
 //! |---|---|---|
 //! | none, or `show` | a message | its frame and a zero, as hexadecimal digits, on one line |
 //! | `encode` | a message | its frame and a zero, as raw bytes |
-//! | `decode` | a stream of frames | a line for each piece of the stream that a zero ends |
+//! | `decode` | a stream of frames | a line for each piece that a zero ends |
 //!
-//! The exit status is 0 if nothing failed. It is 1, with a line on standard error, if the input is too long, or if a
-//! read, a write or an allocation failed. It is 2, with the usage, for other arguments.
+//! The exit status is 0 if nothing failed. If the input is too long, or if a read, a write or an allocation failed, the
+//! status is 1, and a line on standard error says so. If the arguments are wrong, the status is 2, and standard error
+//! has the usage.
 #![tactic(auto)]
 
 mod fault;

@@ -35,7 +35,8 @@ impl Write for Page {
     }
 }
 
-/// Runs the mode, and returns whether it wrote its output.
+/// Runs the mode. Returns true if the mode wrote the expected output, or false if memory ran out and the mode wrote
+/// nothing. In all other cases the test fails.
 fn writes(rt: &impl Abort, alloc: Global, mode: &Mode, input: &[u8], output: &[u8]) -> bool {
     let mut left = input;
     let mut page = Page {

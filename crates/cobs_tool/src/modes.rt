@@ -14,7 +14,8 @@ use crate::text::hex_line;
 use std::alloc::{AllocError, Global};
 use std::io::{Read, Write};
 
-/// Runs a mode from the input to the output: [`run_show`], [`run_encode`] or [`run_decode`].
+/// Runs a mode: [`run_show`], [`run_encode`] or [`run_decode`]. The mode reads the input to its end, and then writes
+/// the output.
 pub fn run_mode<R: Read, W: Write>(
     alloc: Global,
     mode: &Mode,
@@ -64,7 +65,7 @@ pub fn run_show<R: Read, W: Write>(
 
 /// Writes the encoded frame of the input, and a zero after it.
 ///
-/// The whole input is one message. The input is read in the same way as by [`run_show`], and the faults are the same.
+/// The whole input is one message. The input is read as in [`run_show`], and the faults are the same.
 pub fn run_encode<R: Read, W: Write>(
     alloc: Global,
     input: &mut R,
@@ -85,7 +86,7 @@ pub fn run_encode<R: Read, W: Write>(
 /// Prints the lines that [`report_of`] returns for the pieces of the input. The input is a stream of frames, each ended
 /// by a zero.
 ///
-/// The input is read in the same way as by [`run_show`], and the faults are the same.
+/// The input is read as in [`run_show`], and the faults are the same.
 pub fn run_decode<R: Read, W: Write>(
     alloc: Global,
     input: &mut R,
@@ -102,7 +103,8 @@ pub fn run_decode<R: Read, W: Write>(
     write_output(output, report.as_bytes())
 }
 
-/// Returns the encoded frame of a message and a zero after it, the sentinel that ends the frame in a stream.
+/// Returns the encoded frame of a message, followed by a zero. The zero is the sentinel that ends the frame in a
+/// stream.
 fn terminated_frame(alloc: Global, message: &[u8]) -> Result<Vec<u8>, AllocError>
     requires { length message.now ≤ MAX_INPUT }
     ensures { IfOk result (λ bytes. IsTerminatedFrame bytes.items message.now) }

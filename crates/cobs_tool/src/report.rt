@@ -13,8 +13,8 @@ use std::alloc::{AllocError, Global};
 /// The length of the longest message that is decoded, 64 KiB. A piece that decodes to more bytes is too long.
 pub const DECODE_BUFFER_LEN: usize = 65_536;
 
-/// Returns one line for each piece of the stream that a zero ends, in order, and then the line `unfinished` if a piece
-/// has begun after the last zero.
+/// Returns one line for each piece that a zero ends, in order, and then the line `unfinished` if a piece has begun
+/// after the last zero.
 ///
 /// - `message N HEX`: a message of N bytes, as lower-case hexadecimal digits; `message 0` for the empty message.
 /// - `broken N`: the piece breaks off inside a block, and decodes to N bytes.

@@ -1,5 +1,5 @@
-//! Tests of facts that no contract states: that calls succeed; the result if a reader or a writer fails; and the text
-//! that is printed for known values.
+//! Tests of facts that no contract states: a call with enough memory succeeds; a failed read or write leads to the
+//! right fault; and the texts for known inputs are right.
 
 use crate::fault::ToolFault;
 use crate::mode::{Mode, mode_of};
@@ -40,7 +40,7 @@ const ROWS: [Row; 11] = [
     (Mode::Decode, b"\xff", b"unfinished\n"),
 ];
 
-/// Returns one byte per read. The read with the number `failing`, counted from 0, fails.
+/// A reader that returns one byte per read. The read with the number `failing`, counted from 0, fails.
 #[derive(Drop)]
 struct ByteReader<'a> {
     bytes: &'a [u8],
@@ -63,8 +63,8 @@ impl Read for ByteReader<'_> {
     }
 }
 
-/// Accepts one byte per write. The write with the number `failing`, counted from 0, fails. If `fails_to_flush` is set,
-/// each flush fails too.
+/// A writer that accepts one byte per write. The write with the number `failing`, counted from 0, fails. If
+/// `fails_to_flush` is set, each flush fails too.
 #[derive(Drop)]
 struct ByteWriter {
     bytes: Vec<u8>,
@@ -103,7 +103,8 @@ fn words(alloc: Global, texts: &[&str]) -> Result<Vec<String>, AllocError> {
     Ok(words)
 }
 
-/// Checks that the words of each row choose the mode of that row, or no mode.
+/// Checks that the words of each row choose the mode of that row. If the row has no mode, checks that the words choose
+/// no mode.
 fn check_words(
     rt: &impl Abort,
     alloc: Global,
@@ -146,7 +147,7 @@ fn faults_have_lines(rt: HostRuntime) {
     }
 }
 
-/// Checks that the output for each row is written.
+/// Checks that each row's mode writes the row's output.
 fn check_rows(rt: &impl Abort, alloc: Global, rows: &[Row]) {
     for (at, (mode, input, written)) in rows.iter().enumerate() {
         let mut output = Vec::new(alloc);
@@ -162,8 +163,8 @@ fn rows_are_written(rt: HostRuntime) {
     check_rows(&rt, rt.alloc(), &ROWS);
 }
 
-/// Runs the row's mode with an input whose read with the number `failing` fails with this fault, if there is such a
-/// read. A mode makes one read for each byte, and one more for the end.
+/// Runs the row's mode, and makes the read with the number `failing` fail with this fault. A mode makes one read for
+/// each byte, and one more for the end. If there are too few reads for the number, no read fails.
 fn check_read(rt: &impl Abort, alloc: Global, row: &Row, fault: ErrorKind, failing: usize) {
     let (mode, bytes, written) = row;
     let mut input = ByteReader {
@@ -191,8 +192,8 @@ fn check_read(rt: &impl Abort, alloc: Global, row: &Row, fault: ErrorKind, faili
     }
 }
 
-/// Checks each row: runs its mode once for each read and each of two faults, so that this read fails with this fault.
-/// The last number is that of no read, so that no read fails.
+/// Checks each row with failing reads. For each read, the row's mode runs twice, and this read fails with a different
+/// fault in each run. In the last two runs no read fails, because the number of the failing read is too great.
 fn check_reads(rt: &impl Abort, alloc: Global, rows: &[Row]) {
     for row in rows {
         let (_, bytes, _) = row;
@@ -208,8 +209,8 @@ fn each_read_may_fail(rt: HostRuntime) {
     check_reads(&rt, rt.alloc(), &ROWS);
 }
 
-/// Runs the row's mode with an output whose write with the number `failing` fails, if there is such a write. If
-/// `fails_to_flush` is set, each flush fails too.
+/// Runs the row's mode, and makes the write with the number `failing` fail. If there are too few writes for the number,
+/// no write fails. If `fails_to_flush` is set, each flush fails too.
 fn check_write(rt: &impl Abort, alloc: Global, row: &Row, failing: usize, fails_to_flush: bool) {
     let (mode, bytes, written) = row;
     let mut input = *bytes;
@@ -232,8 +233,8 @@ fn check_write(rt: &impl Abort, alloc: Global, row: &Row, failing: usize, fails_
     }
 }
 
-/// Checks each row: runs its mode once for each write, so that this write fails, then once without a failure, and then
-/// once so that the flush fails.
+/// Checks each row with failing writes. For each write, the row's mode runs once, and this write fails. Then the mode
+/// runs once without a failure, and once with a failing flush.
 fn check_writes(rt: &impl Abort, alloc: Global, rows: &[Row]) {
     for row in rows {
         let (_, _, written) = row;
@@ -249,8 +250,8 @@ fn each_write_and_each_flush_may_fail(rt: HostRuntime) {
     check_writes(&rt, rt.alloc(), &ROWS);
 }
 
-/// Checks that the mode writes `count` bytes for the longest input, and rejects an input that is a byte longer and an
-/// input without end.
+/// Checks the greatest length of the input. `zeros` is one byte longer than this length. The mode must accept `zeros`
+/// without the last byte, and write `count` bytes. It must reject all of `zeros`, and an input that never ends.
 fn check_limit(rt: &impl Abort, alloc: Global, mode: &Mode, zeros: &[u8], count: usize) {
     let mut output = Vec::new(alloc);
     let mut longest = zeros.split_last().map_or(zeros, |(_, front)| front);
@@ -309,7 +310,7 @@ fn messages_have_a_limit(rt: HostRuntime) -> Result<(), Fail> {
     Ok(())
 }
 
-/// Returns the text that `decode` prints for the bytes that `encode` writes.
+/// Encodes the message with `encode`, decodes the frame with `decode`, and returns the text that `decode` prints.
 fn there_and_back(alloc: Global, mut message: &[u8]) -> Result<Vec<u8>, ToolFault> {
     let mut frame = Vec::new(alloc);
     run_mode(alloc, &Mode::Encode, &mut message, &mut frame)?;

@@ -1,4 +1,4 @@
--- The messages among some outcomes.
+-- The outcomes that are messages.
 use Rattle.std.specs.Prelude.{List, [], ◌∷◌}
 use Rattle.cobs.specs.Stream.{Outcome, Message, Broken, TooLong}
 

@@ -1,4 +1,4 @@
-//! How the tests write constant bytes, and make vectors of bytes.
+//! Constant bytes for tests, and functions that make vectors of bytes.
 use std::alloc::{AllocError, Global};
 
 /// Bytes as a list of parts, one after the other.
@@ -44,8 +44,8 @@ pub fn repeated(alloc: Global, byte: u8, count: usize) -> Result<Vec<u8>, AllocE
     vec![in alloc; byte; count]
 }
 
-/// Returns `count` of the parts, chosen by the digits of `number` in the base `parts.len()`. So the numbers below
-/// `parts.len()` to the power of `count` stand for all lists of `count` parts, one list each.
+/// Returns a list of `count` parts. The digits of `number` in the base `parts.len()` choose the parts. So the numbers
+/// below `parts.len()` to the power of `count` stand for all lists of `count` parts, one list each.
 pub fn chosen(
     alloc: Global,
     parts: &[&[u8]],

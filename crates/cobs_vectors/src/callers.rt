@@ -1,7 +1,7 @@
-//! Callers with contracts that are proved from the public contracts of `cobs` only.
+//! Callers whose contracts are proved only from the public contracts of `cobs`.
 //!
-//! There is no test here. The prover derives each contract from the clauses of the calls in the function, so a clause
-//! that says too little for its users is noticed here.
+//! No test runs these functions. The prover derives the contract of each function from the clauses of the calls that it
+//! makes. So a clause that says too little for its users is noticed here.
 ghost use Rattle.std.specs.Prelude.{◌≡◌, ◌≢◌, ◌≤◌, ◌<◌, ◌+◌, ◌^◌, ◌↔◌, ◌∷◌, ◌++◌, [], All, length, take, drop, slice_index, slice_set, List, ℕ, None, Ok, Some, option_to_list, IfOk, IfSome, IsSomeAnd, IsTrue};
 ghost use Rattle.cobs.specs.Decode.{first_output, head_result, in_place, in_place_report, len_through_piece, result_of_decode};
 ghost use Rattle.cobs.specs.Overwritten.{message_in, overwritten, written_at};
@@ -29,7 +29,7 @@ use cobs::{
 };
 use std::alloc::{AllocError, Global};
 
-/// Returns whether the piece reads as the message, and the message fits the buffer.
+/// Returns whether the piece is a frame of the message, and the message fits the buffer.
 pub fn reads_as(piece: &[u8], message: &[u8], buffer: &mut [u8]) -> bool
     requires { IsPiece piece.now }
     ensures { IsTrue result ↔ (Reads piece.now message.now × (length message.now ≤ length buffer.old)) }
@@ -40,7 +40,7 @@ pub fn reads_as(piece: &[u8], message: &[u8], buffer: &mut [u8]) -> bool
     }
 }
 
-/// Returns whether the piece, for another sentinel than 0, reads as the message, and the message fits the buffer.
+/// Returns whether the piece is a frame of the message for this sentinel, and the message fits the buffer.
 pub fn reads_for(sentinel: u8, piece: &[u8], message: &[u8], buffer: &mut [u8]) -> bool
     requires { IsPiece (xor_each sentinel piece.now) }
     ensures { IsTrue result ↔ (Reads (xor_each sentinel piece.now) message.now
@@ -52,7 +52,7 @@ pub fn reads_for(sentinel: u8, piece: &[u8], message: &[u8], buffer: &mut [u8]) 
     }
 }
 
-/// Decodes a short frame by [`decode_short`] and any other frame by [`decode`]. The result is always that of
+/// Decodes a short frame with [`decode_short`], and any other frame with [`decode`]. The result is always the result of
 /// [`decode`].
 pub fn decode_either(source: &[u8], dest: &mut [u8]) -> Result<DecodeReport, DecodeError>
     ensures returned { result ≡ result_of_decode source.now (length dest.old) }
@@ -64,8 +64,8 @@ pub fn decode_either(source: &[u8], dest: &mut [u8]) -> Result<DecodeReport, Dec
     }
 }
 
-/// Decodes a short frame by [`decode_short_in_place`] and any other frame by [`decode_in_place_report`]. The result is
-/// always that of [`decode_in_place_report`].
+/// Decodes a short frame with [`decode_short_in_place`], and any other frame with [`decode_in_place_report`]. The
+/// result is always the result of [`decode_in_place_report`].
 pub fn decode_either_in_place(buffer: &mut [u8]) -> Result<DecodeReport, DecodeError>
     ensures returned { result ≡ in_place_report buffer.old }
     ensures buffer { buffer.new ≡ in_place buffer.old }
@@ -76,7 +76,8 @@ pub fn decode_either_in_place(buffer: &mut [u8]) -> Result<DecodeReport, DecodeE
     }
 }
 
-/// Decodes a frame that is known to be short. Returns true, because [`decode_short`] always decodes such a frame.
+/// Decodes a frame that is known to have 2 to 65 bytes. Returns true, because [`decode_short`] always decodes such a
+/// frame.
 pub fn decode_known_short(frame: &[u8], dest: &mut [u8]) -> bool
     requires nonzero { HasNoZero frame.now }
     requires few { (2 ≤ length frame.now) × (length frame.now ≤ 65) }
@@ -87,7 +88,7 @@ pub fn decode_known_short(frame: &[u8], dest: &mut [u8]) -> bool
     decode_short(frame, dest).is_some()
 }
 
-/// Decodes in place a frame that is known to be short, and whose blocks are all whole. Returns true, because
+/// Decodes in place a frame that is known to have 2 to 65 bytes, and only whole blocks. Returns true, because
 /// [`decode_short_in_place`] always decodes such a frame.
 pub fn decode_known_short_in_place(frame: &mut [u8]) -> bool
     requires nonzero { HasNoZero frame.old }
@@ -99,7 +100,7 @@ pub fn decode_known_short_in_place(frame: &mut [u8]) -> bool
     decode_short_in_place(frame).is_some()
 }
 
-/// Decodes the bytes before the first zero of the buffer in their own place, without vectors.
+/// Decodes the bytes before the buffer's first zero, in place and without vectors.
 pub fn decode_before_zero(buffer: &mut [u8]) -> Result<usize, DecodeError>
     ensures returned { result ≡ head_result (head buffer.old) }
     ensures buffer { buffer.new ≡ in_place buffer.old }
@@ -109,7 +110,8 @@ pub fn decode_before_zero(buffer: &mut [u8]) -> Result<usize, DecodeError>
     decode_blocks_each(buffer, end)
 }
 
-/// Decodes the first piece of the source, and returns the bytes after it, whether or not it is a frame.
+/// Decodes the first piece of the source, and returns the bytes after the piece and its zero. The piece needn't be a
+/// frame.
 pub fn decode_first<'a>(source: &'a [u8], dest: &mut [u8]) -> &'a [u8]
     ensures rest { (p : List ℕ) → first_piece source.now ≡ Some p
         → result.now ≡ drop (len_through_piece source.now p) source.now }
@@ -122,7 +124,7 @@ pub fn decode_first<'a>(source: &'a [u8], dest: &mut [u8]) -> &'a [u8]
     }
 }
 
-/// Returns the source from its first nonzero byte on, which has the same first piece.
+/// Returns the source from its first nonzero byte on. The first piece stays the same.
 pub fn skip_zeros<'a>(source: &'a [u8]) -> &'a [u8]
     ensures { first_piece result.now ≡ first_piece source.now }
 {
@@ -130,7 +132,7 @@ pub fn skip_zeros<'a>(source: &'a [u8]) -> &'a [u8]
     &source[leading_zeros(source)..]
 }
 
-/// Encodes the message, and returns whether the result is a canonical frame. It always is.
+/// Encodes the message, and returns whether the frame is canonical. It always is.
 pub fn encode_canonically(message: &[u8], dest: &mut [u8]) -> bool
     requires { encoded_len message.now ≤ length dest.old }
     ensures { IsTrue result }
@@ -139,8 +141,8 @@ pub fn encode_canonically(message: &[u8], dest: &mut [u8]) -> bool
     kind_by_blocks(&dest[..len]) == FrameKind::Canonical
 }
 
-/// Writes the frame of the message for the sentinel, and the sentinel after it. Returns the index of that sentinel,
-/// which is the first one in the buffer.
+/// Writes the frame of the message for this sentinel, followed by the sentinel. Returns the index of the sentinel. It
+/// is the first sentinel in the buffer.
 pub fn write_ended(message: &[u8], dest: &mut [u8], sentinel: u8) -> usize
     requires { encoded_len message.now < length dest.old }
     ensures none_before { All (λ byte. byte ≢ sentinel) (take result dest.new) }
@@ -151,7 +153,8 @@ pub fn write_ended(message: &[u8], dest: &mut [u8], sentinel: u8) -> usize
     len
 }
 
-/// Encodes a message in its own buffer, and writes a zero after the frame. No byte after that zero is changed.
+/// Encodes a message in place, and writes a zero after the frame. Returns the index of this zero. No byte after the
+/// zero changes.
 pub fn end_in_place(buffer: &mut [u8], message_len: usize) -> usize
     requires { max_encoded_len message_len < length buffer.old }
     ensures frame { IsEncodedFrame (take result buffer.new) (message_in message_len buffer.old) }
@@ -166,7 +169,8 @@ pub fn end_in_place(buffer: &mut [u8], message_len: usize) -> usize
     len
 }
 
-/// Writes the frame of the message between two zeros, and returns the bytes between them, which have no zero.
+/// Writes the frame of the message between two zeros, and returns the bytes between these zeros. None of the returned
+/// bytes is a zero.
 pub fn write_between<'a>(message: &[u8], dest: &'a mut [u8]) -> &'a [u8]
     requires { encoded_len message.now + 2 ≤ length dest.old }
     ensures { HasNoZero result.now }
@@ -176,8 +180,8 @@ pub fn write_between<'a>(message: &[u8], dest: &'a mut [u8]) -> &'a [u8]
     &written[1..len - 1]
 }
 
-/// Writes the frame of the message between two zeros, if they fit, and returns the bytes between them, which have no
-/// zero.
+/// Writes the frame of the message between two zeros, if the frame and the zeros fit, and returns the bytes between
+/// these zeros. None of the returned bytes is a zero.
 pub fn try_write_between<'a>(
     message: &[u8],
     dest: &'a mut [u8],
@@ -189,7 +193,8 @@ pub fn try_write_between<'a>(
     Ok(&written[1..len - 1])
 }
 
-/// Encodes the message between two zeros, and returns the bytes between these zeros, which contain no zero.
+/// Encodes the message between two zeros, and returns the bytes between these zeros. None of the returned bytes is a
+/// zero.
 pub fn frame_between(alloc: Global, message: &[u8]) -> Result<Vec<u8>, AllocError>
     requires { max_encoded_len (length message.now) + 2 < 2 ^ 64 }
     ensures { IfOk result (λ frame. HasNoZero frame.items) }
@@ -198,7 +203,7 @@ pub fn frame_between(alloc: Global, message: &[u8]) -> Result<Vec<u8>, AllocErro
     Vec::from_slice(alloc, &delimited[1..delimited.len() - 1])
 }
 
-/// Returns the frame of the message, followed by a zero. There is no other zero.
+/// Returns the frame of the message, followed by a zero. The frame has no zero.
 pub fn ended_frame(alloc: Global, message: &[u8]) -> Result<Vec<u8>, AllocError>
     requires { max_encoded_len (length message.now) < 2 ^ 64 }
     ensures { IfOk result (λ ended. (f : List ℕ) × HasNoZero f × (ended.items ≡ f ++ 0 ∷ [])) }
@@ -208,7 +213,8 @@ pub fn ended_frame(alloc: Global, message: &[u8]) -> Result<Vec<u8>, AllocError>
     Ok(frame)
 }
 
-/// Returns the frame of the message for the sentinel, followed by the sentinel. There is no other sentinel.
+/// Returns the frame of the message for this sentinel, followed by the sentinel. The frame doesn't contain the
+/// sentinel.
 pub fn ended_frame_for(alloc: Global, sentinel: u8, message: &[u8]) -> Result<Vec<u8>, AllocError>
     requires { max_encoded_len (length message.now) < 2 ^ 64 }
     ensures { IfOk result (λ ended. (f : List ℕ) × IsFreeOf sentinel f
@@ -219,7 +225,8 @@ pub fn ended_frame_for(alloc: Global, sentinel: u8, message: &[u8]) -> Result<Ve
     Ok(frame)
 }
 
-/// Returns the frames of the messages, each followed by a zero, or `None` if they could be too long for a vector.
+/// Returns the frames of the messages, each followed by a zero. Returns `None` if the frames could be too long for a
+/// vector.
 pub fn frames_of(alloc: Global, messages: &[Vec<u8>]) -> Result<Option<Vec<u8>>, AllocError>
     ensures { IfOk result (λ found. IfSome found (λ bytes. AreFrames (messages_in messages.now) bytes.items)) }
 {
@@ -245,7 +252,7 @@ pub fn push_nothing(decoder: &mut CobsDecoder<'_>)
     let _returned = decoder.push(&[]);
 }
 
-/// Returns whether a push decoded this message, which is then at the front of the buffer.
+/// Returns whether a push with this result decoded this message to the front of the buffer.
 fn came_to(returned: Result<Option<DecodeReport>, PushError>, buffer: &[u8], message: &[u8]) -> bool
     ensures { IsTrue result ↔ PushesMessage returned buffer.now message.now }
 {
@@ -255,7 +262,8 @@ fn came_to(returned: Result<Option<DecodeReport>, PushError>, buffer: &[u8], mes
     }
 }
 
-/// Pushes the piece and its zero. Returns whether the piece reads as the message and the message fits the slice.
+/// Pushes the piece and its zero to a decoder that borrows a slice. Returns whether the piece is a frame of the
+/// message, and the message fits the slice.
 pub fn push_reads(decoder: &mut CobsDecoder<'_>, ended: &[u8], piece: &[u8], message: &[u8]) -> bool
     requires idle { borrowed_phase decoder.old ≡ Idle }
     requires piece { IsPiece piece.now }
@@ -267,7 +275,8 @@ pub fn push_reads(decoder: &mut CobsDecoder<'_>, ended: &[u8], piece: &[u8], mes
     came_to(returned, decoder.dest(), message)
 }
 
-/// Does what [`push_reads`] does, with a buffer that the decoder owns.
+/// Pushes the piece and its zero to a decoder that owns its buffer. Returns whether the piece is a frame of the
+/// message, and the message fits the buffer.
 pub fn push_reads_owned(
     decoder: &mut CobsDecoderOwned,
     ended: &[u8],
@@ -284,7 +293,8 @@ pub fn push_reads_owned(
     came_to(returned, decoder.dest(), message)
 }
 
-/// Does what [`push_reads`] does, with a buffer that is part of the decoder.
+/// Pushes the piece and its zero to a decoder whose buffer is part of the decoder. Returns whether the piece is a frame
+/// of the message, and the message fits the buffer.
 pub fn push_reads_heapless<const N: usize>(
     decoder: &mut CobsDecoderHeapless<N>,
     ended: &[u8],
@@ -301,7 +311,7 @@ pub fn push_reads_heapless<const N: usize>(
     came_to(returned, decoder.dest(), message)
 }
 
-/// Returns the byte of the message that a result has, if any.
+/// Returns the byte that a result adds to the message, or `None` if it adds no byte.
 fn byte_given(returned: Result<DecodeResult, DecodeError>) -> Option<u8>
     ensures { option_to_list result ≡ data_of returned }
 {
@@ -339,8 +349,8 @@ pub fn decode_by_state(alloc: Global, frame: &[u8]) -> Result<Option<Vec<u8>>, A
     }
 }
 
-/// Feeds a byte to a decoder, and to a state machine with an equal state. The two states are equal again after the
-/// byte, unless the output is now too long for the decoder's buffer.
+/// Feeds a byte to a decoder, and to a state machine in the same state. After the byte, both are again in the same
+/// state, unless the output is too long for the decoder's buffer.
 pub fn feed_both(decoder: &mut CobsDecoderOwned, state: &mut DecoderState, byte: u8)
     requires { state_in (owned_phase decoder.old) ≡ Some state.old }
     ensures { owned_phase decoder.new ≢ Overlong → state_in (owned_phase decoder.new) ≡ Some state.new }
@@ -359,8 +369,8 @@ pub fn write_first<D: WriteBuffer>(decoder: &mut D, byte: u8)
     decoder.dest_mut()[0] = byte;
 }
 
-/// Writes to the slice that a decoder borrows. If the decoder has taken the front p of a piece (`PhaseAfter`), this is
-/// still true after the write.
+/// Writes to the slice that a decoder borrows. If the decoder has consumed the bytes p of a piece (`PhaseAfter`), this
+/// is still true after the write.
 pub fn write_borrowed(decoder: &mut CobsDecoder<'_>, at: usize, source: &[u8])
     requires { at + length source.now ≤ length (borrowed_buffer decoder.old) }
     ensures bytes { borrowed_buffer decoder.new ≡ written_at (borrowed_buffer decoder.old) at source.now }
@@ -377,8 +387,8 @@ pub fn buffer_len<const N: usize>(decoder: &CobsDecoderHeapless<N>) -> usize
     decoder.dest().len()
 }
 
-/// Does nothing when it runs. Its contract says that for each length there is a message with the longest frame that is
-/// possible.
+/// Does nothing when it runs. Its contract says that for each length `len` there is a message whose frame has exactly
+/// `max_encoded_len len` bytes.
 pub fn longest_frame(len: usize)
     ensures { (m : List ℕ) × (f : List ℕ) × (length m ≡ len) × All (λ byte. byte < 256) m × IsEncodedFrame f m
         × All (λ byte. byte < 256) f × (length f ≡ max_encoded_len len) }
@@ -387,7 +397,7 @@ pub fn longest_frame(len: usize)
     law_4(); // The length of a frame, and its bound
 }
 
-/// Copies a report, which never fails. The copy has the same sizes.
+/// Copies a report. This never fails, and the copy has the same sizes.
 pub fn copy_of(report: &DecodeReport) -> DecodeReport
     ensures parsed { parsed_size_of result ≡ parsed_size_of report.now }
     ensures frame { frame_size_of result ≡ frame_size_of report.now }

@@ -1,5 +1,5 @@
-//! Callers as in a user's own crate: a handler of one byte, a loop over a stream, a reader of frames, a round trip, a
-//! log. Their contracts are proved only from the public clauses of `cobs`.
+//! Callers as in a user's own crate: a handler of one byte, a loop over a stream, a reader of frames, a round trip, and
+//! a log. Their contracts are proved only from the public clauses of `cobs`.
 ghost use Rattle.std.specs.Prelude.{◌≡◌, ◌≢◌, ◌≤◌, ◌<◌, ◌^◌, ◌↔◌, ◌∷◌, ◌++◌, [], length, take, drop, List, ℕ, IfOk, IfSome, IsOk, OnOk, IsSomeAnd, IsTrue, Some};
 ghost use Rattle.cobs.specs.Feed.{DecoderAfter, Idle, Overlong};
 ghost use Rattle.cobs.specs.Table.{state_in};
@@ -27,8 +27,9 @@ use cobs::{
 use std::alloc::{AllocError, Global};
 use std::mem;
 
-/// Handles a byte in an interrupt. Returns the length of the message that the byte ended, or 0 if it ended none. The
-/// message is sliced out of the buffer, because the slice needs a proof that the message is within the buffer.
+/// Handles a byte in an interrupt. Returns the length of the message that the byte ended, or 0 if it ended none.
+/// Slicing the message out of the buffer requires a proof that the message is within the buffer. So this function shows
+/// that the clauses of `feed` are enough for this proof.
 pub fn on_byte<const N: usize>(decoder: &mut CobsDecoderHeapless<N>, byte: u8) -> usize
     ensures { result ≤ N }
 {
@@ -41,8 +42,8 @@ pub fn on_byte<const N: usize>(decoder: &mut CobsDecoderHeapless<N>, byte: u8) -
     }
 }
 
-/// Counts the messages that end in some bytes, and continues after each error. If the decoder has taken the front p of
-/// a piece, the result is the number of messages among the outcomes of p followed by the bytes.
+/// Counts the messages that end in the bytes, and continues after each error. If the decoder has already consumed the
+/// bytes p of a piece, the result is the number of messages in the stream that consists of p and then these bytes.
 pub fn count_messages(decoder: &mut CobsDecoderOwned, bytes: &[u8]) -> usize
     ensures counted { (p : List ℕ) → DecoderAfter (owned_buffer decoder.old) (owned_phase decoder.old) p
         → let n = length (owned_buffer decoder.old) in
@@ -66,7 +67,7 @@ pub fn count_messages(decoder: &mut CobsDecoderOwned, bytes: &[u8]) -> usize
     count
 }
 
-/// Returns the greatest length of the messages in some bytes, for any decoder.
+/// Returns the length of the longest message that ends in the bytes, for any decoder.
 pub fn longest<D: FrameDecoder>(decoder: &mut D, bytes: &[u8]) -> usize {
     let mut at = 0;
     let mut longest = 0;
@@ -80,8 +81,8 @@ pub fn longest<D: FrameDecoder>(decoder: &mut D, bytes: &[u8]) -> usize {
     longest
 }
 
-/// Returns how many bytes of a broken piece were decoded. The decoded bytes are sliced out of the buffer for the same
-/// reason as in [`on_byte`].
+/// Returns the number of decoded bytes if the first piece that ends is broken, and otherwise 0. Slicing these bytes out
+/// of the buffer requires a proof that they are within the buffer.
 pub fn broken_part<D: FrameDecoder>(decoder: &mut D, bytes: &[u8]) -> usize
     requires { DecoderAfter (D.bytes decoder.old) (D.phase decoder.old) [] }
 {
@@ -94,7 +95,7 @@ pub fn broken_part<D: FrameDecoder>(decoder: &mut D, bytes: &[u8]) -> usize
     }
 }
 
-/// Feeds a zero, which makes any decoder idle and changes no byte, in every phase.
+/// Feeds a zero. In every phase, this makes the decoder idle and changes no byte of the buffer.
 pub fn resync<D: FrameDecoder>(decoder: &mut D)
     ensures idle { D.phase decoder.new ≡ Idle }
     ensures unchanged { D.bytes decoder.new ≡ D.bytes decoder.old }
@@ -102,7 +103,7 @@ pub fn resync<D: FrameDecoder>(decoder: &mut D)
     let _ended = decoder.feed_byte(0);
 }
 
-/// Does what [`resync`] does, with `feed_piece`.
+/// Passes a zero to `feed_piece`. In every phase, this makes the decoder idle and changes no byte of the buffer.
 pub fn resync_by_piece<D: FrameDecoder>(decoder: &mut D)
     ensures idle { D.phase decoder.new ≡ Idle }
     ensures unchanged { D.bytes decoder.new ≡ D.bytes decoder.old }
@@ -110,7 +111,8 @@ pub fn resync_by_piece<D: FrameDecoder>(decoder: &mut D)
     let _ended = decoder.feed_piece(&[0]);
 }
 
-/// Handles the zero after a frame whose bytes were fed one by one: the message is at the front of the buffer.
+/// Feeds the zero after a frame whose bytes were fed one by one, and returns the message's length. The message is then
+/// at the front of the buffer.
 pub fn on_zero<D: FrameDecoder>(decoder: &mut D) -> usize
     ensures { (f m : List ℕ) → DecoderAfter (D.bytes decoder.old) (D.phase decoder.old) f
         → Reads f m → length m ≤ length (D.bytes decoder.old)
@@ -124,8 +126,8 @@ pub fn on_zero<D: FrameDecoder>(decoder: &mut D) -> usize
     }
 }
 
-/// Feeds a byte to a decoder and also to a `DecoderState`: in every state either both end a message or neither does,
-/// unless the output is too long for the decoder's buffer.
+/// Feeds a byte to a decoder and to a `DecoderState` in the same state. Returns true if the byte ends a message in both
+/// or in neither, or if the output is too long for the decoder's buffer. The result is always true.
 pub fn end_alike<D: FrameDecoder>(decoder: &mut D, state: &mut DecoderState, byte: u8) -> bool
     requires { state_in (D.phase decoder.old) ≡ Some state.old }
     ensures alike { IsTrue result }
@@ -139,8 +141,8 @@ pub fn end_alike<D: FrameDecoder>(decoder: &mut D, state: &mut DecoderState, byt
     }
 }
 
-/// Reads the frames of a source until it ends or a call fails, with at most 1,000 calls, and slices each message out of
-/// the decoder's buffer. Returns the sum of the messages' lengths.
+/// Reads up to 1,000 pieces, and slices each message out of the decoder's buffer. Returns the sum of the messages'
+/// lengths.
 pub fn total<D: FrameDecoder, S: FrameSource>(
     reader: &mut FrameReader<D>,
     source: &mut S,
@@ -161,7 +163,7 @@ pub fn total<D: FrameDecoder, S: FrameSource>(
 }
 
 /// Reads up to and including the zero that ends the next piece. If the piece is broken, returns a copy of its decoded
-/// bytes.
+/// bytes, and otherwise `None`.
 pub fn next_broken<D: FrameDecoder, S: FrameSource>(
     alloc: Global,
     reader: &mut FrameReader<D>,
@@ -186,8 +188,8 @@ pub struct Port {
 }
 
 impl Port {
-    /// Handles a byte. Returns the length of the message that the byte ended, and otherwise 0. The message is sliced
-    /// out of the buffer for the same reason as in the function `on_byte`.
+    /// Handles a byte. Returns the length of the message that the byte ended, or 0 if it ended none. Slicing the
+    /// message out of the buffer requires a proof that the message is within the buffer.
     pub fn on_byte(&mut self, byte: u8) -> usize
         ensures { result ≤ 64 }
     {
@@ -201,7 +203,7 @@ impl Port {
     }
 }
 
-/// Decodes a frame and its zero. The message is in the caller's slice after the decoder is dropped.
+/// Decodes a frame and its zero. After the decoder is dropped, the message is in the caller's slice.
 pub fn decode_ended(ended: &[u8], piece: &[u8], dest: &mut [u8]) -> Option<usize>
     requires piece { IsPiece piece.now }
     requires ended { ended.now ≡ piece.now ++ 0 ∷ [] }
@@ -216,7 +218,7 @@ pub fn decode_ended(ended: &[u8], piece: &[u8], dest: &mut [u8]) -> Option<usize
     }
 }
 
-/// Encodes a message and decodes its frame: the message comes back.
+/// Encodes a message and decodes the frame. Returns whether the result is the same message. It always is.
 pub fn there_and_back(message: &[u8], frame: &mut [u8], buffer: &mut [u8]) -> bool
     requires room { encoded_len message.now ≤ length frame.old }
     requires held { length message.now ≤ length buffer.old }
@@ -229,7 +231,7 @@ pub fn there_and_back(message: &[u8], frame: &mut [u8], buffer: &mut [u8]) -> bo
     }
 }
 
-/// Encodes a message and decodes its frame. If the decoder returns a message, it is this message.
+/// Encodes a message and decodes the frame. If decoding returns a message, it is the same message.
 pub fn no_other(message: &[u8], frame: &mut [u8], buffer: &mut [u8]) -> Option<usize>
     requires { encoded_len message.now ≤ length frame.old }
     ensures { (m : List ℕ) → IsSomeAnd result (λ n. BeginsWith buffer.new n m) → m ≡ message.now }
@@ -244,7 +246,7 @@ pub fn no_other(message: &[u8], frame: &mut [u8], buffer: &mut [u8]) -> Option<u
     }
 }
 
-/// Encodes a message of two pieces. The bytes after its frame are as they were.
+/// Encodes a message that comes in two pieces. The bytes of `dest` after the frame don't change.
 pub fn encode_two(
     first: &[u8],
     second: &[u8],
@@ -261,8 +263,8 @@ pub fn encode_two(
     Ok(encoder.finalize())
 }
 
-/// Writes the frame of a message to the front of the buffer. The encoder has taken no byte before the call, and after it
-/// the encoder is ready for the next message.
+/// Writes the frame of a message to the front of the buffer. The encoder must be at the start of a message. If the call
+/// succeeds, the encoder is then ready for the next message.
 pub fn frame_next(
     encoder: &mut UnbufferedEncoder,
     message: &[u8],
@@ -297,9 +299,9 @@ pub fn frame_two(
     Ok((len, frame_next(&mut encoder, second, buffer)?))
 }
 
-/// Appends the frame of a message and a zero to a log that is empty or ends in a zero. The outcomes of the log stay,
-/// whatever they are, and the message follows them. The length of the message's longest possible frame must fit a
-/// `usize`, because `encode_vec` allocates that many bytes.
+/// Appends the frame of a message and a zero to a log that is empty or ends in a zero. The outcomes of the log don't
+/// change, and the message follows them. The greatest length of a frame of a message of this length must fit a `usize`,
+/// because `encode_vec` allocates a vector of this greatest length.
 pub fn append_to_log(alloc: Global, log: &[u8], message: &[u8]) -> Result<Vec<u8>, AllocError>
     requires at_sentinel { IsAtSentinel log.now }
     requires fits { max_encoded_len (length message.now) < 2 ^ 64 }
@@ -319,7 +321,7 @@ pub fn append_to_log(alloc: Global, log: &[u8], message: &[u8]) -> Result<Vec<u8
     Ok(longer)
 }
 
-/// Appends the frame of a message that was decoded into this buffer. If the piece wasn't a message, appends nothing.
+/// Appends the frame of a message that was decoded into this buffer. If the piece isn't a message, appends nothing.
 fn relayed(alloc: Global, log: Vec<u8>, end: PieceEnd, buffer: &[u8]) -> Result<Vec<u8>, AllocError>
     requires at_sentinel { IsAtSentinel log.items }
     requires within { IsWithin (length buffer.now) end }
@@ -336,9 +338,9 @@ fn relayed(alloc: Global, log: Vec<u8>, end: PieceEnd, buffer: &[u8]) -> Result<
     }
 }
 
-/// Decodes each piece of a stream, and encodes each message again; pieces without a message are dropped. The length of
-/// the longest frame of a message as long as the buffer must fit a `usize`, because `append_to_log` requires this for
-/// each message.
+/// Decodes each piece of a stream, and encodes each message again. Pieces that aren't messages are dropped. For a
+/// message as long as the buffer, the greatest length of a frame must fit a `usize`, because `append_to_log` requires
+/// this for each message.
 pub fn relay<D: FrameDecoder>(
     alloc: Global,
     decoder: &mut D,
@@ -371,8 +373,8 @@ pub fn log_of_two(alloc: Global, first: &[u8], second: &[u8]) -> Result<Vec<u8>,
     append_to_log(alloc, &log, second)
 }
 
-/// Collects the pieces that end in a chunk of a stream, without decoding them. `begun` has the bytes that no zero has
-/// ended yet.
+/// Collects the pieces that end in a chunk of a stream, without decoding them. `begun` has the bytes of the stream
+/// after its last zero.
 pub fn pieces_in(
     alloc: Global,
     begun: &mut Vec<u8>,
@@ -395,8 +397,8 @@ pub fn pieces_in(
     Ok(found)
 }
 
-/// Collects the pieces of a stream that comes in two chunks. The collected pieces are those of the whole stream,
-/// wherever the stream is cut.
+/// Collects the pieces of a stream that comes in two chunks. The result has the pieces of the whole stream, no matter
+/// where the stream is cut.
 pub fn pieces_in_two(
     alloc: Global,
     first: &[u8],

@@ -3,12 +3,13 @@
 //! The contract of a caller is derived from the clauses of the calls that it makes. So a clause that says too little
 //! for its users is noticed here.
 //!
-//! The tests are in crates that have nothing else: `cobs_frame_vectors` tests whole messages and frames,
-//! `cobs_stream_vectors` streams, and `cobs_doc_vectors` the examples in the documentation. The contracts of `cobs` say
-//! for every input what each call returns, and what each buffer then holds. The tests check what no contract can say:
-//! that the contracts mean what they should, compared with a plain reference; that a call succeeds if nothing is wrong;
-//! the texts that are printed or written as JSON; and which calls allocate. Cases that every library of the format can
-//! run are in `conformance/`, those of the tests of the original crate, `cobs` 0.5.1, among them.
+//! The tests are in crates of their own: `cobs_frame_vectors` tests whole messages and frames, `cobs_stream_vectors`
+//! tests streams, and `cobs_doc_vectors` tests the examples in the documentation. For every input, the contracts of
+//! `cobs` define the result of each call and the contents of each buffer after the call. The tests check facts that no
+//! contract states: the contracts agree with a plain reference; a call succeeds if nothing is wrong; the texts that are
+//! printed or written as JSON are right; and a call that allocates returns an error if memory runs out. Cases that
+//! every library of the format can run are in `conformance/`. They include the tests of the original crate, `cobs`
+//! 0.5.1.
 #![tactic(auto)]
 
 pub mod bytes;

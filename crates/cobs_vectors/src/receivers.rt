@@ -1,5 +1,5 @@
-//! Receivers that accept the frames that `encode` wrote and nothing else, one for each way of passing the bytes to a
-//! decoder. Their contracts are proved only from the public clauses of `cobs`.
+//! Receivers that accept frames and nothing else, one for each way of passing the bytes to a decoder. Their contracts
+//! are proved only from the public clauses of `cobs`.
 ghost use Rattle.std.specs.Prelude.{◌≡◌, ◌≢◌, ◌≤◌, ◌<◌, ◌↔◌, ◌∷◌, ◌++◌, [], All, length, take, List, ℕ, IfOk, IfSome, IsSomeAnd, IsTrue};
 ghost use Rattle.cobs.specs.Feed.{DecoderAfter, Idle};
 ghost use Rattle.cobs.specs.FeedPiece.{outcome_at};
@@ -18,7 +18,8 @@ use cobs::{
 };
 use std::alloc::{AllocError, Global};
 
-/// Ends a piece whose bytes were fed one by one. The piece reads as the message that is returned.
+/// Feeds the zero after a piece whose bytes were fed one by one. If the result is a length, the piece is a frame of the
+/// message of this length at the front of the buffer.
 pub fn end_piece<D: FrameDecoder>(decoder: &mut D) -> Option<usize>
     ensures { (f : List ℕ) → DecoderAfter (D.bytes decoder.old) (D.phase decoder.old) f
         → All (λ byte. byte < 256) f → IfSome result (λ n. Reads f (take n (D.bytes decoder.new))) }
@@ -31,8 +32,8 @@ pub fn end_piece<D: FrameDecoder>(decoder: &mut D) -> Option<usize>
     }
 }
 
-/// Reads a piece and its zero with any idle decoder. The function returns the length of a message exactly if the piece
-/// reads as that message, and the buffer has room for the message.
+/// Passes a piece and its zero to any idle decoder. Returns the length of a message exactly if the piece is a frame of
+/// this message, and the message fits the buffer.
 pub fn read_piece<D: FrameDecoder>(decoder: &mut D, ended: &[u8], piece: &[u8]) -> Option<usize>
     requires idle { D.phase decoder.old ≡ Idle }
     requires piece { IsPiece piece.now }
@@ -49,8 +50,8 @@ pub fn read_piece<D: FrameDecoder>(decoder: &mut D, ended: &[u8], piece: &[u8]) 
     }
 }
 
-/// Returns the outcome of a piece and its zero in any idle decoder. The outcome depends only on the piece and the
-/// buffer's length.
+/// Passes a piece and its zero to any idle decoder, and returns how the piece ended. The outcome depends only on the
+/// piece and the buffer's length.
 pub fn end_of<D: FrameDecoder>(decoder: &mut D, ended: &[u8], piece: &[u8]) -> PieceEnd
     requires idle { D.phase decoder.old ≡ Idle }
     requires piece { IsPiece piece.now }
@@ -66,8 +67,9 @@ pub fn end_of<D: FrameDecoder>(decoder: &mut D, ended: &[u8], piece: &[u8]) -> P
     }
 }
 
-/// Reads a piece and its zero, or only the first bytes of a piece. The buffer then begins with the bytes to which these
-/// bytes decode, whether the piece is a frame, breaks off or is too long.
+/// Passes a piece and its zero, or only the first bytes of a piece, to any idle decoder. The buffer then begins with
+/// the bytes to which these bytes decode, as far as they fit. This is also true for a piece that breaks off or is too
+/// long.
 pub fn salvage<D: FrameDecoder>(decoder: &mut D, received: &[u8]) -> Option<(PieceEnd, usize)>
     requires { D.phase decoder.old ≡ Idle }
     ensures cut_off { HasNoZero received.now
@@ -82,7 +84,8 @@ pub fn salvage<D: FrameDecoder>(decoder: &mut D, received: &[u8]) -> Option<(Pie
     decoder.feed_piece(received)
 }
 
-/// Reads a piece and its zero with one push of a decoder whose buffer is passed to each call.
+/// Decodes a piece and its zero with one push to an `UnbufferedDecoder`. Returns the length of the message, or `None`
+/// if there is no message.
 pub fn push_reads_unbuffered(ended: &[u8], piece: &[u8], dest: &mut [u8]) -> Option<usize>
     requires piece { IsPiece piece.now }
     requires ended { ended.now ≡ piece.now ++ 0 ∷ [] }
@@ -97,7 +100,7 @@ pub fn push_reads_unbuffered(ended: &[u8], piece: &[u8], dest: &mut [u8]) -> Opt
     }
 }
 
-/// Returns the message of a piece as a vector, or `None` if the piece is no frame.
+/// Returns the message of a piece as a vector, or `None` if the piece isn't a frame.
 pub fn message_of(alloc: Global, piece: &[u8]) -> Result<Option<Vec<u8>>, AllocError>
     requires { IsPiece piece.now }
     ensures { (m : List ℕ) → IfOk result (λ found.
@@ -110,7 +113,7 @@ pub fn message_of(alloc: Global, piece: &[u8]) -> Result<Option<Vec<u8>>, AllocE
     }
 }
 
-/// Returns the message of the bytes between two sentinels as a vector, or `None` if they are no frame.
+/// Decodes the bytes between two sentinels. Returns the message as a vector, or `None` if the bytes aren't a frame.
 pub fn message_for(
     alloc: Global,
     sentinel: u8,
@@ -140,7 +143,7 @@ pub fn message_in_place(piece: &mut [u8]) -> Option<usize>
     }
 }
 
-/// Decodes a piece in place, with the call that also returns where the piece ended.
+/// Decodes a piece in place with `decode_in_place_report`. If the piece is a frame, its message is then at the front.
 pub fn report_in_place(piece: &mut [u8]) -> Option<usize>
     requires { IsPiece piece.old }
     ensures { (m : List ℕ) → (IsSomeAnd result (λ n. BeginsWith piece.new n m) ↔ Reads piece.old m) }
@@ -151,7 +154,7 @@ pub fn report_in_place(piece: &mut [u8]) -> Option<usize>
     }
 }
 
-/// Decodes the bytes between two sentinels in place. If they are a frame, its message is then at the front.
+/// Decodes the bytes between two sentinels in place. If the bytes are a frame, its message is then at the front.
 pub fn message_in_place_for(between: &mut [u8], sentinel: u8) -> Option<usize>
     requires some { between.old ≢ [] }
     requires free { IsFreeOf sentinel between.old }
@@ -165,7 +168,7 @@ pub fn message_in_place_for(between: &mut [u8], sentinel: u8) -> Option<usize>
     }
 }
 
-/// Returns whether the bytes between two sentinels read as the message, and the message fits the buffer.
+/// Returns whether the bytes between two sentinels are a frame of the message, and the message fits the buffer.
 pub fn between_reads_as(sentinel: u8, between: &[u8], message: &[u8], buffer: &mut [u8]) -> bool
     requires some { between.now ≢ [] }
     requires free { IsFreeOf sentinel between.now }
@@ -176,7 +179,7 @@ pub fn between_reads_as(sentinel: u8, between: &[u8], message: &[u8], buffer: &m
     reads_for(sentinel, between, message, buffer)
 }
 
-/// Returns the bytes before the first sentinel, or all of them if there is none.
+/// Returns the bytes before the first sentinel, or all bytes if there is no sentinel.
 pub fn before_sentinel(received: &[u8], sentinel: u8) -> &[u8]
     ensures { xor_each sentinel result.now ≡ head (xor_each sentinel received.now) }
 {

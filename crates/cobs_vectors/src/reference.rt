@@ -1,4 +1,4 @@
-//! A plain implementation of the format, with which tests compare the library.
+//! A plain implementation of the format. Tests compare the library with it.
 use std::alloc::{AllocError, Global};
 
 /// Returns the encoded frame of a message. Each run of nonzero bytes is cut into blocks of up to 254 bytes. A block
@@ -25,7 +25,7 @@ pub fn frame_of(alloc: Global, message: &[u8]) -> Result<Vec<u8>, AllocError> {
     Ok(frame)
 }
 
-/// Appends the code, which counts itself and the bytes, and then the bytes.
+/// Appends a block: its code, which is the number of the block's bytes plus 1, and then the bytes.
 fn append_block(frame: &mut Vec<u8>, block: &[u8]) -> Result<(), AllocError> {
     frame.push(1)?;
     for byte in block {
@@ -44,15 +44,15 @@ pub struct Reading {
     /// The bytes of the list's blocks, with the zeros that join the blocks.
     pub output: Vec<u8>,
 
-    /// How many bytes of the output are kept: all bytes or, if the last block breaks off, the bytes before those of
-    /// that block.
+    /// The number of bytes of the output that are kept: all bytes or, if the last block breaks off, only the bytes
+    /// before it.
     pub kept: usize,
 
     /// Whether the last block has as many bytes as its code says.
     pub is_whole: bool,
 }
 
-/// Reads the blocks of the list, one after another.
+/// Decodes the blocks of the list, one after another.
 pub fn reading_of(alloc: Global, piece: &[u8]) -> Result<Reading, AllocError> {
     let mut output = Vec::new(alloc);
     let mut kept = 0;
@@ -84,7 +84,8 @@ pub fn reading_of(alloc: Global, piece: &[u8]) -> Result<Reading, AllocError> {
     })
 }
 
-/// Returns the bytes before the first zero, and the bytes after it if there is one.
+/// Returns the bytes before the first zero, and the bytes after this zero. If there is no zero, returns all bytes, and
+/// `None`.
 pub fn split_at_zero(bytes: &[u8]) -> (&[u8], Option<&[u8]>) {
     for (at, byte) in bytes.iter().enumerate() {
         if *byte == 0 {

@@ -1,4 +1,4 @@
-//! Callers whose contracts are proved only from the public clauses of `cobs`, and which a test runs.
+//! Callers whose contracts are proved only from the public clauses of `cobs`, and that a test runs.
 ghost use Rattle.std.specs.Prelude.{◌≡◌, ◌<◌, ◌≤◌, ◌^◌, ◌++◌, ◌↔◌, [], ℕ, All, IsOk, IfOk, length, map, slice_set, take};
 ghost use Rattle.cobs.specs.Fields.Decoders.{borrowed_buffer, borrowed_phase, borrowed_slice};
 ghost use Rattle.cobs.specs.Feed.{DecoderAfter};
@@ -14,7 +14,7 @@ use cobs::{
 };
 use std::alloc::{AllocError, Global};
 
-/// Carries out each result of an `EncoderState` in a vector, which then has the open frame of the message.
+/// Builds the open frame of a message in a vector: changes the vector as each result of an `EncoderState` says.
 pub fn encode_by_state(alloc: Global, source: &[u8]) -> Result<Vec<u8>, AllocError>
     ensures { IfOk result
         (λ bytes. (index code : ℕ) × IsOpenFrame bytes.items source.now index code) }
@@ -41,7 +41,7 @@ pub fn encode_by_state(alloc: Global, source: &[u8]) -> Result<Vec<u8>, AllocErr
     Ok(output)
 }
 
-/// Encodes a message of two pieces. Both pieces are taken exactly if the frame fits.
+/// Encodes a message that comes in two pieces. The calls succeed exactly if the message's frame fits `dest`.
 pub fn encode_both(
     first: &[u8],
     second: &[u8],
@@ -67,7 +67,8 @@ pub fn write_first<D: WriteBuffer>(decoder: &mut D, byte: u8)
     dest[0] = byte;
 }
 
-/// Writes the first byte of a borrowed slice. The phase doesn't change, and the decoder still borrows the same slice.
+/// Writes a byte to the front of the slice that a decoder borrows. The decoder's phase doesn't change, and the decoder
+/// still borrows the same slice.
 pub fn write_first_borrowed(decoder: &mut CobsDecoder<'_>, byte: u8)
     requires { 0 < length (borrowed_buffer decoder.old) }
     ensures phase { borrowed_phase decoder.new ≡ borrowed_phase decoder.old }

@@ -3,14 +3,14 @@ use Rattle.std.specs.Prelude.{ℕ, ◌≡◌, ◌≤◌, List, Option, option_ma
 use Rattle.cobs_watch.specs.declared.options.Task.{Task}
 use Rattle.cobs_watch.specs.declared.options.Task.TheVariants.{Show, Send}
 
--- a task for which the command line can ask: to send, or to show a stream; the greatest length of a message that is
--- shown is then at most 16 MiB
+-- a task that the command line can ask for; if the task shows a stream, the greatest length of a message is at most 16
+-- MiB
 abbrev pub IsOffered : Task → Type 0
 IsOffered (Show show) = show.settings.length ≤ 16777216
 IsOffered (Send settings) = Unit {0}
 
--- the paths of a task that shows a stream: the stream comes from `path`, and the output also goes to `log`, if these
--- are given
+-- the paths of a task that shows a stream: `path` is the path of the stream, if one was given, and `log` is the path of
+-- the log, if one was given
 abbrev pub HasPaths : (path log : Option (List ℕ)) → Task → Type 0
 HasPaths path log (Show show) = (option_map (λ text. text.now) show.path ≡ path) × (option_map (λ text. text.now) show.log ≡ log)
 HasPaths path log (Send settings) = Unit {0}

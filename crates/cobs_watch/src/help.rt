@@ -1,6 +1,6 @@
 //! The texts that `--help` prints.
 
-/// Returns the help for the option of this name.
+/// Returns the help for the option with this name.
 pub(crate) fn of(name: &str) -> &'static str {
     match name {
         "text" => "Show messages as text if they are UTF-8 without hidden\ncharacters",
@@ -25,7 +25,7 @@ pub(crate) fn of(name: &str) -> &'static str {
     }
 }
 
-/// Returns the help for an option that chooses the pieces and the stream that are shown.
+/// Returns the help for the option with this name, if the option is about filters, checksums, the stream or the log.
 fn of_pieces(name: &str) -> &'static str {
     match name {
         "only" => {

@@ -1,14 +1,15 @@
 //! Shows the frames of a live line.
 //!
-//! `cobs_watch` shows each piece of a stream of frames as soon as its sentinel arrives: `message N` with the N bytes as
-//! hexadecimal digits, `broken N` for a piece that breaks off inside a block, or `too long` for a piece that decodes to
-//! more bytes than the buffer holds. The program reads the device, FIFO or file at a path, or standard input, as long
-//! as bytes arrive. Options change the output; `cobs_watch --help` lists them. `cobs_watch send` reads lines, and sends
-//! each one as a frame and its sentinel.
+//! `cobs_watch` shows each piece of a stream of frames as soon as the piece's sentinel arrives: `message N` with the N
+//! bytes as hexadecimal digits, `broken N` for a piece that breaks off inside a block and decodes to N bytes, or `too
+//! long` for a piece that decodes to more bytes than the buffer holds. The program reads the device, FIFO or file at a
+//! path, or standard input, until the input ends. Options change the output; `cobs_watch --help` lists them.
+//! `cobs_watch send` reads lines, and sends each line as a frame, followed by the sentinel.
 //!
-//! At the end of the input, `unfinished` is printed if a piece has begun and no sentinel has ended it. The status is
-//! then 0. It is 1, with a line on standard error, if a read or a write failed or memory ran out, and 2, with the
-//! usage, for wrong arguments. If nobody reads the output any more, the program ends with status 0.
+//! At the end of the input, `unfinished` is printed if a piece has begun and no sentinel has ended it. The exit status
+//! is then 0. If a read or a write failed or memory ran out, the status is 1, and a line on standard error says so. If
+//! the arguments are wrong, the status is 2, and standard error has the usage. If nobody reads the output any more, the
+//! program ends with status 0.
 #![tactic(auto)]
 
 ghost use Rattle.std.specs.Prelude.{◌≡◌, [], OnOk};
@@ -37,8 +38,7 @@ use std::io::{self, BufReader, BufWriter, ErrorKind, IsTerminal, Read, Write};
 use std::process::ExitCode;
 use values::wrong;
 
-/// How many bytes of output are collected before they are written: 128 KiB, the number of hexadecimal digits of a chunk
-/// of input.
+/// The length of the output buffer in bytes, 128 KiB. It has room for the hexadecimal digits of a chunk of input.
 const OUTPUT_LEN: usize = 131_072;
 
 /// The system's error number of the last read or write that failed, if there is one.
@@ -50,7 +50,7 @@ struct Reasons {
     /// The last error of the input or of standard output.
     stream: Reason,
 
-    /// The error of the log. After this error, nothing is written to the log.
+    /// The last error of the log. After an error, nothing is written to the log.
     log: Reason,
 }
 
@@ -64,7 +64,7 @@ fn main(rt: HostRuntime) -> ExitCode {
     }
 }
 
-/// Does what the arguments ask for, and returns the status.
+/// Performs the task that the arguments ask for, and returns the exit status.
 ///
 /// # Errors
 /// Returns an error if memory runs out before the first read, or if the clock can't be read.
@@ -84,7 +84,7 @@ fn run(rt: &HostRuntime) -> anyhow::Result<ExitCode> {
 /// Returns the arguments. The first argument is the program's own name.
 ///
 /// # Errors
-/// Returns an error if an argument isn't UTF-8, and if memory runs out.
+/// Returns an error if an argument isn't UTF-8, or if memory runs out.
 fn words_of(rt: &HostRuntime) -> Result<Vec<String>, clap::Error> {
     match env::args(rt) {
         Ok(words) => Ok(words.collect(rt.alloc())?),
@@ -95,7 +95,7 @@ fn words_of(rt: &HostRuntime) -> Result<Vec<String>, clap::Error> {
     }
 }
 
-/// Prints the help, the version or the error that the arguments lead to, and returns the status.
+/// Prints the text of this error: the help, the version, or the mistake in the arguments. Returns the exit status.
 fn no_task(rt: &HostRuntime, error: &clap::Error) -> ExitCode {
     if error.kind() == CommandErrorKind::OutOfMemory {
         return faulted(rt, WatchFault::OutOfMemory, None);
@@ -108,9 +108,9 @@ fn no_task(rt: &HostRuntime, error: &clap::Error) -> ExitCode {
     faulted(rt, error.into(), reason)
 }
 
-/// Returns whether lines have colours if the arguments leave this open. They have colours if standard output is a
-/// terminal, the variable `TERM` is set and not `dumb`, and `NO_COLOR` is unset or empty. A value that isn't UTF-8
-/// counts as set and as not empty.
+/// Returns whether lines have colours with `--color auto`. They have colours if standard output is a terminal, the
+/// variable `TERM` is set and not `dumb`, and the variable `NO_COLOR` is unset or empty. A variable whose value isn't
+/// UTF-8 counts as set and as not empty.
 fn auto_color(rt: &HostRuntime) -> bool {
     let no_color = match env::var(rt, "NO_COLOR") {
         Ok(value) => !value.is_empty(),
@@ -130,7 +130,7 @@ fn show_local(rt: &HostRuntime, task: &ShowTask<'_>) -> anyhow::Result<ExitCode>
         report_utc(rt);
         return show(rt, task, TimeZone::UTC);
     };
-    // All zones of the system are read only if the zone is given by its name.
+    // The system's database of zones is read only if the zone can't be found without it.
     let mut zones = TimeZoneDatabase::new(rt.alloc());
     if system.time_zone(&zones).is_err() {
         zones = TimeZoneDatabase::from_env(rt)?;
@@ -144,8 +144,8 @@ fn show_local(rt: &HostRuntime, task: &ShowTask<'_>) -> anyhow::Result<ExitCode>
     }
 }
 
-/// Reports on standard error that dates are in UTC, if `TZ` asks for another zone. If the system has no zone, UTC is
-/// right, and nothing is reported.
+/// Reports on standard error that dates are in UTC, if the variable `TZ` is set. If `TZ` isn't set, nothing is
+/// reported, because UTC is right for a system without a zone.
 fn report_utc(rt: &HostRuntime) {
     if let Err(VarError::NotPresent) = env::var(rt, "TZ") {
         return;
@@ -153,7 +153,7 @@ fn report_utc(rt: &HostRuntime) {
     let _ = eprintln!(rt; "cobs_watch: the time zone in TZ can't be read: dates are in UTC");
 }
 
-/// Shows standard input, or the file at the task's path, with dates in this zone, and returns the status.
+/// Shows standard input, or the file at the task's path, with dates in this zone, and returns the exit status.
 fn show(rt: &HostRuntime, task: &ShowTask<'_>, zone: TimeZone<'_>) -> anyhow::Result<ExitCode> {
     let reasons = Reasons {
         stream: Cell::new(None),
@@ -201,7 +201,7 @@ fn open_log(rt: &HostRuntime, path: &str) -> io::Result<File> {
     first.try_clone()
 }
 
-/// The path of a line, and the runtime that opens it.
+/// A line that can be opened: its path, and the runtime to open it with.
 #[derive(Drop)]
 struct Device<'a> {
     rt: &'a HostRuntime,
@@ -219,8 +219,8 @@ impl<'a> Opener<Line<'a>> for Device<'a> {
     }
 }
 
-/// Opens the line of a device that is opened again after each hang-up. If the line can't be opened yet, reports this on
-/// standard error and returns `None`; the program then waits for the line.
+/// Opens the line of a device for the first time. If the line can't be opened yet, reports this on standard error and
+/// returns `None`. The program then waits for the line.
 fn first_line<'a>(rt: &HostRuntime, device: &Device<'a>) -> Option<Line<'a>> {
     match device.open() {
         Ok(line) => Some(line),
@@ -243,7 +243,7 @@ fn begin<W: Write + Drop>(output: &mut BufWriter<W>, style: Style) -> io::Result
     output.flush()
 }
 
-/// Shows the bytes of a reader, and returns the status.
+/// Shows the stream that a reader reads, and returns the exit status.
 fn show_reader<R: Read + Drop, W: Write + Drop>(
     rt: &HostRuntime,
     task: &ShowTask<'_>,
@@ -258,7 +258,7 @@ fn show_reader<R: Read + Drop, W: Write + Drop>(
     show_input(rt, task, zone, &mut input, reasons, output)
 }
 
-/// Shows the bytes of an input, and returns the status.
+/// Shows the stream of an input, and returns the exit status.
 fn show_input<S: LiveInput<W>, W: Write + Drop>(
     rt: &HostRuntime,
     task: &ShowTask<'_>,
@@ -284,7 +284,7 @@ fn show_input<S: LiveInput<W>, W: Write + Drop>(
     }
 }
 
-/// Sends the lines of standard input, and returns the status.
+/// Sends the lines of standard input, and returns the exit status.
 fn send(rt: &HostRuntime, settings: &send::Settings) -> anyhow::Result<ExitCode> {
     let reason = Cell::new(None);
     let output = Port::new(rt, rt.stdout(), &reason);
@@ -300,8 +300,8 @@ fn send(rt: &HostRuntime, settings: &send::Settings) -> anyhow::Result<ExitCode>
     ) {
         Ok(true) => Ok(ExitCode::SUCCESS),
         Ok(false) => Ok(ExitCode::FAILURE),
-        // If the read failed in the system, `reason` has the error number. If memory ran out for a line, `reason` has
-        // no number.
+        // If the system reported the failed read, `reason` has an error number. If `reason` has no number, memory ran
+        // out for a line.
         Err(WatchFault::ReadFailed) if reason.get().is_none() => {
             Ok(faulted(rt, WatchFault::OutOfMemory, None))
         }
@@ -309,14 +309,14 @@ fn send(rt: &HostRuntime, settings: &send::Settings) -> anyhow::Result<ExitCode>
     }
 }
 
-/// Reports that a file can't be opened, and returns the status.
+/// Reports that a file can't be opened, and returns the exit status.
 fn not_opened(rt: &HostRuntime, path: &str, error: &io::Error) -> ExitCode {
     let _ = eprintln!(rt; "cobs_watch: {path}: {error}");
     ExitCode::FAILURE
 }
 
-/// Reports a fault of `show`, and returns the status. If the log couldn't be written, or the file at the path couldn't
-/// be read, the report names that file.
+/// Reports a fault of `show`, and returns the exit status. If the log couldn't be written, or the file at the path
+/// couldn't be read, the report names that file.
 fn show_faulted(
     rt: &HostRuntime,
     task: &ShowTask<'_>,
@@ -336,8 +336,8 @@ fn show_faulted(
     ExitCode::FAILURE
 }
 
-/// Reports a fault, and returns the status of the program. If nobody reads the output any more, nothing is reported,
-/// and the status is success.
+/// Reports a fault, and returns the exit status. If nobody reads the output any more, nothing is reported, and the
+/// status is success.
 fn faulted(rt: &HostRuntime, fault: WatchFault, reason: Option<i32>) -> ExitCode {
     if fault == WatchFault::OutputClosed {
         return ExitCode::SUCCESS;

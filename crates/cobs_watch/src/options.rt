@@ -31,7 +31,7 @@ pub(crate) enum Task<'a> {
     Send(send::Settings),
 }
 
-/// Which stream is shown, and how.
+/// The stream that is shown, and how it is shown.
 #[derive(Debug, PartialEq, Eq, Drop)]
 pub(crate) struct ShowTask<'a> {
     pub(crate) settings: Settings,
@@ -51,10 +51,10 @@ pub(crate) struct ShowTask<'a> {
 }
 
 /// Returns the task that the words ask for. The first word is the program's own name. `auto_color` says whether lines
-/// have colours if the words leave this open.
+/// have colours with `--color auto`.
 ///
-/// If the words are wrong, the result is an error. If the words ask for help or for the version, the result is an error
-/// too: it has the text to print, and the status.
+/// If the words are wrong, the result is an error. If the words ask for help or for the version, the result is also an
+/// error. The error has the text to print and the exit status.
 pub(crate) fn task_of<'a>(
     alloc: Global,
     words: &'a [String],
@@ -75,8 +75,8 @@ pub(crate) fn task_of<'a>(
     let command = with_show_options(alloc, Command::new(alloc, "cobs_watch"))?
         .about("Watch COBS frames on a live line")
         .version(VERSION)
-        // Without a subcommand the program does what `show` does. The options of `show` can't precede a subcommand, so
-        // that none of them is ignored.
+        // Without a subcommand, the program runs `show`. An option before a subcommand is an error, because it would be
+        // ignored.
         .args_conflicts_with_subcommands(true)
         .subcommand(show)?
         .subcommand(send)?;
@@ -108,17 +108,17 @@ fn option<'a>(alloc: Global, name: &'a str, value: &'a str) -> Arg<'a> {
         .help(help::of(name))
 }
 
-/// Makes an option for a style, of which only one may be chosen.
+/// Makes an option for a style. Only one style may be chosen.
 fn style<'a>(alloc: Global, name: &'a str) -> Result<Arg<'a>, AllocError> {
     flag(alloc, name).group("style")
 }
 
-/// Makes an option for a style that writes only messages.
+/// Makes an option for a style that shows only messages, without a number or a time before them.
 fn bare_style<'a>(alloc: Global, name: &'a str) -> Result<Arg<'a>, AllocError> {
     style(alloc, name)?.conflicts_with_all(["number", "time", "partial"].as_slice())
 }
 
-/// Adds the options of `show`, by topics, and its examples to the command.
+/// Adds the options of `show`, grouped by topic, and the examples of `show` to the command.
 fn with_show_options<'a>(alloc: Global, command: Command<'a>) -> Result<Command<'a>, Error> {
     let command = with_styles(alloc, command.next_help_heading("Styles"))?;
     let command = with_columns(alloc, command)?;
@@ -128,7 +128,8 @@ fn with_show_options<'a>(alloc: Global, command: Command<'a>) -> Result<Command<
     Ok(with_line(alloc, command)?.after_help(help::SHOW_EXAMPLES))
 }
 
-/// Adds the styles to the command. `json` excludes `number`, because each JSON object has its piece's number.
+/// Adds the options for styles to the command. `json` excludes `number`, because each JSON object has the number of its
+/// piece.
 fn with_styles<'a>(alloc: Global, command: Command<'a>) -> Result<Command<'a>, Error> {
     let hexdump = style(alloc, "hexdump")?.short('x');
     let json = style(alloc, "json")?.short('j').conflicts_with("number")?;
@@ -158,7 +159,7 @@ fn with_columns<'a>(alloc: Global, command: Command<'a>) -> Result<Command<'a>, 
     Ok(command.arg(time)?.arg(color)?)
 }
 
-/// Adds the options that choose the pieces to the command.
+/// Adds the options of the filter to the command.
 fn with_filters<'a>(alloc: Global, command: Command<'a>) -> Result<Command<'a>, Error> {
     let only = option(alloc, "only", "KIND")
         .short('o')
@@ -194,7 +195,7 @@ fn with_stream<'a>(alloc: Global, command: Command<'a>) -> Result<Command<'a>, E
     Ok(command.arg(option(alloc, "count-every", "SECONDS"))?)
 }
 
-/// Adds the options for the file that is opened, and for the log, to the command.
+/// Adds the path, `--reconnect` and `--log` to the command.
 fn with_line<'a>(alloc: Global, command: Command<'a>) -> Result<Command<'a>, Error> {
     let path = Arg::new(alloc, "path")
         .value_name("PATH")
@@ -204,7 +205,7 @@ fn with_line<'a>(alloc: Global, command: Command<'a>) -> Result<Command<'a>, Err
     Ok(command.arg(path)?.arg(reconnect)?.arg(log)?)
 }
 
-/// Returns which time was asked for. If a capture was asked for, the times are dates.
+/// Returns the kind of time that is shown for each piece. A capture file always has dates.
 fn stamp_of(matches: &ArgMatches<'_>) -> Stamp {
     match matches.get_str("time") {
         Some("start") => Stamp::Start,
@@ -219,7 +220,7 @@ fn stamp_of(matches: &ArgMatches<'_>) -> Stamp {
 /// output.
 ///
 /// # Errors
-/// An error if both colours and a log were asked for.
+/// Returns an error if the arguments ask for both colours and a log.
 fn color_of(alloc: Global, matches: &ArgMatches<'_>, auto_color: bool) -> Result<bool, Error> {
     let color = matches.get_str("color");
     if matches.get_str("log").is_none() {
@@ -237,7 +238,7 @@ fn color_of(alloc: Global, matches: &ArgMatches<'_>, auto_color: bool) -> Result
 /// Returns whether the file is opened again after a hang-up.
 ///
 /// # Errors
-/// An error for standard input, which can't be opened again.
+/// Returns an error for the path `-`, because standard input can't be opened again.
 fn reconnect_of(alloc: Global, matches: &ArgMatches<'_>) -> Result<bool, Error> {
     if matches.get_flag("reconnect") && matches.get_str("path") == Some(STDIN) {
         return wrong(
@@ -248,7 +249,7 @@ fn reconnect_of(alloc: Global, matches: &ArgMatches<'_>) -> Result<bool, Error> 
     Ok(matches.get_flag("reconnect"))
 }
 
-/// Returns the task of showing a stream, with its options.
+/// Returns the task to show a stream, with the options that were given.
 fn show_task<'a>(
     alloc: Global,
     matches: &ArgMatches<'a>,
@@ -287,7 +288,7 @@ fn show_task<'a>(
     }))
 }
 
-/// Returns the style that was asked for.
+/// Returns the style that was chosen, or `Hex` if none was chosen.
 fn style_of(matches: &ArgMatches<'_>) -> Style {
     match matches.get_str("style") {
         Some("text") => Style::Text,

@@ -8,17 +8,18 @@ use cobs_live::crc::{Crc, Params};
 use cobs_live::shown::Filter;
 use std::alloc::Global;
 
-/// Returns an error of the command line, with this message.
+/// Returns an error about the command line. `message` is its text.
 pub(crate) fn wrong<T>(alloc: Global, message: &str) -> Result<T, Error>
     ensures error { IsErr result }
 {
     Err(Command::new(alloc, "cobs_watch").error(ErrorKind::ValueValidation, message)?)
 }
 
-/// Returns the number that an option has: decimal, or hexadecimal after `0x`.
+/// Parses the value of the option with this name as a number: decimal, or hexadecimal after `0x`. Returns `None` if the
+/// option isn't given.
 ///
 /// # Errors
-/// An error that names the option if its value isn't a number, or is above `max`.
+/// Returns an error that names the option if the value isn't a number, or if the number is above `max`.
 pub(crate) fn number_of(
     alloc: Global,
     matches: &ArgMatches<'_>,
@@ -39,7 +40,7 @@ pub(crate) fn number_of(
     }
 }
 
-/// Returns the number that a text is: decimal, or hexadecimal after `0x`.
+/// Parses a text as a number: decimal, or hexadecimal after `0x`.
 fn parsed(text: &str) -> Option<u64> {
     match text.strip_prefix("0x") {
         Some(digits) => u64::from_str_radix(digits, 16).ok(),
@@ -47,17 +48,17 @@ fn parsed(text: &str) -> Option<u64> {
     }
 }
 
-/// Returns the sentinel that was asked for.
+/// Returns the value of `--sentinel`.
 pub(crate) fn sentinel_of(alloc: Global, matches: &ArgMatches<'_>) -> Result<u8, Error> {
     let number = number_of(alloc, matches, "sentinel", 255)?.unwrap_or(0);
     Ok(u8::try_from(number).unwrap_or(0))
 }
 
-/// Returns the checksum that was asked for, if any.
+/// Returns the checksum that `--crc` and `--crc-order` ask for, or `None` without `--crc`.
 ///
 /// # Errors
-/// An error if the text is neither the name of a checksum nor a list of a checksum's parameters. If a part of the text
-/// isn't a parameter, the error names that part.
+/// Returns an error if the value of `--crc` is neither the name of a checksum nor a list of a checksum's parameters. If
+/// a part of the value isn't a parameter, the error names that part.
 pub(crate) fn checksum_of(
     alloc: Global,
     matches: &ArgMatches<'_>,
@@ -92,7 +93,8 @@ fn crc_of(name: &str) -> Option<Crc> {
     }
 }
 
-/// The parameters of a checksum as the user writes them, and as the catalogue lists them.
+/// The parameters of a checksum, in the form in which the user writes them and the catalogue of CRC algorithms lists
+/// them.
 #[derive(Drop)]
 struct Written {
     width: Option<u64>,
@@ -103,8 +105,8 @@ struct Written {
 }
 
 impl Written {
-    /// Reads a part of the text, such as `poly=0x1021`. Returns whether the part is a parameter that wasn't given
-    /// before.
+    /// Parses a part of the value of `--crc`, such as `poly=0x1021`. Returns whether the part is a parameter that
+    /// wasn't given before.
     fn take(&mut self, part: &str) -> bool {
         if part == "reflected" {
             let first = !self.reflected;
@@ -127,7 +129,7 @@ impl Written {
     }
 }
 
-/// Returns the parameters of the checksum with this name, or the parameters that the text lists, as in
+/// Returns the parameters of a checksum. The text is the name of the checksum, or lists its parameters, as in
 /// `poly=0x1021,init=0xffff`.
 fn params_of(alloc: Global, text: &str) -> Result<Params, Error>
     ensures sized { IfOk result (λ params. (0 < params.size) × (params.size ≤ 4)) }
@@ -161,7 +163,8 @@ fn params_of(alloc: Global, text: &str) -> Result<Params, Error>
     }
 }
 
-/// Converts parameters as the user writes them to [`Params`], if they fit the width of the checksum.
+/// Converts the parameters that the user wrote to [`Params`]. Returns `None` if the width isn't 8, 16, 24 or 32 bits,
+/// if the polynomial is 0, or if a parameter doesn't fit the width.
 fn sized(written: &Written) -> Option<Params>
     ensures sized { IfSome result (λ params. (0 < params.size) × (params.size ≤ 4)) }
 {
@@ -189,11 +192,11 @@ fn sized(written: &Written) -> Option<Params>
     })
 }
 
-/// Returns the filter that was asked for.
+/// Returns the filter that `--only`, `--min`, `--max` and `--prefix` ask for.
 ///
 /// # Errors
-/// An error that names the option `--prefix` if its value isn't hexadecimal digits, and an error if `--min` is above
-/// `--max` or if memory runs out.
+/// Returns an error if the value of `--prefix` isn't pairs of hexadecimal digits, if the value of `--min` or `--max`
+/// isn't a number, or if `--min` is above `--max`.
 pub(crate) fn filter_of(alloc: Global, matches: &ArgMatches<'_>) -> Result<Filter, Error> {
     let kinds = matches.get_strs("only").unwrap_or(&[]);
     let prefix = matches.get_str("prefix").unwrap_or("");

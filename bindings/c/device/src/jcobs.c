@@ -176,7 +176,7 @@ static size_t jcobs_max_overhead(size_t message_len)
     return message_len / JCOBS_FULL_BLOCK_BYTES + (message_len % JCOBS_FULL_BLOCK_BYTES != 0 ? 1 : 0);
 }
 
-/* Returns the length of the longest frame of a message of message_len bytes, or 0 if that length doesn't fit the
+/* Returns the length of the longest frame of a message of message_len bytes, or 0 if this length doesn't fit the
  * type of the result.
  * Proved, by the contract in encode.rt: the result is this length if it is below 2 to the 64th, and 0 otherwise. */
 size_t jcobs_max_length(size_t message_len)
@@ -264,8 +264,8 @@ static size_t jcobs_write_blocks(const unsigned char *message, size_t message_le
     return next;
 }
 
-/* Writes the frame of the message to the front of the buffer, if it fits, and returns the frame's length in bytes.
- * Otherwise it returns 0, and nothing is written. */
+/* Writes the frame of the message to the front of the buffer, and returns the frame's length in bytes. If the
+ * frame doesn't fit, writes nothing and returns 0. */
 static JCOBS_APART size_t jcobs_write_frame(const unsigned char *message, size_t message_len, unsigned char *frame,
                                             size_t frame_size)
 {
@@ -281,8 +281,8 @@ static jcobs_answer jcobs_too_small_answer(void)
     return jcobs_make_answer(JCOBS_TOO_SMALL, 0, 0);
 }
 
-/* Returns the result of a call that succeeded. It took `consumed` bytes, and `length` bytes of output are at the
- * front of the buffer. */
+/* Returns the result of a successful call: the call consumed `consumed` bytes, and `length` bytes of output are at
+ * the front of the buffer. */
 static jcobs_answer jcobs_ok_answer(size_t consumed, size_t length)
 {
     return jcobs_make_answer(JCOBS_OK, consumed, length);
@@ -378,9 +378,9 @@ static size_t jcobs_write_in_place(unsigned char *buffer, size_t buffer_size, si
     return jcobs_close_block(buffer, buffer_size, &encoder);
 }
 
-/* Encodes a message of message_len bytes in its own buffer, if the longest frame of such a message fits. Otherwise
- * nothing is written. The message begins in the buffer at the index JCOBS_MAX_OVERHEAD(message_len), and its frame
- * is written to the front of the buffer.
+/* Encodes a message of message_len bytes in place. The message begins at index JCOBS_MAX_OVERHEAD(message_len) of
+ * the buffer. The frame is written to the front of the buffer. If the longest frame of a message of this length
+ * doesn't fit the buffer, nothing is written.
  * Proved, by the contract in encode.rt: if the longest frame fits, the buffer begins with the frame of the
  * message, and the bytes after this frame are as they were. Otherwise the status is TOO_SMALL, and the buffer is
  * as it was. */
@@ -554,7 +554,7 @@ static JCOBS_APART jcobs_end jcobs_decode_blocks(unsigned char *buffer, size_t f
     return jcobs_make_end(JCOBS_END_MESSAGE, written);
 }
 
-/* Returns the result of a call that decodes in place, and took `consumed` bytes of the buffer_len bytes of a
+/* Returns the result of a call that decodes in place, and consumed `consumed` bytes of the buffer_len bytes of a
  * buffer. `decoded` says how the frame ended. JCOBS_END_TOO_LONG and JCOBS_END_NONE don't occur: a message is
  * shorter than its frame, and an empty buffer isn't decoded. */
 static jcobs_answer jcobs_in_place_answer(size_t consumed, size_t buffer_len, jcobs_end decoded)
@@ -572,7 +572,7 @@ static jcobs_answer jcobs_in_place_answer(size_t consumed, size_t buffer_len, jc
     return jcobs_make_answer(JCOBS_EMPTY, consumed, 0);
 }
 
-/* Decodes the frame at the front of the buffer in place.
+/* Decodes the frame at the front of the buffer, in place.
  * Proved, by the contract in in_place.rt: the result and every byte of the buffer are those that the definition of
  * COBS gives for the bytes that the buffer had. */
 jcobs_answer jcobs_decode_in_place(void *buffer, size_t buffer_len)
@@ -611,7 +611,7 @@ static enum jcobs_kind jcobs_kind_by_blocks(const unsigned char *bytes, size_t l
     return JCOBS_NOT_A_FRAME;
 }
 
-/* Returns whether the bytes are a frame, and whether that frame is the one that encoders write for its message.
+/* Returns the kind of the bytes: a frame that encoders write, another frame, or no frame.
  * Proved, by the contract in kind.rt: the result is NOT_A_FRAME exactly if the bytes are no frame, and CANONICAL
  * exactly if they are the frame that encoders write. */
 unsigned int jcobs_frame_kind(const void *bytes, size_t len)
@@ -744,7 +744,7 @@ static JCOBS_INLINE jcobs_piece jcobs_decoder_take_bytes(jcobs_decoder *decoder,
     return jcobs_make_piece(JCOBS_END_NONE, 0, 0);
 }
 
-/* Returns how many decoded bytes of the open piece are in a buffer of buffer_size bytes. */
+/* Returns the number of decoded bytes of the open piece that are in the buffer. The buffer has buffer_size bytes. */
 static JCOBS_INLINE size_t jcobs_decoder_length(const jcobs_decoder *decoder, size_t buffer_size)
 {
     if (decoder->too_long != 0) {
@@ -753,9 +753,9 @@ static JCOBS_INLINE size_t jcobs_decoder_length(const jcobs_decoder *decoder, si
     return jcobs_min(decoder->written, buffer_size);
 }
 
-/* Returns the result of a call that got `len` bytes of the stream, and has a buffer of buffer_size bytes. If a
- * piece has ended, `piece` says how it ended, and how many bytes the call took, up to and including the zero that
- * ended the piece. */
+/* Returns the result of a call with `len` bytes of the stream and a buffer of buffer_size bytes. If a piece has
+ * ended in these bytes, `piece` says how the piece ended, and how many bytes there are up to and including the
+ * zero that ended it. */
 static JCOBS_INLINE jcobs_answer jcobs_decoder_answer(const jcobs_decoder *decoder, jcobs_piece piece, size_t len,
                                                       size_t buffer_size)
 {
@@ -773,8 +773,8 @@ static JCOBS_INLINE jcobs_answer jcobs_decoder_answer(const jcobs_decoder *decod
     return jcobs_make_answer(JCOBS_MORE, len, jcobs_decoder_length(decoder, buffer_size));
 }
 
-/* Takes bytes of the stream: those up to and including the zero that ends the first piece, or all bytes if no
- * piece ends. Even if the state is corrupt, nothing outside the buffers is accessed.
+/* Decodes bytes of the stream, and stops after the zero that ends the first piece. If no piece ends, decodes all
+ * the bytes. Even if the state is corrupt, nothing outside the buffers is accessed.
  * Proved, by the contract in decoder.rt: the result, the state and the buffer are those that the definition of the
  * stream gives after these bytes, however the stream is cut into calls. In every state consumed is at most the
  * number of bytes passed, and length is at most buffer_size. */
@@ -801,7 +801,7 @@ static JCOBS_INLINE jcobs_end jcobs_decoder_step(jcobs_decoder *decoder, unsigne
     return jcobs_make_end(JCOBS_END_NONE, 0);
 }
 
-/* Takes a zero of the stream, which ends a piece if one has begun. */
+/* Feeds a zero of the stream to the decoder. If a piece is open, the zero ends that piece. */
 static JCOBS_RARE jcobs_answer jcobs_decoder_feed_zero(jcobs_decoder *decoder, unsigned char *buffer,
                                                        size_t buffer_size)
 {
@@ -811,7 +811,7 @@ static JCOBS_RARE jcobs_answer jcobs_decoder_feed_zero(jcobs_decoder *decoder, u
     return jcobs_decoder_answer(decoder, piece, 1, buffer_size);
 }
 
-/* Takes the next byte of the stream, as jcobs_decoder_push does.
+/* Decodes the next byte of the stream. The contract is the same as for a jcobs_decoder_push of this byte.
  * Proved, by the contract in decoder.rt: the result, the state and the buffer are those that the definition of the
  * stream gives after these bytes, however the stream is cut into calls. In every state consumed is at most the
  * number of bytes passed, and length is at most buffer_size. */
@@ -909,8 +909,8 @@ static JCOBS_INLINE size_t jcobs_encoder_length(const jcobs_encoder *encoder)
     return encoder->full != 0 ? encoder->index : encoder->index + code;
 }
 
-/* Takes the next bytes of a message, if the frame of all bytes so far fits the buffer. Even if the state is
- * corrupt, nothing outside the buffers is accessed.
+/* Encodes the next bytes of a message, if the frame of the message up to and including these bytes fits the
+ * buffer. Even if the state is corrupt, nothing outside the buffers is accessed.
  * Proved, by the contract in encoder.rt: the status is OK exactly if the frame of the message so far, with these
  * bytes, fits. If it isn't OK, the state and the buffer are as they were. In every state consumed is at most the
  * number of bytes passed, and length is at most buffer_size. */
@@ -922,8 +922,8 @@ jcobs_answer jcobs_encoder_push(jcobs_encoder *encoder, void *buffer, size_t buf
     return jcobs_ok_answer(len, jcobs_encoder_length(encoder));
 }
 
-/* Takes the next byte of a message, if the frame of all bytes so far fits the buffer. It is a separate function:
- * as a part of jcobs_encoder_feed it would take a tenth more time in avr-gcc's code. */
+/* Encodes the next byte of a message, if the frame of the message up to and including this byte fits the buffer.
+ * It is a separate function: as a part of jcobs_encoder_feed it would take a tenth more time in avr-gcc's code. */
 static jcobs_answer jcobs_encoder_feed_byte(jcobs_encoder *encoder, unsigned char *buffer, size_t buffer_size,
                                             unsigned char byte)
 {
@@ -938,7 +938,7 @@ static jcobs_answer jcobs_encoder_feed_byte(jcobs_encoder *encoder, unsigned cha
     return jcobs_ok_answer(1, jcobs_encoder_append_byte(encoder, buffer, byte));
 }
 
-/* Takes the next byte of a message, as jcobs_encoder_push does.
+/* Encodes the next byte of a message. The contract is the same as for a jcobs_encoder_push of this byte.
  * Proved, by the contract in encoder.rt: the status is OK exactly if the frame of the message so far, with these
  * bytes, fits. If it isn't OK, the state and the buffer are as they were. In every state consumed is at most the
  * number of bytes passed, and length is at most buffer_size. */
@@ -979,7 +979,7 @@ static jcobs_frame_length jcobs_encoder_close(jcobs_encoder *encoder, unsigned c
 }
 
 /* Ends the message, if its frame fits the buffer. Even if the state is corrupt, nothing outside the buffers is
- * accessed, and the returned length is at most the buffer's.
+ * accessed, and the returned `length` is at most the buffer's length.
  * Proved, by the contract in encoder.rt: if the frame of all bytes that were taken fits, the buffer begins with
  * it, and the encoder is in its initial state. Otherwise the status is TOO_SMALL, and the state and the buffer are
  * as they were. */
@@ -997,8 +997,8 @@ jcobs_answer jcobs_encoder_finish(jcobs_encoder *encoder, void *buffer, size_t b
     return jcobs_too_small_answer();
 }
 
-/* Ends the message, as jcobs_encoder_finish does, and writes a zero after its frame, if the frame and the zero
- * fit.
+/* Ends the message, as jcobs_encoder_finish does, and writes a zero after its frame. If the frame and the zero
+ * don't fit the buffer, nothing changes.
  * Proved, by the contract in encoder.rt: if the frame of all bytes that were taken and the zero fit, the buffer
  * begins with them, and the encoder is in its initial state. Otherwise the status is TOO_SMALL, and the state and
  * the buffer are as they were. */

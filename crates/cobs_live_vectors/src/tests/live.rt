@@ -1,5 +1,5 @@
-//! Tests which bytes had been written when the next bytes were read. The stream is cut into two parts, once at each
-//! place.
+//! Tests how many bytes had been written when the last read began. The first test cuts the stream at each place, and
+//! shows the part before the cut.
 
 use super::{SENT, STREAM, settings, timer, written_after};
 use crate::recorder::{Recorder, send_recorded, show_recorded};
@@ -13,7 +13,7 @@ use std::test::Fail;
 fn what_had_ended_is_written_at_each_read(rt: HostRuntime) -> Result<(), Fail> {
     let alloc = rt.alloc();
     for cut in 1..20 {
-        // The last read finds the end, at the cut.
+        // The last read returns no bytes, because the input ends at the cut.
         let mut input = Recorder {
             bytes: &STREAM[..cut],
             written: 0,

@@ -1,13 +1,13 @@
 // Made by bindings/rust/translate.py from `crates/cobs_bytes/src/lanes.rt`: change that file, and run it again.
-//! Functions over any number of bytes. They copy bytes, copy bytes only if none of them is the sentinel, or move bytes
-//! within one buffer. The old place and the new place of moved bytes may overlap. All bytes of a vector are loaded
-//! before any of them is stored.
+//! Functions over any number of bytes. They copy bytes, copy bytes only if none of them is the sentinel, XOR bytes, or
+//! move bytes within one buffer. The old place and the new place of moved bytes may overlap.
 
 use crate::proved::cobs_bytes::window::{WIDE_WINDOW, by_width};
 use crate::simd::*;
 
 /// Moves `len` bytes from index `from` to the front of the buffer, as two vectors that may overlap. `len` is from `N`
-/// to `2 * N`.
+/// to `2 * N`. Both vectors are loaded before one of them is stored, so the old and the new place of the bytes may
+/// overlap.
 #[inline(always)]
 fn move_two<const N: usize>(buffer: &mut [u8], from: usize, len: usize) {
     let front = Simd::<u8, N>::from_slice(&buffer[from..]);
@@ -16,9 +16,9 @@ fn move_two<const N: usize>(buffer: &mut [u8], from: usize, len: usize) {
     back.copy_to_slice(&mut buffer[len - N..]);
 }
 
-/// Moves the `len` bytes that begin at index `from` to the front of the buffer. Bytes that no moved byte overwrites
-/// stay as they are.
-// For up to two windows, a call of `copy_within` costs more than the moves themselves.
+/// Moves the `len` bytes that begin at index `from` to the front of the buffer. All bytes from index `len` on stay as
+/// they are.
+// For up to 64 bytes, a call of `copy_within` takes longer than moving the bytes in vectors.
 #[inline(always)]
 pub fn move_to_front(buffer: &mut [u8], from: usize, len: usize) {
     if len > WIDE_WINDOW {
@@ -28,8 +28,8 @@ pub fn move_to_front(buffer: &mut [u8], from: usize, len: usize) {
     }
 }
 
-/// Copies the source's bytes, each XORed with the sentinel, but only if none of them is the sentinel. Returns whether
-/// it copied them. The source has `N` to `2 * N` bytes, which are copied as two vectors that may overlap.
+/// Copies the source's bytes to `dest`, each XORed with `sentinel`, but only if none of them is the sentinel. Returns
+/// whether the bytes were copied. The source has `N` to `2 * N` bytes. They are copied as two vectors that may overlap.
 #[inline(always)]
 fn copy_xored_two<const N: usize>(source: &[u8], dest: &mut [u8], sentinel: u8) -> bool {
     let at = source.len() - N;
@@ -45,23 +45,23 @@ fn copy_xored_two<const N: usize>(source: &[u8], dest: &mut [u8], sentinel: u8) 
     true
 }
 
-/// Copies the source's bytes, at most 64, each XORed with the sentinel, but only if none of them is the sentinel.
-/// Returns whether it copied them.
+/// Copies the source's bytes, at most 64, to `dest`, each XORed with `sentinel`, but only if none of them is the
+/// sentinel. Returns whether the bytes were copied.
 #[inline(always)]
 pub fn copy_xored_short(source: &[u8], dest: &mut [u8], sentinel: u8) -> bool {
     by_width!(source.len(), copy_xored_two(source, dest, sentinel))
 }
 
-/// Copies all bytes as one slice.
-// Not inlined: compilers that can't see that two slices don't overlap add a loop for slices that do, and this loop
-// would cost each caller registers. The parameters are in the same order as those of `memmove`, so this function only
-// jumps to `memmove`.
+/// Copies all bytes of `source` to `dest`.
+// This function isn't inlined. If a compiler can't see that two slices don't overlap, it adds a loop for slices that
+// overlap. In each caller, this loop would need registers. The parameters are in the same order as those of `memmove`,
+// so this function only jumps to `memmove`.
 #[inline]
 fn copy_slice(dest: &mut [u8], source: &[u8]) {
     dest.copy_from_slice(source);
 }
 
-/// Copies all bytes, each XORed with the sentinel, to the front of `dest`.
+/// Copies all bytes of the source to the front of `dest`, each XORed with `sentinel`.
 #[inline(always)]
 pub fn copy_xored(source: &[u8], dest: &mut [u8], sentinel: u8) {
     let copy = &mut dest[..source.len()];

@@ -1,5 +1,5 @@
 // Made by bindings/rust/translate.py from `crates/cobs_bytes/src/lib.rt`: change that file, and run it again.
-//! Functions over windows and slices of bytes, in vectors: they find zeros, copy, XOR, move and write.
+//! Functions that find zeros, and copy, XOR, move and write bytes, in vectors.
 
 pub(crate) mod lanes;
 pub(crate) mod window;

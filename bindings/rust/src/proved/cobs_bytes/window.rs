@@ -1,26 +1,26 @@
 // Made by bindings/rust/translate.py from `crates/cobs_bytes/src/window.rt`: change that file, and run it again.
-//! Functions over windows of up to 64 bytes, in vectors: they find zeros, copy, and write.
+//! Functions that find zeros, and copy and write up to 64 bytes, in vectors.
 
 use crate::simd::*;
 
-/// The number of bytes of a whole window.
+/// The number of bytes in a window.
 pub const WINDOW: usize = 32;
 
-/// The number of bytes of two windows. Data of up to this length is copied or moved in vectors.
+/// The number of bytes in two windows. Data of up to this length is copied or moved in vectors.
 pub const WIDE_WINDOW: usize = 64;
 
-/// Returns whether the target has vectors with which short data are copied faster. If it has none, a loop over bytes is
-/// faster, and its code is much smaller.
-// This function has no `ensures` clause, so that its callers are proved for both kinds of target. In Rattle it returns
-// `true`; in the Rust crate it returns a constant of the target.
+/// Returns whether the target has vector instructions that copy short data faster. On a target without them, a loop
+/// over bytes is faster, and its code is much smaller.
+// This function has no `ensures` clause, so its callers are proved for targets with and without such instructions. In
+// Rattle it returns `true`; in the Rust crate it returns a constant of the target.
 #[inline(always)]
 pub fn has_vectors() -> bool {
     crate::simd::HAS_VECTORS
 }
 
-/// Calls a function over vectors of `N` bytes. `N` is the greatest of 1, 2, 4, 8, 16 and 32 that is at most `len`. If
-/// `len` is 1 to 64, two such vectors, which may overlap, cover `len` bytes. The tests of `len` are nested, so that
-/// each `N` needs two or three tests.
+/// Calls a function that uses vectors of `N` bytes. `N` is the greatest of 1, 2, 4, 8, 16 and 32 that is at most `len`.
+/// For a `len` of 1 to 64, two vectors of `N` bytes, which may overlap, cover `len` bytes. The nested comparisons with
+/// `len` find each `N` in two or three steps.
 macro_rules! by_width {
     ($len:expr, $call:ident($($value:expr),*)) => {{
         let len = $len;
@@ -44,7 +44,7 @@ macro_rules! by_width {
 
 pub(crate) use by_width;
 
-/// Returns which of the `N` bytes from `at` on are zeros: bit `i` is set if the byte at `at + i` is a zero.
+/// Returns a mask of the zeros among `N` bytes: bit `i` is set if the byte at index `at + i` is zero.
 #[inline(always)]
 pub fn zeros_at<const N: usize>(bytes: &[u8], at: usize) -> u64 {
     Simd::<u8, N>::from_slice(&bytes[at..])
@@ -52,8 +52,8 @@ pub fn zeros_at<const N: usize>(bytes: &[u8], at: usize) -> u64 {
         .to_bitmask()
 }
 
-/// Copies the `N` bytes of `source` that begin at index `read` to `dest`, from index `at` on. Returns which of these
-/// bytes are zeros, as [`zeros_at`] does.
+/// Copies the `N` bytes of `source` from index `read` on to `dest`, from index `at` on. Returns a mask of the zeros
+/// among these bytes: bit `i` is set if the byte at index `read + i` is zero.
 #[inline(always)]
 pub fn copy_at<const N: usize>(source: &[u8], read: usize, dest: &mut [u8], at: usize) -> u64 {
     let bytes = Simd::<u8, N>::from_slice(&source[read..]);
@@ -61,20 +61,20 @@ pub fn copy_at<const N: usize>(source: &[u8], read: usize, dest: &mut [u8], at: 
     bytes.simd_eq(Simd::splat(0)).to_bitmask()
 }
 
-/// Returns which of `N` to `2 * N` bytes are zeros. The bytes are read as two vectors that may overlap.
+/// Returns a mask of the zeros among `N` to `2 * N` bytes. The bytes are read as two vectors that may overlap.
 #[inline(always)]
 fn zeros_of_two<const N: usize>(source: &[u8]) -> u64 {
     let rest = source.len() - N;
     zeros_at::<N>(source, 0) | (zeros_at::<N>(source, rest) << rest)
 }
 
-/// Returns which of up to 64 bytes are zeros.
+/// Returns a mask of the zeros among up to 64 bytes: bit `i` is set if byte `i` is zero.
 #[inline(always)]
 fn zeros_of(bytes: &[u8]) -> u64 {
     by_width!(bytes.len(), zeros_of_two(bytes))
 }
 
-/// Returns the index of the first zero of at most 64 bytes, or the number of bytes if none is a zero.
+/// Returns the index of the first zero among up to 64 bytes, or the number of bytes if there is no zero.
 #[inline(always)]
 pub fn first_zero(bytes: &[u8]) -> usize {
     if bytes.is_empty() {
@@ -83,8 +83,8 @@ pub fn first_zero(bytes: &[u8]) -> usize {
     (zeros_of(bytes).trailing_zeros() as usize).min(bytes.len())
 }
 
-/// Copies `N` to `2 * N` bytes to `dest`, from index `at` on, as two vectors that may overlap, and returns which of
-/// these bytes are zeros.
+/// Copies `N` to `2 * N` bytes to `dest`, from index `at` on, as two vectors that may overlap. Returns a mask of the
+/// zeros among these bytes: bit `i` is set if byte `i` is zero.
 #[inline(always)]
 fn copy_two<const N: usize>(source: &[u8], dest: &mut [u8], at: usize) -> u64 {
     let len = source.len();
@@ -96,7 +96,7 @@ fn copy_two<const N: usize>(source: &[u8], dest: &mut [u8], at: usize) -> u64 {
     zeros
 }
 
-/// Copies up to 64 bytes to `dest`, from `at` on, and returns which are zeros: bit `i` is set if byte `i` is a zero.
+/// Copies up to 64 bytes to `dest`, from index `at` on. Returns a mask of their zeros: bit `i` is set if byte `i` is 0.
 #[inline(always)]
 pub fn copy_window(source: &[u8], dest: &mut [u8], at: usize) -> u64 {
     if source.len() == WINDOW {
