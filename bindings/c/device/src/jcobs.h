@@ -75,8 +75,8 @@
  *
  * While a call runs, nothing else may change its input, its buffer or its state: no other thread or process, no
  * interrupt or signal handler, no DMA transfer. A call may read a byte twice. If the byte changes between the two
- * reads, the call may access other memory or never return. So wait until a DMA transfer into the input has finished, or
- * pass a copy of the input.
+ * reads, the call may access memory outside the buffers, or never return. So wait until a DMA transfer into the input
+ * has finished, or pass a copy of the input.
  *
  * No function allocates memory or uses a lock. A function keeps neither a pointer nor anything else after it returns: a
  * call depends only on its arguments. So calls on different buffers and states may run at the same time, also in signal
