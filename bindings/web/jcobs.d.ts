@@ -76,8 +76,8 @@ export function isSupported(): boolean;
 /**
  * Loads the module. Every call except `isSupported` needs the module. Without an argument, `load` loads the module that comes with
  * this file. Once the module is loaded, or is being loaded, a further call of `load` changes nothing and returns the same promise.
- * If the module can't be loaded, the promise is rejected with a CobsError "unsupported", or with the error that occurred when
- * the source was read. After that, `load` can be called again.
+ * If the module can't be loaded, the promise is rejected with a CobsError "unsupported", or with the error of the source, for
+ * example of `fetch`. After that, `load` can be called again.
  */
 export function load(source?: Source): Promise<void>;
 
