@@ -13,8 +13,8 @@ b'\\x06hello\\x06world\\x00'
 [Message(b'hello\\x00world'), Message(b'hi')]
 
 The arguments `data`, `frame` and `chunk` are bytes, or any other contiguous bytes-like object, such as a bytearray, a
-memoryview, an array.array or an mmap. For any other object, each function and method raises TypeError. If the bytes of
-the object aren't contiguous, it raises BufferError.
+memoryview, an array.array or an mmap. Each function and method raises TypeError for any other object, and BufferError
+for an object whose bytes aren't contiguous.
 """
 
 __version__ = "1.0.0"  # the modules below compare this version with that of the extension

@@ -185,8 +185,8 @@ class AsyncFrameReader(Frames):
         """Drops the outcomes that haven't been read, and all bytes that have arrived.
 
         If these bytes end inside a frame, this call also drops the bytes that follow, until no byte has arrived for
-        `quiet` seconds. If bytes are still arriving after one second, this call stops. If it stops inside a frame, the
-        next outcome is that of this frame.
+        `quiet` seconds. If bytes are still arriving after one second, this call stops. If the call stops inside a
+        frame, the next outcome is the outcome of this frame.
         """
         end = time.monotonic() + LONGEST_DISCARD
         while await self._take_within(Deadline(quiet).left() or 0.0 if self.unfinished else 0.0):

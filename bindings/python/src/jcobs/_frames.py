@@ -17,8 +17,8 @@ FrameKind = Literal["not_a_frame", "canonical", "longer"]
 class DecodeError(ValueError):
     """Raised by `decode` if the bytes aren't a frame, and by a reader's `request` if the reply is damaged or too long.
 
-    `kind` is "broken" if the frame breaks off inside a block, and "empty" if there are no bytes, or only sentinels. It
-    is "too_long" if a reader raises the error because the reply is longer than the reader's `max_length`. `data` is the
+    `kind` is "broken" if the frame breaks off inside a block, and "empty" if there are no bytes, or only sentinels. In
+    the error of a reader, `kind` is "too_long" if the reply is longer than the reader's `max_length`. `data` is the
     bytes that the frame decodes to before it breaks off. In the error of a reader, `data` has at most `max_length`
     bytes.
 

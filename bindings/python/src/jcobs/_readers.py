@@ -306,8 +306,8 @@ class FrameReader(Frames):
         """Drops the outcomes that haven't been read, and all bytes that have arrived.
 
         If these bytes end inside a frame, this call also drops the bytes that follow, until no byte has arrived for
-        `quiet` seconds. If bytes are still arriving after one second, this call stops. If it stops inside a frame, the
-        next outcome is that of this frame.
+        `quiet` seconds. If bytes are still arriving after one second, this call stops. If the call stops inside a
+        frame, the next outcome is the outcome of this frame.
 
         A file in memory or on a disk is read to its end.
 
@@ -330,7 +330,7 @@ class FrameReader(Frames):
     def write(self, message: ReadableBuffer) -> None:
         """Sends a message as a frame, and the sentinel after the frame.
 
-        If this call raises an exception, its own or that of a signal handler, a part of the frame may have been sent.
+        If this call ends with an exception, its own or one of a signal handler, a part of the frame may have been sent.
         The next write then first sends bytes that end the cut frame. For the cut frame, the receiver reports at most
         one `Broken` or `TooLong`. A port may still be sending when this call returns: the port's own `flush` waits
         until everything is sent.
@@ -353,8 +353,9 @@ class FrameReader(Frames):
         or too long. After such an error the reply, or the rest of it, may still arrive. If `discard` is true, the bytes
         that have already arrived are dropped before the message is sent, so that they aren't mistaken for the reply.
 
-        A late reply to an earlier request may arrive after this message is sent. It is mistaken for the reply to this
-        message, because a frame doesn't say which request it replies to. If that can happen, number the requests.
+        A late reply to an earlier request may arrive after this message is sent. The late reply is mistaken for the
+        reply to this message, because a frame doesn't say which request it replies to. If that can happen, number the
+        requests.
         """
         Deadline(timeout)
         if discard:
