@@ -22,7 +22,7 @@ declare global {
 /** The type of bytes in arguments: an ArrayBuffer, a SharedArrayBuffer, or any view of one of these. */
 export type Bytes = ArrayBuffer | SharedArrayBuffer | ArrayBufferView;
 
-/** The source from which `load` gets the module. */
+/** A source from which `load` can read the module: an address, a response, the bytes of cobs.wasm, or the compiled module. */
 export type Source = string | URL | Response | PromiseLike<Response> | Bytes | WebAssembly.Module;
 
 export interface SentinelOptions {
@@ -31,27 +31,28 @@ export interface SentinelOptions {
 }
 
 export interface EncodeOptions extends SentinelOptions {
-  /** Whether a sentinel follows the frame. Default false. */
+  /** Whether the result has a sentinel after the frame. Default false. */
   terminated?: boolean;
 }
 
 export interface PieceOptions extends SentinelOptions {
-  /** The length of the longest message, in bytes. Default 65536; for `frames`, the number of bytes that are passed. */
+  /** The length of the longest message, in bytes. Default 65536. For `frames`, the default is the number of bytes that are passed. */
   maxLength?: number;
 }
 
 export interface DecoderOptions extends PieceOptions {
   /**
-   * Whether to begin after the first sentinel. Use this option on a line that may be in the middle of a frame. Default false.
+   * Whether to skip all bytes up to and including the first sentinel. Use this option if the first bytes may be the rest of a
+   * frame. Default false.
    */
   skipFirst?: boolean;
 }
 
 /** The outcome of a piece of a stream. A piece is the bytes up to a sentinel. */
 export type Outcome =
-  /** The piece is a frame, and this is its message. */
+  /** The piece is a frame, and `message` is its message. */
   | { message: Uint8Array; broken?: undefined; tooLong?: undefined }
-  /** The piece breaks off inside a block. The number is how many bytes the piece decodes to before it breaks off. */
+  /** The piece breaks off inside a block. `broken` is the number of bytes that the piece decodes to before it breaks off. */
   | { broken: number; message?: undefined; tooLong?: undefined }
   /** The piece decodes to more than `maxLength` bytes. */
   | { tooLong: true; message?: undefined; broken?: undefined };
@@ -64,25 +65,26 @@ export type Outcome =
  */
 export class CobsError extends Error {
   readonly kind: "empty" | "broken" | "unsupported";
-  /** With "broken", how many bytes the frame decodes to before it breaks off; otherwise 0. */
+  /** If `kind` is "broken", the number of bytes that the frame decodes to before it breaks off; otherwise 0. */
   readonly decodedBytes: number;
   constructor(kind: CobsError["kind"], message: string, decodedBytes?: number);
 }
 
-/** Returns whether the module runs here: in this engine, under this content security policy. */
+/** Returns whether the module can run in this engine, and under the content security policy of this page. */
 export function isSupported(): boolean;
 
 /**
- * Loads the module, which every call needs except `isSupported`. Without an argument, `load` takes the module that comes with
- * this file. Once the module is loaded, or is being loaded, a further call changes nothing and returns the same promise.
- * @throws CobsError "unsupported", or the error of the source; after this error `load` can be called again
+ * Loads the module. Every call except `isSupported` needs the module. Without an argument, `load` loads the module that comes with
+ * this file. Once the module is loaded, or is being loaded, a further call of `load` changes nothing and returns the same promise.
+ * If the module can't be loaded, the promise is rejected with a CobsError "unsupported", or with the error of the source, for
+ * example of `fetch`. After that, `load` can be called again.
  */
 export function load(source?: Source): Promise<void>;
 
 /**
- * Loads the module before it returns, for a program that can't wait for a promise. Without an argument, `loadSync` takes the
- * module that comes with this file. Once the module is loaded, a further call changes nothing. On a page, outside of a worker,
- * Chrome allows this call from version 115 on.
+ * Loads the module synchronously, for a program that can't wait for a promise. Without an argument, `loadSync` loads the module
+ * that comes with this file. Once the module is loaded, a further call changes nothing. On a page, outside of a worker, Chrome
+ * allows this call from version 115 on.
  * @throws CobsError "unsupported", or the error of the source
  */
 export function loadSync(source?: Bytes | WebAssembly.Module): void;
@@ -94,27 +96,27 @@ export function maxEncodedLength(length: number): number;
 export function encode(message: Bytes, options?: EncodeOptions): Uint8Array;
 
 /**
- * Encodes a message to the front of `dest`, changes nothing after the frame, and returns the frame's length.
+ * Encodes a message to the front of `dest`, and returns the frame's length. The bytes of `dest` after the frame aren't changed.
  * @throws RangeError if the frame doesn't fit; `dest` is then as it was
  */
 export function encodeInto(message: Bytes, dest: Bytes, options?: EncodeOptions): number;
 
 /**
  * Returns the message of the first frame. Leading sentinels are skipped, and the frame ends at the next sentinel or at
- * the last byte. The bytes after that sentinel have no effect.
+ * the last byte. The bytes after that sentinel are ignored.
  * @throws CobsError "empty" or "broken"
  */
 export function decode(frame: Bytes, options?: SentinelOptions): Uint8Array;
 
 /**
- * Returns whether bytes are a frame: "canonical" for the frame that `encode` returns, "longer" for that frame with a needless
- * last block 01, "notAFrame" for all other bytes.
+ * Returns "canonical" for a frame that `encode` returns, "longer" for a frame with a needless last block 01, and "notAFrame" for
+ * bytes that aren't a frame. Pass the bytes without the sentinels before and after them.
  */
 export function frameKind(frame: Bytes, options?: SentinelOptions): "canonical" | "longer" | "notAFrame";
 
 /**
- * Iterates over the outcomes of all pieces of `bytes` that a sentinel ends. The member `end` of an outcome is the index after that
- * sentinel. Bytes after the last sentinel have no outcome.
+ * Returns an iterator over the outcomes of the pieces of `bytes`. The member `end` of an outcome is the index in `bytes` after the
+ * sentinel of the piece. Bytes after the last sentinel have no outcome.
  */
 export function frames(bytes: Bytes, options?: DecoderOptions): IterableIterator<Outcome & { end: number }>;
 
@@ -122,9 +124,10 @@ export function frames(bytes: Bytes, options?: DecoderOptions): IterableIterator
 export class FrameDecoder {
   constructor(options?: DecoderOptions);
   /**
-   * Calls `visit` for each piece that ends in the chunk; `end` is the index in the chunk after the sentinel of that piece.
-   * If `visit` closes the decoder or throws an error, this push doesn't call `visit` again. `push` throws that error after it
-   * has taken the whole chunk, so the next chunk is decoded as if nothing had been thrown.
+   * Decodes a chunk, and calls `visit` for each piece that ends in the chunk; `end` is the index in the chunk after the sentinel
+   * of the piece. If `visit` closes the decoder, `push` doesn't call `visit` again. If `visit` throws an error, `push` decodes the
+   * rest of the chunk without calling `visit`, and then throws this error. So the next chunk is decoded as if `visit` had thrown
+   * nothing.
    */
   push(chunk: Bytes, visit: (outcome: Outcome, end: number) => void): void;
   /** Whether a frame has begun, and no sentinel has ended it yet. */
@@ -133,25 +136,25 @@ export class FrameDecoder {
   get skipped(): number;
   /** Frees the decoder's memory. Without this call, garbage collection frees the memory at some later time. */
   close(): void;
-  /** Does what `close` does, for `using`. */
+  /** Calls `close`. A `using` declaration calls this method at the end of its block. */
   [Symbol.dispose](): void;
 }
 
-/** Encodes a message that comes in chunks. */
+/** Encodes messages that come in chunks. */
 export class FrameEncoder {
   constructor(options?: PieceOptions);
   /**
-   * Takes the next bytes of the message.
-   * @throws RangeError if the message would be longer than `maxLength`; then none of the bytes is taken
+   * Adds bytes to the message.
+   * @throws RangeError if the message would become longer than `maxLength`; in this case no byte is added
    */
   push(piece: Bytes): void;
-  /** How many bytes of the message have been taken so far. */
+  /** The length of the message so far, in bytes. */
   get length(): number;
-  /** Returns the frame of all bytes that were taken, and begins the next message. */
+  /** Ends the message and returns its frame. The next `push` begins another message. */
   finish(options?: { terminated?: boolean }): Uint8Array;
   /** Frees the encoder's memory. */
   close(): void;
-  /** Does what `close` does, for `using`. */
+  /** Calls `close`. A `using` declaration calls this method at the end of its block. */
   [Symbol.dispose](): void;
 }
 

@@ -12,8 +12,8 @@ import { BROKEN, CHUNK_SIZE, CobsError, KINDS, NEAR, OK, STATE_SIZE, TOO_SMALL, 
 export { CobsError, isSupported, load, loadSync } from "./machine.js";
 
 /**
- * Returns the options of a call, with the default for each option that is left out. Throws a TypeError for an option that the
- * call doesn't have.
+ * Returns the options of a call, with the default for each option that is left out. Throws a TypeError if the call doesn't have
+ * one of the options.
  */
 function optionsOf(given, defaults) {
   if (given === undefined) return defaults;
@@ -94,7 +94,7 @@ export function decode(frame, options) {
   throw new CobsError("empty", "there is no frame to decode: no bytes, or sentinels alone");
 }
 
-/** Returns "canonical" for a frame that `encode` returns, "longer" for such a frame with a needless block 01 after it, else "notAFrame". */
+/** Returns "canonical" for a frame that `encode` returns, "longer" for a frame with a needless last block 01, otherwise "notAFrame". */
 export function frameKind(frame, options) {
   const bytes = bytesOf(frame);
   const { sentinel } = optionsOf(options, DECODING);
@@ -164,9 +164,10 @@ export class FrameDecoder {
   }
 
   /**
-   * Calls `visit(outcome, end)` for each piece that ends in `chunk`; `end` is the index in the chunk after the sentinel of that
-   * piece. If `visit` closes the decoder or throws an error, this push doesn't call `visit` again. `push` throws that error after
-   * it has taken the whole chunk, so the next chunk is decoded as if nothing had been thrown.
+   * Decodes a chunk, and calls `visit(outcome, end)` for each piece that ends in the chunk; `end` is the index in the chunk after
+   * the sentinel of the piece. If `visit` closes the decoder, `push` doesn't call `visit` again. If `visit` throws an error, `push`
+   * decodes the rest of the chunk without calling `visit`, and then throws this error. So the next chunk is decoded as if `visit`
+   * had thrown nothing.
    */
   push(chunk, visit) {
     if (!this.#held.isOpen || this.#isClosing) throw new Error("the decoder is closed");
@@ -232,8 +233,8 @@ export class FrameDecoder {
 }
 
 /**
- * Returns an iterator over the outcomes of all pieces of `bytes` that a sentinel ends. The member `end` of an outcome is the
- * index after that sentinel.
+ * Returns an iterator over the outcomes of the pieces of `bytes`. The member `end` of an outcome is the index in `bytes` after the
+ * sentinel of the piece.
  */
 export function frames(bytes, options) {
   const view = bytesOf(bytes);
@@ -252,7 +253,7 @@ function* outcomesOf(bytes, decoder) {
   }
 }
 
-/** Encodes a message that comes in chunks. The message has up to `maxLength` bytes. */
+/** Encodes messages that come in chunks. A message has up to `maxLength` bytes. */
 export class FrameEncoder {
   #held;
   #encoder;
@@ -269,12 +270,12 @@ export class FrameEncoder {
     this.#encoder = this.#held.arena.machine.encoder(this.#held.state, this.#held.buffer, room);
   }
 
-  /** How many bytes of the message have been taken so far. */
+  /** The length of the message so far, in bytes. */
   get length() {
     return this.#taken;
   }
 
-  /** Takes the next bytes of the message. If the message would be longer than `maxLength`, none of the bytes is taken. */
+  /** Adds bytes to the message. If the message would become longer than `maxLength`, throws a RangeError and adds no byte. */
   push(piece) {
     this.#demandOpen();
     const bytes = bytesOf(piece);
@@ -288,7 +289,7 @@ export class FrameEncoder {
     this.#taken += bytes.length;
   }
 
-  /** Returns the frame of all bytes that were taken, with a sentinel after it if `terminated` is true, and begins the next message. */
+  /** Ends the message and returns its frame, with a sentinel after the frame if `terminated` is true. The next `push` begins another message. */
   finish(options) {
     this.#demandOpen();
     const { terminated } = optionsOf(options, { terminated: false });
@@ -316,7 +317,7 @@ export class FrameEncoder {
 
 /**
  * Makes the two ends of a stream, `readable` and `writable`, like those of a TransformStream. `take` is called with
- * each chunk, and with a function `give`; `take` passes each result to `give`. `close` is called once, however the stream ends.
+ * each chunk and a function `give`, to which `take` passes each result. `close` is called once, however the stream ends.
  * A TransformStream isn't enough: some engines don't tell its transformer that the stream was cancelled or aborted.
  */
 function ends(take, close) {

@@ -210,7 +210,7 @@ export function load(source) {
   return loading;
 }
 
-/** Loads the module before it returns: from the file next to this one (in Node), from bytes, or from a compiled module. */
+/** Loads the module synchronously: from the file next to this one (in Node), from bytes, or from a compiled module. */
 export function loadSync(source) {
   if (shared) return;
   demandSupport();

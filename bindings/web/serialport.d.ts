@@ -1,7 +1,7 @@
 import { Transform } from "node:stream";
 import type { DecoderOptions, SentinelOptions } from "./jcobs.js";
 
-/** Turns bytes into an `Outcome` for each piece that a sentinel ends. Loads the module itself. */
+/** Turns a stream of bytes into a stream of outcomes, one for each piece that a sentinel ends. The class loads the module itself. */
 export class FrameDecoderTransform extends Transform {
   constructor(options?: DecoderOptions);
   /** Whether a frame has begun, and no sentinel has ended it yet. */
@@ -10,7 +10,7 @@ export class FrameDecoderTransform extends Transform {
   get skipped(): number;
 }
 
-/** Turns messages into frames, each with a sentinel after it. Loads the module itself. */
+/** Turns messages into frames, each with a sentinel after it. The class loads the module itself. */
 export class FrameEncoderTransform extends Transform {
   constructor(options?: SentinelOptions);
 }

@@ -1,4 +1,5 @@
-/* Reads frames from standard input as they arrive, and prints each message or error: read_frames [CHUNK [ROOM]].
+/* Reads a stream of frames from standard input, and prints each message or error when its frame ends:
+ * read_frames [CHUNK [ROOM]].
  *
  * At most CHUNK bytes are read at a time (default 4,096), and the buffer for messages has ROOM bytes (default 1,024).
  * The output is the same for every CHUNK. */

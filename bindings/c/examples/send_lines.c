@@ -1,6 +1,6 @@
 /* Encodes each line of standard input, without its newline, and writes the frame and a zero to standard output.
  *
- * The encoder takes each line in the pieces in which it is read, so only the frame is kept in memory. */
+ * Each piece of a line is encoded as soon as it is read, so the program keeps the frame in memory, but not the line. */
 #include <jcobs.h>
 
 #include <stdio.h>
@@ -25,7 +25,7 @@ int main(void)
 {
     jcobs_encoder encoder = JCOBS_ENCODER_INIT;
     unsigned char piece[256];
-    size_t begun = 0; /* how many bytes of the current line were taken */
+    size_t begun = 0; /* how many bytes of the current line were encoded */
     size_t n;
 
     while ((n = fread(piece, 1, sizeof piece, stdin)) > 0) {

@@ -7,7 +7,7 @@
  * that have a parameter `sentinel`. The frame of a message of up to 254 bytes is 1 byte longer than the message. The
  * frame of a longer message has at most 1 extra byte per 254 bytes of the message, rounded up.
  *
- * To receive, in reads of any size:
+ * To receive frames in chunks of any size:
  *
  *     jcobs_decoder decoder = JCOBS_DECODER_INIT;
  *     unsigned char message[1024];
@@ -27,7 +27,7 @@
  *         }
  *     }
  *
- * To receive byte by byte:
+ * To receive frames byte by byte:
  *
  *     jcobs_decoder decoder = JCOBS_DECODER_INIT;
  *     unsigned char message[64];
@@ -39,7 +39,7 @@
  *             handle(message, answer.length);
  *     }
  *
- * To send:
+ * To send a message:
  *
  *     unsigned char frame[JCOBS_MAX_LENGTH(1024) + 1];
  *     jcobs_answer answer = jcobs_encode_terminated(text, strlen(text), frame, sizeof frame);
@@ -62,51 +62,54 @@
  *
  * Preconditions
  *
- * Each pointer to bytes comes with a number of bytes. A parameter named len, or with a name that ends in _len, is the
- * number of bytes of input. A parameter with a name that ends in _size is the size of a buffer in bytes. The pointer
- * must be valid for reads of that many bytes, and also for writes if it doesn't point to const. If the number is 0, the
- * pointer isn't used and may be NULL. The number must be at most PTRDIFF_MAX. The buffers of a call must not overlap
- * each other or the state. To encode or decode within one buffer, use jcobs_encode_in_place or jcobs_decode_in_place.
+ * Each pointer to bytes is passed together with a number of bytes. If the name of this number is len or ends in _len,
+ * the number is the length of the input. If the name ends in _size, the number is the size of a buffer. The pointer
+ * must be valid for reads of this number of bytes. If the pointer doesn't point to const, it must also be valid for
+ * writes. If the number is 0, the pointer isn't used and may be NULL. The number must be at most PTRDIFF_MAX. The
+ * input, the buffer and the state of a call must not overlap. To encode or decode within one buffer, use
+ * jcobs_encode_in_place or jcobs_decode_in_place.
  *
- * A pointer to a state must be valid. The state may have any contents. Even if the state is corrupt, the call returns
- * and accesses no memory outside its buffers. In the result, consumed is then at most the number of bytes passed, and
- * length is at most the buffer's length.
+ * A pointer to a state must be valid. The state may have any contents. Even if the state is corrupt, the call returns,
+ * and accesses no memory outside the input, the buffer and the state. The result is still in range: consumed is at most
+ * the number of bytes passed, and length is at most the buffer's size.
  *
- * While a call runs, nothing else may change its buffers or its state: no other thread or process, no interrupt or
- * signal handler, no DMA transfer. A call may read a byte twice. If the byte changes between the two reads, the call
- * may access memory outside its buffers or never return. Pass only bytes whose transfer has finished, or a copy of the
- * bytes.
+ * While a call runs, nothing else may change its input, its buffer or its state: no other thread or process, no
+ * interrupt or signal handler, no DMA transfer. A call may read a byte twice. If the byte changes between the two
+ * reads, the call may access memory outside the buffers, or never return. So wait until a DMA transfer into the input
+ * has finished, or pass a copy of the input.
  *
- * No function allocates memory or uses a lock. No function keeps a pointer or anything else from one call to the next:
- * a call depends only on its arguments. So calls on different buffers and states may run at the same time, also in
- * signal handlers.
+ * No function allocates memory or uses a lock. A function keeps neither a pointer nor anything else after it returns: a
+ * call depends only on its arguments. So calls on different buffers and states may run at the same time, also in signal
+ * handlers.
  *
  * Results
  *
  * The comment below a prototype lists each status that the call can return, without the prefix JCOBS_. For each status
  * the comment gives the values of the members consumed and length:
  *
- * - consumed is the number of bytes that the call has taken from the message, the source or the pushed bytes;
+ * - consumed is the number of bytes of the input that the call has processed. The input is the message, the source or
+ *   the pushed bytes;
  * - length is the number of bytes at the front of the buffer that belong to the result.
  *
- * A call doesn't change the bytes of the buffer that follow the result. The only exception is
- * jcobs_decode_in_place_with_sentinel. If several calls with a jcobs_decoder decode one frame, or several calls with a
- * jcobs_encoder encode one message, the bytes that follow the result are as they were before the first of these calls.
- * But if a call with a jcobs_encoder returns TOO_SMALL, the whole buffer is as it was before this call.
+ * A call doesn't change the bytes of the buffer after the result. The only exception is
+ * jcobs_decode_in_place_with_sentinel. The rule also holds for several calls with a jcobs_decoder that decode one
+ * frame, and for several calls with a jcobs_encoder that encode one message: the bytes after the result are as they
+ * were before the first of these calls. But if a call with a jcobs_encoder returns TOO_SMALL, the whole buffer is as it
+ * was before this call.
  *
  * A frame is a sequence of blocks. A block is a code, from 1 to 255, followed by code - 1 nonzero bytes. A block with
- * the code 255 is full. The output of a frame or of blocks is the bytes that they decode to: the bytes after the code of
- * each block, and a zero between two blocks unless the first of the two is full. A broken frame is cut off inside its
- * last block. If the output has a zero before the bytes of this block, the zero stays even without the block. For
- * example, the broken frame 02 41 05 42 is cut off inside the block 05 42. The frame's output is 41 00 without this
- * block, and 41 00 42 including this block.
+ * the code 255 is full. The output of a frame is the bytes that the frame decodes to: the bytes after the code of each
+ * block, and a zero after each block except full blocks and the last block. A broken frame is cut off inside its last
+ * block. For some calls the output of a broken frame includes this block, and for other calls it doesn't. If there is a
+ * zero before this block, the zero belongs to the output for all calls. For example, the broken frame 02 41 05 42 is
+ * cut off inside the block 05 42. The output is 41 00 42 including this block, and 41 00 without this block.
  *
- * jcobs_decode, jcobs_decode_in_place and their forms with a sentinel don't need a sentinel after the frame. Without a
- * sentinel the frame ends at the end of the source, and consumed is the source's length. So a frame that was cut off
- * between two blocks is decoded as a shorter frame, with status OK. If your protocol ends each frame with a sentinel,
- * test whether source[consumed - 1] is the sentinel. This test also works after a call in place, because no call
- * changes the sentinel or the bytes after it. The streaming decoder reports a frame only when its sentinel has arrived.
- * COBS has no checksum: damage that turns a frame into another frame isn't noticed.
+ * jcobs_decode, jcobs_decode_in_place and their forms with a sentinel don't need a sentinel after the frame. If there
+ * is no sentinel, the frame ends at the end of the source, and consumed is the source's length. So a frame that was cut
+ * off between two blocks is decoded as a shorter frame, with status OK. If your protocol ends each frame with a
+ * sentinel, test whether source[consumed - 1] is the sentinel. This test also works after a call in place, because no
+ * call changes the sentinel or the bytes after it. The streaming decoder reports a frame only when its sentinel has
+ * arrived. COBS has no checksum: damage that turns a frame into another frame isn't noticed.
  *
  * The built library, libjcobs.a, needs x86-64-v2 on x86-64 (SSE4.2 and POPCNT: Intel processors since 2009, AMD
  * processors since 2011), and ARMv8-A on aarch64. The library has call frame information for debuggers, but no unwind
@@ -129,17 +132,18 @@ extern "C" {
 #define JCOBS_VERSION_PATCH 0
 #define JCOBS_VERSION (JCOBS_VERSION_MAJOR * 10000u + JCOBS_VERSION_MINOR * 100u + JCOBS_VERSION_PATCH)
 
-/* JCOBS_API comes before each prototype. To compile jcobs.c in one translation unit with the code that calls it, define
- * JCOBS_API as static, and include jcobs.c. If the compiler then warns of calls that the code doesn't make
+/* Each prototype begins with JCOBS_API. To compile jcobs.c in one translation unit with your code, define JCOBS_API as
+ * static, and include jcobs.c. If the compiler then warns about functions that your code doesn't call
  * (-Wunused-function), define JCOBS_API as static inline. In a library, define JCOBS_API as the attribute that exports
  * or hides a function, such as __attribute__((visibility("hidden"))). */
 #ifndef JCOBS_API
 #define JCOBS_API
 #endif
 
-/* JCOBS_STATUS is the type of the member status of jcobs_answer. This type has the size of unsigned int in every
- * language, on every target and with -fshort-enums. The type is the enum jcobs_status if the header can make sure that
- * the enum has this size; then -Wswitch checks a switch over the status. Otherwise the type is unsigned int. */
+/* JCOBS_STATUS is the type of the member status of jcobs_answer. This type always has the size of unsigned int: in C
+ * and C++, on every target, and also with -fshort-enums. If the header can make sure that the enum jcobs_status has
+ * this size, the type is this enum, and -Wswitch checks a switch over the status. Otherwise the type is unsigned
+ * int. */
 #if (defined(__cplusplus) && __cplusplus >= 201103L) || (defined(__STDC_VERSION__) && __STDC_VERSION__ >= 202311L)
 #define JCOBS_ENUM(name) enum name : unsigned int
 #define JCOBS_STATUS jcobs_status
@@ -154,7 +158,7 @@ extern "C" {
 #endif
 typedef JCOBS_ENUM(jcobs_status){
     JCOBS_OK = 0,        /* done */
-    JCOBS_MORE = 1,      /* all bytes were taken, and no frame has ended in them */
+    JCOBS_MORE = 1,      /* all bytes were processed, and no frame has ended in them */
     JCOBS_TOO_SMALL = 2, /* the buffer is too short */
     JCOBS_BROKEN = 3,    /* the frame breaks off inside a block */
     JCOBS_EMPTY = 4      /* there is no frame */
@@ -163,16 +167,16 @@ typedef JCOBS_ENUM(jcobs_status){
 /* The result of a call. */
 typedef struct jcobs_answer {
     JCOBS_STATUS status; /* how the call ended: a jcobs_status */
-    size_t consumed;     /* how many bytes were taken */
+    size_t consumed;     /* how many bytes of the input were processed */
     size_t length;       /* how many bytes at the front of the buffer belong to the result */
 } jcobs_answer;
 
-/* The results of jcobs_frame_kind. Pass the bytes without the sentinels before and after them. The result says whether
- * the bytes are a frame, and whether that frame is the one that encoders write. */
+/* The results of jcobs_frame_kind. The result says whether the bytes are a frame, and whether encoders write this
+ * frame. Pass the bytes without the sentinels before and after them. */
 enum jcobs_kind {
     JCOBS_NOT_A_FRAME = 0, /* there are no bytes, a byte is 0, or the bytes break off inside a block */
-    JCOBS_CANONICAL = 1,   /* the frame that encoders write for its message */
-    JCOBS_LONGER = 2       /* the frame that encoders write, and a byte 1 after it, which doesn't change the message */
+    JCOBS_CANONICAL = 1,   /* a frame that encoders write */
+    JCOBS_LONGER = 2       /* a frame that encoders write, and a byte 1 after it, which doesn't change the message */
 };
 
 /* The state of a streaming decoder. Only the library uses the members. */
@@ -196,7 +200,7 @@ typedef struct jcobs_encoder {
     unsigned char full;  /* whether the last byte made a block full; then no block is open until the next byte */
 } jcobs_encoder;
 
-/* The initial state, in which the encoder has taken no byte. All members are 0, as after jcobs_encoder_reset. */
+/* The initial state, in which no message has begun. All members are 0, as after jcobs_encoder_reset. */
 /* clang-format off */
 #define JCOBS_ENCODER_INIT {0, 0, 0}
 /* clang-format on */
@@ -204,8 +208,8 @@ typedef struct jcobs_encoder {
 /* With these attributes GCC and Clang check that the result of a call is used, and that a pointer to a state isn't
  * NULL. GCC also checks that the memory at a pointer is at least as long as the length that is passed with the pointer.
  * The parameters `pointer` and `length` of the macros are positions in the list of arguments. The calls that finish a
- * message are marked as calls that only write to the buffer, though they also read the pushed bytes from it. Otherwise
- * GCC would warn if nothing was pushed, because then nothing has been written to the buffer. */
+ * message are marked as calls that only write to the buffer, though they also read the pushed bytes from the buffer.
+ * Otherwise GCC would warn if nothing was pushed, because then nothing has been written to the buffer. */
 #ifdef __GNUC__
 #define JCOBS_CHECKED __attribute__((warn_unused_result))
 #define JCOBS_STATE __attribute__((nonnull(1)))
@@ -224,7 +228,7 @@ typedef struct jcobs_encoder {
 #endif
 
 /* Returns the length of the longest frame of a message of message_len bytes, without a sentinel. This length is
- * message_len plus message_len / 254, rounded up. For the empty message the length is 1.
+ * message_len plus the quotient message_len / 254, which is rounded up. For the empty message the length is 1.
  *
  * The macro JCOBS_MAX_LENGTH has the value that the function returns. If its argument is constant, the macro is a
  * constant expression, so an array can have this length. If the value doesn't fit a size_t, the macro wraps around, and
@@ -253,8 +257,8 @@ JCOBS_API jcobs_answer jcobs_encode_terminated(const void *message, size_t messa
  * - TOO_SMALL, exactly if the frame with its zero doesn't fit: consumed and length are 0, and the buffer is as it was.
  *   */
 
-/* Do what jcobs_encode and jcobs_encode_terminated do, for another sentinel. Each byte of the frame is XORed with the
- * sentinel. The second function also writes the sentinel after the frame. */
+/* Encode like jcobs_encode and jcobs_encode_terminated, but for another sentinel: each byte of the frame is XORed with
+ * the sentinel. The second function also writes the sentinel after the frame. */
 JCOBS_API jcobs_answer jcobs_encode_with_sentinel(const void *message, size_t message_len, void *frame,
                                                   size_t frame_size, unsigned char sentinel) JCOBS_READS(1, 2)
     JCOBS_WRITES(3, 4) JCOBS_CHECKED;
@@ -288,8 +292,8 @@ JCOBS_API jcobs_answer jcobs_decode(const void *source, size_t source_len, void 
 
 /* Decodes the frame at the front of the source, for the given sentinel, to the front of the buffer `message`. The frame
  * ends at the first sentinel or at the end of the source. No sentinel is skipped: if the source begins with a sentinel,
- * the message is empty. So for the sentinel 0 the results may differ from those of jcobs_decode. That call skips
- * leading zeros, and its output of a broken frame includes the block that is cut off. */
+ * the message is empty. Even for the sentinel 0 the results may differ from those of jcobs_decode, because jcobs_decode
+ * skips leading zeros, and includes the block that is cut off in the output of a broken frame. */
 JCOBS_API jcobs_answer jcobs_decode_with_sentinel(const void *source, size_t source_len, void *message,
                                                   size_t message_size, unsigned char sentinel) JCOBS_READS(1, 2)
     JCOBS_WRITES(3, 4) JCOBS_CHECKED;
@@ -309,9 +313,9 @@ JCOBS_API jcobs_answer jcobs_decode_in_place(void *buffer, size_t buffer_len) JC
  * - BROKEN: consumed is as for OK; length is the length of the frame's output, without the block that is cut off;
  * - EMPTY, if the buffer has no bytes: consumed and length are 0. */
 
-/* Does what jcobs_decode_in_place does, for the given sentinel. The bytes of the buffer from the message's end to the
- * frame's end are XORed with the sentinel. The sentinel and the bytes after it aren't changed, so the next frame begins
- * at buffer + consumed. */
+/* Decodes like jcobs_decode_in_place, but for the given sentinel. This call also XORs the bytes of the buffer from the
+ * message's end to the frame's end with the sentinel. The sentinel after the frame and the bytes after that sentinel
+ * aren't changed, so the next frame begins at buffer + consumed. */
 JCOBS_API jcobs_answer jcobs_decode_in_place_with_sentinel(void *buffer, size_t buffer_len, unsigned char sentinel)
     JCOBS_CHANGES(1, 2) JCOBS_CHECKED;
 /* returns: as jcobs_decode_in_place, with the sentinel instead of the zero */
@@ -323,30 +327,31 @@ JCOBS_API unsigned int jcobs_frame_kind(const void *bytes, size_t len) JCOBS_REA
 /* Resets the decoder to the initial state, from any state. */
 JCOBS_API void jcobs_decoder_reset(jcobs_decoder *decoder) JCOBS_STATE;
 
-/* Takes bytes of a stream in which a zero ends each frame. The call takes the bytes through the zero that ends the
- * first frame, or all bytes if no frame ends. The message of a frame that has ended is at the front of the buffer until
- * the next call. The bytes after the zero that ends the frame have no effect: push them in the next call. Every frame
- * is reported once, at the zero that ends it. Zeros between frames are skipped. A frame that is broken, or whose
- * message is too long for the buffer, never affects the next frame.
+/* Decodes the next bytes of a stream in which a zero ends each frame. The call processes the bytes up to and including
+ * the first zero that ends a frame, or all bytes if no frame ends in them. If a frame has ended, its message is at the
+ * front of the buffer until the next call. The bytes after the zero that ends the frame have no effect: push them in
+ * the next call. Every frame is reported once, at the zero that ends it. Zeros between frames are skipped. A frame that
+ * is broken, or whose message is too long for the buffer, never affects the next frame.
  *
- * From the first byte of a frame to the zero that ends it, pass the same buffer with the same size, and don't change the
- * buffer's contents between two calls. Otherwise the status of that frame and the contents of the buffer are
+ * From the first byte of a frame to the zero that ends it, pass the same buffer with the same size, and don't change
+ * the buffer's contents between two calls. Otherwise the status of that frame and the contents of the buffer are
  * unspecified. */
 JCOBS_API jcobs_answer jcobs_decoder_push(jcobs_decoder *decoder, void *buffer, size_t buffer_size, const void *bytes,
                                           size_t len) JCOBS_STATE JCOBS_WRITES(2, 3) JCOBS_READS(4, 5) JCOBS_CHECKED;
 /* returns:
- * - OK: consumed counts the bytes through the zero that ends the frame; length is the length of the message;
+ * - OK: consumed counts the bytes up to and including the zero that ends the frame; length is the length of the
+ *   message;
  * - BROKEN: consumed is as for OK; length is the length of the frame's output, including the block that is cut off;
  * - TOO_SMALL: consumed is as for OK; length is buffer_size. The output is longer than the buffer, and the buffer has
  *   the first bytes of the output;
- * - MORE: consumed is len; length is the number of bytes of an unfinished message that are in the buffer. */
+ * - MORE: consumed is len; length is the number of bytes of the message so far that are in the buffer. */
 
-/* Does what jcobs_decoder_push does with one byte, and is faster. */
+/* Decodes one byte of a stream. The call is faster than jcobs_decoder_push with this byte, and has the same effect. */
 JCOBS_API jcobs_answer jcobs_decoder_feed(jcobs_decoder *decoder, void *buffer, size_t buffer_size,
                                           unsigned char byte) JCOBS_STATE JCOBS_WRITES(2, 3) JCOBS_CHECKED;
 /* returns: as jcobs_decoder_push; consumed is 1 */
 
-/* Does what jcobs_decoder_push does, for a stream in which the given sentinel ends each frame. In the built library
+/* Decodes like jcobs_decoder_push, but for a stream in which the given sentinel ends each frame. In the built library
  * this call is slower than jcobs_decoder_push, because it decodes byte by byte. */
 JCOBS_API jcobs_answer jcobs_decoder_push_with_sentinel(jcobs_decoder *decoder, void *buffer, size_t buffer_size,
                                                         const void *bytes, size_t len,
@@ -362,20 +367,20 @@ JCOBS_API unsigned int jcobs_decoder_is_idle(const jcobs_decoder *decoder) JCOBS
 /* Resets the encoder to the initial state, from any state. */
 JCOBS_API void jcobs_encoder_reset(jcobs_encoder *encoder) JCOBS_STATE;
 
-/* Takes the next bytes of a message, and encodes them to the buffer. If they don't fit, you can push fewer bytes,
- * finish the message without them, or drop the message with jcobs_encoder_reset.
+/* Encodes the next bytes of a message to the buffer. If these bytes don't fit, you can push fewer bytes, finish the
+ * message without these bytes, or drop the message with jcobs_encoder_reset.
  *
  * From the first push of a message until the message is finished, pass the same buffer with the same size, and don't
  * change the buffer's contents between two calls. Otherwise the contents of the buffer are unspecified. */
 JCOBS_API jcobs_answer jcobs_encoder_push(jcobs_encoder *encoder, void *buffer, size_t buffer_size, const void *bytes,
                                           size_t len) JCOBS_STATE JCOBS_WRITES(2, 3) JCOBS_READS(4, 5) JCOBS_CHECKED;
 /* returns:
- * - OK: consumed is len, and length is the length of the frame so far. The buffer has this frame only after the call
- *   that finishes the message, because that call writes the code of the open block;
- * - TOO_SMALL, exactly if the frame of the message, with these bytes, doesn't fit: consumed and length are 0, and the
- *   state and the buffer are as they were. */
+ * - OK: consumed is len, and length is the length of the frame so far. The frame in the buffer isn't complete before
+ *   the message is finished, because only the call that finishes the message writes the code of the open block;
+ * - TOO_SMALL, exactly if the frame of the message, including these bytes, doesn't fit: consumed and length are 0, and
+ *   the state and the buffer are as they were. */
 
-/* Does what jcobs_encoder_push does with one byte, and is faster. */
+/* Encodes one byte of a message. The call is faster than jcobs_encoder_push with this byte, and has the same effect. */
 JCOBS_API jcobs_answer jcobs_encoder_feed(jcobs_encoder *encoder, void *buffer, size_t buffer_size,
                                           unsigned char byte) JCOBS_STATE JCOBS_WRITES(2, 3) JCOBS_CHECKED;
 /* returns: as jcobs_encoder_push; consumed is 1 or 0 */
@@ -386,11 +391,11 @@ JCOBS_API jcobs_answer jcobs_encoder_finish(jcobs_encoder *encoder, void *buffer
     JCOBS_WRITES(2, 3) JCOBS_CHECKED;
 /* returns:
  * - OK: consumed is 0, and length is the length of the frame;
- * - TOO_SMALL, only if buffer_size is 0, or if the buffer isn't that of the pushes: consumed and length are 0, and the
- *   state and the buffer are as they were. */
+ * - TOO_SMALL, only if buffer_size is 0, or if the pushes had another buffer: consumed and length are 0, and the state
+ *   and the buffer are as they were. */
 
-/* Does what jcobs_encoder_finish does, and writes a zero after the frame. The zero needs one more byte in
- * the buffer. */
+/* Ends the message like jcobs_encoder_finish, and also writes a zero after the frame. The buffer needs one more byte
+ * for the zero. */
 JCOBS_API jcobs_answer jcobs_encoder_finish_terminated(jcobs_encoder *encoder, void *buffer,
                                                        size_t buffer_size) JCOBS_STATE JCOBS_WRITES(2, 3) JCOBS_CHECKED;
 /* returns:
@@ -398,9 +403,9 @@ JCOBS_API jcobs_answer jcobs_encoder_finish_terminated(jcobs_encoder *encoder, v
  * - TOO_SMALL, if the frame with its zero doesn't fit: consumed and length are 0, and the state and the buffer are as
  *   they were. */
 
-/* Do what jcobs_encoder_finish and jcobs_encoder_finish_terminated do, for another sentinel. Each byte of the frame is
- * XORed with the sentinel. The second function also writes the sentinel after the frame. Push the bytes of the message
- * as for the sentinel 0. */
+/* End the message like jcobs_encoder_finish and jcobs_encoder_finish_terminated, but for another sentinel: each byte of
+ * the frame is XORed with the sentinel. The second function also writes the sentinel after the frame. The pushes are
+ * the same for every sentinel. */
 JCOBS_API jcobs_answer jcobs_encoder_finish_with_sentinel(jcobs_encoder *encoder, void *buffer, size_t buffer_size,
                                                           unsigned char sentinel) JCOBS_STATE
     JCOBS_WRITES(2, 3) JCOBS_CHECKED;
@@ -418,7 +423,7 @@ JCOBS_API jcobs_answer jcobs_encoder_finish_terminated_with_sentinel(jcobs_encod
 JCOBS_API size_t jcobs_strerror(unsigned int status, char *text, size_t text_size) JCOBS_WRITES(2, 3);
 /* returns: the length of the whole description, without the '\0' */
 
-/* Returns the version of the library, as a number like JCOBS_VERSION. */
+/* Returns the version of the library, as a number with the form of JCOBS_VERSION. */
 JCOBS_API unsigned int jcobs_version(void);
 
 /* Returns 1. A library of another major version has no function of this name, so a program that calls this function

@@ -3,7 +3,7 @@
 //
 // SPDX-License-Identifier: MIT OR Apache-2.0
 //
-// To receive, in reads of any size:
+// To receive frames in chunks of any size:
 //
 //     unsigned char buffer[1024];
 //     unsigned char bytes[256];
@@ -15,7 +15,7 @@
 //                       [](jcobs::view message) { handle(message.data(), message.size()); },
 //                       [](jcobs_answer answer) { complain(answer.status); });
 //
-// To send:
+// To send a message:
 //
 //     std::array<unsigned char, jcobs::max_length(1024) + 1> frame;
 //     const jcobs_answer answer = jcobs::encode_terminated(std::string_view(text), frame);
@@ -66,8 +66,8 @@ namespace jcobs
 namespace detail
 {
 
-// Says whether the elements of a range are contiguous, and each element is one byte, whatever its type. An array of
-// char isn't accepted, because its '\0' would be one of the bytes.
+// Says whether a range has contiguous elements of one byte each, of any type. An array of char isn't accepted, because
+// the '\0' at its end would be one of the bytes.
 template <class Range, class Byte, class = void> struct is_bytes : std::false_type {
 };
 template <class Range, class Byte>
@@ -81,9 +81,9 @@ struct is_bytes<
                                                                 std::is_same_v<std::remove_const_t<element>, char>);
 };
 
-// Says whether a range is a temporary object that owns its bytes, so that the bytes are destroyed with the object. A
-// container owns its bytes, so the bytes of a const container are const. A view for writing owns no bytes, so the bytes
-// of a const view for writing aren't const.
+// Says whether a range is a temporary object that owns its bytes. These bytes are destroyed with the object. A type owns
+// its bytes if the bytes of a const object of this type are const, as they are for containers. A view for writing owns
+// no bytes, and its bytes aren't const even if the view is const.
 template <class Range, class = void> struct is_temporary : std::false_type {
 };
 template <class Range>
@@ -95,9 +95,9 @@ struct is_temporary<Range, std::enable_if_t<!std::is_lvalue_reference_v<Range> &
 
 // A pointer to bytes and the number of bytes, like std::span of C++20. A view can be made from any container or view of
 // bytes (unsigned char, char or std::byte). For an array of char, which may end with a '\0', pass a pointer and a
-// length. A view for reading can be made from a temporary object, and is valid while this object lives. A view for
-// writing can't be made from a temporary object that owns its bytes, because the written bytes would be destroyed with
-// the object.
+// length. A view for reading can be made from a temporary object, and is valid as long as that object exists. A view
+// for writing can't be made from a temporary object that owns its bytes, because the written bytes would be destroyed
+// with the object.
 template <class Byte> class JCOBS_POINTER basic_view
 {
     using anything = std::conditional_t<std::is_const_v<Byte>, const void, void>;
@@ -163,8 +163,8 @@ constexpr std::size_t max_overhead(std::size_t message_len) noexcept
     return JCOBS_MAX_OVERHEAD(message_len);
 }
 
-// encode writes the frame of a message to the front of a buffer. encode_terminated also writes the sentinel after the
-// frame.
+// encode writes the frame of a message to the front of a buffer, for the sentinel 0 or for the given sentinel.
+// encode_terminated also writes the sentinel after the frame.
 [[nodiscard]] inline jcobs_answer encode(view message, buffer frame) noexcept
 {
     return jcobs_encode(message.data(), message.size(), frame.data(), frame.size());
@@ -212,16 +212,16 @@ constexpr std::size_t max_overhead(std::size_t message_len) noexcept
     return jcobs_decode_in_place_with_sentinel(bytes.data(), bytes.size(), sentinel);
 }
 
-// Returns whether bytes, without sentinels around them, are a frame, and whether that frame is the shortest one for its
-// message.
+// Returns whether the bytes are a frame, and whether this frame is the shortest one for its message. Pass the bytes
+// without the sentinels before and after them.
 [[nodiscard]] inline jcobs_kind frame_kind(view bytes) noexcept
 {
     return static_cast<jcobs_kind>(jcobs_frame_kind(bytes.data(), bytes.size()));
 }
 
 // Decodes a stream of frames to a buffer. The sentinel follows each frame, and the stream may be passed in chunks of
-// any size. The buffer must outlive the receiver. A receiver can be moved, but not in a callback of its own push. A
-// receiver that was moved from is idle, and has no buffer.
+// any size. The buffer must outlive the receiver. A receiver can be moved, but not while a callback of its own push
+// runs. A receiver that was moved from is idle, and has no buffer.
 class receiver
 {
   public:
@@ -244,11 +244,11 @@ class receiver
         return *this;
     }
 
-    // Calls on_message(view) for each message whose frame ends in these bytes, and on_error(jcobs_answer) for each
-    // frame that is broken, or whose message is too long for the buffer. A message is in the buffer while on_message
-    // runs; after that, the next frame may overwrite the message. If a callback throws, the push has taken all bytes
-    // through the sentinel of the frame for which the callback was called, and no bytes after that sentinel. The
-    // receiver is then idle, and the next push begins a new frame.
+    // Decodes the next bytes of the stream. Calls on_message(view) for each message whose frame ends in these bytes,
+    // and on_error(jcobs_answer) for each frame that ends in these bytes and is broken or too long for the buffer. A
+    // message is in the buffer while on_message runs; after that, the next frame may overwrite the message. If a
+    // callback throws, the push has processed the bytes up to and including the sentinel of the frame that the callback
+    // was called for, and no later bytes. The receiver is then idle, and the next push begins a new frame.
     template <class OnMessage, class OnError> void push(view bytes, OnMessage &&on_message, OnError &&on_error)
     {
         consumed_ = 0;
@@ -263,19 +263,20 @@ class receiver
         }
     }
 
-    // Calls on_message(view) as the other push does, and ignores frames that are broken or whose messages are too long.
+    // Decodes the next bytes of the stream. Calls on_message(view) for each message whose frame ends in these bytes,
+    // and ignores frames that are broken or too long.
     template <class OnMessage> void push(view bytes, OnMessage &&on_message)
     {
         push(bytes, std::forward<OnMessage>(on_message), [](jcobs_answer) {});
     }
 
-    // Returns how many bytes the last push took: all of its bytes, unless a callback threw.
+    // Returns how many bytes the last push processed: all bytes that were passed to it, unless a callback threw.
     [[nodiscard]] std::size_t consumed() const noexcept
     {
         return consumed_;
     }
 
-    // Takes one byte. If the status is JCOBS_OK, the message is the first `length` bytes of the buffer.
+    // Decodes one byte of the stream. If the status is JCOBS_OK, the message is the first `length` bytes of the buffer.
     [[nodiscard]] jcobs_answer feed(unsigned char byte) noexcept
     {
         const auto fed = static_cast<unsigned char>(byte ^ sentinel_);
@@ -295,9 +296,9 @@ class receiver
     }
 
   private:
-    // Takes the bytes up to and including the sentinel that ends the first frame, or all bytes if no frame ends. The
-    // caller passes at least one byte. For a sentinel other than 0 the bytes are fed one by one, because the archives
-    // for devices don't have jcobs_decoder_push_with_sentinel.
+    // Decodes the bytes up to and including the first sentinel that ends a frame, or all bytes if no frame ends in
+    // them. The caller passes at least one byte. For a sentinel other than 0 the bytes are fed one by one, because the
+    // archives for devices don't have jcobs_decoder_push_with_sentinel.
     jcobs_answer next(const unsigned char *bytes, std::size_t len) noexcept
     {
         if (sentinel_ == 0)
@@ -318,7 +319,7 @@ class receiver
 };
 
 // Encodes messages that come in chunks, one message after another, to the front of a buffer. The buffer must outlive
-// the sender. A sender can be moved. A sender that was moved from has taken no bytes, and has no buffer.
+// the sender. A sender can be moved. A sender that was moved from has no message and no buffer.
 class sender
 {
   public:
@@ -338,8 +339,8 @@ class sender
         return *this;
     }
 
-    // push takes the next bytes of the message, and feed takes the next byte. push and feed return false, and change
-    // nothing, if the frame of the message, including the new bytes, doesn't fit the buffer.
+    // push encodes the next bytes of the message, and feed encodes the next byte. If the frame of the message,
+    // including the new bytes, doesn't fit the buffer, push and feed return false and change nothing.
     [[nodiscard]] bool push(view bytes) noexcept
     {
         return jcobs_encoder_push(&encoder_, buffer_.data(), buffer_.size(), bytes.data(), bytes.size()).status ==
@@ -351,10 +352,10 @@ class sender
     }
 
     // finish ends the message and returns its frame, for the given sentinel. finish_terminated also writes the sentinel
-    // after the frame, and returns the frame with the sentinel. The returned bytes are in the buffer until the next push
-    // or feed. If the frame, or the frame with the sentinel, doesn't fit the buffer, the result is an empty view, and
-    // nothing has changed. To drop the message after that, call reset. Pushes always leave room for the frame, so the
-    // result of finish is empty only if the size of the buffer is 0.
+    // after the frame, and returns the frame with the sentinel. The returned bytes are in the buffer until the next
+    // push or feed. If these bytes don't fit the buffer, the result is an empty view, and nothing has changed; you can
+    // then drop the message with reset. Pushes always leave room for the frame, so the result of finish is empty only
+    // if the size of the buffer is 0.
     [[nodiscard]] view finish(unsigned char sentinel = 0) noexcept
     {
         return for_sentinel(jcobs_encoder_finish(&encoder_, buffer_.data(), buffer_.size()), sentinel);
@@ -371,8 +372,8 @@ class sender
     }
 
   private:
-    // Returns the frame that the call has finished, with each byte XORed with the sentinel. The bytes are XORed here,
-    // because the archives for devices don't have the calls that finish a frame for another sentinel.
+    // Returns the finished frame, after XORing each byte with the sentinel. The bytes are XORed here, because the
+    // archives for devices don't have the calls that finish a frame for another sentinel.
     view for_sentinel(jcobs_answer answer, unsigned char sentinel) noexcept
     {
         for (std::size_t i = 0; sentinel != 0 && i < answer.length; i++)

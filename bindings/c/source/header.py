@@ -11,7 +11,7 @@ SAYS = {
     "Decodes ": """the result and the written bytes are those that the definition of COBS gives for the source and
         message_size, and all other bytes of the buffer are as they were. A buffer as long as the source is never too small.""",
     "DecodesInPlace ": """the result and every byte of the buffer are those that the definition of COBS gives for the bytes that
-        the buffer had.""",
+        were in the buffer before the call.""",
     "DecodesNext ": """the result, the state and the buffer are those that the definition of the stream gives after these
         bytes, however the stream is cut into calls. In every state consumed is at most the number of bytes passed, and
         length is at most buffer_size.""",
@@ -19,9 +19,9 @@ SAYS = {
         Otherwise the status is TOO_SMALL, and the buffer is as it was.""",
     "EncodesInPlace ": """if the longest frame fits, the buffer begins with the frame of the message, and the bytes after this
         frame are as they were. Otherwise the status is TOO_SMALL, and the buffer is as it was.""",
-    "EncodesNext ": """the status is OK exactly if the frame of the message so far, with these bytes, fits. If it isn't OK, the
-        state and the buffer are as they were. In every state consumed is at most the number of bytes passed, and length is
-        at most buffer_size.""",
+    "EncodesNext ": """the status is OK exactly if the frame of the message so far, including these bytes, fits. If the status
+        isn't OK, the state and the buffer are as they were. In every state consumed is at most the number of bytes passed,
+        and length is at most buffer_size.""",
     "EncodesTerminated 0 ": """if the frame of the message and the zero fit, the buffer begins with them, and the bytes after
         them are as they were. Otherwise the status is TOO_SMALL, and the buffer is as it was.""",
     "Finishes 0 ": """if the frame of all bytes that were taken fits, the buffer begins with it, and the encoder is in its
@@ -30,7 +30,7 @@ SAYS = {
         in its initial state. Otherwise the status is TOO_SMALL, and the state and the buffer are as they were.""",
     "IsFreshDecoder ": "after the call the decoder has taken no byte, whatever its state was.",
     "IsFreshEncoder ": "after the call the encoder has taken no byte, whatever its state was.",
-    "IsKindOf ": """the result is NOT_A_FRAME exactly if the bytes are no frame, and CANONICAL exactly if they are the frame that
+    "IsKindOf ": """the result is NOT_A_FRAME exactly if the bytes are no frame, and CANONICAL exactly if they are a frame that
         encoders write.""",
     "ReportsIdle ": "the result is 1 exactly if no piece is open.",
     "max_encoded_len message_len < 2 ^ 64 →": "the result is this length if it is below 2 to the 64th,",

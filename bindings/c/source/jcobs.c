@@ -1,41 +1,42 @@
-/* jcobs.c: the calls of jcobs.h in one file of C, for any processor and compiler. Written by translate.py: don't edit it.
+/* jcobs.c: the calls of jcobs.h in one file of C, for any processor and compiler. Written by translate.py: don't edit.
  *
  * SPDX-License-Identifier: MIT OR Apache-2.0
  *
- * Compile this file with your program, as C99 or later or as C++, with jcobs.h in the same folder or in the include path.
- * The file has no static variables except a constant table of the texts of jcobs_strerror. It allocates no memory, and
- * calls no function of a C library; a compiler may call memset or memcpy for some of its lines.
+ * Compile this file with your program, as C99 or later or as C++, with jcobs.h in the same folder or in the include
+ * path. The file has no static variables except a constant table of the texts of jcobs_strerror. It allocates no memory,
+ * and calls no function of a C library. A compiler may turn some lines of the file into calls of memset or memcpy.
  *
- * What is proved: each function of crates/cobs_small meets its contract, accesses only the buffers that are passed to it,
- * and returns. The proofs are for lengths of 64 bits and for any contents of the buffers and states. The comment above a
- * call summarizes its contract, and names the file of crates/cobs_small/src that has the contract. The words of the
- * contracts are defined in crates/cobs_abi/specs and crates/cobs/specs.
+ * What is proved: each function of crates/cobs_small meets its contract, accesses only the buffers that are passed to
+ * it, and returns. The proofs are for lengths of 64 bits and for any contents of the buffers and states. The comment
+ * above a call summarizes its contract, and names the file of crates/cobs_small/src that has the contract. The words of
+ * the contracts are defined in crates/cobs_abi/specs and crates/cobs/specs.
  *
  * What is tested, not proved: that this file does what the functions in Rattle do. translate.py translated each function
  * from Rattle, and your compiler compiles it. Lengths have the width of your size_t. bindings/c/tests/translated.py,
- * which shares no code with translate.py, compares both texts: conditions, loops, operators, numbers, calls and the use
- * of names. bindings/c/tests/run.sh compares two million calls of this file with calls of the proved module itself.
- * run.sh and tests/device.sh run this file on processors of both byte orders, whose size_t has 16, 32 or 64 bits. They run
- * the cases of conformance/ (except where size_t has 16 bits), and compare random calls, with states of random bytes,
- * with plain C. The functions from jcobs_xor on are written by hand, and tested in the same way.
+ * which shares no code with translate.py, compares this file with the functions in Rattle: their conditions, loops,
+ * operators, numbers, calls and uses of names. bindings/c/tests/run.sh compares two million calls of this file with
+ * calls of the proved module itself. run.sh and tests/device.sh run this file on processors of both byte orders, whose
+ * size_t has 16, 32 or 64 bits. They run the cases of conformance/ (except where size_t has 16 bits), and compare random
+ * calls, with states of random bytes, with plain C. The functions from jcobs_xor on are written by hand, and tested in
+ * the same way.
  */
 #include "jcobs.h"
 
 #include <limits.h>
 
-/* These two types don't compile if this file doesn't support the processor: if bytes have more than 8 bits, or if size_t
- * is shorter than unsigned int. */
+/* These two types don't compile on a processor that this file doesn't support: the first if bytes have more than 8 bits,
+ * the second if size_t is shorter than unsigned int. */
 typedef char jcobs_bytes_have_8_bits[CHAR_BIT == 8 ? 1 : -1];
 typedef char jcobs_size_t_is_no_shorter_than_int[sizeof(size_t) >= sizeof(unsigned int) ? 1 : -1];
 
 /* Which functions are inlined:
  *
  * - JCOBS_INLINE: always inlined, because a loop over bytes calls the function, or because it only makes a struct.
- * - JCOBS_APART: not inlined, so that the loop of the function can use all registers of a small processor. On x86-64 it
- *   may be inlined: this processor has more registers, and a call takes as long as some bytes.
- * - JCOBS_RARE: handles a byte that comes once in a piece. It is inlined into the call that takes each byte, except on
- *   x86-64: there gcc would compile a single return, to which most bytes would have to jump, and a call would take a
- *   fifth more time. */
+ * - JCOBS_APART: not inlined, so that the loop of the function can use all registers of a small processor. On x86-64 the
+ *   function may be inlined: this processor has more registers, and a call costs the time of several bytes.
+ * - JCOBS_RARE: for a function that handles a byte that occurs once in a piece. The function is inlined into the call
+ *   that handles each byte, except on x86-64. There gcc would then compile a single return, the code for most bytes
+ *   would have to jump to this return, and a call would need a fifth more time. */
 #ifdef __GNUC__
 #define JCOBS_INLINE __inline__ __attribute__((always_inline))
 #ifdef __x86_64__
@@ -52,8 +53,8 @@ typedef char jcobs_size_t_is_no_shorter_than_int[sizeof(size_t) >= sizeof(unsign
 #endif
 
 /* A frame is a sequence of blocks. A block is a code, from 1 to 255, followed by code - 1 bytes, none of which is 0. A
- * block with the code 255 is full. The message consists of the bytes of the blocks without their codes, with a zero
- * between two blocks unless the first of the two is full. The last block is open while more bytes may come. */
+ * block with the code 255 is full. The message is the bytes after the code of each block, and a zero after each block
+ * except full blocks and the last block. The last block is open as long as more bytes may follow. */
 enum {
     JCOBS_FULL_BLOCK_BYTES = 254, /* the number of bytes that a full block has after its code */
     JCOBS_FULL_CODE = 255         /* the code of a full block */
@@ -63,14 +64,15 @@ enum {
  *
  * - In a decoder, the first `written` bytes of the buffer are the open message so far, and the open block still needs
  *   `missing` bytes. `joint` is 1 after the code of a block that isn't full: if another block follows, the message has a
- *   zero between the two. `joint` is 0 at the start, and after the code of a full block. too_long is 1 if there was no
- *   room for a byte of the message: then the rest of the piece is skipped.
+ *   zero between these two blocks. `joint` is 0 at the start, and after the code of a full block. too_long is 1 if there
+ *   was no room for a byte of the message: then the rest of the piece is skipped.
  * - In an encoder, the code of the open block belongs at `index` of the buffer, and the `taken` bytes of this block
- *   follow it. `full` is 1 if the last byte made a block full: the frame ends with this block, unless another byte comes.
+ *   follow the code. `full` is 1 if the last byte made a block full: the frame ends with this block, unless another byte
+ *   follows.
  *
  * A member may also have any other value. In `joint`, too_long and `full` each value except 0 has the meaning of 1. */
 
-/* The functions jcobs_make_.. return a struct with these members. C++ has no compound literals. */
+/* The functions jcobs_make_.. return a struct with the given members, because C++ has no compound literals. */
 
 /* How a piece of a stream ended. A piece is the bytes between two zeros: a frame, or a broken frame. */
 enum jcobs_end_kind {
@@ -215,7 +217,7 @@ static int jcobs_extra_codes_fit(unsigned char taken, const unsigned char *bytes
 /* Returns whether the frame fits the buffer after `bytes` are appended to an open block of `taken` bytes. `room`
  * is the number of bytes that the buffer has from the open block's code to its end. The function reads `bytes`
  * only if their number doesn't decide whether the frame fits. data_len is the number of bytes of the message in
- * the open block and the blocks after it, with these bytes. */
+ * the open block and the blocks after it, including these bytes. */
 static JCOBS_INLINE int jcobs_has_room(unsigned char taken, const unsigned char *bytes, size_t len, size_t room)
 {
     size_t block_len = taken;
@@ -574,7 +576,7 @@ static jcobs_answer jcobs_in_place_answer(size_t consumed, size_t buffer_len, jc
 
 /* Decodes the frame at the front of the buffer, in place.
  * Proved, by the contract in in_place.rt: the result and every byte of the buffer are those that the definition of
- * COBS gives for the bytes that the buffer had. */
+ * COBS gives for the bytes that were in the buffer before the call. */
 jcobs_answer jcobs_decode_in_place(void *buffer, size_t buffer_len)
 {
     unsigned char *const buffer_bytes = (unsigned char *)buffer;
@@ -613,7 +615,7 @@ static enum jcobs_kind jcobs_kind_by_blocks(const unsigned char *bytes, size_t l
 
 /* Returns the kind of the bytes: a frame that encoders write, another frame, or no frame.
  * Proved, by the contract in kind.rt: the result is NOT_A_FRAME exactly if the bytes are no frame, and CANONICAL
- * exactly if they are the frame that encoders write. */
+ * exactly if they are a frame that encoders write. */
 unsigned int jcobs_frame_kind(const void *bytes, size_t len)
 {
     const unsigned char *const data = (const unsigned char *)bytes;
@@ -901,7 +903,7 @@ static int jcobs_encoder_try_append(jcobs_encoder *encoder, unsigned char *buffe
     return 1;
 }
 
-/* Returns the length of the frame, if the message ends with the bytes that were taken. */
+/* Returns the length of the frame of all bytes that were taken. */
 static JCOBS_INLINE size_t jcobs_encoder_length(const jcobs_encoder *encoder)
 {
     size_t code = (size_t)encoder->taken + 1;
@@ -911,9 +913,9 @@ static JCOBS_INLINE size_t jcobs_encoder_length(const jcobs_encoder *encoder)
 
 /* Encodes the next bytes of a message, if the frame of the message up to and including these bytes fits the
  * buffer. Even if the state is corrupt, nothing outside the buffers is accessed.
- * Proved, by the contract in encoder.rt: the status is OK exactly if the frame of the message so far, with these
- * bytes, fits. If it isn't OK, the state and the buffer are as they were. In every state consumed is at most the
- * number of bytes passed, and length is at most buffer_size. */
+ * Proved, by the contract in encoder.rt: the status is OK exactly if the frame of the message so far, including
+ * these bytes, fits. If the status isn't OK, the state and the buffer are as they were. In every state consumed is
+ * at most the number of bytes passed, and length is at most buffer_size. */
 jcobs_answer jcobs_encoder_push(jcobs_encoder *encoder, void *buffer, size_t buffer_size, const void *bytes, size_t len)
 {
     if (!jcobs_encoder_try_append(encoder, (unsigned char *)buffer, buffer_size, (const unsigned char *)bytes, len)) {
@@ -939,9 +941,9 @@ static jcobs_answer jcobs_encoder_feed_byte(jcobs_encoder *encoder, unsigned cha
 }
 
 /* Encodes the next byte of a message. The contract is the same as for a jcobs_encoder_push of this byte.
- * Proved, by the contract in encoder.rt: the status is OK exactly if the frame of the message so far, with these
- * bytes, fits. If it isn't OK, the state and the buffer are as they were. In every state consumed is at most the
- * number of bytes passed, and length is at most buffer_size. */
+ * Proved, by the contract in encoder.rt: the status is OK exactly if the frame of the message so far, including
+ * these bytes, fits. If the status isn't OK, the state and the buffer are as they were. In every state consumed is
+ * at most the number of bytes passed, and length is at most buffer_size. */
 jcobs_answer jcobs_encoder_feed(jcobs_encoder *encoder, void *buffer, size_t buffer_size, unsigned char byte)
 {
     return jcobs_encoder_feed_byte(encoder, (unsigned char *)buffer, buffer_size, byte);

@@ -129,12 +129,12 @@ COMMENTS = {
         "in the buffer that holds it. The message begins at index JCOBS_MAX_OVERHEAD(message_len). Returns the length of the"
         " frame in bytes.",
     )],
-    "end_of": [("the frame that an encoder has written so far", "the frame, if the message ends with the bytes that were taken")],
+    "end_of": [("the frame that an encoder has written so far", "the frame of all bytes that were taken")],
     "ended": [("`decode_piece`", "jcobs_decode_piece")],
     "has_room": [(
         "The function reads `bytes` only if their number doesn't decide whether the frame fits.",
         "The function reads `bytes` only if their number doesn't decide whether the frame fits. data_len is the number of bytes of the message in"
-        " the open block and the blocks after it, with these bytes.",
+        " the open block and the blocks after it, including these bytes.",
     )],
     "jcobs_decoder_reset": [("Makes the decoder idle, even if its state is corrupt.", "Resets the decoder to the initial state, from any state.")],
     "jcobs_encoder_reset": [(

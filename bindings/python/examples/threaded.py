@@ -1,4 +1,4 @@
-"""Receives frames in a thread of pyserial: serial.threaded.ReaderThread(port, lambda: Frames(received))."""
+"""Receives frames in a thread of pyserial, which serial.threaded.ReaderThread(port, lambda: Frames(received)) makes."""
 
 from typing import Callable
 
@@ -8,7 +8,7 @@ import jcobs
 
 
 class Frames(serial.threaded.Protocol):
-    """Passes the outcome of each frame to `received`, in the thread that reads, and sends messages."""
+    """Passes the outcome of each frame to `received`, in the thread that reads. `send` sends a message."""
 
     def __init__(self, received: Callable[[jcobs.Outcome], None]) -> None:
         self._decoder = jcobs.Decoder()

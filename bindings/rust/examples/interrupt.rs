@@ -1,6 +1,6 @@
 //! Receives bytes in an interrupt handler. The handler only queues the bytes, and the main loop decodes them.
 //!
-//! Only `main`, which stands in for the hardware, needs `std`.
+//! `main` simulates the hardware. Only `main` needs `std`.
 
 use std::sync::atomic::{AtomicU8, AtomicUsize, Ordering};
 
@@ -9,14 +9,15 @@ use jcobs::CobsDecoderHeapless;
 /// A queue of bytes, from one interrupt handler to one main loop.
 struct Queue<const N: usize> {
     bytes: [AtomicU8; N],
-    /// How many bytes were put in, and how many were taken out. Both numbers only grow, until they wrap around to 0.
+    /// The number of bytes that were put into the queue. It only grows, until it wraps around to 0.
     put: AtomicUsize,
+    /// The number of bytes that were taken out of the queue. It wraps around too.
     taken: AtomicUsize,
 }
 
 impl<const N: usize> Queue<N> {
     const fn new() -> Self {
-        // Otherwise the next index wouldn't follow the last one when a counter wraps around.
+        // With another size, the index `put % N` would jump when `put` wraps around to 0.
         assert!(N.is_power_of_two());
         Self {
             bytes: [const { AtomicU8::new(0) }; N],
@@ -25,7 +26,7 @@ impl<const N: usize> Queue<N> {
         }
     }
 
-    /// Puts in a byte. If the queue is full, the byte is dropped, and its frame is damaged.
+    /// Adds a byte to the queue. If the queue is full, the byte is dropped, and so the frame of this byte is damaged.
     fn put(&self, byte: u8) {
         let put = self.put.load(Ordering::Relaxed);
         if put.wrapping_sub(self.taken.load(Ordering::Acquire)) < N {
@@ -47,12 +48,12 @@ impl<const N: usize> Queue<N> {
 
 static RECEIVED: Queue<64> = Queue::new();
 
-/// The interrupt handler of the receiver, given the byte in the receiver's data register.
+/// The interrupt handler of the receiver. The argument is the byte in the receiver's data register.
 fn on_byte(byte: u8) {
     RECEIVED.put(byte);
 }
 
-/// One round of the main loop: takes the bytes that have arrived, and passes each message to a function.
+/// Runs one round of the main loop: decodes the bytes that have arrived, and calls `on_message` with each message.
 fn poll<const N: usize>(decoder: &mut CobsDecoderHeapless<N>, mut on_message: impl FnMut(&[u8])) {
     while let Some(byte) = RECEIVED.take() {
         // An error is a frame that is damaged or too long. This frame is dropped, and the next frame isn't affected.

@@ -213,7 +213,7 @@ function load(source) {
   return loading;
 }
 
-/** Loads the module before it returns: from the file next to this one (in Node), from bytes, or from a compiled module. */
+/** Loads the module synchronously: from the file next to this one (in Node), from bytes, or from a compiled module. */
 function loadSync(source) {
   if (shared) return;
   demandSupport();
@@ -385,8 +385,8 @@ function isGone(view) {
 
 
 /**
- * Returns the options of a call, with the default for each option that is left out. Throws a TypeError for an option that the
- * call doesn't have.
+ * Returns the options of a call, with the default for each option that is left out. Throws a TypeError if the call doesn't have
+ * one of the options.
  */
 function optionsOf(given, defaults) {
   if (given === undefined) return defaults;
@@ -467,7 +467,7 @@ function decode(frame, options) {
   throw new CobsError("empty", "there is no frame to decode: no bytes, or sentinels alone");
 }
 
-/** Returns "canonical" for a frame that `encode` returns, "longer" for such a frame with a needless block 01 after it, else "notAFrame". */
+/** Returns "canonical" for a frame that `encode` returns, "longer" for a frame with a needless last block 01, otherwise "notAFrame". */
 function frameKind(frame, options) {
   const bytes = bytesOf(frame);
   const { sentinel } = optionsOf(options, DECODING);
@@ -537,9 +537,10 @@ class FrameDecoder {
   }
 
   /**
-   * Calls `visit(outcome, end)` for each piece that ends in `chunk`; `end` is the index in the chunk after the sentinel of that
-   * piece. If `visit` closes the decoder or throws an error, this push doesn't call `visit` again. `push` throws that error after
-   * it has taken the whole chunk, so the next chunk is decoded as if nothing had been thrown.
+   * Decodes a chunk, and calls `visit(outcome, end)` for each piece that ends in the chunk; `end` is the index in the chunk after
+   * the sentinel of the piece. If `visit` closes the decoder, `push` doesn't call `visit` again. If `visit` throws an error, `push`
+   * decodes the rest of the chunk without calling `visit`, and then throws this error. So the next chunk is decoded as if `visit`
+   * had thrown nothing.
    */
   push(chunk, visit) {
     if (!this.#held.isOpen || this.#isClosing) throw new Error("the decoder is closed");
@@ -605,8 +606,8 @@ class FrameDecoder {
 }
 
 /**
- * Returns an iterator over the outcomes of all pieces of `bytes` that a sentinel ends. The member `end` of an outcome is the
- * index after that sentinel.
+ * Returns an iterator over the outcomes of the pieces of `bytes`. The member `end` of an outcome is the index in `bytes` after the
+ * sentinel of the piece.
  */
 function frames(bytes, options) {
   const view = bytesOf(bytes);
@@ -625,7 +626,7 @@ function* outcomesOf(bytes, decoder) {
   }
 }
 
-/** Encodes a message that comes in chunks. The message has up to `maxLength` bytes. */
+/** Encodes messages that come in chunks. A message has up to `maxLength` bytes. */
 class FrameEncoder {
   #held;
   #encoder;
@@ -642,12 +643,12 @@ class FrameEncoder {
     this.#encoder = this.#held.arena.machine.encoder(this.#held.state, this.#held.buffer, room);
   }
 
-  /** How many bytes of the message have been taken so far. */
+  /** The length of the message so far, in bytes. */
   get length() {
     return this.#taken;
   }
 
-  /** Takes the next bytes of the message. If the message would be longer than `maxLength`, none of the bytes is taken. */
+  /** Adds bytes to the message. If the message would become longer than `maxLength`, throws a RangeError and adds no byte. */
   push(piece) {
     this.#demandOpen();
     const bytes = bytesOf(piece);
@@ -661,7 +662,7 @@ class FrameEncoder {
     this.#taken += bytes.length;
   }
 
-  /** Returns the frame of all bytes that were taken, with a sentinel after it if `terminated` is true, and begins the next message. */
+  /** Ends the message and returns its frame, with a sentinel after the frame if `terminated` is true. The next `push` begins another message. */
   finish(options) {
     this.#demandOpen();
     const { terminated } = optionsOf(options, { terminated: false });
@@ -689,7 +690,7 @@ class FrameEncoder {
 
 /**
  * Makes the two ends of a stream, `readable` and `writable`, like those of a TransformStream. `take` is called with
- * each chunk, and with a function `give`; `take` passes each result to `give`. `close` is called once, however the stream ends.
+ * each chunk and a function `give`, to which `take` passes each result. `close` is called once, however the stream ends.
  * A TransformStream isn't enough: some engines don't tell its transformer that the stream was cancelled or aborted.
  */
 function ends(take, close) {

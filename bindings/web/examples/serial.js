@@ -3,13 +3,13 @@ import { FrameDecoderStream, encode, load } from "jcobs";
 await load();
 
 /**
- * Calls `show` with each message of an open serial port. Returns `send`, which sends a message, `close`, which closes the port, and
- * `ended`, a promise that is settled at the end of the line.
+ * Calls `show` with each message that an open serial port receives. Returns an object with `send`, which sends a message, `close`,
+ * which closes the port, and `ended`, a promise that is settled when the input of the port ends or fails.
  * @param {{ readable: ReadableStream<Uint8Array>, writable: WritableStream<Uint8Array>, close(): Promise<void> }} port
  * @param {(message: Uint8Array) => void} show
  */
 export function talk(port, show) {
-  const frames = new FrameDecoderStream({ maxLength: 4096, skipFirst: true }); // the line may be in the middle of a frame
+  const frames = new FrameDecoderStream({ maxLength: 4096, skipFirst: true }); // the first bytes may be the rest of a frame
   const piped = port.readable.pipeTo(frames.writable).catch(() => {}); // a fault of the line also ends `read`
   const reader = frames.readable.getReader();
   const writer = port.writable.getWriter();
@@ -24,7 +24,7 @@ export function talk(port, show) {
   }
 
   return {
-    /** Is fulfilled at the end of the line, and rejected if the line fails. */
+    /** Is fulfilled at the end of the input, and rejected if the input fails. */
     ended: read(),
     send: (/** @type {Uint8Array} */ message) => writer.write(encode(message, { terminated: true })),
     async close() {

@@ -14,7 +14,7 @@
 
 #include "board.h"
 
-#define MAX_COMMAND 64 /* the most bytes of a command */
+#define MAX_COMMAND 64 /* the greatest number of bytes in a command */
 
 /* THE RECEIVER: copy the code from here down to the line of dashes. */
 

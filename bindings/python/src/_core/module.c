@@ -187,7 +187,7 @@ static PyObject *core_max_length(PyObject *module, PyObject *const *args, Py_ssi
  * functions of _plain.py have the same documentation; the tests compare the two texts. */
 static const char encode_document[] =
     "encode(data, *, sentinel=0, terminated=False)\n--\n\n"
-    "Encodes a message, and returns its frame, with the sentinel after it if `terminated` is true.\n\n"
+    "Encodes a message, and returns its frame. If `terminated` is true, a sentinel follows the frame.\n\n"
     ">>> jcobs.encode(b\"hello\")\n"
     "b'\\x06hello'\n"
     ">>> jcobs.encode(b\"hello\", sentinel=10, terminated=True)\n"
@@ -196,7 +196,7 @@ static const char decode_document[] =
     "decode(frame, *, sentinel=0)\n--\n\n"
     "Decodes a frame, and returns its message.\n\n"
     "Leading sentinels are skipped, and the frame ends at the next sentinel or at the last byte. The bytes after that\n"
-    "sentinel have no effect: use a `Decoder` for more than one frame.\n\n"
+    "sentinel are ignored: to decode more than one frame, use a `Decoder`.\n\n"
     "Raises `DecodeError` if the frame breaks off inside a block, or if there is no frame.\n\n"
     ">>> jcobs.decode(b\"\\x06hello\")\n"
     "b'hello'\n"
@@ -204,10 +204,10 @@ static const char decode_document[] =
     "b'hello'";
 static const char frame_kind_document[] =
     "frame_kind(frame, *, sentinel=0)\n--\n\n"
-    "Returns whether bytes, without sentinels around them, are a frame, and whether `encode` returns that frame.\n\n"
-    "\"canonical\" is the frame that `encode` returns for its message. \"longer\" is that frame with one needless "
-    "block\n"
-    "after it, which decoders accept too. Anything else is \"not_a_frame\".\n\n"
+    "Returns whether bytes are a frame, and whether `encode` returns this frame.\n\n"
+    "Pass the bytes without the sentinels before and after them. The result is \"canonical\" if `encode` returns this\n"
+    "frame for some message, and \"longer\" if the frame has one needless block at its end, which decoders accept. If\n"
+    "the bytes aren't a frame, the result is \"not_a_frame\".\n\n"
     ">>> jcobs.frame_kind(b\"\\x06hello\")\n"
     "'canonical'\n"
     ">>> jcobs.frame_kind(b\"\\x06hel\")\n"

@@ -109,7 +109,7 @@ static PyMemberDef outcome_members[] = {
 };
 
 static PyType_Slot outcome_slots[] = {
-    {Py_tp_doc, "Outcome(data)\n--\n\nWhat a piece of a stream came to."},
+    {Py_tp_doc, "Outcome(data)\n--\n\nThe outcome of a piece of a stream."},
     {Py_tp_new, outcome_new},
     {Py_tp_dealloc, outcome_dealloc},
     {Py_tp_repr, outcome_repr},

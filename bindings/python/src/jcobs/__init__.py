@@ -1,4 +1,4 @@
-"""Consistent Overhead Byte Stuffing (COBS), with proved code if `jcobs.backend` is "prebuilt".
+"""Consistent Overhead Byte Stuffing (COBS). If `jcobs.backend` is "prebuilt", proved code encodes and decodes.
 
 `encode` turns a message into a frame that never contains a certain byte value: the sentinel, which is 0 unless you pass
 another value. So the sentinel can mark the end of each frame on a serial line, in a stream or in a file:
@@ -13,8 +13,8 @@ b'\\x06hello\\x06world\\x00'
 [Message(b'hello\\x00world'), Message(b'hi')]
 
 The arguments `data`, `frame` and `chunk` are bytes, or any other contiguous bytes-like object, such as a bytearray, a
-memoryview, an array.array or an mmap. Each function and method raises TypeError for other objects, and BufferError if
-the bytes aren't contiguous.
+memoryview, an array.array or an mmap. Each function and method raises TypeError for any other object, and BufferError
+for an object whose bytes aren't contiguous.
 """
 
 __version__ = "1.0.0"  # the modules below compare this version with that of the extension

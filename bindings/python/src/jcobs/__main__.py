@@ -33,10 +33,10 @@ def arguments() -> argparse.ArgumentParser:
     common.add_argument("--sentinel", metavar="B", type=int, default=0, help="the byte that ends frames (default: 0)")
     style = common.add_mutually_exclusive_group()
     style.add_argument("--hex", action="store_true", help="show or read messages as hexadecimal digits")
-    style.add_argument("--json", action="store_true", help="show or read JSON objects, with these digits as hex")
+    style.add_argument("--json", action="store_true", help="show or read JSON objects, with the digits as member hex")
     parser = argparse.ArgumentParser("python -m jcobs", description=__doc__, parents=[common])
     parser.add_argument("--version", action="version", version=f"jcobs {jcobs.__version__}, backend {jcobs.backend}")
-    parser.add_argument("--length", metavar="N", type=int, default=65536, help="the longest message shown, in bytes")
+    parser.add_argument("--length", metavar="N", type=int, default=65536, help="the longest message's length, in bytes")
     parser.add_argument("--max-length", dest="length", metavar="N", type=int, help=argparse.SUPPRESS)
     parser.add_argument("command", nargs="?", choices=["show", "send"], default="show", help="(default: %(default)s)")
     return parser
@@ -63,7 +63,7 @@ def text_of(message: bytes) -> str:
 
 
 def members_of(outcome: Outcome) -> Dict[str, Any]:
-    """Returns the members of an outcome's JSON object except its kind.
+    """Returns the members of an outcome's JSON object, except the member `kind`.
 
     For a damaged frame these members describe the bytes that were decoded.
     """
@@ -77,7 +77,7 @@ def members_of(outcome: Outcome) -> Dict[str, Any]:
 
 
 def line_of(outcome: Outcome, options: argparse.Namespace) -> str:
-    """Returns the line that shows an outcome. A JSON object has the members that the program cobs_watch writes."""
+    """Returns the line that shows an outcome. The names of JSON members are those that the program cobs_watch uses."""
     name = NAMES[type(outcome)]
     if options.json:
         return json.dumps({"kind": name.replace(" ", "-"), **members_of(outcome)})

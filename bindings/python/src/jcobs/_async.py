@@ -41,14 +41,14 @@ class AsyncFrameReader(Frames):
 
     `read` returns the outcome of one frame: a `Message`, `Broken` or `TooLong`. `async for` yields each outcome as soon
     as its frame ends, until the stream ends. If a read is cancelled, for example by a timeout, no byte is lost, and the
-    next call continues where that read stopped.
+    next call continues where the cancelled read stopped.
 
     The stream is an `asyncio.StreamReader`, an object with `receive_some` (such as a stream of trio) or an object with
-    `receive` (such as a stream of anyio). For asyncio `writer` is the `StreamWriter`. For trio and anyio, messages are
+    `receive` (such as a stream of anyio). For asyncio, `writer` is the `StreamWriter`. For trio and anyio, messages are
     sent with the method `send_all` or `send` of `writer`, or of the stream if no `writer` is passed.
 
-    If `sync` is true, a sentinel is sent before the first frame, so that bytes left by an earlier sender or by noise
-    don't become part of that frame.
+    If `sync` is true, a sentinel is sent before the first frame, so that earlier bytes of another sender, or noise on
+    the line, don't become part of the first frame.
 
     >>> import asyncio
     >>> async def show() -> None:
@@ -94,7 +94,10 @@ class AsyncFrameReader(Frames):
         await self.close()
 
     async def close(self) -> None:
-        """Closes the writer if there is one, and the stream if it has `aclose`. `async with` does so at its end."""
+        """Closes the writer, if there is one, and the stream, if it has `aclose`.
+
+        An `async with` statement calls this method at its end.
+        """
         if hasattr(self._writer, "aclose"):
             await self._writer.aclose()
         elif self._writer is not None:
@@ -117,7 +120,7 @@ class AsyncFrameReader(Frames):
             return b""
 
     async def _take(self) -> bytes:
-        """Decodes the bytes of one read, and returns these bytes: b"" at the end of the stream.
+        """Decodes the bytes of one read, and returns them, or b"" at the end of the stream.
 
         Nothing is awaited between the read and the decoding.
         """
@@ -126,7 +129,7 @@ class AsyncFrameReader(Frames):
         return self._decode()
 
     async def _take_within(self, timeout: float) -> Optional[bytes]:
-        """Does what `_take` does, but returns None if no bytes have arrived after `timeout` seconds."""
+        """Decodes the bytes of one read, like `_take`, but returns None if no bytes arrive within `timeout` seconds."""
         if self._name == "read":
             return await self._take_by_a_task(timeout)
         library: Any = importlib.import_module("trio" if self._name == "receive_some" else "anyio")
@@ -135,7 +138,7 @@ class AsyncFrameReader(Frames):
         return None
 
     async def _take_by_a_task(self, timeout: float) -> Optional[bytes]:
-        """Does what `_take_within` does, for asyncio.
+        """Implements `_take_within` for asyncio.
 
         `asyncio.wait_for` isn't used, because up to Python 3.11 it would swallow a cancellation.
         """
@@ -151,7 +154,7 @@ class AsyncFrameReader(Frames):
         return None if taking.cancelled() else taking.result()
 
     async def read(self, timeout: Optional[float] = None) -> Optional[Outcome]:
-        """Returns the outcome of the next frame, or None if it hasn't ended after `timeout` seconds.
+        """Returns the outcome of the next frame, or None if this frame hasn't ended after `timeout` seconds.
 
         Raises EOFError at the end of the stream.
         """
@@ -179,11 +182,11 @@ class AsyncFrameReader(Frames):
         return AsyncMessages(self)
 
     async def discard(self, quiet: float = 0.05) -> None:
-        """Drops the outcomes that weren't read, and all bytes that have arrived.
+        """Drops the outcomes that haven't been read, and all bytes that have arrived.
 
-        If these bytes end inside a frame, this call also drops the bytes that follow, until none has arrived for
-        `quiet` seconds. If bytes are still arriving after one second, this call stops; if it stops in the middle of a
-        frame, the next outcome is for that frame.
+        If these bytes end inside a frame, this call also drops the bytes that follow, until no byte has arrived for
+        `quiet` seconds. If bytes are still arriving after one second, this call stops. If the call stops inside a
+        frame, the next outcome is the outcome of this frame.
         """
         end = time.monotonic() + LONGEST_DISCARD
         while await self._take_within(Deadline(quiet).left() or 0.0 if self.unfinished else 0.0):
@@ -195,11 +198,11 @@ class AsyncFrameReader(Frames):
         self._decoder.reset()
 
     async def write(self, message: ReadableBuffer) -> None:
-        """Sends a message: its frame, and the sentinel after it. Raises TypeError if there is no `writer`.
+        """Sends a message as a frame, and the sentinel after the frame. Raises TypeError if there is no `writer`.
 
         If this call is cancelled or fails, a stream of trio or anyio may have sent a part of the frame. The next write
-        then first sends bytes that end the cut frame. For this frame and these bytes together, the receiver reports at
-        most one `Broken` or `TooLong`.
+        then first sends bytes that end the cut frame. For the cut frame, the receiver reports at most one `Broken` or
+        `TooLong`.
         """
         if self._writer is None:
             raise TypeError("to write, pass the stream's writer: AsyncFrameReader(stream, writer=writer)")
@@ -225,11 +228,11 @@ class AsyncFrameReader(Frames):
         self._sent()
 
     async def request(self, message: ReadableBuffer, timeout: Optional[float], *, discard: bool = False) -> bytes:
-        """Sends a message, and returns the reply: the next message that arrives.
+        """Sends a message, and returns the reply, which is the next message that is read.
 
         Raises TimeoutError if no message has arrived after `timeout` seconds, and `DecodeError` if the reply is damaged
-        or too long. If `discard` is true, the bytes that have arrived so far, such as a late reply to an earlier
-        request, are dropped first.
+        or too long. If `discard` is true, the bytes that have already arrived, such as a late reply to an earlier
+        request, are dropped before the message is sent.
         """
         Deadline(timeout)
         if discard:

@@ -17,9 +17,10 @@ FrameKind = Literal["not_a_frame", "canonical", "longer"]
 class DecodeError(ValueError):
     """Raised by `decode` if the bytes aren't a frame, and by a reader's `request` if the reply is damaged or too long.
 
-    `kind` is "broken" if the frame breaks off inside a block, or "empty" if there are no bytes, or only sentinels. If a
-    reader raises the error, `kind` may also be "too_long": the message is longer than `max_length`. `data` is the bytes
-    that the frame decodes to before it breaks off. If a reader raises the error, `data` has at most `max_length` bytes.
+    `kind` is "broken" if the frame breaks off inside a block, and "empty" if there are no bytes, or only sentinels. In
+    the error of a reader, `kind` is "too_long" if the reply is longer than the reader's `max_length`. `data` is the
+    bytes that the frame decodes to before it breaks off. In the error of a reader, `data` has at most `max_length`
+    bytes.
 
     >>> try:
     ...     jcobs.decode(b"\\x06hel")
@@ -51,14 +52,14 @@ max_length = core.max_length
 
 
 def encode_in_place(buffer: WriteableBuffer, length: int, *, sentinel: int = 0) -> int:
-    """Encodes a message in place in `buffer`, and returns the length of its frame.
+    """Encodes a message in place in `buffer`, and returns the length of the frame.
 
     Before the call the message, which has `length` bytes, begins at index `max_length(length) - length` of `buffer`; the
     bytes before this index have no effect. After the call `buffer` begins with the frame, and the bytes after the frame
     are as they were.
 
-    This function is no faster than `encode`, which it calls for a copy of the message. It remains for scripts that
-    already use it.
+    This function calls `encode` with a copy of the message, so it is no faster than `encode`. It remains for scripts
+    that already use it.
 
     `buffer` is a contiguous bytes-like object that can be written to. If `buffer` has fewer than `max_length(length)`
     bytes, the function raises ValueError and leaves `buffer` as it was.

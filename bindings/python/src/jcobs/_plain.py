@@ -106,7 +106,7 @@ def output(piece: bytes) -> Tuple[bool, bytes]:
 
 
 def encode(data: ReadableBuffer, *, sentinel: int = 0, terminated: bool = False) -> bytes:
-    """Encodes a message, and returns its frame, with the sentinel after it if `terminated` is true.
+    """Encodes a message, and returns its frame. If `terminated` is true, a sentinel follows the frame.
 
     >>> jcobs.encode(b"hello")
     b'\\x06hello'
@@ -121,7 +121,7 @@ def decode(frame: ReadableBuffer, *, sentinel: int = 0) -> bytes:
     """Decodes a frame, and returns its message.
 
     Leading sentinels are skipped, and the frame ends at the next sentinel or at the last byte. The bytes after that
-    sentinel have no effect: use a `Decoder` for more than one frame.
+    sentinel are ignored: to decode more than one frame, use a `Decoder`.
 
     Raises `DecodeError` if the frame breaks off inside a block, or if there is no frame.
 
@@ -143,10 +143,11 @@ def decode(frame: ReadableBuffer, *, sentinel: int = 0) -> bytes:
 
 
 def frame_kind(frame: ReadableBuffer, *, sentinel: int = 0) -> FrameKind:
-    """Returns whether bytes, without sentinels around them, are a frame, and whether `encode` returns that frame.
+    """Returns whether bytes are a frame, and whether `encode` returns this frame.
 
-    "canonical" is the frame that `encode` returns for its message. "longer" is that frame with one needless block
-    after it, which decoders accept too. Anything else is "not_a_frame".
+    Pass the bytes without the sentinels before and after them. The result is "canonical" if `encode` returns this
+    frame for some message, and "longer" if the frame has one needless block at its end, which decoders accept. If
+    the bytes aren't a frame, the result is "not_a_frame".
 
     >>> jcobs.frame_kind(b"\\x06hello")
     'canonical'
@@ -222,7 +223,7 @@ class Decoder:
         self._begun = self._joint = self._too_long = False
 
     def _take(self, piece: bytes) -> None:
-        """Takes bytes of a piece, and writes as many of the decoded bytes as fit the buffer."""
+        """Decodes bytes of a piece, and writes as many of the decoded bytes as fit the buffer."""
         data, at = bytearray(), 0
         missing, joint = self._missing, self._joint
         while at < len(piece) and not self._too_long:

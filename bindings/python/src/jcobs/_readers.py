@@ -1,4 +1,4 @@
-"""Reads frames from files, serial ports, sockets and streams of asyncio, trio and anyio, and sends messages to them."""
+"""Reads frames from serial ports, sockets, pipes and files, and sends messages to them."""
 
 from __future__ import annotations
 
@@ -29,7 +29,7 @@ LONGEST_DISCARD = 1.0
 
 
 def closing(count: int, sentinel: int) -> bytes:
-    """Returns bytes that end a frame that was cut off. With these bytes, no decoder takes the frame for a message.
+    """Returns bytes that end a frame that was cut off. With these bytes, every decoder reports the frame as damaged.
 
     A single sentinel isn't enough: a frame that was cut off between two of its blocks is the frame of a shorter
     message. If k bytes of a block are missing (k is less than `count`), the first k of the returned bytes complete that
@@ -96,9 +96,10 @@ class Frames(Coder):
         self._headless = self._headless or begun
 
     def _check_arrived(self) -> None:
-        """Drops b"" or the GAP. A read may have left one of them, if an exception ended the read.
+        """Drops an empty chunk or the GAP. One of them may be there if an exception ended a read.
 
-        The GAP is dropped last. If a signal handler raises an exception before that, the next call finds the GAP again.
+        The GAP is dropped as the last step. If a signal handler raises an exception before this step, the next call
+        finds the GAP again.
         """
         if self._arrived and (not self._arrived[0] or self._arrived[0] is GAP):
             if self._arrived[0] is GAP:
@@ -139,7 +140,7 @@ class Frames(Coder):
     def _out(self, message: ReadableBuffer) -> bytes:
         """Returns the bytes to send for a message.
 
-        Until `_sent` is called, the reader assumes that only a part of these bytes was sent.
+        Until the caller calls `_sent`, the reader assumes that only a part of these bytes was sent.
         """
         frame = encode(message, sentinel=self._sentinel, terminated=True)
         lead = closing(self._cut, self._sentinel) if self._cut else self._lead
@@ -156,19 +157,20 @@ class Frames(Coder):
 class FrameReader(Frames):
     """Reads frames from a serial port, a socket, a pipe or a file, and sends messages to it.
 
-    `read` returns the outcome of one frame: a `Message`, `Broken` or `TooLong`. Iterating yields each outcome as soon
-    as its frame ends, until the stream ends or a timeout of the port or socket passes. After a timeout, reading can
-    continue. No byte is lost if the read of the file raises an exception.
+    `read` returns the outcome of one frame: a `Message`, `Broken` or `TooLong`. Iterating over the reader yields each
+    outcome as soon as its frame ends, until the stream ends or a timeout of the port or socket passes. After a timeout,
+    reading can continue. No byte is lost if the read of the file raises an exception.
 
-    With the extension and CPython 3.11 or later, no byte of a socket, a pipe or a file is lost if a signal handler
-    raises an exception. Bytes may be lost in plain Python, on an older CPython, in pyserial and in the `makefile` of a
-    socket: then the frames that these bytes belong to are reported as one `Broken`.
+    A signal handler may raise an exception during a read, as the handler for Ctrl-C does. With the extension, on
+    CPython 3.11 or later, no byte of a socket, a pipe or a file is lost even then. Bytes may be lost in plain Python,
+    on an older CPython, in pyserial and in the `makefile` of a socket. If bytes are lost, the reader returns one
+    `Broken` with empty `data` instead of the frames that are damaged by the loss.
 
-    If `sync` is true, a sentinel is sent before the first frame, so that bytes left by an earlier sender or by noise
-    don't become part of that frame.
+    If `sync` is true, a sentinel is sent before the first frame, so that earlier bytes of another sender, or noise on
+    the line, don't become part of the first frame.
 
-    One thread at a time may read, and at the same time one thread may write. A call raises RuntimeError while another
-    call of the same kind is running.
+    One thread may read while another thread writes. While a call that reads is running, other calls that read raise
+    RuntimeError. The same rule holds for calls that write.
 
     >>> import io
     >>> reader = jcobs.FrameReader(io.BytesIO(b"\\x03hi\\x00\\x06hello\\x00\\x05by"))
@@ -181,8 +183,8 @@ class FrameReader(Frames):
 
     A reader never waits for further bytes if some have arrived. From a serial port it reads `in_waiting` bytes, or 1
     byte if none are waiting. For a socket it calls `recv`, for a buffered file `read1`, and for any other object
-    `read`, each with 65536 as the size. The method that is called must return the bytes that have arrived, no bytes at
-    the end of the input, or None if no bytes have arrived.
+    `read`, each with 65536 as the size. These methods must return the bytes that have arrived, no bytes at the end of
+    the input, or None if no bytes have arrived.
     """
 
     def __init__(
@@ -211,28 +213,30 @@ class FrameReader(Frames):
         self.close()
 
     def close(self) -> None:
-        """Closes the port, the socket or the file. `with` does so at its end."""
+        """Closes the port, the socket or the file. A `with` statement calls this method at its end."""
         self._file.close()
 
     def _take(self, timeout: Optional[float]) -> Optional[bytes]:
-        """Decodes the bytes of one read, and returns these bytes: b"" at the end of the stream, None at a timeout."""
+        """Decodes the bytes of one read, and returns them, or b"" at the end of the stream, or None at a timeout."""
         self._check_arrived()
         if not self._arrived and not self._read(self._file, timeout, self._arrived):
             return None
         return self._decode()
 
     def read(self, timeout: Optional[float] = None) -> Optional[Outcome]:
-        """Returns the outcome of the next frame, or None if it hasn't ended after `timeout` seconds.
+        """Returns the outcome of the next frame, or None if this frame hasn't ended after `timeout` seconds.
 
-        Without `timeout` the call waits as long as the object itself waits. In this case the call returns None if the
-        object's own timeout has passed, or if the object never waits and has no bytes now. Raises EOFError at the end
-        of the stream.
+        Raises EOFError at the end of the stream.
 
-        With `timeout` the call doesn't see bytes that other code, such as `readline`, has left in a file's own buffer.
-        Open the file with `buffering=0`, or give such bytes to a `Decoder`. If a socket has a timeout, pass the socket
-        itself: its `makefile` raises TimeoutError, and after that can't be read any more.
+        Without `timeout`, the call waits as long as a read of the port, socket or file itself waits. The call then
+        returns None if the timeout of the port or socket has passed, or if a non-blocking file or socket has no bytes.
 
-        On Windows only serial ports and sockets can have a timeout.
+        With `timeout`, the call doesn't notice bytes that are in the buffer of a buffered file, for example after a
+        `readline`. Open such a file with `buffering=0`, or pass these bytes to a `Decoder`. If a socket has a timeout,
+        make the reader from the socket, not from the socket's `makefile`: the `makefile` raises TimeoutError, and can't
+        be read any more after that.
+
+        On Windows, `timeout` works only for serial ports and sockets.
 
         >>> import io
         >>> reader = jcobs.FrameReader(io.BytesIO(b""))
@@ -299,11 +303,11 @@ class FrameReader(Frames):
 
     @alone("reader")
     def discard(self, quiet: float = 0.05) -> None:
-        """Drops the outcomes that weren't read, and all bytes that have arrived.
+        """Drops the outcomes that haven't been read, and all bytes that have arrived.
 
-        If these bytes end inside a frame, this call also drops the bytes that follow, until none has arrived for
-        `quiet` seconds. If bytes are still arriving after one second, this call stops; if it stops in the middle of a
-        frame, the next outcome is for that frame.
+        If these bytes end inside a frame, this call also drops the bytes that follow, until no byte has arrived for
+        `quiet` seconds. If bytes are still arriving after one second, this call stops. If the call stops inside a
+        frame, the next outcome is the outcome of this frame.
 
         A file in memory or on a disk is read to its end.
 
@@ -324,12 +328,12 @@ class FrameReader(Frames):
 
     @alone("writer")
     def write(self, message: ReadableBuffer) -> None:
-        """Sends a message: its frame, and the sentinel after it.
+        """Sends a message as a frame, and the sentinel after the frame.
 
-        If this call fails, or a signal handler ends it by raising an exception, a part of the frame may have been sent.
-        The next write then first sends bytes that end the cut frame. For this frame and these bytes together, the
-        receiver reports at most one `Broken` or `TooLong`. A port may still be sending when this call returns: the
-        port's own `flush` waits until everything is sent.
+        If this call ends with an exception, its own or one of a signal handler, a part of the frame may have been sent.
+        The next write then first sends bytes that end the cut frame. For the cut frame, the receiver reports at most
+        one `Broken` or `TooLong`. A port may still be sending when this call returns: the port's own `flush` waits
+        until everything is sent.
 
         >>> import io
         >>> file = io.BytesIO()
@@ -343,14 +347,15 @@ class FrameReader(Frames):
 
     @alone("reader", "request")
     def request(self, message: ReadableBuffer, timeout: Optional[float], *, discard: bool = False) -> bytes:
-        """Sends a message, and returns the reply: the next message that arrives.
+        """Sends a message, and returns the reply, which is the next message that is read.
 
         Raises TimeoutError if no message has arrived after `timeout` seconds, and `DecodeError` if the reply is damaged
         or too long. After such an error the reply, or the rest of it, may still arrive. If `discard` is true, the bytes
-        that have arrived so far are dropped first, so that they aren't mistaken for the reply to this message.
+        that have already arrived are dropped before the message is sent, so that they aren't mistaken for the reply.
 
-        If the reply to an earlier request arrives later, it is mistaken for the reply to this request, because COBS
-        doesn't say which reply belongs to which request. If that can happen, number the requests.
+        A late reply to an earlier request may arrive after this message is sent. The late reply is mistaken for the
+        reply to this message, because a frame doesn't say which request it replies to. If that can happen, number the
+        requests.
         """
         Deadline(timeout)
         if discard:
@@ -365,8 +370,8 @@ def frames(
     """Returns an iterator over the outcomes of the frames in bytes, or in a binary file such as a log.
 
     The bytes are read and decoded in chunks of up to 65536 bytes, when the outcomes are needed. The iterator is a
-    `FrameReader`: at the end its `unfinished` says whether the last frame was cut off, and its `messages` skips damaged
-    frames.
+    `FrameReader`. Its `messages` method skips damaged frames. At the end of the iteration, its `unfinished` property
+    says whether the last frame was cut off.
 
     >>> for outcome in jcobs.frames(b"\\x03hi\\x00\\x05a\\x00\\x06hello\\x00"):
     ...     print(outcome)

@@ -11,7 +11,7 @@ if TYPE_CHECKING:
 
 
 class Message(core.Outcome):
-    """A message, `data`. A message is true even if it has no bytes.
+    """A decoded message. `data` is its bytes. A `Message` is true even if it has no bytes.
 
     >>> message = jcobs.Message(b"hi")
     >>> message.data, bytes(message), len(message)
@@ -62,7 +62,7 @@ class Decoder(Coder):
     """Decodes a stream of frames that comes in chunks of any size.
 
     `max_length` is the length of the longest message in bytes. The decoder allocates `max_length` bytes when it is
-    created. A broken or too long frame never affects the next one.
+    created. A broken or too long frame never affects the next frame.
 
     A decoder is for one thread at a time: while a call is running, each method raises RuntimeError in other threads and
     in signal handlers.
@@ -74,10 +74,11 @@ class Decoder(Coder):
         self._core = core.Decoder(max_length, sentinel)
 
     def feed(self, chunk: ReadableBuffer) -> List[Outcome]:
-        """Decodes the next bytes of the stream, and returns the outcome of each frame that ends in them, in order.
+        """Decodes the next bytes of the stream, and returns the outcomes of the frames that end in these bytes.
 
-        Raises MemoryError if there isn't enough memory for these outcomes. Then these outcomes are lost, and the
-        decoder is reset. This also happens if a signal handler raises an exception, as the handler for Ctrl-C does.
+        Raises MemoryError if there isn't enough memory for the outcomes. If a signal handler raises an exception, as
+        the handler for Ctrl-C does, the call ends with this exception. In both cases the outcomes of this call are
+        lost, and the decoder is reset.
 
         >>> decoder = jcobs.Decoder(max_length=5)
         >>> for outcome in decoder.feed(b"\\x03hi\\x00\\x06hel\\x00\\x07hello!\\x00"):
@@ -119,8 +120,8 @@ class Encoder(Coder):
     """Encodes messages that come in chunks.
 
     `max_length` is the length of the longest message in bytes. When the encoder is created, it allocates memory for
-    the frame of a message of this length, or in plain Python for the message. An encoder is for one thread at a time,
-    like a `Decoder`.
+    the frame of a message of this length. In plain Python it allocates memory for the message instead. An encoder is
+    for one thread at a time, like a `Decoder`.
 
     >>> encoder = jcobs.Encoder()
     >>> encoder.feed(b"hel")
@@ -135,16 +136,16 @@ class Encoder(Coder):
         self._core = core.Encoder(max_length, sentinel)
 
     def feed(self, data: ReadableBuffer) -> None:
-        """Takes the next bytes of the message.
+        """Adds bytes to the message.
 
-        Raises ValueError if the message would be longer than `max_length`. Then none of the bytes are taken.
+        Raises ValueError if the message would become longer than `max_length`. In this case no byte is added.
         """
         self._core.feed(data)
 
     def finish(self, *, terminated: bool = False) -> bytes:
-        """Ends the message, and returns its frame, with the sentinel after it if `terminated` is true.
+        """Ends the message, and returns its frame. If `terminated` is true, a sentinel follows the frame.
 
-        The next bytes begin another message, even if this call raises MemoryError.
+        The next `feed` begins another message, even if this call raises MemoryError.
         """
         return self._core.finish(terminated)
 

@@ -1,12 +1,13 @@
-"""Has the names of the module `cobs.cobs` of the package `cobs`, so that a script needs to change only its import line:
+"""Offers the functions of the module `cobs.cobs` of the package `cobs`. A script has to change only its import line:
 
 >>> from jcobs import compat as cobs    # was: from cobs import cobs
 >>> cobs.decode(cobs.encode(b"hello"))
 b'hello'
 
-As in `cobs`, `decode` takes a frame without a sentinel after it, and returns empty bytes for empty bytes. If the frame
-is damaged, `decode` raises a `DecodeError` of this module, with the text that `cobs` uses. Both functions raise
-TypeError for a str. This package has nothing like the module `cobs.cobsr` (COBS/R): keep the package `cobs` for that.
+As in `cobs`, the argument of `decode` is a frame without a sentinel after it; if the argument is empty, the result is
+empty bytes. If the frame is damaged, `decode` raises a `DecodeError` of this module, with the text that `cobs` uses.
+Both functions raise TypeError for a str. This package doesn't implement COBS/R, the module `cobs.cobsr`: for COBS/R,
+keep the package `cobs`.
 """
 
 from __future__ import annotations

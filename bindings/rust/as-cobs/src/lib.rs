@@ -1,5 +1,5 @@
-//! Exports the crate `jcobs` under the name `cobs`, so that cargo can use it in place of `cobs` in crates that depend
-//! on `cobs`:
+//! Exports the crate `jcobs` under the name `cobs`. With these lines, cargo uses this package for crates that depend on
+//! `cobs`:
 //!
 //! ```toml
 //! [patch.crates-io]

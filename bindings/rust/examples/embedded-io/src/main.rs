@@ -5,10 +5,10 @@ use core::convert::Infallible;
 use embedded_io::{ErrorType, Read, Write};
 use jcobs::{CobsDecoderHeapless, DecodeError, FrameDecoder};
 
-/// Reads once, and passes each message that has ended to a function. Returns how many bytes were read: 0 at the port's
-/// end.
+/// Reads bytes from the port once, and calls `on_message` for each frame that ends in these bytes. Returns the number
+/// of bytes that were read, which is 0 at the end of the input.
 ///
-/// An error of the port loses no byte: the next call continues after the bytes that were read.
+/// If the port returns an error, no byte is lost: the next call continues after the bytes that were read.
 fn receive<R: Read, const N: usize>(
     port: &mut R,
     decoder: &mut CobsDecoderHeapless<N>,
@@ -24,11 +24,12 @@ fn receive<R: Read, const N: usize>(
     Ok(count)
 }
 
-/// Writes the frame of a message and a zero to the port. `frame` is a buffer for them.
+/// Writes the frame of a message and a zero to the port. `frame` is a buffer for the frame and the zero.
 ///
 /// # Panics
 ///
-/// Panics if `frame` is shorter than [`jcobs::max_encoding_length`] of the message plus 1.
+/// Panics if the frame and the zero don't fit in `frame`. A buffer of `max_encoding_length(message.len()) + 1` bytes is
+/// always long enough.
 fn send<W: Write>(port: &mut W, message: &[u8], frame: &mut [u8]) -> Result<(), W::Error> {
     let len = jcobs::encode(message, frame);
     frame[len] = 0;
