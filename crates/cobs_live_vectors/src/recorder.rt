@@ -17,7 +17,8 @@ use std::alloc::Global;
 use std::io::{self, BufRead, BufWriter, Read};
 use std::rt::Clock;
 
-/// An input of bytes in memory. It records how many bytes had been written to the output when its last read began.
+/// An input of bytes in memory. When a read of these bytes begins, it records in `written` how many bytes the output
+/// holds.
 #[derive(Drop)]
 pub struct Recorder<'a> {
     pub bytes: &'a [u8],
