@@ -155,8 +155,7 @@ impl UnbufferedDecoder {
             self.missing -= len as u8;
             return;
         }
-        // The open block lacks `missing` bytes, like a block of which only the code was decoded, if this code is
-        // `missing + 1`.
+        // `missing` bytes of the open block are missing, as many as directly after a code of `missing + 1`.
         self.settle(write_zeros_at_codes(&mut dest[at..at + len], missing + 1));
     }
 
@@ -187,8 +186,7 @@ impl UnbufferedDecoder {
             self.missing -= len as u8;
             return;
         }
-        // The open block lacks `missing` bytes, like a block of which only the code was decoded, if this code is
-        // `missing + 1`.
+        // `missing` bytes of the open block are missing, as many as directly after a code of `missing + 1`.
         self.settle(write_zeros_at_copied(&mut dest[at..at + len], copied, missing + 1, sentinel));
     }
 
