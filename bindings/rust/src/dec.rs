@@ -90,7 +90,7 @@ pub type DecodingResult = DecodeReport;
 /// frame if there is one.
 ///
 /// A frame that was cut off between two blocks is decoded as a shorter frame. If your protocol ends each frame with a
-/// zero, you can detect such a frame: the byte at index `parsed_size - 1` isn't a zero.
+/// zero, you can detect such a frame: the byte of `source` at index `parsed_size - 1` isn't a zero.
 ///
 /// ```
 /// let mut dest = [0; 8];

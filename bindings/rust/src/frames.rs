@@ -12,8 +12,8 @@ use crate::{enc::encode, max_encoding_length, memory, memory::AllocError};
 use alloc::vec::Vec;
 
 /// Returns an iterator over the frames of a recorded stream, in order. Each item is a frame that isn't decoded yet,
-/// without the zero that ends the frame. Zeros in a row count as one zero, and the bytes after the last zero aren't an
-/// item.
+/// without the zero that ends the frame. Extra zeros, such as a second zero after a frame, are skipped. The bytes after
+/// the last zero aren't an item.
 ///
 /// The iterator doesn't check the frames. For a damaged frame, [`decode`](crate::decode) may return an error. The crate
 /// `cobs` doesn't have this call.

@@ -96,7 +96,7 @@
 //! - `small`: on every target a call processes one byte at a time (see "Targets"), and the crate has no `unsafe` code.
 //! - `serde`, `defmt`: derives for the errors ([`DecodeError`], [`DestBufTooSmallError`], [`PushError`], [`ReadFault`],
 //!   [`AllocError`]) and for [`DecodeReport`], [`PieceEnd`], [`Next`], [`FrameKind`] and `FrameOutcome`.
-//! - `heapless`: [`CobsDecoderHeapless::new_with_vec`] takes a `heapless::Vec`.
+//! - `heapless`: [`CobsDecoderHeapless::new_with_vec`] accepts a `heapless::Vec`.
 //! - `tokio-util`: the feature `std`, and `MessageCodec`, a codec for streams and sinks of tokio.
 //!
 //! Without the feature `std`, the crate is `no_std`.

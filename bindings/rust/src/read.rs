@@ -148,7 +148,7 @@ impl<R> MessageReader<R> {
     }
 
     /// Returns a mutable reference to the source, for example to set the timeout of a port. If you read bytes directly
-    /// from the source, they are missing from the next message.
+    /// from the source, these bytes are missing from the next message.
     pub fn get_mut(&mut self) -> &mut R {
         &mut self.inner
     }

@@ -157,7 +157,7 @@ fn bits(mask: &[u8]) -> u64 {
     bits_by(mask, way::of_sixteen)
 }
 
-/// The code for targets that have neither SSE2 nor NEON.
+/// The code for targets that have neither SSE2 nor NEON, and for the feature `small`.
 #[allow(dead_code)]
 mod portable {
     pub const HAS_VECTORS: bool = false;

@@ -57,8 +57,8 @@ impl<W: Write> MessageWriter<W> {
     /// Writes the frame of `message` and a zero. The call doesn't flush.
     ///
     /// If the last write failed, a part of its frame may have been written. Then this call first writes 256 bytes,
-    /// which end this part so that no decoder decodes it to a message. The receiver gets one frame that is broken, or
-    /// too long for the receiver's buffer.
+    /// which end this part so that no decoder decodes the part to a message. The receiver gets one frame that is
+    /// broken, or too long for the receiver's buffer.
     ///
     /// # Errors
     ///
@@ -94,8 +94,8 @@ impl<W> MessageWriter<W> {
         &self.inner
     }
 
-    /// Returns a mutable reference to the inner writer. If you write bytes directly to the inner writer, they come
-    /// between two frames.
+    /// Returns a mutable reference to the inner writer. If you write bytes directly to the inner writer, these bytes
+    /// come between two frames.
     pub fn get_mut(&mut self) -> &mut W {
         &mut self.inner
     }

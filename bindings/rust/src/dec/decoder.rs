@@ -1,4 +1,4 @@
-//! Three streaming decoders, which decode a stream of frames to messages, one after another.
+//! Three streaming decoders. They decode the frames of a stream to messages, one frame after another.
 //!
 //! The three decoders differ in who owns the buffer.
 
@@ -124,8 +124,8 @@ macro_rules! decoder_methods {
 
         /// Returns the buffer to which messages are decoded, for writing.
         ///
-        /// You may change the buffer between two frames. If you change the buffer after a frame has begun and before the
-        /// zero that ends it, the result of this frame and the contents of the buffer are unspecified.
+        /// You may change the buffer between two frames. If you change the buffer after a frame has begun and before
+        /// the zero that ends this frame, the result of the frame and the contents of the buffer are unspecified.
         #[inline]
         pub fn dest_mut(&mut self) -> &mut [u8] {
             &mut self.dest[..]
