@@ -86,7 +86,7 @@ REWORDED = {
     "(The trait is this library's own.)": "",
     "Precondition: the decoder is idle. A decoder is idle when it is new, after each reset, and after each zero.": "The decoder should"
     " be idle. A decoder is idle when it is new, after each reset, and after each zero. If the decoder\nisn't idle, the first outcome"
-    " is that of the piece that it has begun.",
+    " is that of the piece that the decoder has begun.",
     "Precondition: [`can_push`](EncoderState::can_push) returns true. Indices count bytes from the start of the output.": "Indices count"
     " bytes from the start of the output.\n\n# Panics\n\nWith overflow checks, if [`can_push`](EncoderState::can_push) returns false.",
 }
