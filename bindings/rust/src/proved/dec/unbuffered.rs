@@ -31,9 +31,9 @@ use crate::proved::find::{front_len, position_or_len};
 ///
 /// A decoder consists of four numbers, and has the layout of a C struct. All four numbers are 0 before a piece begins.
 /// Every call is safe, whatever the numbers are.
-// No number says whether a piece has begun, and no call tests this for a nonzero byte: `missing` says whether the byte
-// is a code, and `joint` says whether the output has a zero before the block of this code. The first code of a piece is
-// decoded like a code after a full block: the output has no zero before its block.
+// No number says whether a piece has begun, because the step for a nonzero byte doesn't need to know this: `missing`
+// says whether the byte is a code, and `joint` says whether the output has a zero before the block of this code. The
+// first code of a piece is decoded like a code after a full block: the output has no zero before the first block.
 #[repr(C)]
 #[derive(Debug, Clone, Copy, PartialEq, Eq, Hash)]
 pub struct UnbufferedDecoder {
@@ -149,8 +149,8 @@ impl UnbufferedDecoder {
         self.push_long(dest, bytes)
     }
 
-    /// Decodes `bytes` as `push` does. `push` calls this function if `take_short` decoded nothing, but the function is
-    /// correct for any bytes.
+    /// Decodes `bytes` as `push` does. `push` calls this function only if `take_short` decoded nothing, but the
+    /// function is correct for any bytes.
     fn push_long(
         &mut self,
         dest: &mut [u8],
