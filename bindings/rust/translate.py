@@ -67,7 +67,7 @@ STORED = set("DecodeError DestBufTooSmallError DecodeReport PushError FrameKind 
 REWORDED = {
     "This decoder returns the same results as [`CobsDecoder`](crate::CobsDecoder).": "The `feed` of this decoder returns the same"
     " results as that of [`CobsDecoder`](crate::CobsDecoder).",
-    "The results and errors are those of [`CobsDecoder::push`](crate::CobsDecoder::push).": "The error says how many bytes were taken.",
+    "The results and errors are those of [`CobsDecoder::push`](crate::CobsDecoder::push).": "The error says how many bytes were consumed.",
     "CobsDecoder::new(&mut buffer); let rejected = PushError": "UnbufferedDecoder::new();\nlet rejected = PushError",
     "decoder.push(&[3, 7, 0, 2, 9, 0]), Err(rejected)": "decoder.push(&mut buffer, &[3, 7, 0, 2, 9, 0]), Err(rejected)",
     "Contracts describe a source by the relation `step`. It relates the state of the source before a read, the result of the read,"
@@ -79,7 +79,6 @@ REWORDED = {
     " piece so far. ": "",
     "[`decode_short`](crate::decode_short)": "`decode_short`",
     "[`len_to_zero`](crate::len_to_zero)": "`len_to_zero`",
-    " (A choice of this library.)": "",
     " (This function is this library's own.)": "",
     " (This guarantee is this library's own.)": "",
     " (This type is this library's own.)": "",
@@ -87,7 +86,7 @@ REWORDED = {
     "(The trait is this library's own.)": "",
     "Precondition: the decoder is idle. A decoder is idle when it is new, after each reset, and after each zero.": "The decoder should"
     " be idle. A decoder is idle when it is new, after each reset, and after each zero. If the decoder\nisn't idle, the first outcome"
-    " is that of the piece that it has begun.",
+    " is that of the piece that the decoder has begun.",
     "Precondition: [`can_push`](EncoderState::can_push) returns true. Indices count bytes from the start of the output.": "Indices count"
     " bytes from the start of the output.\n\n# Panics\n\nWith overflow checks, if [`can_push`](EncoderState::can_push) returns false.",
 }

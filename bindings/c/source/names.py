@@ -86,7 +86,7 @@ ENDS = {
 # every function. The words in backticks that are left are names of Rattle, which get their names in C. A name that could be read as
 # an ordinary word keeps its backticks.
 COMMENTS = {
-    "": [(" (A choice of this library.)", ""), (" (This function is this library's own.)", ""), (" (This guarantee is this library's own.)", "")],
+    "": [(" (This function is this library's own.)", ""), (" (This guarantee is this library's own.)", "")],
     "UnbufferedDecoder::end": [(
         "and returns the result for this zero. `len` is the buffer's length.",
         "and returns how the piece ended. The buffer has buffer_size bytes.",

@@ -6,12 +6,12 @@ use std::sync::atomic::{AtomicU8, AtomicUsize, Ordering};
 
 use jcobs::CobsDecoderHeapless;
 
-/// A queue of bytes, from one interrupt handler to one main loop.
+/// A queue of bytes. One interrupt handler puts bytes into the queue, and one main loop takes them out.
 struct Queue<const N: usize> {
     bytes: [AtomicU8; N],
-    /// The number of bytes that were put into the queue. It only grows, until it wraps around to 0.
+    /// The number of bytes that were put into the queue. It only grows, and wraps around to 0 after its greatest value.
     put: AtomicUsize,
-    /// The number of bytes that were taken out of the queue. It wraps around too.
+    /// The number of bytes that were taken out of the queue. It grows and wraps around like `put`.
     taken: AtomicUsize,
 }
 
@@ -26,7 +26,7 @@ impl<const N: usize> Queue<N> {
         }
     }
 
-    /// Adds a byte to the queue. If the queue is full, the byte is dropped, and so the frame of this byte is damaged.
+    /// Adds a byte to the queue. If the queue is full, the byte is dropped, and the frame that contains it is damaged.
     fn put(&self, byte: u8) {
         let put = self.put.load(Ordering::Relaxed);
         if put.wrapping_sub(self.taken.load(Ordering::Acquire)) < N {
@@ -48,7 +48,7 @@ impl<const N: usize> Queue<N> {
 
 static RECEIVED: Queue<64> = Queue::new();
 
-/// The interrupt handler of the receiver. The argument is the byte in the receiver's data register.
+/// The interrupt handler of the serial receiver. The argument is the byte in the receiver's data register.
 fn on_byte(byte: u8) {
     RECEIVED.put(byte);
 }
@@ -56,7 +56,8 @@ fn on_byte(byte: u8) {
 /// Runs one round of the main loop: decodes the bytes that have arrived, and calls `on_message` with each message.
 fn poll<const N: usize>(decoder: &mut CobsDecoderHeapless<N>, mut on_message: impl FnMut(&[u8])) {
     while let Some(byte) = RECEIVED.take() {
-        // An error is a frame that is damaged or too long. This frame is dropped, and the next frame isn't affected.
+        // `feed` returns an error if a frame is damaged or too long. This frame is dropped, and the next frame isn't
+        // affected.
         if let Ok(Some(len)) = decoder.feed(byte) {
             on_message(&decoder.dest()[..len]);
         }

@@ -1,9 +1,10 @@
-//! A vector of at most `N` bytes, which are in an array inside the vector.
+//! A vector of up to `N` bytes, which are stored in an array inside the vector.
 
 use core::fmt;
 use core::ops::{Deref, DerefMut};
 
-/// A vector of up to `N` bytes that doesn't allocate, for [`CobsDecoderHeapless`](crate::CobsDecoderHeapless).
+/// A vector of up to `N` bytes, for [`CobsDecoderHeapless`](crate::CobsDecoderHeapless). The vector allocates no
+/// memory.
 ///
 /// ```
 /// let mut vec = jcobs::ArrayVec::<3>::new();
@@ -35,7 +36,7 @@ impl<const N: usize> ArrayVec<N> {
         N - self.len
     }
 
-    /// Adds a byte at the end.
+    /// Adds `byte` at the end of the vector.
     ///
     /// # Panics
     ///
@@ -102,7 +103,7 @@ impl<const N: usize> From<[u8; N]> for ArrayVec<N> {
     }
 }
 
-/// Copies the bytes of the vector.
+/// Makes a vector with a copy of the bytes of `vec`.
 #[cfg(feature = "heapless")]
 impl<const N: usize> From<heapless::Vec<u8, N>> for ArrayVec<N> {
     fn from(vec: heapless::Vec<u8, N>) -> Self {

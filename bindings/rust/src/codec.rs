@@ -8,16 +8,17 @@ use tokio_util::codec::{Decoder, Encoder};
 
 use crate::dec::{DecodeError, UnbufferedDecoder};
 
-/// A codec for [`Framed`](tokio_util::codec::Framed), which turns anything that reads and writes bytes into a stream
-/// and a sink of messages.
+/// A codec for [`Framed`](tokio_util::codec::Framed). With this codec, `Framed` turns anything that reads and writes
+/// bytes into a stream and a sink of messages.
 ///
-/// The codec decodes the bytes as they arrive. So it keeps at most `max_len` bytes, however long a frame is.
+/// The codec decodes the bytes as they arrive. So it keeps at most `max_len` bytes of a message, even if the frame is
+/// longer.
 ///
 /// An item of the stream is a message, or the error that [`MessageReader`](crate::MessageReader) would return for a
-/// frame that is damaged or too long. Such a frame never affects another frame. The stream ends at an error of its
-/// source, or with
-/// [`UnexpectedEof`](ErrorKind::UnexpectedEof) if the source ends inside a frame. Each message is sent as its frame and
-/// a zero. The crate `cobs` doesn't have this type.
+/// frame that is damaged or too long. Such a frame never affects another frame. If the source returns an error, the
+/// stream returns this error and ends. If the source ends inside a frame, the stream returns
+/// [`UnexpectedEof`](ErrorKind::UnexpectedEof) and ends. The sink sends the frame of each message, and then a zero. The
+/// crate `cobs` doesn't have this type.
 ///
 /// ```
 /// use bytes::BytesMut;
@@ -42,8 +43,8 @@ pub struct MessageCodec {
 }
 
 impl MessageCodec {
-    /// Makes a codec that receives messages of up to `max_len` bytes, and allocates `max_len` bytes. Messages that the
-    /// codec sends may be longer.
+    /// Makes a codec that can receive messages of up to `max_len` bytes. `new` allocates a buffer of `max_len` bytes.
+    /// The messages that the codec sends may be longer.
     #[must_use]
     pub fn new(max_len: usize) -> Self {
         Self {

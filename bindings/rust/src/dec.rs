@@ -1,4 +1,4 @@
-//! Decodes frames: functions with the signatures of the crate `cobs`, which call the proved functions.
+//! Functions that decode frames. They have the signatures of the crate `cobs`, and call the proved functions.
 
 mod decoder;
 
@@ -13,13 +13,14 @@ pub use decoder::CobsDecoderOwned;
 pub use decoder::{CobsDecoder, CobsDecoderHeapless};
 
 impl Default for UnbufferedDecoder {
-    /// Does what [`new`](Self::new) does.
+    /// Calls [`new`](Self::new).
     fn default() -> Self {
         Self::new()
     }
 }
 
-/// Returns the error, without the number of bytes that were taken. So `?` works for a push to any of the decoders:
+/// Returns the [`DecodeError`] that the [`PushError`] contains. So a function that returns a `DecodeError` can use `?`
+/// after a push to any of the decoders:
 ///
 /// ```
 /// use jcobs::{DecodeError, UnbufferedDecoder};
@@ -42,7 +43,7 @@ impl From<PushError> for DecodeError {
 }
 
 impl PieceEnd {
-    /// Returns the length of the message, or the error that a decoder returns for this end of a piece.
+    /// Returns the length of the piece's message, or the error that a decoder returns for a piece that ended like this.
     ///
     /// ```
     /// use jcobs::{DecodeError, PieceEnd};
@@ -85,11 +86,11 @@ pub type DecodingResult = DecodeReport;
 /// Decodes the first frame of `source` to the front of `dest`. Leading zeros are skipped, and the frame ends at the
 /// next zero, or at the end of the source. The bytes of `dest` after the message stay as they are.
 ///
-/// The report's [`parsed_size`](DecodeReport::parsed_size) counts the leading zeros, the frame, and the zero after it
-/// if there is one.
+/// The report's [`parsed_size`](DecodeReport::parsed_size) counts the leading zeros, the frame, and the zero after the
+/// frame if there is one.
 ///
 /// A frame that was cut off between two blocks is decoded as a shorter frame. If your protocol ends each frame with a
-/// zero, test whether the last parsed byte is a zero.
+/// zero, you can detect such a frame: the byte of `source` at index `parsed_size - 1` isn't a zero.
 ///
 /// ```
 /// let mut dest = [0; 8];
@@ -102,10 +103,11 @@ pub type DecodingResult = DecodeReport;
 /// # Errors
 ///
 /// - [`DecodeError::EmptyFrame`]: `source` is empty.
-/// - [`DecodeError::InvalidFrame`]: the frame breaks off inside a block. Its output, which has `decoded_bytes` bytes,
-///   is at the front of `dest`. If `source` has only zeros, this error is returned with `decoded_bytes` 0.
-/// - [`DecodeError::TargetBufTooSmall`]: the output of the frame, broken or not, is longer than `dest`. Then `dest`
-///   holds the first bytes of the output.
+/// - [`DecodeError::InvalidFrame`]: the frame breaks off inside a block. Then `dest` begins with the output of the
+///   frame, and `decoded_bytes` is the length of this output. If `source` has only zeros, this error is returned with
+///   `decoded_bytes` 0.
+/// - [`DecodeError::TargetBufTooSmall`]: the output of the frame is longer than `dest`, even if the frame is broken.
+///   Then `dest` holds the first bytes of the output.
 #[inline]
 pub fn decode(source: &[u8], dest: &mut [u8]) -> Result<DecodeReport, DecodeError> {
     proved::decode(source, dest)
@@ -124,15 +126,15 @@ pub fn decode(source: &[u8], dest: &mut [u8]) -> Result<DecodeReport, DecodeErro
 /// # Errors
 ///
 /// - [`DecodeError::EmptyFrame`]: `buff` is empty.
-/// - [`DecodeError::InvalidFrame`]: the frame breaks off inside a block. Then the output of the blocks before that
-///   block is at the front of `buff`, and `decoded_bytes` is the length of this output.
+/// - [`DecodeError::InvalidFrame`]: the frame breaks off inside a block. Then `buff` begins with the output of the
+///   blocks before the broken block, and `decoded_bytes` is the length of this output.
 #[inline]
 pub fn decode_in_place(buff: &mut [u8]) -> Result<usize, DecodeError> {
     Ok(decode_in_place_report(buff)?.frame_size())
 }
 
-/// Does what [`decode_in_place`] does, and returns a report that also has the frame's length. The zero after the frame
-/// isn't counted.
+/// Decodes the frame at the front of `buf` in place, as [`decode_in_place`] does, and returns a report. The report has
+/// the length of the message and the length of the frame; the zero after the frame isn't counted.
 ///
 /// ```
 /// let mut buf = *b"\x03hi\0\x02x";
@@ -149,10 +151,10 @@ pub fn decode_in_place_report(buf: &mut [u8]) -> Result<DecodeReport, DecodeErro
     proved::decode_in_place_report(buf)
 }
 
-/// Decodes the frame at the front of `source`, for the given sentinel, to the front of `dest`, and returns the
-/// message's length in bytes. The frame ends at the first sentinel, or at the end of the source. No sentinel is
-/// skipped: if `source` begins with a sentinel, the message is empty. The bytes of `dest` after the message stay as
-/// they are.
+/// Decodes the frame at the front of `source` for the given sentinel. Writes the message to the front of `dest`, and
+/// returns the message's length in bytes. The frame ends at the first sentinel, or at the end of the source. No
+/// sentinel is skipped: if `source` begins with a sentinel, the message is empty. The bytes of `dest` after the message
+/// stay as they are.
 ///
 /// ```
 /// let mut frame = [0; 8];
@@ -165,10 +167,10 @@ pub fn decode_in_place_report(buf: &mut [u8]) -> Result<DecodeReport, DecodeErro
 /// # Errors
 ///
 /// - [`DecodeError::EmptyFrame`]: `source` is empty.
-/// - [`DecodeError::InvalidFrame`]: the frame breaks off inside a block. Then the output of the blocks before that
-///   block is at the front of `dest`, and `decoded_bytes` is the length of this output.
-/// - [`DecodeError::TargetBufTooSmall`]: the output is longer than `dest`. The output is the message or, if the frame
-///   is broken, the output that `InvalidFrame` counts. Then `dest` holds the first bytes of the output.
+/// - [`DecodeError::InvalidFrame`]: the frame breaks off inside a block. Then `dest` begins with the output of the
+///   blocks before the broken block, and `decoded_bytes` is the length of this output.
+/// - [`DecodeError::TargetBufTooSmall`]: the message is longer than `dest`, or the frame breaks off and the output of
+///   its whole blocks is longer than `dest`. In both cases `dest` then holds the first bytes of that message or output.
 #[inline]
 pub fn decode_with_sentinel(
     source: &[u8],
@@ -178,8 +180,9 @@ pub fn decode_with_sentinel(
     proved::decode_with_sentinel(source, dest, sentinel)
 }
 
-/// Does what [`decode_in_place`] does, for the given sentinel. First each byte of `buff`, including the bytes after the
-/// frame, is XORed with the sentinel, as in the crate `cobs`.
+/// Decodes the frame at the front of `buff` in place for the given sentinel, and returns the message's length in bytes.
+/// As in the crate `cobs`, the call first XORs each byte of `buff` with the sentinel, even the bytes after the frame.
+/// Then it decodes `buff` as [`decode_in_place`] does.
 ///
 /// ```
 /// let mut buff = [0; 3];
@@ -204,7 +207,7 @@ pub fn decode_in_place_with_sentinel(buff: &mut [u8], sentinel: u8) -> Result<us
 ///
 /// # Errors
 ///
-/// [`DecodeError::EmptyFrame`] and [`DecodeError::InvalidFrame`], if [`decode`] returns them.
+/// [`DecodeError::EmptyFrame`] or [`DecodeError::InvalidFrame`], if [`decode`] returns this error for `source`.
 #[cfg(feature = "alloc")]
 pub fn decode_vec(source: &[u8]) -> Result<alloc::vec::Vec<u8>, DecodeError> {
     let mut decoded = alloc::vec![0; source.len()];
@@ -222,7 +225,8 @@ pub fn decode_vec(source: &[u8]) -> Result<alloc::vec::Vec<u8>, DecodeError> {
 ///
 /// # Errors
 ///
-/// [`DecodeError::EmptyFrame`] and [`DecodeError::InvalidFrame`], if [`decode_with_sentinel`] returns them.
+/// [`DecodeError::EmptyFrame`] or [`DecodeError::InvalidFrame`], if [`decode_with_sentinel`] returns this error for
+/// `source`.
 #[cfg(feature = "alloc")]
 pub fn decode_vec_with_sentinel(
     source: &[u8],
@@ -234,8 +238,8 @@ pub fn decode_vec_with_sentinel(
     Ok(decoded)
 }
 
-/// Returns whether the bytes are a frame, and whether that frame is the one that encoders write for its message. The
-/// crate `cobs` doesn't have this call.
+/// Returns whether the bytes are a frame, and if so, whether encoders write this frame for its message. The crate
+/// `cobs` doesn't have this call.
 ///
 /// ```
 /// use jcobs::{FrameKind, frame_kind};

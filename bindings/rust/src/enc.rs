@@ -1,4 +1,4 @@
-//! Encodes messages: functions with the signatures of the crate `cobs`, which call the proved functions.
+//! Functions that encode messages. They have the signatures of the crate `cobs`, and call the proved functions.
 
 mod encoder;
 
@@ -8,7 +8,7 @@ pub use crate::proved::{DestBufTooSmallError, EncoderState, PushResult, Unbuffer
 pub use encoder::CobsEncoder;
 
 impl Default for UnbufferedEncoder {
-    /// Does what [`new`](Self::new) does.
+    /// Calls [`new`](Self::new).
     fn default() -> Self {
         Self::new()
     }
@@ -25,7 +25,8 @@ impl Default for UnbufferedEncoder {
 ///
 /// # Panics
 ///
-/// Panics if the frame doesn't fit `dest`. [`max_encoding_length`](crate::max_encoding_length) bytes are always enough.
+/// Panics if the frame doesn't fit `dest`. A `dest` of
+/// [`max_encoding_length(source.len())`](crate::max_encoding_length) bytes is always long enough.
 #[inline]
 #[track_caller]
 pub fn encode(source: &[u8], dest: &mut [u8]) -> usize {
@@ -63,8 +64,8 @@ pub fn try_encode(source: &[u8], dest: &mut [u8]) -> Result<usize, DestBufTooSma
 ///
 /// # Panics
 ///
-/// Panics if the frame with its two zeros doesn't fit `dest`. [`max_encoding_length`](crate::max_encoding_length) plus
-/// 2 bytes are always enough.
+/// Panics if the frame with its two zeros doesn't fit `dest`. A `dest` of
+/// [`max_encoding_length(source.len())`](crate::max_encoding_length) plus 2 bytes is always long enough.
 #[inline]
 #[track_caller]
 pub fn encode_including_sentinels(source: &[u8], dest: &mut [u8]) -> usize {
@@ -106,17 +107,18 @@ pub fn try_encode_including_sentinels(
 ///
 /// # Panics
 ///
-/// Panics if the frame doesn't fit `dest`. [`max_encoding_length`](crate::max_encoding_length) bytes are always enough.
+/// Panics if the frame doesn't fit `dest`. A `dest` of
+/// [`max_encoding_length(source.len())`](crate::max_encoding_length) bytes is always long enough.
 #[inline]
 #[track_caller]
 pub fn encode_with_sentinel(source: &[u8], dest: &mut [u8], sentinel: u8) -> usize {
     try_encode_with_sentinel(source, dest, sentinel).expect("the frame fits `dest`")
 }
 
-/// Encodes a message in its own buffer, and returns the frame's length in bytes. Before the call the message, which has
-/// `len` bytes, begins at index [`max_encoding_overhead(len)`](crate::max_encoding_overhead) of `buffer`. After the
-/// call the frame is at the front of `buffer`, and the bytes after the frame are as they were. The crate `cobs` doesn't
-/// have this call.
+/// Encodes a message in its own buffer, and returns the frame's length in bytes. The message has `len` bytes. Before
+/// the call, it begins at index [`max_encoding_overhead(len)`](crate::max_encoding_overhead) of `buffer`. After the
+/// call, `buffer` begins with the frame, and the bytes after the frame are as they were. The crate `cobs` doesn't have
+/// this call.
 ///
 /// ```
 /// let mut buffer = *b"\0hello..";
@@ -137,8 +139,9 @@ pub fn encode_in_place(buffer: &mut [u8], len: usize) -> usize {
     proved::encode_in_place(buffer, len)
 }
 
-/// Does what [`encode_with_sentinel`] does, but returns an error instead of panicking if the frame doesn't fit. The
-/// crate `cobs` doesn't have this call.
+/// Writes the frame of `source` for the given sentinel to the front of `dest`, and returns the frame's length in bytes.
+/// Unlike [`encode_with_sentinel`], this call returns an error if the frame doesn't fit `dest`. The crate `cobs`
+/// doesn't have this call.
 ///
 /// ```
 /// let mut dest = [0; 2];
@@ -158,7 +161,8 @@ pub fn try_encode_with_sentinel(
     proved::try_encode_with_sentinel(source, dest, sentinel)
 }
 
-/// Returns a vector of zeros with room for the longest frame of a message as long as `source`, and for `more` bytes.
+/// Returns a vector of zeros. It has room for the frame of any message with as many bytes as `source`, and for `more`
+/// bytes after the frame.
 #[cfg(feature = "alloc")]
 fn room_for(source: &[u8], more: usize) -> alloc::vec::Vec<u8> {
     alloc::vec![0; crate::max_encoding_length(source.len()) + more]
@@ -179,7 +183,7 @@ pub fn encode_vec(source: &[u8]) -> alloc::vec::Vec<u8> {
     encoded
 }
 
-/// Returns a zero, the frame of `source`, and another zero. The vector ends after the second zero.
+/// Returns a vector that consists of a zero, the frame of `source`, and another zero.
 ///
 /// ```
 /// assert_eq!(jcobs::encode_vec_including_sentinels(b"hi"), b"\0\x03hi\0");
@@ -193,7 +197,7 @@ pub fn encode_vec_including_sentinels(source: &[u8]) -> alloc::vec::Vec<u8> {
     encoded
 }
 
-/// Returns the frame of `source` for the given sentinel, as [`encode_with_sentinel`] writes it.
+/// Returns the frame that [`encode_with_sentinel`] would write for `source` and the given sentinel.
 ///
 /// ```
 /// assert_eq!(jcobs::encode_vec_with_sentinel(b"\xFF\0", 0xFF), [0xFD, 0x00, 0xFE]);

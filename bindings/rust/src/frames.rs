@@ -11,12 +11,12 @@ use crate::{enc::encode, max_encoding_length, memory, memory::AllocError};
 #[cfg(feature = "alloc")]
 use alloc::vec::Vec;
 
-/// Returns an iterator over the frames of a recorded stream, in order. The frames are still encoded. A zero ends each
-/// frame, and isn't part of the item. Two zeros in a row have no item between them, and the bytes after the last zero
-/// aren't an item.
+/// Returns an iterator over the frames of a recorded stream, in order. Each item is a frame that isn't decoded yet,
+/// without the zero that ends the frame. Extra zeros, such as a second zero after a frame, are skipped. The bytes after
+/// the last zero aren't an item.
 ///
-/// A frame may be damaged. Then [`decode`](crate::decode) may return an error for its item. The crate `cobs` doesn't
-/// have this call.
+/// The iterator doesn't check the frames. For a damaged frame, [`decode`](crate::decode) may return an error. The crate
+/// `cobs` doesn't have this call.
 ///
 /// ```
 /// use jcobs::frames;
@@ -49,15 +49,16 @@ pub struct Frames<'a> {
 }
 
 impl<'a> Frames<'a> {
-    /// Returns the rest of the stream: the bytes after the zero that ends the last returned frame. Once `next` has
-    /// returned `None`, the result is the bytes after the last zero of the stream.
+    /// Returns the rest of the stream: the bytes after the frame that `next` returned last, and after the zero that
+    /// ends this frame. Once `next` has returned `None`, the result is the bytes after the last zero of the stream.
     #[inline]
     #[must_use]
     pub const fn remainder(&self) -> &'a [u8] {
         self.rest
     }
 
-    /// Returns the bytes before the next zero (no bytes if that zero comes first), or `None` if there is no zero.
+    /// Returns the bytes before the next zero, or `None` if there is no zero. If the next byte is a zero, the result is
+    /// empty.
     #[inline]
     fn next_piece(&mut self) -> Option<&'a [u8]> {
         let (piece, from_zero) = self.rest.split_at(first_zero(self.rest)?);
@@ -82,17 +83,18 @@ impl<'a> Iterator for Frames<'a> {
 
 impl FusedIterator for Frames<'_> {}
 
-/// Returns the bounds of the number of frames in a stream. A frame has at least one byte, and a zero follows it.
+/// Returns a lower and an upper bound of the number of frames in a stream. The upper bound is half of the stream's
+/// length, because each frame has at least one byte, and a zero follows the frame.
 #[inline]
 const fn most_frames(stream: &[u8]) -> (usize, Option<usize>) {
     (0, Some(stream.len() / 2))
 }
 
-/// Returns an iterator over the messages of a recorded stream. Each message is decoded in place, over its frame, so no
-/// other memory is used.
+/// Returns an iterator over the messages of a recorded stream. Each frame is decoded in place: the message is written
+/// over the frame, so no other memory is used.
 ///
-/// Each item is the message of a frame that a zero ends, or the error if this frame is broken. A broken frame never
-/// affects another frame. The crate `cobs` doesn't have this call.
+/// A zero ends each frame of the stream. For each frame, the item is the message, or an error if the frame is broken. A
+/// broken frame never affects another frame. The crate `cobs` doesn't have this call.
 ///
 /// ```
 /// use jcobs::decode_stream_in_place;
@@ -110,8 +112,8 @@ const fn most_frames(stream: &[u8]) -> (usize, Option<usize>) {
 ///
 /// # Errors
 ///
-/// An item is [`DecodeError::InvalidFrame`] if its frame breaks off inside a block. Then `decoded_bytes` is the number
-/// that the error of [`decode_in_place`](crate::decode_in_place) has for this frame.
+/// An item is [`DecodeError::InvalidFrame`] if the frame breaks off inside a block. Its `decoded_bytes` is the same as
+/// in the error that [`decode_in_place`](crate::decode_in_place) returns for this frame.
 #[inline]
 pub const fn decode_stream_in_place(stream: &mut [u8]) -> DecodeStreamInPlace<'_> {
     DecodeStreamInPlace { rest: stream }
@@ -125,15 +127,17 @@ pub struct DecodeStreamInPlace<'a> {
 }
 
 impl<'a> DecodeStreamInPlace<'a> {
-    /// Returns the rest of the stream: the bytes after the zero that ends the last decoded frame. Once `next` has
-    /// returned `None`, the result is the bytes after the last zero of the stream, unchanged.
+    /// Returns the rest of the stream: the bytes after the frame that `next` decoded last, and after the zero that ends
+    /// this frame. These bytes are unchanged. Once `next` has returned `None`, the result is the bytes after the last
+    /// zero of the stream.
     #[inline]
     #[must_use]
     pub fn into_remainder(self) -> &'a mut [u8] {
         self.rest
     }
 
-    /// Returns the bytes before the next zero (no bytes if that zero comes first), or `None` if there is no zero.
+    /// Returns the bytes before the next zero, or `None` if there is no zero. If the next byte is a zero, the result is
+    /// empty.
     #[inline]
     fn next_piece(&mut self) -> Option<&'a mut [u8]> {
         let len = first_zero(self.rest)?;
@@ -160,8 +164,8 @@ impl<'a> Iterator for DecodeStreamInPlace<'a> {
 
 impl FusedIterator for DecodeStreamInPlace<'_> {}
 
-/// Encodes messages as a stream: for each message, in order, its frame and a zero. If there are no messages, the stream
-/// is empty.
+/// Encodes messages as a stream. For each message in order, the stream has the frame of the message and then a zero. If
+/// there are no messages, the stream is empty.
 ///
 /// A decoder whose buffer is long enough for each message decodes this stream to exactly these messages. The crate
 /// `cobs` doesn't have this call.
@@ -178,7 +182,7 @@ impl FusedIterator for DecodeStreamInPlace<'_> {}
 ///
 /// # Errors
 ///
-/// [`AllocError`]: there is no memory for the stream, which grows with each message.
+/// [`AllocError`]: memory for the stream runs out. The stream grows with each message.
 #[cfg(feature = "alloc")]
 pub fn encode_frames<I>(messages: I) -> Result<Vec<u8>, AllocError>
 where
@@ -194,7 +198,7 @@ where
     Ok(stream)
 }
 
-/// Appends the frame of a message and a zero.
+/// Appends the frame of `message` and a zero to `stream`.
 #[cfg(feature = "alloc")]
 pub(crate) fn append_frame(stream: &mut Vec<u8>, message: &[u8]) -> Result<(), AllocError> {
     let room = max_encoding_length(message.len()) + 1;
@@ -202,8 +206,9 @@ pub(crate) fn append_frame(stream: &mut Vec<u8>, message: &[u8]) -> Result<(), A
     memory::append(stream, room, |zeros| encode(message, zeros) + 1)
 }
 
-/// Returns the length of the longest stream that [`encode_frames`] could make of messages as long as these: the sum,
-/// over all messages, of [`max_encoding_length`] plus 1. Returns `None` if this sum doesn't fit a `usize`.
+/// Returns a number of bytes that is enough for the stream of [`encode_frames`] for these messages. For each message,
+/// the number includes [`max_encoding_length`] of the message's length, plus 1 for the zero. Returns `None` if the
+/// number doesn't fit a `usize`.
 ///
 /// ```
 /// assert_eq!(jcobs::encode_frames_room(["hi", ""]), Some(6));

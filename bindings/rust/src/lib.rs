@@ -1,5 +1,5 @@
-//! Consistent Overhead Byte Stuffing (COBS), with the names and signatures of the crate `cobs` 0.5.1, in code that is
-//! translated from proved code.
+//! Encodes and decodes Consistent Overhead Byte Stuffing (COBS), in code that is translated from proved code. The calls
+//! of the crate `cobs` 0.5.1 have the same names and signatures here.
 //!
 //! COBS encodes a message, which may be any bytes, as a frame that never contains a certain byte value: the sentinel.
 //! So the sentinel, usually 0, can mark the end of each frame on a serial line or in a file. The frame of a message of
@@ -75,36 +75,37 @@
 //! | messages to record as a stream | [`encode_frames`] |
 //! | the length of a message, and needs a buffer for the frame | [`max_encoding_length`] |
 //!
-//! The folder `bindings/rust/examples` of the repository has a program for a serial line with tokio, a receiver over
-//! embedded-io, and a receiver whose bytes arrive in an interrupt handler.
+//! The folder `bindings/rust/examples` of the repository has three examples: messages over a line with tokio, messages
+//! over a port of embedded-io, and a receiver whose bytes arrive in an interrupt handler.
 //!
 //! # What is proved
 //!
 //! The functions of `src/proved/` are translated from the crates `cobs` and `cobs_bytes` in Rattle, which is Rust with
-//! contracts. In Rattle each function is proved to return the right result, not to panic, and to end, for a `usize` of
-//! 64 bits. The other files of `src/` are tested, not proved. These files have the signatures of the crate `cobs`,
-//! choose the proved function for each push, and add the types for `std::io` and tokio. Memory safety depends on rustc,
-//! on `memchr`, and on the `unsafe` code of `src/simd.rs`. No other file of this crate has `unsafe` code, and with the
-//! feature `small` that file has none either.
+//! contracts. For a `usize` of 64 bits, each of these functions is proved in Rattle to return the right result, not to
+//! panic, and to end. The other files of `src/` are tested, not proved. They define the calls with the signatures of
+//! the crate `cobs`, choose the proved function that a push calls, and add the types for `std::io` and tokio. Memory
+//! safety depends on rustc, on `memchr`, and on the `unsafe` code of `src/simd.rs`. No other file of this crate has
+//! `unsafe` code. With the feature `small`, `src/simd.rs` has no `unsafe` code either.
 //!
 //! # Features
 //!
-//! - `std` (default): `alloc`; [`MessageReader`] and [`MessageWriter`]; [`Recorded`], a [`FrameSource`] over any
-//!   [`std::io::Read`]; and the feature `std` of `memchr`, which then searches with AVX2 if the processor has AVX2.
+//! - `std` (default): the feature `alloc`; [`MessageReader`] and [`MessageWriter`]; [`Recorded`], a [`FrameSource`]
+//!   over any [`std::io::Read`]; and the feature `std` of `memchr`, with which `memchr` uses AVX2 if the processor has
+//!   AVX2.
 //! - `alloc`: the calls that return a `Vec`, and [`CobsDecoderOwned`].
 //! - `small`: on every target a call processes one byte at a time (see "Targets"), and the crate has no `unsafe` code.
 //! - `serde`, `defmt`: derives for the errors ([`DecodeError`], [`DestBufTooSmallError`], [`PushError`], [`ReadFault`],
 //!   [`AllocError`]) and for [`DecodeReport`], [`PieceEnd`], [`Next`], [`FrameKind`] and `FrameOutcome`.
-//! - `heapless`: [`CobsDecoderHeapless::new_with_vec`] takes a `heapless::Vec`.
-//! - `tokio-util`: `std`, and `MessageCodec`, a codec for streams and sinks of tokio.
+//! - `heapless`: [`CobsDecoderHeapless::new_with_vec`] accepts a `heapless::Vec`.
+//! - `tokio-util`: the feature `std`, and `MessageCodec`, a codec for streams and sinks of tokio.
 //!
-//! The crate is `no_std` without `std`.
+//! Without the feature `std`, the crate is `no_std`.
 //!
 //! # Targets
 //!
 //! If the target has SSE2, NEON or WebAssembly's SIMD, the calls search and copy many bytes at once. On every other
-//! target, and with the feature `small`, the calls process one byte at a time. Each call then needs a few hundred bytes
-//! of flash.
+//! target, and with the feature `small`, the calls process one byte at a time, and each call needs only a few hundred
+//! bytes of flash.
 #![no_std]
 #![cfg_attr(feature = "small", forbid(unsafe_code))]
 // With `doc_cfg` the pages of docs.rs say which feature an item needs.
@@ -170,8 +171,8 @@ pub use crate::read::MessageReader;
 #[cfg(feature = "std")]
 pub use crate::write::MessageWriter;
 
-/// Returns the greatest number of bytes that encoding adds to a message of `source_len` bytes, without sentinels. This
-/// number is `source_len / 254`, rounded up, or 1 for the empty message.
+/// Returns the greatest number of bytes that encoding adds to a message of `source_len` bytes, not counting sentinels.
+/// This number is `source_len / 254`, rounded up, or 1 for the empty message.
 ///
 /// ```
 /// assert_eq!(jcobs::max_encoding_overhead(0), 1);
@@ -184,8 +185,8 @@ pub const fn max_encoding_overhead(source_len: usize) -> usize {
     proved::max_encoding_overhead(source_len)
 }
 
-/// Returns the length of the longest frame of a message of `source_len` bytes, without sentinels. A buffer of this
-/// length is always long enough for the frame. Each sentinel needs one more byte.
+/// Returns the greatest length that the frame of a message of `source_len` bytes can have, not counting sentinels. A
+/// buffer of this length is always long enough for the frame. Each sentinel needs one more byte.
 ///
 /// ```
 /// const ROOM: usize = jcobs::max_encoding_length(1000);
@@ -194,7 +195,7 @@ pub const fn max_encoding_overhead(source_len: usize) -> usize {
 ///
 /// # Panics
 ///
-/// Panics if the length doesn't fit a `usize`. No slice is long enough to cause this panic.
+/// Panics if the length doesn't fit a `usize`. The length of a slice is never great enough to cause this panic.
 #[inline]
 #[must_use]
 pub const fn max_encoding_length(source_len: usize) -> usize {

@@ -1,9 +1,9 @@
-//! Allocates memory for the calls that return an error, instead of aborting, if there is no memory.
+//! Allocates memory for the calls that return an error if memory runs out, instead of aborting the program.
 
 #[cfg(feature = "alloc")]
 use alloc::vec::Vec;
 
-/// There was no memory for a vector.
+/// The error of a call if memory for a vector runs out.
 #[derive(Debug, Clone, Copy, PartialEq, Eq, Hash)]
 #[cfg_attr(feature = "serde", derive(serde::Serialize, serde::Deserialize))]
 #[cfg_attr(feature = "defmt", derive(defmt::Format))]
@@ -17,7 +17,7 @@ impl core::fmt::Display for AllocError {
 
 impl core::error::Error for AllocError {}
 
-/// Returns a vector of these bytes.
+/// Returns a vector with a copy of these bytes.
 #[cfg(feature = "alloc")]
 pub(crate) fn copied(bytes: &[u8]) -> Result<Vec<u8>, AllocError> {
     let mut copy = Vec::new();
@@ -27,7 +27,8 @@ pub(crate) fn copied(bytes: &[u8]) -> Result<Vec<u8>, AllocError> {
     Ok(copy)
 }
 
-/// Appends `room` zeros, passes them to `write`, and keeps as many of these bytes as `write` returns.
+/// Appends `room` zeros to `bytes`, and passes these zeros to `write`, which writes bytes over them. `write` returns a
+/// number; the vector keeps this number of the appended bytes, and drops the others.
 #[cfg(feature = "alloc")]
 #[inline]
 pub(crate) fn append(
@@ -43,7 +44,7 @@ pub(crate) fn append(
     Ok(())
 }
 
-/// Adds an item at the end.
+/// Adds `item` at the end of `items`.
 #[cfg(feature = "alloc")]
 pub(crate) fn push<T>(items: &mut Vec<T>, item: T) -> Result<(), AllocError> {
     items.try_reserve(1).map_err(|_| AllocError)?;

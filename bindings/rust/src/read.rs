@@ -5,10 +5,10 @@ use std::io::{self, BufRead, ErrorKind};
 
 use crate::dec::{DecodeError, PieceEnd, UnbufferedDecoder};
 
-/// Reads messages from a serial port, a socket or a file: from anything that is [`BufRead`].
+/// Reads messages from a serial port, a socket, a file, or any other source that implements [`BufRead`].
 ///
-/// A [`BufReader`](std::io::BufReader) makes a `BufRead` of any [`Read`](io::Read), and reads at once all bytes that
-/// have arrived, up to its capacity. The crate `cobs` doesn't have this type.
+/// If the source implements only [`Read`](io::Read), wrap it in a [`BufReader`](std::io::BufReader). With one read, a
+/// `BufReader` gets all bytes that have arrived, up to its capacity. The crate `cobs` doesn't have this type.
 ///
 /// ```
 /// use std::io::BufReader;
@@ -29,8 +29,9 @@ use crate::dec::{DecodeError, PieceEnd, UnbufferedDecoder};
 ///
 /// # Ports with a timeout, and ports that don't block
 ///
-/// An error of the port is returned unchanged, and no byte is lost: the bytes of a frame that has begun are kept, and
-/// the next call continues after them. So a port with a timeout, or a port that doesn't block, can be read in a loop:
+/// If the port returns an error, the reader returns this error unchanged, and no byte is lost: the reader keeps the
+/// bytes of a frame that has begun, and the next call continues after these bytes. So a port with a timeout, or a port
+/// that doesn't block, can be read in a loop:
 ///
 /// ```
 /// use std::io::{self, BufRead, ErrorKind};
@@ -40,10 +41,10 @@ use crate::dec::{DecodeError, PieceEnd, UnbufferedDecoder};
 /// fn poll(messages: &mut MessageReader<impl BufRead>) -> io::Result<Option<usize>> {
 ///     match messages.read_message() {
 ///         Ok(Some(Ok(message))) => Ok(Some(message.len())),
-///         // A damaged frame. The one after it isn't affected.
+///         // A frame that is damaged or too long. The next frame isn't affected.
 ///         Ok(Some(Err(_))) => Ok(None),
 ///         Ok(None) => Err(io::Error::new(ErrorKind::UnexpectedEof, "the port was closed")),
-///         // Nothing has come yet.
+///         // No frame has ended yet.
 ///         Err(e) if matches!(e.kind(), ErrorKind::TimedOut | ErrorKind::WouldBlock) => Ok(None),
 ///         Err(e) => Err(e),
 ///     }
@@ -62,7 +63,8 @@ pub struct MessageReader<R> {
 }
 
 impl<R: BufRead> MessageReader<R> {
-    /// Makes a reader of messages of up to `max_len` bytes. `new` allocates a buffer of `max_len` bytes, and this buffer never grows.
+    /// Makes a reader that can read messages of up to `max_len` bytes. `new` allocates a buffer of `max_len` bytes, and
+    /// this buffer never grows.
     ///
     /// ```
     /// let stdin = std::io::stdin().lock();
@@ -79,14 +81,14 @@ impl<R: BufRead> MessageReader<R> {
 
     /// Reads until a zero ends a frame, and returns the frame's message.
     ///
-    /// - `Ok(Some(Ok(message)))`: a message.
-    /// - `Ok(Some(Err(error)))`: a frame that is damaged ([`DecodeError::InvalidFrame`], with the number of bytes it
-    ///   decoded to), or whose message is longer than `max_len` ([`DecodeError::TargetBufTooSmall`]). Call again: this
-    ///   frame never affects another frame.
-    /// - `Ok(None)`: the source has ended, and not inside a frame. If the source grows, call again.
+    /// - `Ok(Some(Ok(message)))`: a frame has ended, and this is its message.
+    /// - `Ok(Some(Err(error)))`: a frame has ended, but it is damaged ([`DecodeError::InvalidFrame`], which has the
+    ///   number of decoded bytes), or its message is longer than `max_len` ([`DecodeError::TargetBufTooSmall`]). Call
+    ///   again for the next message: a damaged frame never affects another frame.
+    /// - `Ok(None)`: the source has ended, and no frame is unfinished. If the source grows later, call again.
     ///
-    /// Zeros without a frame between them are skipped. The call reads the source until a zero ends a frame, however
-    /// many bytes come before the zero. The bytes of a message that is too long are dropped.
+    /// Zeros without a frame between them are skipped. The call has no limit on the number of bytes that it reads
+    /// before a zero ends a frame. The bytes of a message that is too long are dropped.
     ///
     /// ```
     /// use jcobs::{DecodeError, MessageReader};
@@ -110,7 +112,8 @@ impl<R: BufRead> MessageReader<R> {
         Ok(end.map(|end| end.into_result().map(|len| &self.message[..len])))
     }
 
-    /// Reads until a zero ends a piece, or the source ends between two pieces.
+    /// Reads until a zero ends a piece, and returns how the piece ended. Returns `None` if the source ends while no
+    /// piece is open.
     fn read_piece(&mut self) -> io::Result<Option<PieceEnd>> {
         loop {
             let bytes = match self.inner.fill_buf() {
@@ -144,14 +147,14 @@ impl<R> MessageReader<R> {
         &self.inner
     }
 
-    /// Returns the source as a mutable reference, for example to set its timeout. Bytes that you read directly from the
-    /// source are missing from the next message.
+    /// Returns a mutable reference to the source, for example to set the timeout of a port. If you read bytes directly
+    /// from the source, these bytes are missing from the next message.
     pub fn get_mut(&mut self) -> &mut R {
         &mut self.inner
     }
 
-    /// Returns the source. The bytes after the last frame that was read are still in the source, except the bytes of a
-    /// frame that has begun.
+    /// Returns the source, which still has the bytes after the last frame that was read. If `read_message` returned an
+    /// error inside a frame, the first bytes of this frame have been consumed, and are lost.
     pub fn into_inner(self) -> R {
         self.inner
     }

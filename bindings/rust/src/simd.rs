@@ -1,7 +1,7 @@
-//! Vectors of bytes, on stable Rust and for any target. This module has the types and methods of `std::simd` that the
-//! proved source uses.
+//! SIMD vectors of bytes, for stable Rust and any target. The proved source uses some types and methods of `std::simd`;
+//! this module defines types and methods with the same names.
 //!
-//! The crate's only `unsafe` code is in this file: the calls of SSE2 and NEON intrinsics. With the feature `small` the
+//! The crate's only `unsafe` code is in this file: the calls of SSE2 and NEON intrinsics. With the feature `small`, the
 //! crate has no `unsafe` code. The tests compare every operation with the same operation on single bytes, for each
 //! width from 1 to 64.
 
@@ -59,19 +59,19 @@ pub type u8x32 = Simd<u8, 32>;
 pub struct Mask<const N: usize>([u8; N]);
 
 impl<const N: usize> Simd<u8, N> {
-    /// Makes a vector with this byte at each place.
+    /// Makes a vector in which each byte is `byte`.
     #[inline(always)]
     pub fn splat(byte: u8) -> Self {
         Self([byte; N])
     }
 
-    /// Loads the first `N` bytes.
+    /// Makes a vector of the first `N` bytes of `bytes`.
     #[inline(always)]
     pub fn from_slice(bytes: &[u8]) -> Self {
         Self(*bytes.first_chunk().expect("as many bytes as the vector"))
     }
 
-    /// Stores the vector in the first `N` bytes.
+    /// Writes the vector's bytes to the first `N` bytes of `bytes`.
     #[inline(always)]
     pub fn copy_to_slice(self, bytes: &mut [u8]) {
         *bytes
@@ -79,7 +79,7 @@ impl<const N: usize> Simd<u8, N> {
             .expect("as many bytes as the vector") = self.0;
     }
 
-    /// Returns which bytes are equal.
+    /// Compares the vectors byte by byte, and returns which bytes are equal.
     #[inline(always)]
     pub fn simd_eq(self, other: Self) -> Mask<N> {
         if 1 < N && N < 16 {
@@ -89,7 +89,7 @@ impl<const N: usize> Simd<u8, N> {
         self.compare(other, |a, b| a == b)
     }
 
-    /// Returns which bytes are different.
+    /// Compares the vectors byte by byte, and returns which bytes are different.
     #[inline(always)]
     pub fn simd_ne(self, other: Self) -> Mask<N> {
         self.compare(other, |a, b| a != b)
@@ -125,8 +125,8 @@ impl<const N: usize> Mask<N> {
     }
 }
 
-/// Returns these bytes, at most 16, padded with zeros to 16 bytes, because rustc doesn't use vector instructions for
-/// fewer bytes.
+/// Returns `bytes`, at most 16 bytes, followed by zeros up to 16 bytes. For fewer than 16 bytes rustc doesn't use
+/// vector instructions.
 #[inline(always)]
 fn widened(bytes: &[u8]) -> [u8; 16] {
     let mut wide = [0; 16];
@@ -134,7 +134,7 @@ fn widened(bytes: &[u8]) -> [u8; 16] {
     wide
 }
 
-/// Returns one bit for each byte. `sixteen` returns the bits of 16 bytes.
+/// Returns a number with one bit for each byte of the mask. `sixteen` computes the bits of 16 bytes.
 #[inline(always)]
 fn bits_by(mask: &[u8], sixteen: impl Fn(&[u8; 16]) -> u64) -> u64 {
     let (mut bits, mut done) = (0, 0);
@@ -148,7 +148,7 @@ fn bits_by(mask: &[u8], sixteen: impl Fn(&[u8; 16]) -> u64) -> u64 {
     bits
 }
 
-/// Returns one bit for each byte.
+/// Returns a number with one bit for each byte of the mask.
 #[inline(always)]
 fn bits(mask: &[u8]) -> u64 {
     if let [byte] = *mask {
@@ -157,7 +157,7 @@ fn bits(mask: &[u8]) -> u64 {
     bits_by(mask, way::of_sixteen)
 }
 
-/// The code for all targets without SSE2 and NEON.
+/// The code for targets that have neither SSE2 nor NEON, and for the feature `small`.
 #[allow(dead_code)]
 mod portable {
     pub const HAS_VECTORS: bool = false;
@@ -172,7 +172,7 @@ mod portable {
         mask
     }
 
-    // The highest byte of the product has one bit of each byte of the mask.
+    // The highest byte of the product has one bit for each byte of the mask.
     #[inline(always)]
     fn of_word(mask: u64) -> u64 {
         (mask & 0x0101_0101_0101_0101).wrapping_mul(0x0102_0408_1020_4080) >> 56
@@ -200,8 +200,9 @@ mod sse2 {
 
     pub const HAS_VECTORS: bool = true;
 
-    /// Compares the bytes as one vector. For bytes that come from an integer, rustc would compile a loop to one
-    /// comparison per byte. With the vector, a message of 8 bytes is encoded 1.9 times as fast.
+    /// Compares all 16 bytes with one vector instruction. If this were a loop, rustc would compile it to one comparison
+    /// per byte for bytes that come from an integer. With the vector instruction, a message of 8 bytes is encoded 1.9
+    /// times as fast.
     #[inline(always)]
     pub fn equal(bytes: [u8; 16], other: [u8; 16]) -> [u8; 16] {
         // SAFETY: the target has SSE2, and each vector has the 16 bytes of an array.
@@ -233,7 +234,7 @@ mod neon {
 
     pub const HAS_VECTORS: bool = true;
 
-    /// Compares the bytes as one vector, as with SSE2.
+    /// Compares all 16 bytes with one vector instruction, like the function for SSE2.
     #[inline(always)]
     pub fn equal(bytes: [u8; 16], other: [u8; 16]) -> [u8; 16] {
         // SAFETY: the target has NEON, and each vector has the 16 bytes of an array.
@@ -263,7 +264,7 @@ mod neon {
 mod tests {
     use super::*;
 
-    /// Returns bytes with `byte` at `place`. No two neighbours among the other bytes are equal.
+    /// Returns 80 bytes. The byte at index `place` is `byte`, and no two neighbours among the other bytes are equal.
     fn with(place: usize, byte: u8) -> [u8; 80] {
         let mut bytes = [0; 80];
         for (i, other) in bytes.iter_mut().enumerate() {
@@ -273,7 +274,7 @@ mod tests {
         bytes
     }
 
-    /// Returns the mask, computed from single bytes.
+    /// Returns the mask as bits, computed byte by byte: bit `i` is set if `has` returns true for byte `i`.
     fn plain(bytes: &[u8], has: impl Fn(u8) -> bool) -> u64 {
         bytes
             .iter()

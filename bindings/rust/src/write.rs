@@ -5,13 +5,13 @@ use std::vec::Vec;
 
 use crate::frames::append_frame;
 
-/// These bytes end a frame that was cut off, so that no decoder takes this frame for a message.
+/// The bytes that are written after a frame that was cut off, so that no decoder decodes this frame to a message.
 ///
-/// A single zero isn't enough: a frame that was cut off between two blocks would be decoded as a shorter message. If
-/// bytes of a block are missing (at most 254), the first bytes of `CLOSING` complete that block. The next byte is the
-/// code 255, with fewer than 254 bytes before the zero, so the frame is broken. If no byte of a block is missing, the
-/// first byte of `CLOSING`, 1, is a whole block, which has only its code. The code 255 after this block has fewer than
-/// 254 bytes before the zero, so the frame is broken in this case too.
+/// A single zero isn't enough, because a frame that was cut off between two blocks would be decoded as a shorter
+/// message. If the frame was cut off inside a block, the first bytes of `CLOSING` complete this block, of which at most
+/// 254 bytes are missing. If the frame was cut off between two blocks, the first byte of `CLOSING`, 1, is a block that
+/// has only its code. In both cases the next byte of `CLOSING` is the code 255. Fewer than 254 bytes come between this
+/// code and the zero, so the frame is broken.
 const CLOSING: [u8; 256] = {
     let mut bytes = [255; 256];
     bytes[0] = 1;
@@ -19,8 +19,8 @@ const CLOSING: [u8; 256] = {
     bytes
 };
 
-/// Writes messages to a serial port, a socket or a file: to anything that is [`Write`]. Each message is written as one
-/// frame and the zero that ends it, in one [`write_all`](Write::write_all).
+/// Writes messages to a serial port, a socket, a file, or anything else that implements [`Write`]. For each message,
+/// the writer calls [`write_all`](Write::write_all) once, with the message's frame and the zero that ends the frame.
 ///
 /// The crate `cobs` doesn't have this type.
 ///
@@ -43,7 +43,8 @@ pub struct MessageWriter<W> {
 }
 
 impl<W: Write> MessageWriter<W> {
-    /// Makes a writer. The writer allocates memory as the messages need it, and keeps this memory for later messages.
+    /// Makes a writer. `new` allocates nothing. The writer allocates memory when a message needs it, and keeps this
+    /// memory for later messages.
     #[must_use]
     pub const fn new(inner: W) -> Self {
         Self {
@@ -55,13 +56,13 @@ impl<W: Write> MessageWriter<W> {
 
     /// Writes the frame of `message` and a zero. The call doesn't flush.
     ///
-    /// If the last write failed, this call first writes 256 bytes. These bytes end the part of the last frame that may
-    /// have been written, so that no decoder takes this part for a message. The receiver gets one frame that is broken,
-    /// or too long for its buffer.
+    /// If the last write failed, a part of its frame may have been written. Then this call first writes 256 bytes,
+    /// which end this part so that no decoder decodes the part to a message. The receiver gets one frame that is
+    /// broken, or too long for the receiver's buffer.
     ///
     /// # Errors
     ///
-    /// - Each error of [`Write::write_all`]. Then it isn't known how much was written: write the message again.
+    /// - Each error of [`Write::write_all`]. Then it isn't known how many bytes were written: write the message again.
     /// - [`OutOfMemory`](io::ErrorKind::OutOfMemory): nothing was written.
     pub fn write_message(&mut self, message: &[u8]) -> io::Result<()> {
         self.written.clear();
@@ -93,8 +94,8 @@ impl<W> MessageWriter<W> {
         &self.inner
     }
 
-    /// Returns the inner writer as a mutable reference. Bytes that you write directly to the inner writer come between
-    /// two frames.
+    /// Returns a mutable reference to the inner writer. If you write bytes directly to the inner writer, these bytes
+    /// come between two frames.
     pub fn get_mut(&mut self) -> &mut W {
         &mut self.inner
     }

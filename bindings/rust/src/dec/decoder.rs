@@ -1,4 +1,4 @@
-//! Decodes a stream of frames to messages, one after another.
+//! Three streaming decoders. They decode the frames of a stream to messages, one frame after another.
 //!
 //! The three decoders differ in who owns the buffer.
 
@@ -10,7 +10,7 @@ use crate::simd::HAS_VECTORS;
 #[derive(Debug, Clone)]
 struct Progress {
     decoder: UnbufferedDecoder,
-    /// How many bytes the last call took.
+    /// How many bytes the last call consumed.
     parsed_size: usize,
 }
 
@@ -35,7 +35,7 @@ impl Progress {
         }
     }
 
-    /// Does what `push` does, without a separate test for one byte.
+    /// Decodes `data` as `push` does, but has no separate case for a single byte.
     #[inline]
     fn push_more(
         &mut self,
@@ -63,41 +63,42 @@ impl Progress {
     }
 }
 
-/// Defines the methods that the three decoders share, over their fields `dest` and `progress`.
+/// Defines the methods that all three decoders have. The methods use the decoder's fields `dest` and `progress`.
 macro_rules! decoder_methods {
     () => {
-        /// Takes the next byte of a stream in which a zero ends each frame.
+        /// Decodes the next byte of a stream in which a zero ends each frame.
         ///
         /// - `Ok(None)`: no frame has ended.
         /// - `Ok(Some(n))`: a frame has ended, and its message is the first `n` bytes of [`dest`](Self::dest).
         ///
         /// # Errors
         ///
-        /// - [`DecodeError::InvalidFrame`]: the byte is a zero inside a block. The next byte begins a frame.
-        /// - [`DecodeError::TargetBufTooSmall`]: the message is longer than the buffer. This call returns this error
-        ///   for the first byte that doesn't fit, and for each byte after it, up to and including the zero that ends
-        ///   the frame.
+        /// - [`DecodeError::InvalidFrame`]: the byte is a zero inside a block. The next nonzero byte begins a new
+        ///   frame.
+        /// - [`DecodeError::TargetBufTooSmall`]: the message is longer than the buffer. `feed` returns this error for
+        ///   the first byte that doesn't fit, and for each byte after that, up to and including the zero that ends the
+        ///   frame.
         #[inline]
         pub fn feed(&mut self, data: u8) -> Result<Option<usize>, DecodeError> {
             self.progress.feed(&mut self.dest[..], data)
         }
 
-        /// Takes bytes of a stream of frames, through the zero that ends the first frame, or all bytes if no frame
-        /// ends. The bytes after that zero have no effect: push them next.
+        /// Decodes the next bytes of a stream of frames, up to and including the first zero that ends a frame. If no
+        /// frame ends in `data`, the call decodes all bytes. Bytes after that zero have no effect: push them next.
         ///
-        /// - `Ok(None)`: all bytes were taken, and no frame has ended.
-        /// - `Ok(Some(report))`: a frame has ended. The call has taken [`parsed_size`](DecodeReport::parsed_size)
+        /// - `Ok(None)`: all bytes were decoded, and no frame has ended.
+        /// - `Ok(Some(report))`: a frame has ended. The call has consumed [`parsed_size`](DecodeReport::parsed_size)
         ///   bytes, and the message is the first [`frame_size`](DecodeReport::frame_size) bytes of
         ///   [`dest`](Self::dest).
         ///
         /// # Errors
         ///
-        /// - [`DecodeError::InvalidFrame`]: the frame breaks off inside a block. The call has taken the bytes through
-        ///   the zero that ends the frame.
-        /// - [`DecodeError::TargetBufTooSmall`]: the message is longer than the buffer. The push with the first byte
-        ///   that doesn't fit returns this error. Each later push that isn't empty also returns this error, up to and
-        ///   including the push with the zero that ends the frame. Each of these pushes has taken all its bytes, or if
-        ///   that zero is among them, the bytes through that zero.
+        /// - [`DecodeError::InvalidFrame`]: the frame breaks off inside a block. The call has consumed the bytes up to
+        ///   and including the zero that ends the frame.
+        /// - [`DecodeError::TargetBufTooSmall`]: the message is longer than the buffer. The push that contains the
+        ///   first byte that doesn't fit returns this error. So does each later push that isn't empty, up to and
+        ///   including the push that contains the zero that ends the frame. The push with this zero consumes its bytes
+        ///   up to and including the zero; each earlier push consumes all its bytes.
         ///
         /// After an error, continue with the bytes from [`parsed_size`](Self::parsed_size) on. Then a broken frame
         /// never affects another frame.
@@ -106,8 +107,8 @@ macro_rules! decoder_methods {
             self.progress.push(&mut self.dest[..], data)
         }
 
-        /// Returns how many bytes the last [`push`](Self::push) or [`feed`](Self::feed) took, even if that call
-        /// returned an error. Before the first of these calls the result is 0. The crate `cobs` doesn't have this call.
+        /// Returns how many bytes the last [`push`](Self::push) or [`feed`](Self::feed) consumed, even if that call
+        /// returned an error. Before the first such call, returns 0. The crate `cobs` doesn't have this call.
         #[inline]
         #[must_use]
         pub const fn parsed_size(&self) -> usize {
@@ -123,8 +124,8 @@ macro_rules! decoder_methods {
 
         /// Returns the buffer to which messages are decoded, for writing.
         ///
-        /// You may change the buffer between two frames. If you change the buffer after a frame has begun and before the
-        /// zero that ends it, the result of this frame and the contents of the buffer are unspecified.
+        /// You may change the buffer between two frames. If you change the buffer after a frame has begun and before
+        /// the zero that ends this frame, the result of the frame and the contents of the buffer are unspecified.
         #[inline]
         pub fn dest_mut(&mut self) -> &mut [u8] {
             &mut self.dest[..]
@@ -144,7 +145,7 @@ macro_rules! decoder_reset {
     };
 }
 
-/// Implements the trait through which readers of streams use a decoder.
+/// Implements [`FrameDecoder`] for a decoder. Readers of streams use this trait.
 macro_rules! frame_decoder {
     ($decoder:ty, $($generics:tt)*) => {
         impl $($generics)* FrameDecoder for $decoder {
@@ -166,7 +167,7 @@ macro_rules! frame_decoder {
     };
 }
 
-/// A streaming decoder over a slice.
+/// A streaming decoder whose buffer is a slice.
 ///
 /// ```
 /// let mut dest = [0; 8];
@@ -184,7 +185,7 @@ pub struct CobsDecoder<'a> {
 }
 
 impl<'a> CobsDecoder<'a> {
-    /// Makes a decoder that decodes to `dest`, and that has taken no byte yet.
+    /// Makes a decoder that writes each message to the front of `dest`.
     #[inline]
     #[must_use]
     pub const fn new(dest: &'a mut [u8]) -> CobsDecoder<'a> {
@@ -199,7 +200,7 @@ impl<'a> CobsDecoder<'a> {
 
 frame_decoder!(CobsDecoder<'_>,);
 
-/// A streaming decoder with a buffer of `N` bytes inside.
+/// A streaming decoder that contains its buffer, an array of `N` bytes.
 ///
 /// ```
 /// let mut decoder = jcobs::CobsDecoderHeapless::<8>::new();
@@ -216,7 +217,7 @@ pub struct CobsDecoderHeapless<const N: usize> {
 }
 
 impl<const N: usize> CobsDecoderHeapless<N> {
-    /// Makes a decoder with a buffer of zeros. The decoder has taken no byte yet.
+    /// Makes a decoder with a buffer of zeros.
     #[inline]
     #[must_use]
     pub const fn new() -> Self {
@@ -226,8 +227,8 @@ impl<const N: usize> CobsDecoderHeapless<N> {
         }
     }
 
-    /// Makes a decoder whose buffer holds the bytes of `vec`, followed by zeros. `vec` is an array of `N` bytes, an
-    /// [`ArrayVec`], or with the feature `heapless` a `heapless::Vec`.
+    /// Makes a decoder whose buffer holds the bytes of `vec`, followed by zeros. `vec` can be an array of `N` bytes or
+    /// an [`ArrayVec`], and with the feature `heapless` also a `heapless::Vec`.
     ///
     /// ```
     /// let decoder = jcobs::CobsDecoderHeapless::new_with_vec([7; 3]);
@@ -248,13 +249,13 @@ impl<const N: usize> CobsDecoderHeapless<N> {
 frame_decoder!(CobsDecoderHeapless<N>, <const N: usize>);
 
 impl<const N: usize> Default for CobsDecoderHeapless<N> {
-    /// Does what [`new`](Self::new) does.
+    /// Calls [`new`](Self::new).
     fn default() -> Self {
         Self::new()
     }
 }
 
-/// A streaming decoder over a buffer that is allocated once.
+/// A streaming decoder that owns its buffer. `new` allocates the buffer, and pushes allocate nothing.
 ///
 /// ```
 /// let mut decoder = jcobs::CobsDecoderOwned::new(4);
@@ -273,7 +274,7 @@ pub struct CobsDecoderOwned {
 
 #[cfg(feature = "alloc")]
 impl CobsDecoderOwned {
-    /// Makes a decoder with a buffer of `dest_buf_size` zeros. The decoder has taken no byte yet.
+    /// Makes a decoder with a buffer of `dest_buf_size` zeros.
     #[must_use]
     pub fn new(dest_buf_size: usize) -> Self {
         Self {

@@ -22,7 +22,7 @@ pub struct CobsEncoder<'a> {
 }
 
 impl<'a> CobsEncoder<'a> {
-    /// Makes an encoder that writes to `out_buf`, and that has taken no byte yet. No frame fits an empty slice, so an
+    /// Makes an encoder for a new message, whose frame is written to `out_buf`. No frame fits an empty slice, so an
     /// encoder over an empty slice returns an error for each push.
     #[inline]
     #[must_use]
@@ -33,12 +33,13 @@ impl<'a> CobsEncoder<'a> {
         }
     }
 
-    /// Takes the next bytes of the message.
+    /// Encodes the next bytes of the message.
     ///
     /// # Errors
     ///
     /// Returns [`DestBufTooSmallError`] exactly if the frame of the message so far, including these bytes, doesn't fit
-    /// the slice. Then nothing has changed: the caller can end the message without these bytes, or push fewer bytes.
+    /// the slice. Then nothing has changed: the caller can end the message without these bytes, or can push fewer
+    /// bytes.
     #[inline]
     pub fn push(&mut self, data: &[u8]) -> Result<(), DestBufTooSmallError> {
         self.encoder.push(self.dest, data)

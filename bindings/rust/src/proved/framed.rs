@@ -223,7 +223,7 @@ impl<D: FrameDecoder> FrameReader<D> {
     /// Makes a reader that decodes with `decoder`, and that has read nothing yet.
     ///
     /// The decoder should be idle. A decoder is idle when it is new, after each reset, and after each zero. If the decoder
-    /// isn't idle, the first outcome is that of the piece that it has begun.
+    /// isn't idle, the first outcome is that of the piece that the decoder has begun.
     ///
     /// ```
     /// # #[cfg(feature = "std")] {

@@ -1,6 +1,6 @@
-//! The loop with which the decoders take the bytes before a sentinel, on targets with SIMD vectors. Each step of the
-//! loop takes a long block, rows of 32 blocks 01, or a *span*. A span is up to 253 bytes, which are copied at once,
-//! together with the codes among them; then a zero is written over each code.
+//! The loop that decodes the bytes before a sentinel, on targets with SIMD vectors. Each step of the loop decodes a
+//! long block, rows of 32 blocks 01, a *span*, or only a code. A span is up to 253 bytes of a piece. All bytes of a
+//! span are copied, even the codes, and then a zero is written over each code.
 ghost use Rattle.std.specs.Prelude.{IsTrue, ◌++◌, drop, ◌≡◌, ◌≢◌, ◌<◌, ◌≤◌, ◌+◌, ◌-◌, ◌∷◌, [], length, take, replicate, slice_index, false, List, ℕ};
 ghost use Rattle.cobs.specs.Feed.{Idle, Overlong};
 ghost use Rattle.cobs.specs.Fields.Decoders.{phase_of};
@@ -18,13 +18,13 @@ use cobs_bytes::lanes::{copy_xored, copy_xored_short};
 use cobs_bytes::window::{WIDE_WINDOW, WINDOW, copy_window, has_vectors, is_all, write_row};
 
 /// The greatest number of bytes in a span. A full block is longer than a span. So if a full block begins in a span, the
-/// code after that block isn't in the span.
+/// next block's code isn't in that span.
 pub(crate) const SPAN_MAX: usize = FULL_BLOCK_BYTES - 1;
 
-/// Takes rows of 32 bytes from the front of `bytes`, as long as each byte of a row is `byte`. Writes as many zeros to
-/// `dest` as it took bytes, from index `at` on. The function stops if `dest` has no room for another row. It also stops
-/// after seven rows, because the caller treats the rows as one span, and eight rows would be too long for a span.
-/// Returns how many zeros it wrote.
+/// Decodes up to seven rows of 32 codes 01 from the front of `bytes`, and returns the number of these codes. `byte` is
+/// the code 01, XORed with the sentinel. For each code the function writes a zero to `dest`, from index `at` on. It
+/// stops before a row that contains another byte, and before a row for which `dest` has no room. Eight rows would be
+/// longer than a span.
 #[inline(always)]
 fn write_rows(dest: &mut [u8], at: usize, bytes: &[u8], byte: u8) -> usize
     ensures within { result ≤ length bytes.now }
@@ -44,8 +44,8 @@ fn write_rows(dest: &mut [u8], at: usize, bytes: &[u8], byte: u8) -> usize
 }
 
 impl UnbufferedDecoder {
-    /// Takes the code of a block that follows a whole block, and writes the zero that joins the two blocks, unless the
-    /// first block is full.
+    /// Decodes the code of a new block. The caller ensures that the preceding block, if there is one, is whole. If the
+    /// preceding block isn't full, the function first writes the zero that joins the preceding block and the new block.
     #[inline(always)]
     pub(crate) fn take_joint(&mut self, dest: &mut [u8], code: u8)
         requires going { self.old.too_long ≡ 0 }
@@ -66,8 +66,8 @@ impl UnbufferedDecoder {
         self.missing = code - 1;
     }
 
-    /// Returns how many of the next `len` bytes one span can contain. If the open block is full, the span ends no later
-    /// than the open block.
+    /// Returns how many of the next `len` bytes a span may contain. If the open block is full, the span ends no later
+    /// than the open block. If no piece has begun, the function returns 0.
     #[inline(always)]
     pub(crate) fn span_len(&self, len: usize) -> usize
         ensures within { result ≤ len }
@@ -81,9 +81,10 @@ impl UnbufferedDecoder {
         }
     }
 
-    /// Takes the code of a block that follows a whole block, and as many bytes of the new block as `bytes` has and
-    /// `dest` has room for. Returns how many bytes it took, including the code: 0 only if there is no room for the zero
-    /// that joins the two blocks.
+    /// Decodes the code of a new block, and then as many bytes of this block as `bytes` has and `dest` has room for.
+    /// Returns how many bytes it decoded, including the code. The caller ensures that the preceding block, if there is
+    /// one, is whole. The function returns 0 only if `dest` has no room for the zero that joins the preceding block and
+    /// the new block.
     #[inline(always)]
     fn take_block(&mut self, dest: &mut [u8], bytes: &[u8], sentinel: u8) -> usize
         requires going { self.old.too_long ≡ 0 }
@@ -105,8 +106,8 @@ impl UnbufferedDecoder {
         let len = (self.missing as usize)
             .min(bytes.len() - 1)
             .min(dest.len().saturating_sub(at));
-        // `dest` may be shorter than `at` if earlier calls had a longer buffer. The slice of `dest` below would then be
-        // out of bounds.
+        // If earlier calls had a longer buffer, `dest` may be shorter than `at`. Then the slice of `dest` below would
+        // be out of bounds, but `len` is 0, and the function returns here.
         if len == 0 {
             return 1;
         }
@@ -116,8 +117,8 @@ impl UnbufferedDecoder {
         1 + len
     }
 
-    /// Makes the last block of a span the open block. `last` has the code of this block, and the number of its missing
-    /// bytes.
+    /// Makes the last block of a span the open block. `last` consists of the code of this block and the number of its
+    /// missing bytes.
     #[inline(always)]
     fn settle(&mut self, last: (u8, u8))
         ensures full { last.0 ≡ 255 → self.new.joint ≡ 0 }
@@ -129,8 +130,9 @@ impl UnbufferedDecoder {
         self.missing = missing;
     }
 
-    /// Takes `len` bytes that were moved to the end of the output. None of these bytes is a zero, and no full block
-    /// ends before the last of them.
+    /// Decodes `len` bytes that the caller has moved to the end of the output, that is, to index `written` of `dest`.
+    /// The caller ensures that none of these bytes is a zero, and that no full block ends before the last of these
+    /// bytes.
     #[inline(always)]
     pub(crate) fn take_moved(&mut self, dest: &mut [u8], len: usize)
         requires going { self.old.too_long ≡ 0 }
@@ -153,12 +155,13 @@ impl UnbufferedDecoder {
             self.missing -= len as u8;
             return;
         }
-        // `missing` bytes of the open block are missing, as after a code of `missing + 1`.
+        // `missing` bytes of the open block are missing, as many as directly after a code of `missing + 1`.
         self.settle(write_zeros_at_codes(&mut dest[at..at + len], missing + 1));
     }
 
-    /// Takes the bytes `copied`, which were copied to the end of the output, each XORed with the sentinel. None of
-    /// these bytes is the sentinel, and no full block ends before the last of them.
+    /// Decodes the bytes of `copied`, which the caller has copied to the end of the output, that is, to index `written`
+    /// of `dest`, each XORed with the sentinel. The caller ensures that none of these bytes is the sentinel, and that
+    /// no full block ends before the last of these bytes.
     #[inline(always)]
     fn take_copied(&mut self, dest: &mut [u8], copied: &[u8], sentinel: u8)
         requires going { self.old.too_long ≡ 0 }
@@ -183,12 +186,13 @@ impl UnbufferedDecoder {
             self.missing -= len as u8;
             return;
         }
-        // `missing` bytes of the open block are missing, as after a code of `missing + 1`.
+        // `missing` bytes of the open block are missing, as many as directly after a code of `missing + 1`.
         self.settle(write_zeros_at_copied(&mut dest[at..at + len], copied, missing + 1, sentinel));
     }
 
-    /// Takes a span of up to 253 bytes, and returns how many bytes it took: 0 only if there is no room for the output
-    /// of the first byte. The span is chosen so that no full block ends before its last byte.
+    /// Decodes a span from the front of `bytes`, and returns the length of the span. The span has up to 253 bytes, and
+    /// no full block ends before the last byte of the span. The function returns 0 only if `dest` has no room for the
+    /// output of the first byte.
     #[inline(always)]
     fn take_span(&mut self, dest: &mut [u8], bytes: &[u8], sentinel: u8) -> usize
         requires going { self.old.too_long ≡ 0 }
@@ -214,9 +218,10 @@ impl UnbufferedDecoder {
         len
     }
 
-    /// Takes all of `bytes` at once or none of them, and returns whether it took them. The function takes them only if
-    /// there are 1 to 31 of them, none of them is a zero, `dest` has room for them, and no full block ends before the
-    /// last of them.
+    /// Decodes `bytes` as one span, or decodes nothing. Returns whether it decoded the bytes; if it returns false,
+    /// nothing has changed. The function decodes the bytes only if all these conditions hold: a piece has begun, and
+    /// isn't too long for the buffer; there are 1 to 31 bytes; none of the bytes is a zero; no full block ends before
+    /// the last byte; and `dest` has room for the output of the bytes.
     #[inline(always)]
     pub(crate) fn take_short(&mut self, dest: &mut [u8], bytes: &[u8]) -> bool
         ensures fed { IsTrue result → FeedsQuietly dest.old (phase_of self.old) bytes.now dest.new (phase_of self.new) }
@@ -237,8 +242,9 @@ impl UnbufferedDecoder {
         true
     }
 
-    /// Takes `bytes`, the first bytes of a piece, at once if there are at least 2 of them and `dest` has room for their
-    /// output. Returns whether it took them. There must be at most 65 bytes, and none of them may be a zero.
+    /// Decodes `bytes`, the first bytes of a piece, if there are at least 2 bytes and `dest` has room for their output.
+    /// Returns whether it decoded the bytes. If it returns false, nothing has changed. The caller ensures that `bytes`
+    /// has at most 65 bytes, and that none of them is a zero.
     #[inline(always)]
     pub(crate) fn take_front(&mut self, dest: &mut [u8], bytes: &[u8]) -> bool
         requires idle { phase_of self.old ≡ Idle }
@@ -252,7 +258,8 @@ impl UnbufferedDecoder {
         if len < 2 || dest.len() < len - 1 {
             return false;
         }
-        // The decoder is idle, so `self` equals `START`. Code that begins with `START` doesn't have to load the fields.
+        // The decoder is idle, so `self` equals `START`. The function uses the constant `START`, because then the
+        // fields of `self` needn't be loaded.
         let mut begun = START;
         begun.take_joint(dest, bytes[0]);
         let _zeros = copy_window(&bytes[1..], dest, 0);
@@ -261,10 +268,15 @@ impl UnbufferedDecoder {
         true
     }
 
-    /// Takes the bytes of one step, and returns their number, which is 0 only if there is no room for the output of the
-    /// first byte. A step takes a block if it has at least 64 bytes after its code. Of a shorter block that begins the
-    /// piece or follows a full block, a step takes only the code, because this code has no place in the output.
-    /// Otherwise it takes rows of 32 blocks 01 if the next bytes are such rows, or else a span.
+    /// Decodes bytes from the front of `bytes` in one step, and returns how many bytes it decoded. It returns 0 only if
+    /// `dest` has no room for the output of the first byte.
+    ///
+    /// - If the first byte is the code of a block that has at least 64 bytes after its code, the step decodes this code
+    ///   and the bytes of the block.
+    /// - If the first byte is the code of a shorter block that begins the piece or follows a full block, the step
+    ///   decodes only the code. Such a code adds no byte to the output.
+    /// - If the first bytes are rows of 32 blocks 01, the step decodes up to seven rows.
+    /// - Otherwise the step decodes a span.
     #[inline(always)]
     fn take_part(&mut self, dest: &mut [u8], bytes: &[u8], sentinel: u8) -> usize
         requires going { self.old.too_long ≡ 0 }
@@ -297,8 +309,8 @@ impl UnbufferedDecoder {
         self.take_span(dest, bytes, sentinel)
     }
 
-    /// Takes bytes from the front of `bytes` until `dest` has no room for the output of the next byte, or all bytes are
-    /// taken. Returns how many bytes it took. None of the bytes may be the sentinel.
+    /// Decodes `bytes`, and stops before the first byte for whose output `dest` has no room. Returns how many bytes it
+    /// decoded. The caller ensures that none of the bytes is the sentinel.
     #[inline(always)]
     pub(crate) fn take_blocks(&mut self, dest: &mut [u8], bytes: &[u8], sentinel: u8) -> usize
         requires going { self.old.too_long ≡ 0 }
@@ -310,7 +322,7 @@ impl UnbufferedDecoder {
         ensures stop { result < length bytes.now → next_phase (length dest.new) (phase_of self.new)
             (slice_index (xor_each sentinel bytes.now) result) ≡ Overlong }
     {
-        // `here` is a copy of the numbers that change, so that they stay in registers.
+        // The loop changes `here`, a copy of the decoder, which stays in registers.
         let mut here = UnbufferedDecoder {
             too_long: 0,
             ..*self
@@ -329,8 +341,9 @@ impl UnbufferedDecoder {
         taken
     }
 
-    /// Takes bytes from the front of `bytes` until the next byte is a zero, or `dest` has no room for the output of the
-    /// next byte, or all bytes are taken. Returns how many bytes it took. One search finds the first zero.
+    /// Decodes `bytes`, and stops before the first zero, or before the first byte for whose output `dest` has no room.
+    /// Returns how many bytes it decoded. The function searches for the first zero once, before it decodes the bytes.
+    /// If the piece is already too long for the buffer, the function decodes nothing.
     #[inline(always)]
     pub(crate) fn take_run(&mut self, dest: &mut [u8], bytes: &[u8]) -> usize
         ensures within { result ≤ length bytes.now }
@@ -338,7 +351,8 @@ impl UnbufferedDecoder {
         ensures stop { result < length bytes.now → slice_index bytes.now result ≢ 0
             → next_phase (length dest.new) (phase_of self.new) (slice_index bytes.now result) ≡ Overlong }
     {
-        // If the piece is too long, `feed` returns an error for each of its bytes, so no byte is taken here.
+        // If the piece is too long, `feed` returns an error for each of the next bytes of the piece, and `push` must
+        // stop at the first of them. So no byte is decoded here.
         if self.too_long != 0 {
             return 0;
         }
@@ -346,8 +360,8 @@ impl UnbufferedDecoder {
         self.take_blocks(dest, &bytes[..end], 0)
     }
 
-    /// Does what [`take_run`](Self::take_run) does if the target has vectors. If the target has no vectors, the
-    /// function takes no byte and returns 0, and the caller takes a step for each byte.
+    /// Calls [`take_run`](Self::take_run) and returns its result if the target has vectors. If the target has no
+    /// vectors, the function decodes nothing and returns 0; the caller then feeds the bytes one by one.
     #[inline(always)]
     pub(crate) fn take_at_once(&mut self, dest: &mut [u8], bytes: &[u8]) -> usize
         ensures within { result ≤ length bytes.now }

@@ -11,17 +11,17 @@ use crate::proved::dec::unbuffered::{START, UnbufferedDecoder};
 use crate::proved::error::{DecodeError, DecodeReport};
 use crate::proved::find::{len_without_end, zero_or_len};
 
-/// Moves the `len` bytes that begin at index `read` to index `at`, which is at most `read`. Bytes that no moved byte
-/// overwrites stay as they are.
+/// Moves `len` bytes of the buffer from index `read` to index `at`, which is at most `read`. Only the `len` bytes from
+/// index `at` on are overwritten.
 #[inline(always)]
 fn move_back(buffer: &mut [u8], at: usize, read: usize, len: usize) {
     move_to_front(&mut buffer[at..], read - at, len);
 }
 
 impl UnbufferedDecoder {
-    /// Takes the bytes of the next step, from the bytes at indices `read` to `end - 1` of the buffer, and writes their
-    /// output to the same buffer. Returns how many bytes the step took. The steps are those of `take_part` in `run.rt`,
-    /// except that a step takes at most one row of 32 blocks 01, and that the output always fits.
+    /// Decodes bytes of the buffer in one step, from index `read` on and before index `end`, and writes the output to
+    /// the same buffer. Returns how many bytes it decoded. The steps are those of `take_part` in `run.rt`, with two
+    /// differences: a step decodes at most one row of 32 blocks 01, and the output always fits.
     #[inline(always)]
     fn take_part_in_place(&mut self, buffer: &mut [u8], read: usize, end: usize) -> usize {
         let code = buffer[read];
@@ -51,7 +51,8 @@ impl UnbufferedDecoder {
         len
     }
 
-    /// Takes the bytes at indices `read` to `end - 1` of the buffer, and writes their output to the same buffer.
+    /// Decodes the bytes at the indices from `read` to `end - 1` of the buffer, and writes their output to the same
+    /// buffer.
     #[inline]
     fn take_in_place(&mut self, buffer: &mut [u8], read: usize, end: usize) {
         let mut at = read;
@@ -61,10 +62,11 @@ impl UnbufferedDecoder {
     }
 }
 
-/// Decodes the first `end` bytes of the buffer, which contain no zero, and returns the message's length.
+/// Decodes the first `end` bytes of the buffer as one frame, in the buffer itself, and returns the message's length in
+/// bytes. The caller ensures that none of these bytes is a zero.
 #[inline(never)]
 fn decode_blocks_in_place(buffer: &mut [u8], end: usize) -> Result<usize, DecodeError> {
-    // A block has at most 255 bytes, so a block that begins before the last 254 bytes is whole.
+    // A block has at most 255 bytes, so a block that begins before the last 254 bytes of the frame is whole.
     let tail = end.saturating_sub(FULL_BLOCK_BYTES);
     let mut progress = START;
     progress.take_in_place(buffer, 0, tail);
@@ -73,9 +75,9 @@ fn decode_blocks_in_place(buffer: &mut [u8], end: usize) -> Result<usize, Decode
     message_len(progress.written, whole)
 }
 
-/// Decodes the first `len` bytes of the buffer if `len` is 2 to 65 and these bytes are a frame, and returns whether it
-/// did. Otherwise the buffer is as it was: the bytes are copied before they are decoded, and put back if the frame is
-/// broken.
+/// Decodes the first `len` bytes of the buffer, in the buffer itself, if `len` is 2 to 65 and these bytes are a frame.
+/// Returns whether it decoded the bytes; if it returns false, the buffer is as it was. The function copies the bytes
+/// before it decodes them, and restores them from the copy if the frame is broken.
 #[inline(always)]
 fn decode_span_in_place(buffer: &mut [u8], len: usize) -> bool {
     let mut coded = [0; WIDE_WINDOW + 1];
@@ -86,8 +88,8 @@ fn decode_span_in_place(buffer: &mut [u8], len: usize) -> bool {
         return false;
     }
     coded[0] = buffer[0];
-    // The frame is decoded within the buffer: a load from the copy `coded` would have to wait until the copy's vectors
-    // are stored.
+    // The bytes to decode are moved within the buffer. They aren't copied back from `coded`, because a load from
+    // `coded` would have to wait until the vectors of this copy are stored.
     move_to_front(buffer, 1, len - 1);
     let (_, left) = write_zeros_at_codes(&mut buffer[..len - 1], coded[0] as usize);
     if left != 0 {
@@ -100,8 +102,8 @@ fn decode_span_in_place(buffer: &mut [u8], len: usize) -> bool {
 /// Decodes the frame at the front of the buffer in place, up to the first zero or the buffer's end, and returns how
 /// many bytes the frame has and how many bytes the message has.
 ///
-/// The first `frame_size` bytes of the buffer are then the message, and every other byte is as it was. `parsed_size` is
-/// the number of bytes before the first zero, or the length of the buffer if it has no zero. Unlike
+/// The first `frame_size` bytes of the buffer are then the message, and every other byte of the buffer is as it was.
+/// `parsed_size` is the number of bytes before the first zero, or the length of the buffer if it has no zero. Unlike
 /// [`decode`](crate::decode), this function reads a leading zero as an empty message, and returns 0 for both sizes.
 /// This function never returns `TargetBufTooSmall`, since a message is shorter than its frame.
 ///
@@ -113,8 +115,9 @@ fn decode_span_in_place(buffer: &mut [u8], len: usize) -> bool {
 ///   the two blocks. `decoded_bytes` is the length of the output, and every byte of the buffer after the output is as
 ///   it was.
 ///
-/// The bytes after the output are unchanged even if an error is returned.
-// Inlined, because a call that returns its result in memory costs as much as decoding a frame of a few bytes.
+/// The rule that an error leaves the bytes after the output unchanged is a choice of this library.
+// Inlined, because the result of a call is returned in memory, and such a call costs as much as decoding a frame of a
+// few bytes.
 #[inline(always)]
 pub fn decode_in_place_report(buf: &mut [u8]) -> Result<DecodeReport, DecodeError> {
     if !has_vectors() {
@@ -134,12 +137,12 @@ pub fn decode_in_place_report(buf: &mut [u8]) -> Result<DecodeReport, DecodeErro
     })
 }
 
-/// Decodes a short frame as [`decode_in_place_report`] does, or returns `None` and leaves the buffer as it was.
+/// Decodes a short frame as [`decode_in_place_report`] does. For any other buffer, returns `None` and leaves the buffer
+/// as it was.
 ///
-/// This function decodes a buffer that is a whole frame of 2 to 65 bytes, with or without a zero after it. If the
-/// target has SIMD vectors, [`decode_in_place_report`] calls this function first. Like
-/// `decode_short`, this function is marked `#[inline(always)]`, and so are the functions of this
-/// library that it calls.
+/// A buffer is decoded if it is a whole frame of 2 to 65 bytes, with or without one zero after the frame. If the target
+/// has SIMD vectors, [`decode_in_place_report`] calls this function first. Like `decode_short`,
+/// this function is marked `#[inline(always)]`, and so are the functions of this library that it calls.
 #[inline(always)]
 pub fn decode_short_in_place(buf: &mut [u8]) -> Option<DecodeReport> {
     if buf.is_empty() {
@@ -165,12 +168,12 @@ pub fn decode_in_place(buff: &mut [u8]) -> Result<usize, DecodeError> {
     Ok(decode_in_place_report(buff)?.frame_size())
 }
 
-/// Decodes the frame at the front of the buffer in place, for a sentinel other than 0.
+/// Decodes the frame at the front of the buffer in place, for any sentinel, and returns the message's length.
 ///
-/// First every byte of the buffer is XORed with the sentinel, even the bytes after the frame. Then [`decode_in_place`]
-/// decodes the buffer, and its result is returned. So the frame ends at the first sentinel or at the buffer's end, and
-/// a leading sentinel is read as an empty message. Frames for a sentinel other than 0 are from Cheshire and Baker's
-/// paper.
+/// This function first XORs every byte of the buffer with the sentinel, even the bytes after the frame. Then it calls
+/// [`decode_in_place`] and returns the result of this call. So the frame ends at the first sentinel or at the buffer's
+/// end, and a leading sentinel is read as an empty message. Cheshire and Baker's paper describes frames for a sentinel
+/// other than 0.
 pub fn decode_in_place_with_sentinel(buff: &mut [u8], sentinel: u8) -> Result<usize, DecodeError> {
     xor_bytes(buff, sentinel);
     decode_in_place(buff)

@@ -1,5 +1,6 @@
 // Made by bindings/rust/translate.py from `crates/cobs/src/dec/unbuffered.rt`: change that file, and run it again.
-//! The streaming decoder whose buffer is passed to each call. The three other streaming decoders are built on it.
+//! A streaming decoder whose caller passes the buffer to each call. The three other streaming decoders use this
+//! decoder.
 
 use crate::proved::cobs_bytes::window::{WINDOW, has_vectors};
 use crate::proved::dec::frame_decoder::PieceEnd;
@@ -28,31 +29,32 @@ use crate::proved::find::{front_len, position_or_len};
 /// # Ok::<(), Box<dyn std::error::Error>>(())
 /// ```
 ///
-/// The state of a decoder consists of plain numbers, with the layout of a C struct. All numbers are 0 before a piece
-/// begins. Every call is safe, whatever the numbers are.
-// No number says whether a piece has begun: a code at the front of a piece is read like a code after a full block, with
-// no zero before it. So for a nonzero byte there is no test whether a piece has begun: only `missing` says whether the
-// byte is a code, and only `joint` says whether a zero comes before the code's block.
+/// A decoder consists of four numbers, and has the layout of a C struct. All four numbers are 0 before a piece begins.
+/// Every call is safe, whatever the numbers are.
+// No number says whether a piece has begun, because the step for a nonzero byte doesn't need to know this: `missing`
+// says whether the byte is a code, and `joint` says whether the output has a zero before the block of this code. The
+// first code of a piece is decoded like a code after a full block: the output has no zero before the first block.
 #[repr(C)]
 #[derive(Debug, Clone, Copy, PartialEq, Eq, Hash)]
 pub struct UnbufferedDecoder {
-    /// How many bytes of this piece's output have been written.
+    /// How many bytes of the piece's output have been written to the buffer.
     pub written: usize,
-    /// How many bytes of the open block are missing.
+    /// How many bytes of the open block are still missing.
     pub missing: u8,
-    /// Not 0 if a zero joins the open block to the next block, that is, unless the open block is full.
+    /// Not 0 if a block is open and isn't full. Then a zero joins this block and the next block.
     pub joint: u8,
-    /// Not 0 if the output of this piece is too long for the buffer.
+    /// Not 0 if the piece's output is too long for the buffer.
     pub too_long: u8,
 }
 
-/// For up to this many bytes, a step for each byte is faster than a search.
+/// For up to this many bytes, decoding byte by byte is faster than searching for the zero that ends the piece.
 const FEW: usize = 16;
 
-/// For up to this many bytes, a step for each byte is faster than the tests that precede a copy in SIMD vectors.
+/// For up to this many bytes, decoding byte by byte is faster than testing whether the bytes can be copied in SIMD
+/// vectors.
 const VERY_FEW: usize = 3;
 
-/// No piece has begun.
+/// The state of an idle decoder: no piece has begun.
 pub(crate) const START: UnbufferedDecoder = UnbufferedDecoder {
     written: 0,
     missing: 0,
@@ -61,7 +63,7 @@ pub(crate) const START: UnbufferedDecoder = UnbufferedDecoder {
 };
 
 impl UnbufferedDecoder {
-    /// Makes an idle decoder, for a buffer of any length, even an empty one.
+    /// Makes an idle decoder. The buffer that you pass to the decoder may have any length, even 0.
     ///
     /// ```
     /// use jcobs::UnbufferedDecoder;
@@ -76,7 +78,7 @@ impl UnbufferedDecoder {
         START
     }
 
-    /// Returns true if no piece has begun; the next nonzero byte then begins a piece.
+    /// Returns true if no piece is open, that is, if the next nonzero byte begins a new piece.
     ///
     /// ```
     /// use jcobs::UnbufferedDecoder;
@@ -106,7 +108,7 @@ impl UnbufferedDecoder {
         *self = UnbufferedDecoder::new();
     }
 
-    /// Takes the next byte of the stream, with `dest` as the buffer. The results and errors are those of
+    /// Decodes the next byte of the stream, with `dest` as the buffer. The results and errors are those of
     /// [`CobsDecoder::feed`](crate::CobsDecoder::feed).
     ///
     /// ```
@@ -124,8 +126,8 @@ impl UnbufferedDecoder {
         self.step(dest, byte)
     }
 
-    /// Takes the next bytes of the stream, with `dest` as the buffer, and stops after the first byte for which `feed`
-    /// doesn't return `Ok(None)`. The error says how many bytes were taken.
+    /// Decodes the next bytes of the stream, with `dest` as the buffer, and stops after the first byte for which `feed`
+    /// doesn't return `Ok(None)`. The error says how many bytes were consumed.
     ///
     /// ```
     /// use jcobs::UnbufferedDecoder;
@@ -147,7 +149,8 @@ impl UnbufferedDecoder {
         self.push_long(dest, bytes)
     }
 
-    /// Does the rest of `push`: its loop, for bytes that `take_short` didn't take. It is correct for any bytes.
+    /// Decodes `bytes` as `push` does. `push` calls this function only if `take_short` decoded nothing, but the
+    /// function is correct for any bytes.
     fn push_long(
         &mut self,
         dest: &mut [u8],
@@ -173,8 +176,8 @@ impl UnbufferedDecoder {
         Ok(None)
     }
 
-    /// Takes the next bytes of the stream, with `dest` as the buffer, and stops after the first zero that ends a piece,
-    /// as [`FrameDecoder::feed_piece`](crate::FrameDecoder::feed_piece) does.
+    /// Decodes the next bytes of the stream, with `dest` as the buffer, and stops after the first zero that ends a
+    /// piece. The results are those of [`FrameDecoder::feed_piece`](crate::FrameDecoder::feed_piece).
     ///
     /// ```
     /// use jcobs::{PieceEnd, UnbufferedDecoder};
@@ -186,15 +189,15 @@ impl UnbufferedDecoder {
     /// ```
     #[inline]
     pub fn feed_piece(&mut self, dest: &mut [u8], bytes: &[u8]) -> Option<(PieceEnd, usize)> {
-        // A target without vectors takes a step for each byte.
+        // On a target without vectors, the bytes are decoded one by one.
         if !has_vectors() {
             return self.feed_each(dest, bytes, 0);
         }
         if VERY_FEW < bytes.len() {
             if self.is_idle() {
-                // If one of the first 66 bytes is a zero, the bytes before this zero are taken at once, and then the
-                // zero. Otherwise all bytes are taken at once if there are fewer than 32. For more bytes, a search by
-                // memchr is faster.
+                // If one of the first 66 bytes is a zero, `take_front` decodes the bytes before the first zero, and
+                // then this zero ends the piece. If none of them is a zero, `take_front` decodes all bytes, but only if
+                // there are fewer than 32 bytes. For 32 bytes or more, a search with memchr is faster.
                 let front = front_len(bytes);
                 let is_all = front == bytes.len();
                 if (!is_all || front < WINDOW) && self.take_front(dest, &bytes[..front]) {
@@ -219,15 +222,16 @@ impl UnbufferedDecoder {
         Some((last, taken + 1))
     }
 
-    /// Takes the bytes before the zero that ends a piece, or all bytes if no piece ends in them. Returns how many it took.
-    // Not inlined, so that `feed_piece` saves no registers for a short piece. The function returns one number, which
-    // stays in a register.
+    /// Decodes the bytes before the first zero that ends a piece, and returns the index of this zero. If no piece ends
+    /// in `bytes`, decodes all bytes and returns their number.
+    // Not inlined, so that `feed_piece` doesn't have to save registers if the piece is short. The result is only a
+    // number, because a number is returned in a register.
     #[inline(never)]
     fn take_to_end(&mut self, dest: &mut [u8], bytes: &[u8]) -> usize {
         let mut taken = 0;
         while taken < bytes.len() {
             if self.too_long != 0 {
-                // The piece is too long for the buffer: its bytes are skipped up to the zero that ends it.
+                // The piece is too long for the buffer, so the bytes before the zero that ends the piece are skipped.
                 let len = position_or_len(&bytes[taken..], 0);
                 return taken + len;
             }
@@ -235,13 +239,14 @@ impl UnbufferedDecoder {
                 if !self.is_idle() {
                     return taken;
                 }
-                // This zero ends no piece. Some lines carry many such zeros while nothing is sent.
+                // No piece has begun, so this zero ends no piece. Some serial lines carry many zeros while nothing is
+                // sent.
                 taken += 1;
                 continue;
             }
             taken += self.take_run(dest, &bytes[taken..]);
             if taken < bytes.len() && bytes[taken] != 0 {
-                // This byte has no room, so the piece is too long.
+                // The buffer has no room for the output of this byte, so the piece is too long.
                 self.take_byte(dest, bytes[taken]);
                 taken += 1;
             }
