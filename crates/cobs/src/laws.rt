@@ -31,9 +31,9 @@ pub use coders::{law_15, law_16, law_17, law_18, law_19, law_20, law_21};
 /// A frame reads as its output.
 ///
 /// The output of a list of bytes is the message that its blocks stand for, even if the last block isn't complete. A list of
-/// bytes reads as a message exactly if the list isn't empty, no byte is a zero, the last block has all bytes that its code
-/// counts, and the message is the output of the list. The output is never longer than the list, and never gets shorter if a
-/// byte is appended.
+/// bytes reads as this message, and as no other, if three conditions hold: the list isn't empty, it contains no zero, and its
+/// last block is complete. Any other list reads as no message. The output is never longer than the list, and never gets
+/// shorter if a byte is appended.
 ///
 /// By this law, a decoder accepts exactly the frames if it goes from code to code and checks that the last block is complete.
 ///
