@@ -142,8 +142,8 @@ impl<'a> Watch<'a> {
     }
 
     /// Reads bytes once into `chunk`, shows each piece that ends in them, flushes the output, and returns whether the
-    /// input continues. If the input ended, the read failed, or the line hung up, and a piece has begun and not ended,
-    /// shows `unfinished`. After a hang-up, also shows `hung up`.
+    /// input continues. If a piece has begun and not ended, shows `unfinished` at the end of the input, after a failed
+    /// read, and after a hang-up. After a hang-up, also shows `hung up`.
     ///
     /// Nothing is written before the read. When the read begins, the output has been flushed (`flushed`), so all pieces
     /// that had ended have been shown. An interrupted read is tried again.
