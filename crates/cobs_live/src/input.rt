@@ -70,7 +70,7 @@ pub trait LiveLines<W: Write + Drop> {
         }) self.new };
 }
 
-/// An input over any reader. It never hangs up.
+/// An input over any reader. It never hangs up, and doesn't use the output that its methods get.
 #[derive(Drop)]
 pub struct AnyInput<R> {
     reader: R,

@@ -323,6 +323,7 @@ fn show_faulted(
     fault: WatchFault,
     reasons: &Reasons,
 ) -> ExitCode {
+    // `reasons.log` has a number only if the system couldn't write to the log.
     let (named, fault, reason) = match (reasons.log.get(), fault) {
         (Some(reason), _) => (task.log, WatchFault::WriteFailed, Some(reason)),
         (None, WatchFault::ReadFailed) => (task.path, WatchFault::ReadFailed, reasons.stream.get()),
