@@ -40,35 +40,36 @@ piece-nothing buffer phase = record {
 -- bytes in which no piece ended, and one more byte
 module _ {buffer₀ buffer buffer' : List ℕ} {phase₀ phase phase' : Phase} {result : Result (Option ℕ) DecodeError} (bytes : List ℕ) (i : ℕ) (inside : i < length bytes)
     (t : TakesPiece buffer₀ phase₀ (take i bytes) None buffer phase) (f : Feeds buffer phase (get_or bytes i 0) result buffer' phase') where
-  pub none_before : (p : List ℕ) → PhaseAfter (length buffer₀) phase₀ p → stream_outcomes (p ++ take i bytes) (length buffer₀) ≡ []
-  none_before p h = grind arith
+  -- after a front p of a piece
+  module _ (p : List ℕ) (h : PhaseAfter (length buffer₀) phase₀ p) where
+    pub none_before : stream_outcomes (p ++ take i bytes) (length buffer₀) ≡ []
+    none_before = grind arith
 
-  stream_on : (p : List ℕ) → p ++ take (i + 1) bytes ≡ (p ++ take i bytes) ++ get_or bytes i 0 ∷ []
-  stream_on p = grind (arith, take_more, append_assoc, get_or)
+    stream_on : p ++ take (i + 1) bytes ≡ (p ++ take i bytes) ++ get_or bytes i 0 ∷ []
+    stream_on = grind (arith, take_more, append_assoc, get_or)
 
-  -- the piece that was read last
-  last_zero : get_or bytes i 0 ≡ 0 → (p : List ℕ) → PhaseAfter (length buffer₀) phase₀ p → last_piece (p ++ take (i + 1) bytes) ≡ unended (p ++ take i bytes)
-  last_zero z p h = grind (arith, stream_on, last_piece-zero, no_outcomes, none_before)
+    -- the piece that was read last
+    last_zero : get_or bytes i 0 ≡ 0 → last_piece (p ++ take (i + 1) bytes) ≡ unended (p ++ take i bytes)
+    last_zero z = grind (arith, stream_on, last_piece-zero, no_outcomes, none_before)
 
-  last_nonzero : get_or bytes i 0 ≢ 0 → (p : List ℕ) → PhaseAfter (length buffer₀) phase₀ p → last_piece (p ++ take (i + 1) bytes) ≡ unended (p ++ take i bytes) ++ get_or bytes i 0 ∷ []
-  last_nonzero nz p h = grind (arith, stream_on, last_piece-unended, get_or, ended_pieces-nonzero, no_outcomes, none_before, unended-push, fed-nonzero)
+    last_nonzero : get_or bytes i 0 ≢ 0 → last_piece (p ++ take (i + 1) bytes) ≡ unended (p ++ take i bytes) ++ get_or bytes i 0 ∷ []
+    last_nonzero nz = grind (arith, stream_on, last_piece-unended, get_or, ended_pieces-nonzero, no_outcomes, none_before, unended-push, fed-nonzero)
 
-  -- the bytes after the output of that piece stay as they were
-  left_so_far : (p : List ℕ) → PhaseAfter (length buffer₀) phase₀ p → drop (length (output (unended (p ++ take i bytes)))) buffer ≡ drop (length (output (unended (p ++ take i bytes)))) buffer₀
-  left_so_far p h = grind (arith, last_piece-unended, no_outcomes, none_before)
+    -- the bytes after the output of that piece stay as they were
+    left_so_far : drop (length (output (unended (p ++ take i bytes)))) buffer ≡ drop (length (output (unended (p ++ take i bytes)))) buffer₀
+    left_so_far = grind (arith, last_piece-unended, no_outcomes, none_before)
 
-  pub untouched_behind : (p : List ℕ) → PhaseAfter (length buffer₀) phase₀ p
-      → drop (length (output (last_piece (p ++ take (i + 1) bytes)))) buffer' ≡ drop (length (output (last_piece (p ++ take (i + 1) bytes)))) buffer₀
-  untouched_behind p h = elim (cases_eq (get_or bytes i 0) 0) [
-    | inl z ↦ rw (last_zero z p h, f.zero_unchanged z) (left_so_far p h)
-    | inr nz ↦ rw (last_nonzero nz p h) (f.untouched _ (phase_so_far t.takes p h) nz ∙ drop-later _ _ _ _ (output-longer _ (get_or bytes i 0)) (left_so_far p h))
-  ]
+    pub untouched_behind : drop (length (output (last_piece (p ++ take (i + 1) bytes)))) buffer' ≡ drop (length (output (last_piece (p ++ take (i + 1) bytes)))) buffer₀
+    untouched_behind = elim (cases_eq (get_or bytes i 0) 0) [
+      | inl z ↦ rw (last_zero z, f.zero_unchanged z) left_so_far
+      | inr nz ↦ rw (last_nonzero nz) (f.untouched _ (phase_so_far t.takes p h) nz ∙ drop-later _ _ _ _ (output-longer _ (get_or bytes i 0)) left_so_far)
+    ]
 
   begins_behind : (p : List ℕ) → DecoderAfter buffer₀ phase₀ p
       → take (length (output (last_piece (p ++ take (i + 1) bytes)))) buffer' ≡ take (length buffer') (output (last_piece (p ++ take (i + 1) bytes)))
   begins_behind p h = elim (cases_eq (get_or bytes i 0) 0) [
-    | inl z ↦ rw (last_zero z p h.phased, f.zero_unchanged z) (t.takes.after p h).begins
-    | inr nz ↦ rw (last_nonzero nz p h.phased) (rw (fed-nonzero _ _ nz) at (f.after _ (t.takes.after p h))).begins
+    | inl z ↦ rw (last_zero p h.phased z, f.zero_unchanged z) (t.takes.after p h).begins
+    | inr nz ↦ rw (last_nonzero p h.phased nz) (rw (fed-nonzero _ _ nz) at (f.after _ (t.takes.after p h))).begins
   ]
 
   pub holds_behind : (p : List ℕ) → DecoderAfter buffer₀ phase₀ p → buffer' ≡ overwritten buffer₀ (output (last_piece (p ++ take (i + 1) bytes)))

@@ -4,7 +4,7 @@
 use Rattle.std.proofs.Common.{◌≡◌, ◌≢◌, ℕ, zero, suc, ◌+◌, ◌<◌, ◌≤◌, Bool, true, false, cond, leb, eqb, List, [], ◌∷◌, ◌++◌, length, take, drop, set, refl, sym, arith, length-append, Option, None, Result, Ok, Err, add-one}
 use Rattle.std.proofs.lemmas.List.{take_all, take-append-le, append-nil, length_push, take_more_set, set_past, drop-set-lt, length-set}
 use Rattle.std.proofs.lemmas.List.Elements.{All-push, All-nil}
-use Rattle.std.proofs.lemmas.Bool.{cases_lt, cond-true, cond-false, ne_eqb, le-leb, leb-true, lt-leb}
+use Rattle.std.proofs.lemmas.Bool.{cases_lt, cond-true, cond-false, ne_eqb, le-leb, leb-true, lt-leb, cases_Bool}
 use Rattle.cobs.specs.Grammar.{HasNoZero, is_full}
 use Rattle.cobs.specs.Piece.{missing, output, last_part, is_whole}
 use Rattle.cobs.specs.Stream.{outcome_of}
@@ -20,7 +20,7 @@ use Rattle.cobs.proofs.decoding.OutcomeLemmas.{outcome_of_long}
 use Rattle.cobs.proofs.format.StreamLemmas.{fed-nonzero}
 use Rattle.cobs.proofs.streaming.LastPiece.{output-longer}
 use Rattle.cobs.proofs.streaming.TableLemmas.{output-nil}
-use Rattle.cobs.proofs.decoding.PieceLemmas.{output-one, last_part-one, output-push_more, output-push_next, last_part-push_next, missing-push_more, is_full-push_more, output-push}
+use Rattle.cobs.proofs.decoding.PieceLemmas.{output-one, last_part-one, output-push_more, output-push_next, last_part-push_next, missing-push_more, is_full-push_more, output-push, EndsIn}
 
 -- a decoder whose output was too long is in the phase `Overlong`, whatever its other numbers are
 pub over_is : (decoder : UnbufferedDecoder) → decoder.too_long ≢ 0 → phase_of decoder ≡ Overlong
@@ -39,6 +39,7 @@ next_phase-zero n phase = grind arith
 next_buffer-zero : (buffer : List ℕ) (phase : Phase) → next_buffer buffer phase 0 ≡ buffer
 next_buffer-zero buffer phase = grind arith
 
+-- the phase after one more byte of output
 grows-is : (n : ℕ) (full : Bool) (left count : ℕ) → grows n full left count ≡ cond (leb (count + 1) n) (Within full left (count + 1)) Overlong
 grows-is n full left count = rw add-one refl
 
@@ -46,12 +47,13 @@ nonzero : (b : ℕ) → 0 < b → eqb b 0 ≡ false
 nonzero b h = grind (arith, ne_eqb)
 
 -- within a part
-within_step : (n c : ℕ) (q : List ℕ) (b : ℕ) (full : Bool) (left : ℕ) → is_full (last_part (c ∷ q)) ≡ full → missing (last_part (c ∷ q)) ≡ left → 0 < b → length (output (c ∷ q)) ≤ n
+within_step : (n c : ℕ) (q : List ℕ) (b : ℕ) (full : Bool) (left : ℕ) → EndsIn (c ∷ q) full left → 0 < b → length (output (c ∷ q)) ≤ n
     → next_phase n (Within full left (length (output (c ∷ q)))) b ≡ phase_after (c ∷ q ++ b ∷ []) n
-within_step n c q b full (suc left) f l h fits = grind (arith, nonzero, grows-is, phase_after-is, is_full-push_more (c ∷ q) b, missing-push_more (c ∷ q) b, output-push_more (c ∷ q) b, length_push)
-within_step n c q b true zero f l h fits = grind (arith, nonzero, phase_after-is, last_part-push_next, output-push_next, append-nil, cond-true, le-leb)
-within_step n c q b false zero f l h fits = grind (arith, nonzero, grows-is, phase_after-is, last_part-push_next, output-push_next, length_push)
+within_step n c q b full (suc left) is h fits = grind (arith, nonzero, grows-is, phase_after-is, is_full-push_more (c ∷ q) b, missing-push_more (c ∷ q) b, output-push_more (c ∷ q) b, length_push)
+within_step n c q b true zero is h fits = grind (arith, nonzero, phase_after-is, last_part-push_next (c ∷ q) b, output-push_next, append-nil, cond-true, le-leb)
+within_step n c q b false zero is h fits = grind (arith, nonzero, grows-is, phase_after-is, last_part-push_next (c ∷ q) b, output-push_next, length_push)
 
+-- the phase after a piece whose output fits, and after one whose output is too long
 fits_phase : (c : ℕ) (q : List ℕ) (n : ℕ) → length (output (c ∷ q)) ≤ n → phase_after (c ∷ q) n ≡ Within (is_full (last_part (c ∷ q))) (missing (last_part (c ∷ q))) (length (output (c ∷ q)))
 fits_phase c q n h = grind (arith, phase_after-is, cond-true, le-leb)
 
@@ -98,11 +100,11 @@ begins-over buffer o more h e = grind (arith, take_all, length-append, take-appe
 begins-push : (buffer o : List ℕ) (w : ℕ) → Begins buffer o → Begins (set buffer (length o) w) (o ++ w ∷ [])
 begins-push buffer o w e = grind (arith, cases_lt, length_push, take_more_set, take_all, length-set, set_past, begins-over)
 
-begins_within : (buffer : List ℕ) (c : ℕ) (q : List ℕ) (b : ℕ) (full : Bool) (left : ℕ) → is_full (last_part (c ∷ q)) ≡ full → missing (last_part (c ∷ q)) ≡ left → 0 < b
+begins_within : (buffer : List ℕ) (c : ℕ) (q : List ℕ) (b : ℕ) (full : Bool) (left : ℕ) → EndsIn (c ∷ q) full left → 0 < b
     → Begins buffer (output (c ∷ q)) → Begins (next_buffer buffer (Within full left (length (output (c ∷ q)))) b) (output (c ∷ q ++ b ∷ []))
-begins_within buffer c q b full (suc left) f l h e = grind (arith, output-push_more (c ∷ q) b, nonzero, begins-push)
-begins_within buffer c q b true zero f l h e = grind (arith, output-push_next, append-nil)
-begins_within buffer c q b false zero f l h e = grind (arith, output-push_next, nonzero, begins-push)
+begins_within buffer c q b full (suc left) is h e = grind (arith, output-push_more (c ∷ q) b, nonzero, begins-push)
+begins_within buffer c q b true zero is h e = grind (arith, output-push_next, append-nil)
+begins_within buffer c q b false zero is h e = grind (arith, output-push_next, nonzero, begins-push)
 
 begins-nonzero : (buffer p : List ℕ) (b : ℕ) → 0 < b → Begins buffer (output p) → Begins (next_buffer buffer (phase_after p (length buffer)) b) (output (p ++ b ∷ []))
 unfolding phase_after
@@ -133,11 +135,10 @@ PhaseAfter-result_for n phase p b h = grind (arith, end_result-is, nonzero, nonz
 pub DecoderAfter-step : (buffer : List ℕ) (phase : Phase) (p : List ℕ) (b : ℕ) → DecoderAfter buffer phase p → DecoderAfter (next_buffer buffer phase b) (next_phase (length buffer) phase b) (fed p b)
 DecoderAfter-step buffer phase p b h = grind (arith, common_steps, length-next_buffer, PhaseAfter-step, begins-step)
 
-untouched_within : (buffer : List ℕ) (c : ℕ) (q : List ℕ) (b : ℕ) (full : Bool) (left : ℕ) → is_full (last_part (c ∷ q)) ≡ full → missing (last_part (c ∷ q)) ≡ left → 0 < b
+untouched_within : (buffer : List ℕ) (c : ℕ) (q : List ℕ) (b : ℕ) (full : Bool) (left : ℕ) → EndsIn (c ∷ q) full left → 0 < b
     → drop (length (output (c ∷ q ++ b ∷ []))) (next_buffer buffer (Within full left (length (output (c ∷ q)))) b) ≡ drop (length (output (c ∷ q ++ b ∷ []))) buffer
-untouched_within buffer c q b full (suc left) f l h = grind (arith, output-push_more (c ∷ q) b, nonzero, drop-set-lt, length_push)
-untouched_within buffer c q b true zero f l h = refl
-untouched_within buffer c q b false zero f l h = grind (arith, output-push_next, nonzero, drop-set-lt, length_push)
+untouched_within buffer c q b full (suc left) is h = grind (arith, output-push_more (c ∷ q) b, nonzero, drop-set-lt, length_push)
+untouched_within buffer c q b full zero is h = grind (arith, cases_Bool, output-push_next, nonzero, drop-set-lt, length_push)
 
 -- the bytes after the output stay
 pub PhaseAfter-untouched : (buffer : List ℕ) (phase : Phase) (p : List ℕ) (b : ℕ) → PhaseAfter (length buffer) phase p → b ≢ 0

@@ -73,10 +73,10 @@ module _ (buffer buffer' f more : List ℕ) (phase phase' : Phase) (idle : phase
 
   pub taken-reads : (result : Option (PieceEnd × ℕ)) → TakesPiece buffer phase (f ++ 0 ∷ more) result buffer' phase' → (m : List ℕ) → Reads f m → length m ≤ length buffer
       → (result ≡ Some (ends.Message (length m), length f + 1)) × (take (length m) buffer' ≡ m)
-  taken-reads None t m r fits = absurd (not_none t)
-  taken-reads (Some (end, count)) t m r fits =
-      let e = ended end count t in
-      let at = message_at end buffer' m (rw (← t.takes.len) at t.within.1) (e.1 ∙ outcome_frame f m (length buffer) r fits) in
+  taken-reads result t m r fits =
+      let (end, is, outcome) = taken-piece result t in
+      let within = (rw is at t).within.1 in
+      let at = message_at end buffer' m (rw (← t.takes.len) at within) (outcome ∙ outcome_frame f m (length buffer) r fits) in
       (cc, at.1)
 
   pub taken-only : (n count : ℕ) → TakesPiece buffer phase (f ++ 0 ∷ more) (Some (ends.Message n, count)) buffer' phase' → All (λ b. b < 256) f → Reads f (take n buffer')

@@ -2,7 +2,6 @@
 -- or up to a byte for which the buffer has no room. The front has no zero, so it is a front of that piece (`QuietLemmas`).
 use Rattle.std.proofs.Common.{◌≡◌, ◌≢◌, ◌∙◌, ◌+◌, ◌<◌, ◌≤◌, ◌++◌, ℕ, List, ◌∷◌, length, take, drop, get_or, sym, ap, arith, length-append, length-take, length-take-le}
 use Rattle.std.proofs.lemmas.List.{drop_more, get_or-take, take-append-drop}
-use Rattle.cobs.specs.Decode.{leading_zeros}
 use Rattle.cobs.specs.Feed.{Idle, Overlong, Phase}
 use Rattle.cobs.specs.Grammar.{HasNoZero}
 use Rattle.cobs.specs.Internal.FeedsQuietly.{FeedsQuietly}
@@ -14,15 +13,9 @@ use Rattle.cobs.proofs.decoding.HeadLemmas.{front_is_head, head-most}
 use Rattle.cobs.proofs.decoding.OutcomeLemmas.{head-append, head-cons, length-head}
 use Rattle.cobs.proofs.streaming.QuietLemmas.{Quiet, quiet, quiet-full, quiet-long, quiet-piece}
 
--- a source after its leading zeros
-abbrev pub rest : List ℕ → List ℕ
-rest source = drop (leading_zeros source) source
-
 -- a front of a source that begins with a code begins with it
 code-first : (source : List ℕ) (n : ℕ) → 0 < length (head source) → 0 < length (take n source) → get_or (take n source) 0 0 ≢ 0
-code-first source n begins some e =
-    let first : get_or source 0 0 ≡ 0 = sym (get_or-take n source 0 0 (omega (arith, length-take n source))) ∙ e in
-    omega (arith, length-head source, head-most source 0 (omega (arith, length-head source)) first)
+code-first source n begins some e = grind (arith, get_or-take, length-take, length-head, head-most)
 
 -- the first `run` bytes were fed
 pub record FrontFed (source old new : List ℕ) (phase : Phase) (run : ℕ) : Type 0 where

@@ -51,7 +51,12 @@ FeedsInTurn-push (x ∷ []) buffer₀ phase₀ {buffer} {buffer'} {phase} f g = 
 FeedsInTurn-push (x ∷ y ∷ xs) buffer₀ phase₀ (between, phase_between, f, more) g = grind (arith, FeedsInTurn-push (y ∷ xs) between phase_between more g)
 
 pub Pushed-start : (buffer : List ℕ) (phase : Phase) (bytes : List ℕ) → Pushed buffer phase buffer phase bytes 0
-Pushed-start buffer phase bytes = record { piece = piece-nothing buffer phase; quiet = λ p h place below. absurd (omega arith); zero_idle = λ front e. absurd (omega (arith, ap length e, length_push front 0)); feeds = (refl, refl, refl) }
+Pushed-start buffer phase bytes = record {
+  piece = piece-nothing buffer phase;
+  quiet = λ p h place below. absurd (omega arith);
+  zero_idle = λ front e. absurd (omega (arith, ap length e, length_push front 0));
+  feeds = (refl, refl, refl);
+}
 
 module _ {buffer₀ buffer buffer' : List ℕ} {phase₀ phase phase' : Phase} {result : Result (Option ℕ) DecodeError} (bytes : List ℕ) (i : ℕ) (within : i < length bytes)
     (s : Pushed buffer₀ phase₀ buffer phase bytes i) (f : Feeds buffer phase (get_or bytes i 0) result buffer' phase') where

@@ -46,6 +46,7 @@ going [] buffer new phase phase' some f = grind arith
 going (x ∷ xs) buffer new phase phase' some f =
     going xs (next_buffer buffer phase x) new (next_phase (length buffer) phase x) phase' (λ over. grind (arith, cases_eq, ne_eqb)) f.1
 
+-- so the output fits
 fits-by : (p : List ℕ) (n : ℕ) → phase_after p n ≢ Overlong → length (output p) ≤ n
 unfolding phase_after
 fits-by [] n some = omega (arith, ap length output-nil)
@@ -64,7 +65,7 @@ quiet p old new phase none f =
       fits = rw (← t.takes.len) (fits-by p (length new) (λ over. going p old new Idle phase (λ e. cc) f (after.phased.phase_is ∙ over)));
     }
 
--- a phase that is too long, and one that the next byte makes so
+-- the output is longer than the buffer if the phase is `Overlong`, and fills it if the next byte makes the phase `Overlong`
 long-by : (p : List ℕ) (n : ℕ) → Overlong ≡ phase_after p n → n < length (output p)
 unfolding phase_after
 long-by [] n e = absurd (cc)

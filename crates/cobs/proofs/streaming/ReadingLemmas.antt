@@ -32,8 +32,8 @@ abbrev pub EndsFirstIn-taken : {buffer buffer' : List ℕ} {phase phase' : Phase
 EndsFirstIn-taken {buffer} {buffer'} {phase} {phase'} {end} {count} bytes t p h = record {
   front = t.ends.front;
   cut = sym (take-append-drop count bytes) ∙ ap (λ (x : List ℕ). x ++ drop count bytes) t.ends.taken ∙ append_assoc t.ends.front (0 ∷ []) (drop count bytes);
-  none_before = ap (stream_outcomes (p ++ t.ends.front)) t.takes.len ∙ t.ends.none_before p h.phased;
-  here = ap (stream_outcomes (p ++ (t.ends.front ++ 0 ∷ []))) t.takes.len ∙ ap (λ (x : List ℕ). stream_outcomes (p ++ x) (length buffer)) (sym t.ends.taken) ∙ sym (t.takes.outcomes p h);
+  none_before = let none = t.ends.none_before p h.phased in grind arith;
+  here = let said = t.takes.outcomes p h in grind arith;
 }
 
 -- the contents of the buffer after a piece that a zero ends, once the piece's output is written over its front
@@ -61,7 +61,7 @@ HasDecoded-taken {buffer} {buffer'} {phase} {phase'} {end} {count} bytes t p h =
     let cut : p ++ take count bytes ≡ front ++ 0 ∷ [] = ap (λ (x : List ℕ). p ++ x) t.ends.taken ∙ sym (append_assoc p t.ends.front (0 ∷ [])) in
     grind (arith, HasDecoded-written, last_piece-zero, no_outcomes, outcomes_at, stream_outcomes-push)
 
--- bytes after a stream t in which no piece has ended
+-- the first piece that ends in bytes after a stream t, in which no piece has ended
 abbrev pub EndsFirst-behind : (t : List ℕ) {bytes behind : List ℕ} {n : ℕ} {outcome : Outcome} → stream_outcomes t n ≡ [] → EndsFirstIn (unended t) bytes n outcome behind → EndsFirst (t ++ bytes) n outcome behind
 EndsFirst-behind t {bytes} {behind} {n} {outcome} none w = record {
   front = t ++ w.front;
@@ -69,10 +69,10 @@ EndsFirst-behind t {bytes} {behind} {n} {outcome} none w = record {
   none_before = rw (stream_outcomes-append t w.front n, none) w.none_before;
   outcomes =
       let cut : t ++ bytes ≡ (t ++ (w.front ++ 0 ∷ [])) ++ behind = grind (arith, append_assoc) in
-      rw (cut, stream_outcomes-append (t ++ (w.front ++ 0 ∷ [])) behind n, stream_outcomes-append t (w.front ++ 0 ∷ []) n, none, w.here, ← append_assoc t w.front (0 ∷ []), unended-zero (t ++ w.front)) refl;
+      grind (arith, stream_outcomes-append, append_assoc, unended-zero);
 }
 
--- THE READER'S OWN NOTE OF A BEGUN PIECE
+-- THE FLAG OF THE READER FOR A BEGUN PIECE
 
 not_idle : Phase → Bool
 not_idle Idle = false
@@ -152,7 +152,7 @@ Going-start step source reader₀ reader unfinished h len = grind (arith, All-ni
 module _ {S : Type 0} {step : S → Read → S → Type 0} {from to : S} {reader₀ reader : ReaderState} {unfinished : Bool} {count : ℕ} where
   none_so_far : (g : Going step from to reader₀ reader unfinished count) → (p : List ℕ) → ReaderAfter reader₀ p
       → stream_outcomes (p ++ reader₀.kept ++ all_given g.reads) (length reader₀.buffer) ≡ []
-  none_so_far g p b = ap (stream_outcomes (p ++ reader₀.kept ++ all_given g.reads)) (sym g.len) ∙ (g.at_end p b).none_ended
+  none_so_far g p b = rw (← g.len) (g.at_end p b).none_ended
 
   -- one more read is the last
   ReadsNext-read : {to' : S} {reader' : ReaderState} {result : Result Next ReadFault} (read : Read) → count < 65536
@@ -192,14 +192,12 @@ module _ {S : Type 0} {step : S → Read → S → Type 0} {from to : S} {reader
 
 -- WHERE A PIECE ENDS
 
--- an outcome is reported
--- the first piece that ends in some bytes is reported, after a stream in which none has ended
+-- after a stream in which no piece has ended, the first piece that ends in some bytes is reported
 Reports-first : (next : Next) (reads : List Read) (t bytes : List ℕ) (reader : ReaderState) → stream_outcomes t (length reader.buffer) ≡ []
     → ReportsFirst next (unended t) bytes reader.buffer reader.kept → ReaderAfter reader [] → Reports (Ok next) reads (t ++ bytes) reader
 Reports-first next reads t bytes reader none w b =
     let first = EndsFirst-behind t none w.first in
-    let decoded : HasDecoded w.outcome reader.buffer (unended first.front) = subst (λ (x : List ℕ). HasDecoded w.outcome reader.buffer x) (sym (unended-append t w.first.front)) w.decoded in
-    let ended : AtPieceEnd (t ++ bytes) w.outcome reader = record { first = first; decoded = decoded; idle = b } in
+    let ended : AtPieceEnd (t ++ bytes) w.outcome reader = record { first = first; decoded = rw (unended-append t w.first.front) w.decoded; idle = b } in
     grind arith
 
 -- the kept bytes end a piece: nothing is read
@@ -229,7 +227,7 @@ module _ {S : Type 0} {step : S → Read → S → Type 0} {from to to' : S} {re
       let end = g.at_end p b in
       Reports-first next _ _ bytes reader' (ap (stream_outcomes (p ++ reader₀.kept ++ all_given g.reads)) len ∙ end.none_ended) (h _ end.after) idle)
 
-  -- they end none, and the call continues
+  -- they end no piece, and the call continues
   pub Going-push : (bytes : List ℕ) (unfinished' : Bool) → bytes ≢ [] → Going step from to reader₀ reader unfinished count → step to (Some bytes) to' → length reader'.buffer ≡ length reader.buffer
       → ((q : List ℕ) → ReaderAfter reader q → AtStreamEnd (q ++ bytes) reader' × (unfinished' ≡ is_nonempty (unended (q ++ bytes))))
       → Going step from to' reader₀ reader' unfinished' (count + 1)
@@ -257,9 +255,7 @@ ReadsNext-too_many {reader₀} {reader} all g = record {
   runs = g.runs;
   failed = (
     λ f. absurd cc,
-    λ l.
-        let last = (All-apart GaveBytes l.0 (None ∷ []) (subst (λ (x : List Read). All GaveBytes x) l.1 g.gave)).1 in
-        absurd (All-head GaveBytes None [] last refl),
+    λ l. absurd (All-head GaveBytes None [] (All-apart GaveBytes l.0 (None ∷ []) (rw l.1 at g.gave)).1 refl),
   );
   called_for = λ p b.
       rw append-nil at (called_for _ _ g.reads g.gave (none_so_far g p b) [] (omega arith) (rw append-nil (omega (arith, g.count_is))));

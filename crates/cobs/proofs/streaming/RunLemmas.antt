@@ -1,6 +1,6 @@
 -- Bytes that the machine takes quietly at once are as many feeds (`ran-on`), by induction on the bytes; and what such bytes
 -- leave of the buffer.
-use Rattle.std.proofs.Common.{◌≡◌, ◌≢◌, ℕ, zero, suc, ◌+◌, ◌-◌, ◌<◌, ◌≤◌, Bool, List, [], ◌∷◌, ◌++◌, length, take, drop, set, get_or, sym, ap, ◌∙◌, subst, refl, arith, append_assoc, take_all, None, Ok}
+use Rattle.std.proofs.Common.{◌≡◌, ◌≢◌, ℕ, zero, suc, ◌+◌, ◌-◌, ◌<◌, ◌≤◌, Bool, List, [], ◌∷◌, ◌++◌, length, take, drop, set, get_or, ap, subst, refl, arith, append_assoc, take_all, None, Ok}
 use Rattle.std.proofs.Math.Seq.{take-length}
 use Rattle.std.proofs.lemmas.List.{drop_more, take_more_set, drop-set-lt, drop-drop}
 use Rattle.cobs.specs.declared.dec.unbuffered.UnbufferedDecoder.{UnbufferedDecoder}
@@ -81,5 +81,5 @@ rest_kept xs buffer buffer' inner inner' k nz f past = grind (arith, quiet_rest)
 pub rest_read : (buffer buffer' : List ℕ) (inner inner' : UnbufferedDecoder) (read at end : ℕ) → read ≤ at → at ≤ end → HasNoZero (take (end - read) (drop read buffer))
     → FeedsQuietly buffer (phase_of inner) (take (at - read) (drop read buffer)) buffer' (phase_of inner') → inner'.written ≤ at → drop at buffer' ≡ drop (at - read) (drop read buffer)
 rest_read buffer buffer' inner inner' read at end order within nz f past =
-    rest_kept _ buffer buffer' inner inner' at (part-nonzero 0 (at - read) (end - read) (drop read buffer) nz (omega arith)) f past
-    ∙ ap (λ (k : ℕ). drop k buffer) (omega arith) ∙ sym (drop-drop (at - read) read buffer)
+    let none = part-nonzero 0 (at - read) (end - read) (drop read buffer) nz (omega arith) in
+    grind (arith, rest_kept, drop-drop)

@@ -1,12 +1,12 @@
 -- The table of `DecoderState` agrees with the grammar and with the machine of `Step`. By `PieceLemmas`, with one case
 -- for each state.
 use Rattle.std.proofs.Common.{◌≡◌, ◌≢◌, ℕ, zero, suc, ◌-◌, ◌<◌, ◌+◌, ◌⊎◌, ◌↔◌, Bool, true, false, cond, eqb, Some, List, [], ◌∷◌, ◌++◌, length, All, Ok, Err, refl, sym, ap, ◌∙◌, arith}
-use Rattle.std.proofs.lemmas.Bool.{cases_lt, eqb-true, ne_eqb}
+use Rattle.std.proofs.lemmas.Bool.{cases_lt, eqb-true, ne_eqb, cases_Bool}
 use Rattle.std.proofs.lemmas.List.{append-nil}
 use Rattle.std.proofs.lemmas.List.Elements.{All-nil, All-push}
 use Rattle.std.proofs.lemmas.Grind.{common_steps}
-use Rattle.cobs.specs.Grammar.{HasNoZero, is_full, Reads}
-use Rattle.cobs.specs.Piece.{parts, parts_after, last_part, missing, is_whole, output}
+use Rattle.cobs.specs.Grammar.{HasNoZero, Reads}
+use Rattle.cobs.specs.Piece.{parts, parts_after, last_part, is_whole, output}
 use Rattle.cobs.specs.Table.{opened_by, table_result, table_state, data_of, state_after, StateAfter, counted, state_in, written_in, FeedsByTable}
 use Rattle.cobs.specs.declared.dec.state.DecoderState.{DecoderState}
 use Rattle.cobs.specs.declared.dec.state.DecoderState.TheVariants.{Idle, Grab, GrabChain}
@@ -16,31 +16,27 @@ use Rattle.cobs.specs.Step.{next_result, next_phase}
 use Rattle.cobs.specs.declared.dec.state.DecodeResult.TheVariants.{DataComplete}
 use Rattle.cobs.specs.declared.error.DecodeError.TheVariants.{InvalidFrame, TargetBufTooSmall}
 use Rattle.cobs.proofs.decoding.OutcomeLemmas.{reads_iff}
-use Rattle.cobs.proofs.decoding.PieceLemmas.{output-one, last_part-one, output-push_more, output-push_next, last_part-push_next, missing-push_more, is_full-push_more}
+use Rattle.cobs.proofs.decoding.PieceLemmas.{output-one, last_part-one, output-push_more, output-push_next, last_part-push_next, missing-push_more, is_full-push_more, EndsIn}
 
 -- in a block, full or not, of which that many bytes are missing
 abbrev pub inside : Bool → ℕ → DecoderState
 inside full left = cond full (GrabChain left) (Grab left)
 
-state_after-is : (c : ℕ) (q : List ℕ) {full : Bool} {left : ℕ} → is_full (last_part (c ∷ q)) ≡ full → missing (last_part (c ∷ q)) ≡ left → state_after (c ∷ q) ≡ inside full left
-state_after-is c q f l = grind (arith, inside)
+state_after-is : (c : ℕ) (q : List ℕ) {full : Bool} {left : ℕ} → EndsIn (c ∷ q) full left → state_after (c ∷ q) ≡ inside full left
+state_after-is c q is = grind (arith, inside)
 
 opened_after : (c : ℕ) (q : List ℕ) (b : ℕ) → last_part (c ∷ q) ≡ b ∷ [] → opened_by b ≡ state_after (c ∷ q)
 opened_after c q b is = grind (arith, state_after-is, eqb-true)
 
 -- one more byte inside a piece
 module _ (c : ℕ) (q : List ℕ) (b : ℕ) (some : b ≢ 0) where
-  state_step : (full : Bool) (left : ℕ) → is_full (last_part (c ∷ q)) ≡ full → missing (last_part (c ∷ q)) ≡ left → table_state (inside full left) b ≡ state_after (c ∷ q ++ b ∷ [])
-  state_step true (suc left) f l = grind (arith, ne_eqb, state_after-is, is_full-push_more (c ∷ q) b, missing-push_more (c ∷ q) b)
-  state_step false (suc left) f l = grind (arith, ne_eqb, state_after-is, is_full-push_more (c ∷ q) b, missing-push_more (c ∷ q) b)
-  state_step true zero f l = grind (arith, ne_eqb, opened_after, last_part-push_next)
-  state_step false zero f l = grind (arith, ne_eqb, opened_after, last_part-push_next)
+  state_step : (full : Bool) (left : ℕ) → EndsIn (c ∷ q) full left → table_state (inside full left) b ≡ state_after (c ∷ q ++ b ∷ [])
+  state_step full (suc left) is = grind (arith, cases_Bool, ne_eqb, state_after-is, is_full-push_more (c ∷ q) b, missing-push_more (c ∷ q) b)
+  state_step full zero is = grind (arith, cases_Bool, ne_eqb, opened_after, last_part-push_next (c ∷ q) b)
 
-  data_step : (full : Bool) (left : ℕ) → is_full (last_part (c ∷ q)) ≡ full → missing (last_part (c ∷ q)) ≡ left → output (c ∷ q) ++ data_of (table_result (inside full left) b) ≡ output (c ∷ q ++ b ∷ [])
-  data_step true (suc left) f l = grind (arith, ne_eqb, output-push_more (c ∷ q) b)
-  data_step false (suc left) f l = grind (arith, ne_eqb, output-push_more (c ∷ q) b)
-  data_step true zero f l = grind (arith, ne_eqb, output-push_next)
-  data_step false zero f l = grind (arith, ne_eqb, output-push_next)
+  data_step : (full : Bool) (left : ℕ) → EndsIn (c ∷ q) full left → output (c ∷ q) ++ data_of (table_result (inside full left) b) ≡ output (c ∷ q ++ b ∷ [])
+  data_step full (suc left) is = grind (arith, cases_Bool, ne_eqb, output-push_more (c ∷ q) b)
+  data_step full zero is = grind (arith, cases_Bool, ne_eqb, output-push_next)
 
 -- the state after a byte that is no zero, and the data so far followed by the table's data for this byte
 next_state : (p : List ℕ) (b : ℕ) → b ≢ 0 → table_state (state_after p) b ≡ state_after (p ++ b ∷ [])

@@ -3,7 +3,7 @@
 use Rattle.std.proofs.Common.{◌≡◌, ◌<◌, ◌-◌, ℕ, List, Some, Ok, length, take, ap, length-take-le, sym, ◌∙◌, arith}
 use Rattle.std.proofs.lemmas.Bool.{eqb-true, eqb-false}
 use Rattle.cobs.specs.Overwritten.{overwritten}
-use Rattle.cobs.specs.Decode.{head_result_within, result_of_sentinel_decode}
+use Rattle.cobs.specs.Decode.{result_of_sentinel_decode}
 use Rattle.cobs.specs.Piece.{kept_output, last_part, missing, output}
 use Rattle.cobs.specs.Sentinel.{xor_each}
 use Rattle.cobs.specs.Stream.{head}
@@ -37,8 +37,7 @@ returns-then-eq c =
     let written : c.copy_from_slice.new.self ≡ output h = c.copy_from_slice.ensures.after ∙ ap (λ (k : ℕ). take (k - 1) c.decode_span.new.dest) (sym long) ∙ d.begins in
     let count = ap length written in
     let some : 0 < length source = omega (arith, d.some) in
-    let returned : Ok (len - 1) ≡ result_of_sentinel_decode f n
-    = ap Ok (omega (arith, d.len)) ∙ sym (whole_result h whole) ∙ result-fits h n (omega (arith, d.len)) ∙ ap (λ (l : List ℕ). head_result_within l n) is ∙ result_of_sentinel_decode-head source s n some in
+    let returned : Ok (len - 1) ≡ result_of_sentinel_decode f n = grind (arith, whole_result, result-fits, result_of_sentinel_decode-head) in
     let buffer = rw is at (whole_front h c.args.dest.now _ (len - 1) whole written (omega (arith, d.len)) (omega (arith, d.len))) in
     let below = xored_below s source c.ranges.sentinel.fits c.type_inv.source in
     record {

@@ -91,6 +91,5 @@ returns c =
     let next = rw (count, rest at, ← take-take n (c.args.end - tail at) (drop (tail at) (old at)) few) at c.take_in_place-2.ensures.fed in
     let kept = rw (bytes-are at) at (e.kept p (sym (left at))) in
     let whole = rw (bytes-are at) at (e.whole p (sym (left at))) in
-    let both = rw all at (kept_fed p q (old at) (new at) c.take_in_place-2.new.buffer (phase at) c.take_in_place-2.new.self n c.kept_len-len.result.1 c.message_len.result
-    (first at) (last at) (fed at) next kept whole c.message_len.ensures.whole c.message_len.ensures.broken) in
-    record { returned = both.0; buffer = both.1 }
+    rw all at (kept_fed p q (old at) (new at) c.take_in_place-2.new.buffer (phase at) c.take_in_place-2.new.self n c.kept_len-len.result.1 c.message_len.result
+    (first at) (last at) (fed at) next kept whole c.message_len.ensures.whole c.message_len.ensures.broken)
