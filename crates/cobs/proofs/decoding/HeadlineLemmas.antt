@@ -51,6 +51,7 @@ returns-reads f m n result buffer piece below h =
     let o = outcome_message f m n piece below in
     (λ s. o.0 (r.0 s), λ s. r.1 (o.1 s))
 
+-- the same for a report, which also has the number of parsed bytes
 reports : (parsed : ℕ) (result : Result ℕ DecodeError) (buffer m : List ℕ) (P : Type 0) → ReturnsMessage result buffer m ↔ P → ReportsMessage (report_result parsed result) buffer m ↔ P
 reports parsed result buffer m P h = grind arith
 
@@ -60,6 +61,7 @@ result_of_decode_alone : (f : List ℕ) (n : ℕ) → IsPiece f → result_of_de
 result_of_decode_alone [] n piece = grind arith
 result_of_decode_alone (byte ∷ bytes) n piece = grind (arith, result_by_piece, first_piece_alone)
 
+-- `decode` reports the outcome of a piece
 decode-reported : (f buffer buffer' : List ℕ) (outcome : Outcome) → outcome_of f (length buffer) ≡ outcome → buffer' ≡ overwritten buffer (output f)
     → Reported outcome (outcome_result outcome) buffer'
 decode-reported f buffer buffer' (Message m) e is =
@@ -89,12 +91,14 @@ result_of_sentinel_decode_alone : (f : List ℕ) (n : ℕ) → IsPiece f → res
 result_of_sentinel_decode_alone [] n piece = grind arith
 result_of_sentinel_decode_alone (byte ∷ bytes) n piece = grind (arith, head_alone)
 
+-- a piece that is broken or too long is rejected
 within-rejected : (f : List ℕ) (n : ℕ) → f ≢ [] → (is_whole f ≡ false) ⊎ (n < length (output f)) → (error : DecodeError) × (head_result_within f n ≡ Err error)
 within-rejected f n some either = elim (cases_lt n (length (kept_output f))) [
   | inl more ↦ (TargetBufTooSmall, grind (arith, result-too_long))
   | inr fits ↦ (InvalidFrame (length (kept_output f)), grind (arith, all-kept, cases_Bool, result-fits))
 ]
 
+-- `decode_with_sentinel` reports the outcome of a piece
 source-reported : (f buffer buffer' : List ℕ) (outcome : Outcome) → outcome_of f (length buffer) ≡ outcome → f ≢ []
     → buffer' ≡ overwritten buffer (kept_output f) → Reported outcome (head_result_within f (length buffer)) buffer'
 source-reported f buffer buffer' (Message m) e some is =

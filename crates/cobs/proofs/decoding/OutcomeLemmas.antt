@@ -42,6 +42,7 @@ Says (Message m) p n = (length (output p) ≤ n) × IsWhole p × (m ≡ output p
 Says (Broken count) p n = (length (output p) ≤ n) × (is_whole p ≡ false) × (count ≡ length (output p))
 Says TooLong p n = n < length (output p)
 
+-- each outcome says so of its piece
 says : (p : List ℕ) (n : ℕ) → Says (outcome_of p n) p n
 unfolding outcome_of
 says p n = grind (arith, cases_Bool, leb-true, leb-false)

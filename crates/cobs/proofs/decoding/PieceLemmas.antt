@@ -34,6 +34,7 @@ grown-last code bytes b short = record {
 grown-more : (code : ℕ) (bytes : List ℕ) (b : ℕ) → code - 1 < length bytes → Grown (drop (code - 1) bytes) b → Grown (code ∷ bytes) b
 grown-more code bytes b more rest = grind (arith, last_part-more, output-more, length_push, take-append-le, drop-append-le, append_assoc)
 
+-- so each piece grows like this
 grown : (c : ℕ) (p : List ℕ) (b : ℕ) → Grown (c ∷ p) b
 grown c p b =
     by_parts (λ (l : List ℕ). 0 < length l → Grown l b) (λ some. absurd (omega arith)) (λ code bytes short some. grown-last code bytes b short)

@@ -86,6 +86,7 @@ whole-kept (c ∷ p) h = grind (arith, is_whole-of, eq-eqb)
 abbrev KeptBy : List ℕ → List ℕ → ℕ → Type 0
 KeptBy p q k = (length q ≤ k + 253) × (output (p ++ take k q) ≡ kept_output (p ++ q))
 
+-- a fact about the bytes after the first n is one about all bytes
 kept-after : (p q : List ℕ) (n : ℕ) → (k : ℕ) × KeptBy (p ++ take n q) (drop n q) k → (k : ℕ) × KeptBy p q k
 kept-after p q n (k, (few, is)) = grind (arith, length-drop, in_front, append_assoc, take-append-drop)
 

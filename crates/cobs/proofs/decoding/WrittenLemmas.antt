@@ -36,6 +36,7 @@ pub zero_before-some : (code : ℕ) (next : List ℕ) → 0 < length next → co
 zero_before-some code [] some other = grind arith
 zero_before-some code (byte ∷ next) some other = grind (arith, ne_eqb)
 
+-- the kept output of a block and the bytes after it, and whether these are whole
 kept-joined : (code : ℕ) (bytes next : List ℕ) → IsBlock (code ∷ bytes) → kept_output ((code ∷ bytes) ++ next) ≡ bytes ++ (zero_before code next ++ kept_output next)
 kept-joined code bytes [] is = grind (arith, append-nil, all-kept, block-whole, output-last, kept_output-empty)
 kept-joined code bytes (byte ∷ next) is = front-kept (code ∷ bytes) (byte ∷ next) is (λ e. cc) ∙ append_assoc bytes (joint (code ∷ bytes)) (kept_output (byte ∷ next))
@@ -109,6 +110,7 @@ module _ {h old buffer : List ℕ} {written : ℕ} {left : List ℕ} (s : Writte
 
   -- nothing is left to be written
   module _ (none : left ≡ []) where
+    -- all of the kept output is written
     kept-long : length (kept_output h) ≡ written
     kept-long = grind (arith, append-nil)
 

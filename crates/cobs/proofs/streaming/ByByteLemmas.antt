@@ -17,12 +17,14 @@ use Rattle.cobs_bytes.proofs.bytes.ListLemmas.{drop-later}
 
 -- THE RESULT FOR A ZERO
 
+-- the end that a result reports has the outcome that the result means
 stated-some : (result : Result (Option ℕ) DecodeError) (buffer : List ℕ) (end : PieceEnd) → end_reported result ≡ Some end → IfOk result (λ found. IfSome found (λ n. n ≤ length buffer))
     → (outcome_reported result buffer ≡ outcome_at end buffer ∷ []) × IsWithin (length buffer) end
 stated-some result buffer end e bound = grind arith
 
 -- THE BYTES SO FAR
 
+-- before the first byte
 pub piece-nothing : (buffer : List ℕ) (phase : Phase) → TakesPiece buffer phase [] None buffer phase
 piece-nothing buffer phase = record {
   takes = SoFar-start buffer phase;
@@ -65,6 +67,7 @@ module _ {buffer₀ buffer buffer' : List ℕ} {phase₀ phase phase' : Phase} {
       | inr nz ↦ rw (last_nonzero nz) (f.untouched _ (phase_so_far t.takes p h) nz ∙ drop-later _ _ _ _ (output-longer _ (get_or bytes i 0)) left_so_far)
     ]
 
+  -- the buffer begins with that output
   begins_behind : (p : List ℕ) → DecoderAfter buffer₀ phase₀ p
       → take (length (output (last_piece (p ++ take (i + 1) bytes)))) buffer' ≡ take (length buffer') (output (last_piece (p ++ take (i + 1) bytes)))
   begins_behind p h = elim (cases_eq (get_or bytes i 0) 0) [

@@ -68,6 +68,7 @@ nonzero_step n (c ∷ q) b h = grind (arith, cases_lt, over_phase, nonzero, outp
 
 -- RESULTS
 
+-- the result for the zero that ends a piece, if the output fits, and for any output
 result_within : (n c : ℕ) (q : List ℕ) (left : ℕ) → missing (last_part (c ∷ q)) ≡ left → length (output (c ∷ q)) ≤ n
     → end_result n (Within (is_full (last_part (c ∷ q))) left (length (output (c ∷ q)))) ≡ result_at_end (c ∷ q) n
 unfolding result_at_end outcome_of is_whole
@@ -77,13 +78,11 @@ end_result-is : (n : ℕ) (p : List ℕ) → end_result n (phase_after p n) ≡ 
 unfolding phase_after result_at_end
 end_result-is n p = grind (arith, cases_lt, over_phase, outcome_of_long, fits_phase, result_within)
 
-error_if_overlong-is : (c : ℕ) (q : List ℕ) (n : ℕ) → error_if_overlong (phase_after (c ∷ q) n) ≡ cond (leb (length (output (c ∷ q))) n) (Ok None) (Err TargetBufTooSmall)
-unfolding phase_after
-error_if_overlong-is c q n = grind arith
-
+-- the result for a byte of a piece
 error_if_overlong-push : (p : List ℕ) (b n : ℕ) → error_if_overlong (phase_after (p ++ b ∷ []) n) ≡ cond (leb (length (output (p ++ b ∷ []))) n) (Ok None) (Err TargetBufTooSmall)
-error_if_overlong-push [] b n = error_if_overlong-is b [] n
-error_if_overlong-push (c ∷ q) b n = error_if_overlong-is c (q ++ b ∷ []) n
+unfolding phase_after
+error_if_overlong-push [] b n = grind arith
+error_if_overlong-push (c ∷ q) b n = grind arith
 
 -- BUFFERS
 
@@ -94,12 +93,14 @@ Begins buffer o = take (length o) buffer ≡ take (length buffer) o
 begins-nil : (buffer : List ℕ) → Begins buffer []
 begins-nil buffer = grind (arith, take_all)
 
+-- a full buffer, and one that gets a byte
 begins-over : (buffer o more : List ℕ) → length buffer ≤ length o → Begins buffer o → Begins buffer (o ++ more)
 begins-over buffer o more h e = grind (arith, take_all, length-append, take-append-le)
 
 begins-push : (buffer o : List ℕ) (w : ℕ) → Begins buffer o → Begins (set buffer (length o) w) (o ++ w ∷ [])
 begins-push buffer o w e = grind (arith, cases_lt, length_push, take_more_set, take_all, length-set, set_past, begins-over)
 
+-- after one more byte
 begins_within : (buffer : List ℕ) (c : ℕ) (q : List ℕ) (b : ℕ) (full : Bool) (left : ℕ) → EndsIn (c ∷ q) full left → 0 < b
     → Begins buffer (output (c ∷ q)) → Begins (next_buffer buffer (Within full left (length (output (c ∷ q)))) b) (output (c ∷ q ++ b ∷ []))
 begins_within buffer c q b full (suc left) is h e = grind (arith, output-push_more (c ∷ q) b, nonzero, begins-push)
@@ -124,27 +125,28 @@ piece-fed p (suc b) h = grind (arith, common_steps, fed-nonzero, All-push)
 
 -- THE STEP, for `PhaseAfter` and `DecoderAfter`
 
-pub PhaseAfter-step : (n : ℕ) (phase : Phase) (p : List ℕ) (b : ℕ) → PhaseAfter n phase p → PhaseAfter n (next_phase n phase b) (fed p b)
+PhaseAfter-step : (n : ℕ) (phase : Phase) (b : ℕ) (p : List ℕ) → PhaseAfter n phase p → PhaseAfter n (next_phase n phase b) (fed p b)
 unfolding phase_after
-PhaseAfter-step n phase p b h = grind (arith, piece-fed, next_phase-zero, nonzero_step, fed-nonzero)
+PhaseAfter-step n phase b p h = grind (arith, piece-fed, next_phase-zero, nonzero_step, fed-nonzero)
 
-pub PhaseAfter-result_for : (n : ℕ) (phase : Phase) (p : List ℕ) (b : ℕ) → PhaseAfter n phase p → next_result n phase b ≡ result_for p b n
+PhaseAfter-result_for : (n : ℕ) (phase : Phase) (b : ℕ) (p : List ℕ) → PhaseAfter n phase p → next_result n phase b ≡ result_for p b n
 unfolding result_for
-PhaseAfter-result_for n phase p b h = grind (arith, end_result-is, nonzero, nonzero_step, error_if_overlong-push)
+PhaseAfter-result_for n phase b p h = grind (arith, end_result-is, nonzero, nonzero_step, error_if_overlong-push)
 
-pub DecoderAfter-step : (buffer : List ℕ) (phase : Phase) (p : List ℕ) (b : ℕ) → DecoderAfter buffer phase p → DecoderAfter (next_buffer buffer phase b) (next_phase (length buffer) phase b) (fed p b)
-DecoderAfter-step buffer phase p b h = grind (arith, common_steps, length-next_buffer, PhaseAfter-step, begins-step)
+DecoderAfter-step : (buffer : List ℕ) (phase : Phase) (b : ℕ) (p : List ℕ) → DecoderAfter buffer phase p → DecoderAfter (next_buffer buffer phase b) (next_phase (length buffer) phase b) (fed p b)
+DecoderAfter-step buffer phase b p h = grind (arith, common_steps, length-next_buffer, PhaseAfter-step, begins-step)
 
+-- within a part, a byte changes nothing after the output
 untouched_within : (buffer : List ℕ) (c : ℕ) (q : List ℕ) (b : ℕ) (full : Bool) (left : ℕ) → EndsIn (c ∷ q) full left → 0 < b
     → drop (length (output (c ∷ q ++ b ∷ []))) (next_buffer buffer (Within full left (length (output (c ∷ q)))) b) ≡ drop (length (output (c ∷ q ++ b ∷ []))) buffer
 untouched_within buffer c q b full (suc left) is h = grind (arith, output-push_more (c ∷ q) b, nonzero, drop-set-lt, length_push)
 untouched_within buffer c q b full zero is h = grind (arith, cases_Bool, output-push_next, nonzero, drop-set-lt, length_push)
 
 -- the bytes after the output stay
-pub PhaseAfter-untouched : (buffer : List ℕ) (phase : Phase) (p : List ℕ) (b : ℕ) → PhaseAfter (length buffer) phase p → b ≢ 0
+PhaseAfter-untouched : (buffer : List ℕ) (phase : Phase) (b : ℕ) (p : List ℕ) → PhaseAfter (length buffer) phase p → b ≢ 0
     → drop (length (output (p ++ b ∷ []))) (next_buffer buffer phase b) ≡ drop (length (output (p ++ b ∷ []))) buffer
 unfolding phase_after
-PhaseAfter-untouched buffer phase p b h nz = grind (arith, cases_lt, over_phase, fits_phase, untouched_within)
+PhaseAfter-untouched buffer phase b p h nz = grind (arith, cases_lt, over_phase, fits_phase, untouched_within)
 
 -- an idle decoder has taken nothing of a piece, whatever its buffer holds
 pub DecoderAfter-idle : (buffer : List ℕ) (phase : Phase) → phase ≡ Idle → DecoderAfter buffer phase []
@@ -158,10 +160,10 @@ result-bound n phase byte = grind (arith, leb-true)
 -- the machine feeds a byte
 pub Feeds-step : (buffer : List ℕ) (phase : Phase) (b : ℕ) → let n = length buffer in Feeds buffer phase b (next_result n phase b) (next_buffer buffer phase b) (next_phase n phase b)
 Feeds-step buffer phase b = record {
-  returned = λ p h. PhaseAfter-result_for (length buffer) phase p b h;
-  phased = λ p h. PhaseAfter-step (length buffer) phase p b h;
-  after = λ p h. DecoderAfter-step buffer phase p b h;
-  untouched = λ p h nz. PhaseAfter-untouched buffer phase p b h nz;
+  returned = PhaseAfter-result_for (length buffer) phase b;
+  phased = PhaseAfter-step (length buffer) phase b;
+  after = DecoderAfter-step buffer phase b;
+  untouched = PhaseAfter-untouched buffer phase b;
   zero_idle = λ e. rw e (next_phase-zero (length buffer) phase);
   zero_unchanged = λ e. rw e (next_buffer-zero buffer phase);
   bound = result-bound (length buffer) phase b;

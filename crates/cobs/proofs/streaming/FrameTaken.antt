@@ -18,6 +18,7 @@ use Rattle.cobs.proofs.format.StreamLemmas.{outcomes-first, outcomes-none, strea
 
 -- A ZERO THAT IS FED
 
+-- for a frame the result is the length of its message, and for no other piece it is a length
 result_is : (f m : List ℕ) (n : ℕ) → Reads f m → length m ≤ n → result_for f 0 n ≡ Ok (Some (length m))
 unfolding result_for result_at_end
 result_is [] m n r fits = absurd ((frame_piece r).0 refl)
@@ -41,6 +42,7 @@ module _ {buffer buffer' f : List ℕ} {phase phase' : Phase} {result : Result (
 
 -- A PIECE THAT IS TAKEN
 
+-- a reported message is at the front of the buffer
 message_at : (end : PieceEnd) (buffer m : List ℕ) → IsWithin (length buffer) end → outcome_at end buffer ≡ Message m
     → (end ≡ ends.Message (length m)) × (take (length m) buffer ≡ m)
 message_at end buffer m within e = grind (arith, length-take-le)

@@ -24,6 +24,7 @@ pub record FrontFed (source old new : List ℕ) (phase : Phase) (run : ℕ) : Ty
   pub fed : FeedsQuietly old Idle (take run source) new phase
 
 module _ {source old new : List ℕ} {phase : Phase} {run : ℕ} (f : FrontFed source old new phase run) where
+  -- the front has no zero
   none : HasNoZero (take run source)
   none = grind (arith, quiet-piece, code-first)
 

@@ -52,6 +52,7 @@ whole_front h old front n whole is fits count = grind (arith, whole-kept, take_a
 module _ (p q old b1 b2 : List ℕ) (phase : Phase) (inner : UnbufferedDecoder) (len : ℕ) (whole : Bool) (result : Result ℕ DecodeError) (nz : HasNoZero p) (nz' : HasNoZero q)
     (f : FeedsQuietly old Idle p b1 phase) (g : FeedsQuietly b1 phase (take len q) b2 (phase_of inner)) (kept : output (p ++ take len q) ≡ kept_output (p ++ q)) (is : IsTrue whole ↔ (missing (last_part (p ++ q)) ≡ 0))
     (ok : IsTrue whole → result ≡ Ok inner.written) (broken : whole ≡ false → result ≡ Err (InvalidFrame inner.written)) where
+  -- both parts are fed
   run : Quiet old b2 (phase_of inner) (p ++ take len q)
   run = quiet (p ++ take len q) old b2 (phase_of inner) (All-append (λ b. b ≢ 0) p (take len q) nz (All-take (λ b. b ≢ 0) len q nz')) (FeedsQuietly-append p (take len q) old b1 b2 Idle phase (phase_of inner) f g)
 

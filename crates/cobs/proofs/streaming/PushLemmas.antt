@@ -60,6 +60,7 @@ Pushed-start buffer phase bytes = record {
 
 module _ {buffer₀ buffer buffer' : List ℕ} {phase₀ phase phase' : Phase} {result : Result (Option ℕ) DecodeError} (bytes : List ℕ) (i : ℕ) (within : i < length bytes)
     (s : Pushed buffer₀ phase₀ buffer phase bytes i) (f : Feeds buffer phase (get_or bytes i 0) result buffer' phase') where
+  -- the byte after the first i bytes returns the result; after it, `zero_idle` and `feeds` hold again
   result_here : (p : List ℕ) → PhaseAfter (length buffer₀) phase₀ p → result_at p bytes (length buffer₀) i ≡ result
   result_here p h = grind (arith, get_or, phase_so_far)
 

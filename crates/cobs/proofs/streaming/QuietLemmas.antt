@@ -88,9 +88,8 @@ unfolding phase_after
 within-by [] n full left count e fits = absurd (cc)
 within-by (c ∷ p) n full left count e fits = grind (arith, le-leb)
 
-pub quiet-within : {old new p : List ℕ} {full : Bool} {left count : ℕ} → Quiet old new (Within full left count) p
-    → (count ≡ length (output p)) × (left ≡ missing (last_part p))
-quiet-within {old} {new} {p} {full} {left} {count} s = within-by p (length new) full left count s.after.phased.phase_is (omega (arith, s.len, s.fits))
+pub quiet-within : {old new p : List ℕ} {full : Bool} {left count : ℕ} → Quiet old new (Within full left count) p → (count ≡ length (output p)) × (left ≡ missing (last_part p))
+quiet-within s = within-by _ _ _ _ _ s.after.phased.phase_is (omega (arith, s.len, s.fits))
 
 module _ (old new p : List ℕ) (phase : Phase) (s : Quiet old new phase p) where
   pub quiet-written : new ≡ overwritten old (output p)

@@ -41,6 +41,7 @@ one dest phase {dest'} {b} other is next = grind (arith, ne_eqb)
 pub first-code : (source : List ℕ) (start : ℕ) → start ≡ leading_zeros source → start < length source → get_or source start 0 ≢ 0
 first-code source start is more e = grind (arith, leading_zeros-stop, get_or-drop, get_or)
 
+-- the first code is read
 pub read-first : (source old : List ℕ) (start : ℕ) → start ≡ leading_zeros source → start < length source → IsRead source old (start + 1) old (eqb (get_or source start 0) 255) (get_or source start 0 - 1) 0
 read-first source old start is more = grind (arith, length-drop, leading_zeros-stop, head_some, ne_eqb, drop_more, first-code)
 
@@ -59,6 +60,7 @@ module _ {source old new : List ℕ} {at left written : ℕ} {full : Bool} (s : 
   abbrev piece : List ℕ
   piece = head (rest source)
 
+  -- the next byte of the source
   here : get_or (rest source) s.n 0 ≡ get_or source at 0
   here = grind (arith, get_or-drop, get_or)
 
@@ -82,6 +84,7 @@ module _ {source old new : List ℕ} {at left written : ℕ} {full : Bool} (s : 
     abbrev byte : ℕ
     byte = get_or source at 0
 
+    -- one that has room
     read-more : {new' : List ℕ} {full' : Bool} {left' written' : ℕ} → new' ≡ next_buffer new (Within full left written) byte
         → Within full' left' written' ≡ next_phase (length new) (Within full left written) byte → written' ≤ length new' → IsRead source old (at + 1) new' full' left' written'
     read-more buffer next room =
@@ -98,6 +101,7 @@ module _ {source old new : List ℕ} {at left written : ℕ} {full : Bool} (s : 
           };
         }
 
+    -- the phase is `Overlong` after a byte that adds to a full buffer
     no-room : (left ≡ 0 → full ≡ false) → length new ≤ written → next_phase (length new) (Within full left written) byte ≡ Overlong
     no-room adds past = grind (arith, cases_eq, open-byte, ne_eqb, le-ltb)
 

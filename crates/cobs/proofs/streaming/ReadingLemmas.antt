@@ -26,16 +26,6 @@ use Rattle.cobs.proofs.streaming.LastPiece.{last_piece-zero}
 
 -- THE FIRST PIECE THAT ENDS
 
--- a piece that a decoder has taken
-abbrev pub EndsFirstIn-taken : {buffer buffer' : List ℕ} {phase phase' : Phase} {end : PieceEnd} {count : ℕ} (bytes : List ℕ) → TakesPiece buffer phase bytes (Some (end, count)) buffer' phase'
-    → (p : List ℕ) → DecoderAfter buffer phase p → EndsFirstIn p bytes (length buffer') (outcome_at end buffer') (drop count bytes)
-EndsFirstIn-taken {buffer} {buffer'} {phase} {phase'} {end} {count} bytes t p h = record {
-  front = t.ends.front;
-  cut = sym (take-append-drop count bytes) ∙ ap (λ (x : List ℕ). x ++ drop count bytes) t.ends.taken ∙ append_assoc t.ends.front (0 ∷ []) (drop count bytes);
-  none_before = let none = t.ends.none_before p h.phased in grind arith;
-  here = let said = t.takes.outcomes p h in grind arith;
-}
-
 -- the contents of the buffer after a piece that a zero ends, once the piece's output is written over its front
 written-fits : (out buffer : List ℕ) (count : ℕ) → length out ≤ length buffer → count ≡ length out → (count ≤ length (overwritten buffer out)) × (take count (overwritten buffer out) ≡ out)
 written-fits out buffer count fits is = grind (arith, take_all, length-append, take-append-le)
@@ -52,14 +42,23 @@ HasDecoded-written TooLong (byte ∷ bytes) buffer e =
     let long : length buffer < length (output (byte ∷ bytes)) = outcome_says (byte ∷ bytes) (length buffer) is in
     grind (arith, common_steps, nil_from_length, length-drop, append-nil, length-take)
 
--- the contents of the buffer after a piece that a decoder has taken
-pub HasDecoded-taken : {buffer buffer' : List ℕ} {phase phase' : Phase} {end : PieceEnd} {count : ℕ} (bytes : List ℕ) → (t : TakesPiece buffer phase bytes (Some (end, count)) buffer' phase')
-    → (p : List ℕ) → DecoderAfter buffer phase p → HasDecoded (outcome_at end buffer') buffer' (unended (p ++ t.ends.front))
-HasDecoded-taken {buffer} {buffer'} {phase} {phase'} {end} {count} bytes t p h =
-    let front = p ++ t.ends.front in
-    let none = t.ends.none_before p h.phased in
-    let cut : p ++ take count bytes ≡ front ++ 0 ∷ [] = ap (λ (x : List ℕ). p ++ x) t.ends.taken ∙ sym (append_assoc p t.ends.front (0 ∷ [])) in
-    grind (arith, HasDecoded-written, last_piece-zero, no_outcomes, outcomes_at, stream_outcomes-push)
+-- a piece that a decoder has taken, and the contents of the buffer after it
+module _ {buffer buffer' : List ℕ} {phase phase' : Phase} {end : PieceEnd} {count : ℕ} (bytes : List ℕ) (t : TakesPiece buffer phase bytes (Some (end, count)) buffer' phase')
+    (p : List ℕ) (h : DecoderAfter buffer phase p) where
+  abbrev pub EndsFirstIn-taken : EndsFirstIn p bytes (length buffer') (outcome_at end buffer') (drop count bytes)
+  EndsFirstIn-taken = record {
+    front = t.ends.front;
+    cut = sym (take-append-drop count bytes) ∙ ap (λ (x : List ℕ). x ++ drop count bytes) t.ends.taken ∙ append_assoc t.ends.front (0 ∷ []) (drop count bytes);
+    none_before = let none = t.ends.none_before p h.phased in grind arith;
+    here = let said = t.takes.outcomes p h in grind arith;
+  }
+
+  pub HasDecoded-taken : HasDecoded (outcome_at end buffer') buffer' (unended (p ++ t.ends.front))
+  HasDecoded-taken =
+      let front = p ++ t.ends.front in
+      let none = t.ends.none_before p h.phased in
+      let cut : p ++ take count bytes ≡ front ++ 0 ∷ [] = ap (λ (x : List ℕ). p ++ x) t.ends.taken ∙ sym (append_assoc p t.ends.front (0 ∷ [])) in
+      grind (arith, HasDecoded-written, last_piece-zero, no_outcomes, outcomes_at, stream_outcomes-push)
 
 -- the first piece that ends in bytes after a stream t, in which no piece has ended
 abbrev pub EndsFirst-behind : (t : List ℕ) {bytes behind : List ℕ} {n : ℕ} {outcome : Outcome} → stream_outcomes t n ≡ [] → EndsFirstIn (unended t) bytes n outcome behind → EndsFirst (t ++ bytes) n outcome behind
@@ -74,6 +73,7 @@ EndsFirst-behind t {bytes} {behind} {n} {outcome} none w = record {
 
 -- THE FLAG OF THE READER FOR A BEGUN PIECE
 
+-- the flag of a decoder in this phase
 not_idle : Phase → Bool
 not_idle Idle = false
 not_idle (Within full left count) = true
@@ -93,6 +93,7 @@ HasTaken-any buffer phase flag q some h = record {
 
 -- ONE MORE READ
 
+-- the steps of the source, and the bytes that the reads gave
 Runs-push : {S : Type 0} (step : S → Read → S → Type 0) (a : S) (reads : List Read) (b c : S) (read : Read) → Runs step a reads b → step b read c → Runs step a (reads ++ read ∷ []) c
 Runs-push step a [] b c read r s = grind arith
 Runs-push step a (first ∷ reads) b c read r s = (r.0, r.1, Runs-push step r.0 reads b c read r.2 s)
@@ -150,6 +151,7 @@ pub Going-start : {S : Type 0} (step : S → Read → S → Type 0) (source : S)
 Going-start step source reader₀ reader unfinished h len = grind (arith, All-nil, append-nil)
 
 module _ {S : Type 0} {step : S → Read → S → Type 0} {from to : S} {reader₀ reader : ReaderState} {unfinished : Bool} {count : ℕ} where
+  -- no piece has ended
   none_so_far : (g : Going step from to reader₀ reader unfinished count) → (p : List ℕ) → ReaderAfter reader₀ p
       → stream_outcomes (p ++ reader₀.kept ++ all_given g.reads) (length reader₀.buffer) ≡ []
   none_so_far g p b = rw (← g.len) (g.at_end p b).none_ended

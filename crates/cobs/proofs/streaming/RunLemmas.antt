@@ -69,6 +69,7 @@ piece-over {buffer₀} {buffer} {phase₀} bytes i (suc r) within some t =
 pub phase_with-begun : (full : Bool) (left count : ℕ) → 0 < left + count → phase_with full left count ≡ Within full left count
 phase_with-begun full left count h = grind arith
 
+-- bytes that are fed quietly change nothing after the output
 quiet_rest : (xs buffer buffer' : List ℕ) (phase phase' : Phase) → HasNoZero xs → FeedsQuietly buffer phase xs buffer' phase' →
     (written_in phase ≤ written_in phase') × ((k : ℕ) → written_in phase' ≤ k → drop k buffer' ≡ drop k buffer)
 quiet_rest [] buffer buffer' phase phase' nz f = grind arith
@@ -77,7 +78,7 @@ quiet_rest (x ∷ xs) buffer buffer' phase phase' nz f = grind (arith, ne_eqb, c
 pub rest_kept : (xs buffer buffer' : List ℕ) (inner inner' : UnbufferedDecoder) (k : ℕ) → HasNoZero xs → FeedsQuietly buffer (phase_of inner) xs buffer' (phase_of inner') → inner'.written ≤ k → drop k buffer' ≡ drop k buffer
 rest_kept xs buffer buffer' inner inner' k nz f past = grind (arith, quiet_rest)
 
--- so do those from a place on, when a decoder has read those before it, from another place on
+-- so the bytes from index `at` on are as they were, after a decoder has read those from index `read` to `at`
 pub rest_read : (buffer buffer' : List ℕ) (inner inner' : UnbufferedDecoder) (read at end : ℕ) → read ≤ at → at ≤ end → HasNoZero (take (end - read) (drop read buffer))
     → FeedsQuietly buffer (phase_of inner) (take (at - read) (drop read buffer)) buffer' (phase_of inner') → inner'.written ≤ at → drop at buffer' ≡ drop (at - read) (drop read buffer)
 rest_read buffer buffer' inner inner' read at end order within nz f past =

@@ -108,6 +108,7 @@ block_fed inner (suc run) dest bytes new going most room within nz is =
     let fed = open_fed s inner.joint (sym past) (code_by-full inner.joint) in
     grind arith
 
+-- read from code to code, n codes 1 become n zeros
 row_ones : (n : ℕ) → walked 1 0 (replicate n 1) ≡ (replicate n 0, 1, 0)
 row_ones zero = refl
 row_ones (suc n) = grind (arith, row_ones n)
@@ -133,6 +134,7 @@ joint-is code joint full other = grind (arith, cases_eq, ne_eqb)
 -- bytes that were copied or moved to the end of the output
 module _ (inner : UnbufferedDecoder) (len : ℕ) (dest : List ℕ) (nz : HasNoZero (take len (drop inner.written dest))) (before xs : List ℕ) (room : inner.written + len ≤ length before) (long : length xs ≡ len)
     (is : dest ≡ take inner.written before ++ (xs ++ drop (inner.written + len) before)) (going : inner.too_long ≡ 0) (full : inner.joint ≡ 0 → len ≤ inner.missing) (few : (0 < len) × (len < 254)) where
+  -- the bytes at the end of the output, and the code of the open block
   abbrev part : List ℕ
   part = take (inner.written + len - inner.written) (drop inner.written dest)
 

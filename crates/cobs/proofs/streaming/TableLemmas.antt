@@ -22,6 +22,7 @@ use Rattle.cobs.proofs.decoding.PieceLemmas.{output-one, last_part-one, output-p
 abbrev pub inside : Bool → ℕ → DecoderState
 inside full left = cond full (GrabChain left) (Grab left)
 
+-- the state after a piece, by its last part; and after a code that begins a part
 state_after-is : (c : ℕ) (q : List ℕ) {full : Bool} {left : ℕ} → EndsIn (c ∷ q) full left → state_after (c ∷ q) ≡ inside full left
 state_after-is c q is = grind (arith, inside)
 
@@ -57,6 +58,7 @@ StateAfter-step state p so_far b below s some = grind (arith, common_steps, All-
 pub StateAfter-start : StateAfter Idle [] []
 StateAfter-start = grind (arith, All-nil, output-nil)
 
+-- the result for the zero that ends a piece
 at_end : (c : ℕ) (q : List ℕ) → table_result (state_after (c ∷ q)) 0 ≡ cond (is_whole (c ∷ q)) (Ok DataComplete) (Err (InvalidFrame 0))
 unfolding is_whole
 at_end c q = grind (arith, ne_eqb)

@@ -59,6 +59,7 @@ module _ {h old b1 : List ℕ} {tail run : ℕ} {inner : UnbufferedDecoder} (f :
     first : FeedsQuietly old Idle p b1 (phase_of inner)
     first = grind (arith, take_all, p, length-take)
 
+    -- the missing bytes of the open block: at most 254
     left-is : missing (last_part p) ≡ inner.missing
     left-is = grind (arith, quiet-at, p, quiet, p-nonzero, first)
 

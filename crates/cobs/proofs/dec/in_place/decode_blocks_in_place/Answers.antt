@@ -48,9 +48,11 @@ module _ (c : After-take_in_place) where
       let nz = part-nonzero 0 (tail - 0) c.args.end old c.requires.nonzero (omega arith) in
       rest_read old new START c.take_in_place.new.self 0 tail tail (omega arith) (omega arith) nz c.take_in_place.ensures.fed c.take_in_place.ensures.behind ∙ ap (λ (k : ℕ). drop k old) (omega arith)
 
+  -- the missing bytes of the open block
   left : c.take_in_place.new.self.missing ≡ missing (last_part (take tail old))
   left = grind (arith, quiet-at, old, new, tail, phase, quiet, first, fed)
 
+  -- the last 254 bytes
   abbrev bytes : List ℕ
   bytes = take (c.args.end - tail) (drop tail old)
 

@@ -60,9 +60,11 @@ module _ {old moved : List ℕ} {len : ℕ} (m : Moved old moved len) where
     ys-long : length ys ≡ len - 1
     ys-long = grind (arith, length-walked, front, long)
 
+    -- a copy of the frame is put back over its bytes
     put_back : (copy : List ℕ) → copy ≡ take len old → copy ++ drop len (ys ++ drop (len - 1) moved) ≡ old
     put_back copy is = grind (arith, drop_at, ys-long, rest, drop-later, take-append-drop)
 
+    -- the last block is whole
     module _ (none : left ≡ 0) where
       whole : missing (last_part (take len old)) ≡ 0
       whole = sym piece.1 ∙ none

@@ -27,6 +27,7 @@ module _ (source dest rest : List ℕ) (s : ℕ) (some : 0 < length source) (cop
   source-is : xor_each s source ≡ bit_xor (get_or source 0 0) s ∷ behind
   source-is = grind (arith, drop_more, bit_xor, get_or, behind-is)
 
+  -- with a zero over each code, these bytes are the output
   piece : length source ≤ 65 → get_or source 0 0 ≢ s → HasNoZero (xor_each s (take (length source - 1) (drop 1 source))) → {ys : List ℕ} {code left : ℕ} → IsWalked ys code left (bit_xor (get_or source 0 0) s) (bit_xor (get_or source 0 0) s - 1) behind
       → (ys ≡ output (xor_each s source)) × (left ≡ missing (last_part (xor_each s source)))
   piece few other nz w = rw source-is (as_piece _ _ w (omega (arith, long))

@@ -26,6 +26,7 @@ module _ (c : After-take_run-len) where
   abbrev slice : List ℕ
   slice = take (length source - c.leading_zeros-start.result) (drop c.leading_zeros-start.result source)
 
+  -- the slice is the source after its leading zeros
   rest-is : slice ≡ rest source
   rest-is = grind (arith, take_rest, source)
 
