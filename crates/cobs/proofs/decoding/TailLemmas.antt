@@ -74,7 +74,7 @@ ends-ones (suc n) p q at fits ones ends =
     let one : 1 ≡ get_or q at 0 = cc in
     let others : take n (drop (at + 1) q) ≡ replicate n 1 = cc in
     let next = ends-next p q at 1 (omega arith) one ends (omega arith) (omega arith) in
-    subst (λ (k : ℕ). missing (last_part (p ++ take k q)) ≡ 0) {x = at + 1 + n} (omega arith) (ends-ones n p q (at + 1) (omega arith) others next)
+    grind (arith, ends-ones n p q (at + 1) (omega arith) others next)
 
 -- whole blocks
 pub whole-kept : (p : List ℕ) → missing (last_part p) ≡ 0 → output p ≡ kept_output p
@@ -95,7 +95,7 @@ kept-behind n p [] le none small ends = grind (arith, append-nil, whole-kept)
 kept-behind zero p (code ∷ bytes) le none small ends = grind arith
 kept-behind (suc n) p (code ∷ bytes) le none small ends =
     let q : List ℕ = code ∷ bytes in
-    let start : missing (last_part (p ++ take 0 q)) ≡ 0 = ap (λ (l : List ℕ). missing (last_part l)) (append-nil p) ∙ ends in
+    let start : missing (last_part (p ++ take 0 q)) ≡ 0 = rw append-nil ends in
     let some = All-head (λ b. b ≢ 0) code bytes none in
     let below = All-head (λ b. b < 256) code bytes small in
     elim (cases_lt (length q) code) [

@@ -84,7 +84,7 @@ module _ {buffer₀ buffer buffer' : List ℕ} {phase₀ phase phase' : Phase} {
   -- the byte ends no piece
   pub piece-more : (get_or bytes i 0 ≡ 0 → end_reported result ≡ None) → TakesPiece buffer₀ phase₀ (take (i + 1) bytes) None buffer' phase'
   piece-more none = record {
-    takes = subst (λ stated. TakesBytes buffer₀ phase₀ (take (i + 1) bytes) stated buffer' phase') nothing takes_behind;
+    takes = rw nothing at takes_behind;
     ends = tt;
     holds = holds_behind;
     untouched = untouched_behind;
@@ -101,8 +101,8 @@ module _ {buffer₀ buffer buffer' : List ℕ} {phase₀ phase phase' : Phase} {
   piece-ended end z is =
       let e = stated-some result buffer' end is (rw f.len f.bound) in
       let stated : reported_by (get_or bytes i 0) result buffer' ≡ outcome_at end buffer' ∷ [] = rw (eq-eqb _ 0 z) e.0 in
-      let takes = subst (λ stated. TakesBytes buffer₀ phase₀ (take (i + 1) bytes) stated buffer' phase') stated takes_behind in
-      let fits = subst (λ n. IsWithin n end) (f.len ∙ t.takes.len) e.1 in
+      let takes = rw stated at takes_behind in
+      let fits = rw (f.len ∙ t.takes.len) at e.1 in
       record {
         takes = takes;
         ends = record {

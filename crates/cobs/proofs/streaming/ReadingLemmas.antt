@@ -111,14 +111,11 @@ module _ (front : List ℕ) (n : ℕ) (reads : List Read) (gave : All GaveBytes 
   -- after the first k of them another read is made
   called_after : (k : ℕ) → k < 65536 → CallsForMore front n (take k reads)
   called_after k few =
-      let whole : all_given (take k reads) ++ all_given (drop k reads) ≡ all_given reads
-      = sym (flat_map-append bytes_given (take k reads) (drop k reads)) ∙ ap all_given (take-append-drop k reads) in
-      let all = append_assoc front (all_given (take k reads)) (all_given (drop k reads)) ∙ ap (λ (x : List ℕ). front ++ x) whole in
+      let cut = flat_map-append bytes_given (take k reads) (drop k reads) in
       record {
         few = omega (arith, length-take k reads);
         gave = All-take GaveBytes k reads gave;
-        none_ended = left_nothing _ _ (sym (stream_outcomes-append (front ++ all_given (take k reads)) (all_given (drop k reads)) n)
-            ∙ ap (λ (x : List ℕ). stream_outcomes x n) all ∙ none);
+        none_ended = grind (arith, take-append-drop, append_assoc, left_nothing, stream_outcomes-append);
       }
 
   -- so each of them was called for, and so was one read after them
@@ -127,9 +124,8 @@ module _ (front : List ℕ) (n : ℕ) (reads : List Read) (gave : All GaveBytes 
       let long = ap length e ∙ length-append earlier (read ∷ later) in
       let within : length earlier ≤ length reads = omega (arith, long, length-append reads more) in
       let same : take (length earlier) reads ≡ earlier
-      = sym (take-append-le (length earlier) reads more within) ∙ ap (take (length earlier)) e
-      ∙ take_at earlier (read ∷ later) (length earlier) refl in
-      subst (λ (x : List Read). CallsForMore front n x) same (called_after (length earlier) (omega (arith, long)))
+      = sym (take-append-le (length earlier) reads more within) ∙ ap (take (length earlier)) e ∙ take_at earlier (read ∷ later) (length earlier) refl in
+      rw same at (called_after (length earlier) (omega (arith, long)))
 
 -- A CALL THAT GOES ON
 

@@ -116,7 +116,7 @@ module _ {buffer₀ buffer buffer' : List ℕ} {phase₀ phase phase' : Phase} {
   SoFar-more s t = record {
     len = t.len ∙ s.len;
     feeds = FeedsEach-append done more buffer₀ buffer buffer' phase₀ phase phase' s.feeds t.feeds;
-    phased = λ p h. rw (unended_more p done more) (subst (λ n. PhaseAfter n phase' (unended (unended (p ++ done) ++ more))) s.len (t.phased _ (phase_so_far s p h)));
+    phased = λ p h. rw (unended_more p done more, ← s.len) (t.phased _ (phase_so_far s p h));
     after = λ p h. rw (unended_more p done more) (t.after _ (s.after p h));
     outcomes = λ p h. rw (outcomes_more p done more (length buffer₀), ← s.outcomes p h, reported_more s t p (s.after p h)) refl;
     alike = λ p h. elim (zero_or_none done) [
@@ -124,7 +124,7 @@ module _ {buffer₀ buffer buffer' : List ℕ} {phase₀ phase phase' : Phase} {
       | inr none ↦
           let plain : stream_outcomes (p ++ done) (length buffer₀) ≡ [] = stream_outcomes-no_zero (p ++ done) (length buffer₀) (All-append (λ b. b ≢ 0) p done h.piece none) in
           rw (outcomes_more p done more (length buffer₀), plain, alike-nil found (rw plain at (s.alike p h)))
-          (subst (λ n. AreAlikeAtFirst stated (stream_outcomes (unended (p ++ done) ++ more) n)) s.len (t.alike _ (phase_so_far s p h)))
+          (rw s.len at (t.alike _ (phase_so_far s p h)))
     ];
     after_zero = λ p h z. rw (unended_more p done more) (elim (Contains-append_cases done more 0 z) [
       | inl old ↦ t.after _ (s.after_zero p h old)

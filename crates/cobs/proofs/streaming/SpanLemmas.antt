@@ -122,10 +122,9 @@ row_fed n inner dest bytes new some few going none due room ones is =
     let long : length (replicate {A = ℕ} n 1) ≡ n = length-replicate {A = ℕ} n 1 in
     let s : IsSpan inner n dest (replicate n 1)
     = record { room = room; long = long; going = going; full = λ e. absurd (due e); nonzero = ones-nonzero n; some = some; few = λ _. few } in
-    rw (ones, is ∙ ap (λ (k : ℕ). take inner.written dest ++ (replicate n 0 ++ drop (inner.written + k) dest)) (sym (length-replicate {A = ℕ} n 0)))
-    (open_fed s inner.joint
-    (ap (λ (k : ℕ). (replicate n 0, 1, k)) none ∙ sym (row_ones n) ∙ walked-any 1 code 0 (replicate n 1) (omega (arith, long)) ∙ ap (λ (k : ℕ). walked code k (replicate n 1)) (sym none))
-    (ne_eqb inner.joint 0 due))
+    let same = walked-any 1 code 0 (replicate n 1) (omega (arith, long)) in
+    let fed = open_fed s inner.joint {ys = replicate n 0} {code = 1} {left = 0} (grind (arith, row_ones)) (ne_eqb inner.joint 0 due) in
+    grind (arith, length-replicate)
 
 -- what `joint_after` returns for a code
 pub joint-is : (code joint : ℕ) → (code ≡ 255 → joint ≡ 0) → (code ≢ 255 → joint ≡ 1) → eqb joint 0 ≡ eqb code 255

@@ -24,8 +24,7 @@ module _ (old : List ℕ) (end : ℕ) (fits : end ≤ length old) where
     next-byte : (next : ℕ) (tail : List ℕ) → read < next → take (next - read) (drop read h) ++ tail ≡ get_or buffer read 0 ∷ (take (next - (read + 1)) (drop (read + 1) h) ++ tail)
     next-byte next tail more =
         let one : next - read ≡ suc (next - (read + 1)) = omega arith in
-        ap (λ (x : List ℕ). take (next - read) x ++ tail) (drop_more h read 0 (omega (arith, long)))
-        ∙ ap (λ (k : ℕ). take k (get_or h read 0 ∷ drop (read + 1) h) ++ tail) one ∙ ap (λ (b : ℕ). b ∷ (take (next - (read + 1)) (drop (read + 1) h) ++ tail)) (sym byte-is)
+        rw (one, drop_more h read 0 (omega (arith, long)), byte-is) refl
 
     -- the last byte of a block
     last-byte : (next : ℕ) (tail : List ℕ) → left ≡ take (next - read) (drop read h) ++ tail → read + 1 ≡ next → written < length buffer → Written h old (set buffer written (get_or buffer read 0)) (written + 1) tail

@@ -146,22 +146,18 @@ returns-then-dest-written c =
 pub returns-then-dest-written-2 : goal.returns-then-dest-written-2
 returns-then-dest-written-2 c =
     let i = c.by_block.invariant in
-    let rest : List ℕ = c.by_block.rest.now in
-    let s : ℕ = c.args.sentinel in
-    let some = some-left rest _ c.is_empty-in-by_block.ensures c.by_block-test.true in
+    let some = some-left _ _ c.is_empty-in-by_block.ensures c.by_block-test.true in
     let w = bytes-ended _ _ _ _ c.by_byte.invariant c.by_byte-test.false in
-    let zero = next-zero rest s some i.nonzero i.below c.if-rest-code.false (some-left _ _ c.is_empty-then-code-ne-FULL_CODE.ensures c.if-not-is_empty.true) c.if-code-ne-FULL_CODE.true in
+    let zero = next-zero _ _ some i.nonzero i.below c.if-rest-code.false (some-left _ _ c.is_empty-then-code-ne-FULL_CODE.ensures c.if-not-is_empty.true) c.if-code-ne-FULL_CODE.true in
     answered _ _ _ _ _ (some-left _ _ c.is_empty.ensures c.if-is_empty.false) (buffer-full w _ _ zero c.if-dest-written-2.true)
 
 pub by_block-preserved-then-not-is_empty : goal.by_block-preserved-then-not-is_empty
 by_block-preserved-then-not-is_empty c =
     let i = c.by_block.invariant in
-    let rest : List ℕ = c.by_block.rest.now in
-    let s : ℕ = c.args.sentinel in
-    let some = some-left rest _ c.is_empty-in-by_block.ensures c.by_block-test.true in
+    let some = some-left _ _ c.is_empty-in-by_block.ensures c.by_block-test.true in
     let w = bytes-ended _ _ _ _ c.by_byte.invariant c.by_byte-test.false in
-    let zero = next-zero rest s some i.nonzero i.below c.if-rest-code.false (some-left _ _ c.is_empty-then-code-ne-FULL_CODE.ensures c.if-not-is_empty.true) c.if-code-ne-FULL_CODE.true in
-    ended rest s some i.nonzero i.below c.if-rest-code.false _ _ _ _ i.whole (written-more w _ _ zero c.if-dest-written-2.false)
+    let zero = next-zero _ _ some i.nonzero i.below c.if-rest-code.false (some-left _ _ c.is_empty-then-code-ne-FULL_CODE.ensures c.if-not-is_empty.true) c.if-code-ne-FULL_CODE.true in
+    ended _ _ some i.nonzero i.below c.if-rest-code.false _ _ _ _ i.whole (written-more w _ _ zero c.if-dest-written-2.false)
 
 pub by_block-preserved : goal.by_block-preserved
 by_block-preserved c =

@@ -29,10 +29,8 @@ write_zeros_at_copied-requires t c =
     let code = code-is c.args.copied.now dest c.args.sentinel c.requires.copied (c.args.first - 1) (omega (arith, some)) in
     let less : length (drop c.args.first dest) < t = omega (arith, c.decreases, length-drop c.args.first dest) in
     let below = xor_lt 8 (get_or c.args.copied.now (c.args.first - 1) 0) c.args.sentinel (c.type_inv.copied (c.args.first - 1)).fits c.ranges.sentinel.fits in
-    let copied : drop c.args.first dest ≡ xor_each c.args.sentinel (take (length c.args.copied.now - c.args.first) (drop c.args.first c.args.copied.now))
-    = ap (drop c.args.first) c.requires.copied ∙ sym (rest_xored c.args.copied.now c.args.sentinel c.args.first) in
     let rest = next-nonzero c.args.first dest some (omega (arith, same)) nz in
-    grind arith
+    grind (arith, rest_xored)
 
 pub returns : goal.returns
 returns t c =
