@@ -74,7 +74,7 @@ module _ (f buffer : List ℕ) (result : Result DecodeReport DecodeError) (buffe
     (below : All (λ b. b < 256) f) where
   decode_reported : IsPiece f → (m : List ℕ) → ReportsMessage result buffer' m ↔ (Reads f m × (length m ≤ length buffer))
   decode_reported piece m =
-      let written : buffer' ≡ overwritten buffer (output f) = after ∙ ap (λ p. overwritten buffer (output_of p)) (first_piece_alone f piece.0 piece.1) in
+      let written : buffer' ≡ overwritten buffer (output f) = rw (first_piece_alone f piece.0 piece.1) at after in
       rw (returned, result_of_decode_alone f (length buffer) piece)
       (reports (len_through_piece f f) (outcome_result (outcome_of f _)) buffer' m _
       (returns-reads f m _ (outcome_result (outcome_of f _)) buffer' piece below (decode-reported f buffer buffer' _ refl written)))
@@ -112,8 +112,7 @@ module _ (f buffer : List ℕ) (result : Result ℕ DecodeError) (buffer' : List
     (below : All (λ b. b < 256) f) where
   source_reported : IsPiece f → (m : List ℕ) → ReturnsMessage result buffer' m ↔ (Reads f m × (length m ≤ length buffer))
   source_reported piece m =
-      let written : buffer' ≡ overwritten buffer (kept_output f)
-      = after ∙ ap (λ (h : List ℕ). overwritten buffer (kept_output h)) (head_alone f piece.1) in
+      let written : buffer' ≡ overwritten buffer (kept_output f) = rw (head_alone f piece.1) at after in
       rw (returned, result_of_sentinel_decode_alone f (length buffer) piece)
       (returns-reads f m _ _ buffer' piece below (source-reported f buffer buffer' _ refl piece.0 written))
 

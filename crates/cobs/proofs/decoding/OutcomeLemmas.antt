@@ -24,7 +24,7 @@ reads_only f m r = (frame_some f m r, frame_nonzero f m r, frame_whole f m r, fr
 pub reads_iff : (f m : List ℕ) → All (λ b. b < 256) f → Reads f m ↔ ((f ≢ []) × HasNoZero f × IsWhole f × (m ≡ output f))
 reads_iff f m below = (
   λ r. reads_only f m r,
-  λ (some, nonzero, whole, is). subst (λ (x : List ℕ). Reads f x) (sym is) (reads_output f some nonzero below whole),
+  λ (some, nonzero, whole, is). rw is (reads_output f some nonzero below whole),
 )
 
 -- THE OUTPUT IS NO LONGER THAN THE PIECE
@@ -48,7 +48,7 @@ unfolding outcome_of
 says p n = grind (arith, cases_Bool, leb-true, leb-false)
 
 pub outcome_says : (p : List ℕ) (n : ℕ) {outcome : Outcome} → outcome_of p n ≡ outcome → Says outcome p n
-outcome_says p n e = subst (λ o. Says o p n) e (says p n)
+outcome_says p n e = rw e at (says p n)
 
 pub outcome_of_whole : (p : List ℕ) (n : ℕ) → length (output p) ≤ n → IsWhole p → outcome_of p n ≡ Message (output p)
 unfolding outcome_of
@@ -77,7 +77,7 @@ pub outcome_message : (f m : List ℕ) (n : ℕ) → IsPiece f → All (λ b. b 
 outcome_message f m n (some, nonzero) below = (
   λ e.
       let (fits, whole, is) = outcome_says f n e in
-      (subst (Reads f) (sym is) (reads_output f some nonzero below whole), omega (arith, ap length is)),
+      (rw is (reads_output f some nonzero below whole), omega (arith, ap length is)),
   λ (r, fits). outcome_frame f m n r fits,
 )
 

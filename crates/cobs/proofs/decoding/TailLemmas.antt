@@ -52,14 +52,14 @@ module _ (p q : List ℕ) (at code : ℕ) (here : at < length q) (is : code ≡ 
       let next : List ℕ = take (code - 1) (drop (at + 1) q) in
       let split : p ++ take (at + code) q ≡ front ++ next = grind (arith, in_front, front-is) in
       let l = length-take-le (code - 1) (drop (at + 1) q) (omega (arith, length-drop (at + 1) q)) in
-      ap (λ (l : List ℕ). missing (last_part l)) split ∙ omega (arith, front-left, (into_last front next (omega (arith, front-left))).left)
+      rw split (omega (arith, front-left, (into_last front next (omega (arith, front-left))).left))
 
   module _ (short : length q < at + code) where
     behind : IntoLast front (drop (at + 1) q)
     behind = into_last front (drop (at + 1) q) (omega (arith, front-left, length-drop (at + 1) q))
 
     pub broken-last : missing (last_part (p ++ q)) ≢ 0
-    broken-last e = omega (arith, behind.left, front-left, length-drop (at + 1) q, ap (λ (l : List ℕ). missing (last_part l)) (sym all-is) ∙ e)
+    broken-last e = omega (arith, behind.left, front-left, length-drop (at + 1) q, rw all-is at e)
 
     pub broken-kept : output (p ++ take (at + 1) q) ≡ kept_output (p ++ q)
     unfolding kept_output

@@ -107,7 +107,7 @@ module _ {buffer₀ buffer buffer' : List ℕ} {phase₀ phase phase' : Phase} {
         takes = takes;
         ends = record {
           front = take i bytes;
-          taken = take_more bytes i 0 inside ∙ ap (λ (x : ℕ). take i bytes ++ x ∷ []) z;
+          taken = rw (take_more bytes i 0 inside, z) refl;
           none_before = none_before;
         };
         holds = holds_behind;

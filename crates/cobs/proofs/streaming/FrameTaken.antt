@@ -71,7 +71,7 @@ module _ (buffer buffer' f more : List ℕ) (phase phase' : Phase) (idle : phase
   pub taken-piece : (result : Option (PieceEnd × ℕ)) → TakesPiece buffer phase (f ++ 0 ∷ more) result buffer' phase'
       → (end : PieceEnd) × (result ≡ Some (end, length f + 1)) × (outcome_at end buffer' ≡ outcome_of f (length buffer))
   taken-piece None t = absurd (not_none t)
-  taken-piece (Some (end, count)) t = let e = ended end count t in (end, ap (λ (k : ℕ). Some (end, k)) e.0, e.1)
+  taken-piece (Some (end, count)) t = let e = ended end count t in (end, rw e.0 refl, e.1)
 
   pub taken-reads : (result : Option (PieceEnd × ℕ)) → TakesPiece buffer phase (f ++ 0 ∷ more) result buffer' phase' → (m : List ℕ) → Reads f m → length m ≤ length buffer
       → (result ≡ Some (ends.Message (length m), length f + 1)) × (take (length m) buffer' ≡ m)

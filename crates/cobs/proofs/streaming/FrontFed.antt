@@ -1,6 +1,6 @@
 -- A source that begins with a code, the front of which was fed to an idle decoder: up to the end of the source's first piece,
 -- or up to a byte for which the buffer has no room. The front has no zero, so it is a front of that piece (`QuietLemmas`).
-use Rattle.std.proofs.Common.{◌≡◌, ◌≢◌, ◌∙◌, ◌+◌, ◌<◌, ◌≤◌, ◌++◌, ℕ, List, ◌∷◌, length, take, drop, get_or, sym, ap, arith, length-append, length-take, length-take-le}
+use Rattle.std.proofs.Common.{◌≡◌, ◌≢◌, ◌∙◌, ◌+◌, ◌<◌, ◌≤◌, ◌++◌, ℕ, List, ◌∷◌, length, take, drop, get_or, sym, ap, arith, length-append, length-take, length-take-le, refl}
 use Rattle.std.proofs.lemmas.List.{drop_more, get_or-take, take-append-drop}
 use Rattle.cobs.specs.Feed.{Idle, Overlong, Phase}
 use Rattle.cobs.specs.Grammar.{HasNoZero}
@@ -49,8 +49,8 @@ module _ {source old new : List ℕ} {phase : Phase} {run : ℕ} (f : FrontFed s
 
     split : take run source ++ get_or source run 0 ∷ tail ≡ head source
     split =
-        ap (λ (l : List ℕ). take run source ++ l) (sym (ap head (drop_more source run 0 more) ∙ head-cons _ _ other))
-        ∙ sym (head-append (take run source) (drop run source) none) ∙ ap head (take-append-drop run source)
+        let rest : head (drop run source) ≡ get_or source run 0 ∷ tail = rw (drop_more source run 0 more) (head-cons _ _ other) in
+        rw (← rest, ← head-append (take run source) (drop run source) none, take-append-drop run source) refl
 
     pub over-long : length old < length (output (head source))
     over-long = grind (arith, split, quiet-long, front, tail)

@@ -36,9 +36,8 @@ ended_pieces-zero t = grind (arith, ended_pieces-append, stretches-piece, unende
 
 pub ended_pieces-nonzero : (t : List ℕ) (b : ℕ) → b ≢ 0 → ended_pieces (t ++ b ∷ []) ≡ ended_pieces t
 ended_pieces-nonzero t b h =
-    ended_pieces-append t (b ∷ [])
-    ∙ ap (λ (z : List (List ℕ)). ended_pieces t ++ z) (ended_pieces-no_zero (unended t ++ b ∷ []) (subst HasNoZero (unended-push t b ∙ fed-nonzero (unended t) b h) (unended_no_zero (t ++ b ∷ []))))
-    ∙ append-nil (ended_pieces t)
+    let none = rw (unended-push t b, fed-nonzero (unended t) b h) at (unended_no_zero (t ++ b ∷ [])) in
+    ended_pieces-append t (b ∷ []) ∙ rw (ended_pieces-no_zero (unended t ++ b ∷ []) none) (append-nil (ended_pieces t))
 
 -- where none had ended before a zero, the last piece is the one that it ends
 pub last_piece-zero : (t : List ℕ) → ended_pieces t ≡ [] → last_piece (t ++ 0 ∷ []) ≡ unended t

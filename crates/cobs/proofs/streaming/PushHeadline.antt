@@ -24,7 +24,7 @@ use Rattle.cobs.proofs.decoding.HeadlineLemmas.{bytes_below}
 
 -- a front's output is no longer
 output-take : (f : List ℕ) (k : ℕ) → length (output (take k f)) ≤ length (output f)
-output-take f k = let h = output-grows (take k f) (drop k f) in let e = ap (λ (x : List ℕ). length (output x)) (take-append-drop k f) in omega arith
+output-take f k = rw (take-append-drop k f) at (output-grows (take k f) (drop k f))
 
 -- a byte of the piece whose output so far fits returns `Ok(None)`
 result_for-quiet : (q : List ℕ) (b n : ℕ) → b ≢ 0 → length (output (q ++ b ∷ [])) ≤ n → result_for q b n ≡ Ok None
@@ -51,7 +51,7 @@ module _ (buffer bytes buffer' f m : List ℕ) (phase phase' : Phase) (idle : ph
   -- the outcomes of the bytes that the push consumed are those that its result reports
   outcomes : (result : Result (Option DecodeReport) PushError) → PushesBytes buffer phase bytes result buffer' phase'
       → stream_outcomes (take (consumed_size bytes result) (f ++ 0 ∷ [])) (length buffer) ≡ pushed_outcomes bytes result buffer'
-  outcomes result w = ap (λ (x : List ℕ). stream_outcomes (take (consumed_size bytes result) x) (length buffer)) (sym is) ∙ w.outcomes [] after
+  outcomes result w = rw (← is) (w.outcomes [] after)
 
   -- a message is reported only after the zero, and it is the outcome of f
   stated : (result : Result (Option DecodeReport) PushError) → PushesBytes buffer phase bytes result buffer' phase'

@@ -48,7 +48,7 @@ module _ {buffer buffer' : List ℕ} {phase phase' : Phase} {end : PieceEnd} {co
   abbrev pub EndsFirstIn-taken : EndsFirstIn p bytes (length buffer') (outcome_at end buffer') (drop count bytes)
   EndsFirstIn-taken = record {
     front = t.ends.front;
-    cut = sym (take-append-drop count bytes) ∙ ap (λ (x : List ℕ). x ++ drop count bytes) t.ends.taken ∙ append_assoc t.ends.front (0 ∷ []) (drop count bytes);
+    cut = sym (take-append-drop count bytes) ∙ rw (t.ends.taken, append_assoc) refl;
     none_before = let none = t.ends.none_before p h.phased in grind arith;
     here = let said = t.takes.outcomes p h in grind arith;
   }
@@ -57,7 +57,7 @@ module _ {buffer buffer' : List ℕ} {phase phase' : Phase} {end : PieceEnd} {co
   HasDecoded-taken =
       let front = p ++ t.ends.front in
       let none = t.ends.none_before p h.phased in
-      let cut : p ++ take count bytes ≡ front ++ 0 ∷ [] = ap (λ (x : List ℕ). p ++ x) t.ends.taken ∙ sym (append_assoc p t.ends.front (0 ∷ [])) in
+      let cut : p ++ take count bytes ≡ front ++ 0 ∷ [] = rw (t.ends.taken, append_assoc) refl in
       grind (arith, HasDecoded-written, last_piece-zero, no_outcomes, outcomes_at, stream_outcomes-push)
 
 -- the first piece that ends in bytes after a stream t, in which no piece has ended
@@ -162,7 +162,7 @@ module _ {S : Type 0} {step : S → Read → S → Type 0} {from to : S} {reader
   ReadsNext-read {to'} read few g s failed says = record {
     reads = g.reads ++ read ∷ [];
     runs = Runs-push step from g.reads to to' read g.runs s;
-    failed = (λ e. (g.reads, ap (λ (r : Read). g.reads ++ r ∷ []) (failed.0 e)), λ l. failed.1 (last_read g.reads read None l));
+    failed = (λ e. (g.reads, rw (failed.0 e) refl), λ l. failed.1 (last_read g.reads read None l));
     called_for = λ p b. called_for _ _ g.reads g.gave (none_so_far g p b) (read ∷ [])
         (omega arith) (omega (arith, length_push g.reads read, g.count_is));
     result_says = λ p b. rw (given-push (p ++ reader₀.kept) g.reads read) (says p b);
@@ -232,7 +232,7 @@ module _ {S : Type 0} {step : S → Read → S → Type 0} {from to to' : S} {re
   Going-push bytes unfinished' some g s len h = record {
     reads = g.reads ++ Some bytes ∷ [];
     runs = Runs-push step from g.reads to to' (Some bytes) g.runs s;
-    count_is = length_push g.reads (Some bytes) ∙ ap (λ (k : ℕ). k + 1) g.count_is;
+    count_is = length_push g.reads (Some bytes) ∙ rw g.count_is refl;
     gave = All-push GaveBytes g.reads (Some bytes) g.gave some;
     at_end = λ p b.
         let t = p ++ reader₀.kept ++ all_given g.reads in

@@ -35,8 +35,10 @@ pub ran-on : (P : List ℕ → Phase → ℕ → Type 0) (bytes : List ℕ)
     → (buffer buffer' : List ℕ) (phase phase' : Phase) (i r : ℕ) → i + r ≤ length bytes → P buffer phase i → FeedsQuietly buffer phase (take r (drop i bytes)) buffer' phase' → P buffer' phase' (i + r)
 ran-on P bytes more buffer buffer' phase phase' i zero within s f = grind arith
 ran-on P bytes more buffer buffer' phase phase' i (suc r) within s f =
-    let fed = subst (λ (l : List ℕ). FeedsQuietly buffer phase l buffer' phase') (from_here bytes i r (omega arith)) f in
-    subst (P buffer' phase') (omega arith) (ran-on P bytes more (next_buffer buffer phase (get_or bytes i 0)) buffer' (next_phase (length buffer) phase (get_or bytes i 0)) phase' (i + 1) r (omega arith) (more buffer phase i (omega arith) s fed.0) fed.1)
+    let fed = rw (from_here bytes i r (omega arith)) at f in
+    let byte = get_or bytes i 0 in
+    let rest = ran-on P bytes more (next_buffer buffer phase byte) buffer' (next_phase (length buffer) phase byte) phase' (i + 1) r (omega arith) (more buffer phase i (omega arith) s fed.0) fed.1 in
+    subst (P buffer' phase') (omega arith) rest
 
 -- so a piece that hasn't ended continues
 pub piece-run : {buffer₀ buffer buffer' : List ℕ} {phase₀ phase phase' : Phase} (bytes : List ℕ) (i r : ℕ) → i + r ≤ length bytes → TakesPiece buffer₀ phase₀ (take i bytes) None buffer phase
@@ -57,10 +59,10 @@ pub piece-over : {buffer₀ buffer : List ℕ} {phase₀ : Phase} (bytes : List 
     → TakesPiece buffer₀ phase₀ (take i bytes) None buffer Overlong → TakesPiece buffer₀ phase₀ (take (i + r) bytes) None buffer Overlong
 piece-over bytes i zero within some t = grind arith
 piece-over {buffer₀} {buffer} {phase₀} bytes i (suc r) within some t =
-    let rest = subst HasNoZero (from_here bytes i r (omega arith)) some in
+    let rest = rw (from_here bytes i r (omega arith)) at some in
     let nz = All-head (λ b. b ≢ 0) _ _ rest in
     let over : next_phase (length buffer) Overlong (get_or bytes i 0) ≡ Overlong = rw (ne_eqb _ 0 nz) refl in
-    let one = subst (λ phase. TakesPiece buffer₀ phase₀ (take (i + 1) bytes) None buffer phase) over (piece-more bytes i (omega arith) t (Feeds-step buffer Overlong (get_or bytes i 0)) (λ z. absurd (nz z))) in
+    let one = rw over at (piece-more bytes i (omega arith) t (Feeds-step buffer Overlong (get_or bytes i 0)) (λ z. absurd (nz z))) in
     subst (λ (k : ℕ). TakesPiece buffer₀ phase₀ (take k bytes) None buffer Overlong) (omega arith) (piece-over bytes (i + 1) r (omega arith) (All-tail (λ b. b ≢ 0) _ _ rest) one)
 
 -- THE RUN OF A DECODER

@@ -148,7 +148,9 @@ module _ (inner : UnbufferedDecoder) (len : ℕ) (dest : List ℕ) (nz : HasNoZe
 
   -- with a code after it, a code of one more than its missing bytes is as good as its own
   own : inner.missing < len → walked (inner.missing + 1) (inner.missing + 1 - 1) part ≡ walked code inner.missing xs
-  own more = ap (λ (k : ℕ). walked (inner.missing + 1) k part) (omega arith) ∙ ap (walked (inner.missing + 1) inner.missing) part-is ∙ walked-any (inner.missing + 1) code inner.missing xs (omega arith)
+  own more =
+      let same : inner.missing + 1 - 1 ≡ inner.missing = omega arith in
+      rw (part-is, same) (walked-any (inner.missing + 1) code inner.missing xs (omega arith))
 
   dest-is : dest ≡ take inner.written before ++ (xs ++ drop (inner.written + length xs) before)
   dest-is = grind arith

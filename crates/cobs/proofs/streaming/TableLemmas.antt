@@ -68,7 +68,7 @@ complete : (p m : List ℕ) → HasNoZero p → All (λ b. b < 256) p → ((tabl
 complete [] m nonzero below = (λ (e, is). absurd cc, λ r. absurd (((reads_iff [] m below).0 r).0 refl))
 complete (c ∷ q) m nonzero below = (
   λ (e, is). (reads_iff (c ∷ q) m below).1 ((λ n. cc), nonzero, whole (is_whole (c ∷ q)) (sym (at_end c q) ∙ e), sym is),
-  λ r. let w = (reads_iff (c ∷ q) m below).0 r in (at_end c q ∙ ap (λ (t : Bool). cond t (Ok DataComplete) (Err (InvalidFrame 0))) w.2, sym w.3),
+  λ r. let w = (reads_iff (c ∷ q) m below).0 r in (rw (at_end c q, w.2) refl, sym w.3),
 )
   where
     whole : (t : Bool) → cond t (Ok DataComplete) (Err (InvalidFrame 0)) ≡ Ok DataComplete → t ≡ true
