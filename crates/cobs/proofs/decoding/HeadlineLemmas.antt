@@ -49,7 +49,7 @@ returns-reads : (f m : List ℕ) (n : ℕ) (result : Result ℕ DecodeError) (bu
 returns-reads f m n result buffer piece below h =
     let r = reported (outcome_of f n) result buffer m h in
     let o = outcome_message f m n piece below in
-    (λ s. o.0 (r.0 s), λ s. r.1 (o.1 s))
+    grind arith
 
 -- the same for a report, which also has the number of parsed bytes
 reports : (parsed : ℕ) (result : Result ℕ DecodeError) (buffer m : List ℕ) (P : Type 0) → ReturnsMessage result buffer m ↔ P → ReportsMessage (report_result parsed result) buffer m ↔ P

@@ -39,7 +39,7 @@ DecodedInPlace h old buffer result = record { returned : result ≡ head_result 
 last_fits : (blocks : List (List ℕ)) → length (bytes_of (last_of blocks)) ≤ length (message_of blocks)
 last_fits [] = omega arith
 last_fits (part ∷ []) = omega arith
-last_fits (part ∷ next ∷ more) = grind (arith, length-append, (last_fits (next ∷ more)))
+last_fits (part ∷ next ∷ more) = grind (arith, length-append, last_fits (next ∷ more))
 
 last_part_fits : (p : List ℕ) → length (bytes_of (last_part p)) ≤ length (output p)
 unfolding last_part output

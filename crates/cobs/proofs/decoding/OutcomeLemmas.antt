@@ -68,9 +68,7 @@ outcome_of_some_missing p n some fits broken = grind (arith, le-leb, is_whole-of
 
 -- the outcome of a frame is its message, in each buffer that holds it
 pub outcome_frame : (f m : List ℕ) (n : ℕ) → Reads f m → length m ≤ n → outcome_of f n ≡ Message m
-outcome_frame f m n r fits =
-    let is = frame_output f m r in
-    outcome_of_whole f n (omega (arith, ap length is)) (frame_whole f m r) ∙ ap Message (sym is)
+outcome_frame f m n r fits = let is = frame_output f m r in rw is (outcome_of_whole f n (omega (arith, ap length is)) (frame_whole f m r))
 
 -- and only that of a frame
 pub outcome_message : (f m : List ℕ) (n : ℕ) → IsPiece f → All (λ b. b < 256) f → (outcome_of f n ≡ Message m) ↔ (Reads f m × (length m ≤ n))
@@ -128,7 +126,7 @@ head_reads byte bytes m some below =
     let t = byte ∷ bytes in
     let piece : IsPiece (head t) = (λ e. absurd (cc (head-cons byte bytes some)), head_nonzero t) in
     let both = outcome_message (head t) m (length t) piece (head_all (λ b. b < 256) t below) in
-    (λ e. (both.0 e).0, λ r. both.1 (r, omega (arith, ap length (frame_output (head t) m r), output_within (head t), length-head t)))
+    grind (arith, frame_output, output_within, length-head)
 
 -- A PIECE ALONE IS ITS OWN FIRST PIECE AND HEAD
 

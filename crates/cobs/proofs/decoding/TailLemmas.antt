@@ -102,7 +102,8 @@ kept-behind (suc n) p (code ∷ bytes) le none small ends =
       | inl short ↦ (1, (omega arith, broken-kept p q 0 code (omega arith) refl start (omega arith)))
       | inr fits ↦
           let next = ends-next p q 0 code (omega arith) refl start (omega arith) (omega arith) in
-          kept-after p q code (kept-behind n (p ++ take code q) (drop code q) (omega (arith, length-drop code q)) (All-drop (λ b. b ≢ 0) code q none) (All-drop (λ b. b < 256) code q small) (rw zero-add at next))
+          let rest = kept-behind n (p ++ take code q) (drop code q) (omega (arith, length-drop code q)) (All-drop (λ b. b ≢ 0) code q none) (All-drop (λ b. b < 256) code q small) in
+          kept-after p q code (rest (rw zero-add at next))
     ]
 
 pub kept-cut : (h : List ℕ) → HasNoZero h → All (λ b. b < 256) h → (k : ℕ) × KeptBy [] h k

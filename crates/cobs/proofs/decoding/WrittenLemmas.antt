@@ -1,7 +1,7 @@
 -- Lemmas on the kept output of a piece that is written to the front of a buffer byte by byte (`Written`), and on the
 -- part of it that comes from each block. They cut the piece after its first block (`kept-block`).
 use Rattle.std.proofs.Common.{◌≡◌, ◌≢◌, ◌∙◌, ◌+◌, ◌-◌, ◌<◌, ◌≤◌, ◌⊎◌, ◌==◌, ℕ, Bool, true, false, cond, if◌then◌else◌, List, [], ◌∷◌, ◌++◌, length, take, drop, get_or, set, Result, Ok, Err, refl, ap, arith, inl, inr, append_assoc, append-nil, drop_at, length-append, length-drop, length-take-le, take-append-drop, take_all, take_at}
-use Rattle.std.proofs.lemmas.Bool.{eq-eqb, ne_eqb}
+use Rattle.std.proofs.lemmas.Bool.{eq-eqb, ne_eqb, cases_Bool}
 use Rattle.std.proofs.lemmas.List.{drop-drop, drop_all, drop_more, get_or-drop, set_at, nil_from_length}
 use Rattle.std.proofs.lemmas.List.Elements.{All-drop, All-get_or, All-take}
 use Rattle.std.proofs.lemmas.Grind.{common_steps}
@@ -29,8 +29,7 @@ zero_before code (byte ∷ bytes) = if code == 255 then [] else 0 ∷ []
 
 pub zero_before-none : (code : ℕ) (next : List ℕ) → (length next ≡ 0) ⊎ (code ≡ 255) → zero_before code next ≡ []
 zero_before-none code [] none = refl
-zero_before-none code (byte ∷ next) (inl last) = grind arith
-zero_before-none code (byte ∷ next) (inr full) = grind (arith, eq-eqb)
+zero_before-none code (byte ∷ next) none = grind (arith, eq-eqb)
 
 pub zero_before-some : (code : ℕ) (next : List ℕ) → 0 < length next → code ≢ 255 → zero_before code next ≡ 0 ∷ []
 zero_before-some code [] some other = grind arith
@@ -97,8 +96,7 @@ written-none h old = grind arith
 -- the result for bytes of which n are kept
 kept-result : (h : List ℕ) (whole : Bool) (n : ℕ) → whole_left h ≡ whole → length (kept_output h) ≡ n → cond whole (Ok n) (Err (InvalidFrame n)) ≡ head_result h
 kept-result [] whole n w is = grind (arith, kept_output-empty)
-kept-result (byte ∷ h) true n w is = grind (arith, all-kept)
-kept-result (byte ∷ h) false n w is = grind arith
+kept-result (byte ∷ h) whole n w is = grind (arith, cases_Bool, all-kept)
 
 module _ {h old buffer : List ℕ} {written : ℕ} {left : List ℕ} (s : Written h old buffer written left) where
   pub written-long : length buffer ≡ length old

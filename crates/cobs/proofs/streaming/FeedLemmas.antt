@@ -50,8 +50,7 @@ nonzero b h = grind (arith, ne_eqb)
 within_step : (n c : ℕ) (q : List ℕ) (b : ℕ) (full : Bool) (left : ℕ) → EndsIn (c ∷ q) full left → 0 < b → length (output (c ∷ q)) ≤ n
     → next_phase n (Within full left (length (output (c ∷ q)))) b ≡ phase_after (c ∷ q ++ b ∷ []) n
 within_step n c q b full (suc left) is h fits = grind (arith, nonzero, grows-is, phase_after-is, is_full-push_more (c ∷ q) b, missing-push_more (c ∷ q) b, output-push_more (c ∷ q) b, length_push)
-within_step n c q b true zero is h fits = grind (arith, nonzero, phase_after-is, last_part-push_next (c ∷ q) b, output-push_next, append-nil, cond-true, le-leb)
-within_step n c q b false zero is h fits = grind (arith, nonzero, grows-is, phase_after-is, last_part-push_next (c ∷ q) b, output-push_next, length_push)
+within_step n c q b full zero is h fits = grind (arith, cases_Bool, nonzero, grows-is, phase_after-is, last_part-push_next (c ∷ q) b, output-push_next, append-nil, length_push, cond-true, le-leb)
 
 -- the phase after a piece whose output fits, and after one whose output is too long
 fits_phase : (c : ℕ) (q : List ℕ) (n : ℕ) → length (output (c ∷ q)) ≤ n → phase_after (c ∷ q) n ≡ Within (is_full (last_part (c ∷ q))) (missing (last_part (c ∷ q))) (length (output (c ∷ q)))
@@ -104,8 +103,7 @@ begins-push buffer o w e = grind (arith, cases_lt, length_push, take_more_set, t
 begins_within : (buffer : List ℕ) (c : ℕ) (q : List ℕ) (b : ℕ) (full : Bool) (left : ℕ) → EndsIn (c ∷ q) full left → 0 < b
     → Begins buffer (output (c ∷ q)) → Begins (next_buffer buffer (Within full left (length (output (c ∷ q)))) b) (output (c ∷ q ++ b ∷ []))
 begins_within buffer c q b full (suc left) is h e = grind (arith, output-push_more (c ∷ q) b, nonzero, begins-push)
-begins_within buffer c q b true zero is h e = grind (arith, output-push_next, append-nil)
-begins_within buffer c q b false zero is h e = grind (arith, output-push_next, nonzero, begins-push)
+begins_within buffer c q b full zero is h e = grind (arith, cases_Bool, output-push_next, append-nil, nonzero, begins-push)
 
 begins-nonzero : (buffer p : List ℕ) (b : ℕ) → 0 < b → Begins buffer (output p) → Begins (next_buffer buffer (phase_after p (length buffer)) b) (output (p ++ b ∷ []))
 unfolding phase_after

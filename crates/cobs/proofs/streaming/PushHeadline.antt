@@ -87,10 +87,10 @@ module _ (buffer bytes buffer' f m : List ℕ) (phase phase' : Phase) (idle : ph
 module _ {buffer bytes buffer' : List ℕ} {phase phase' : Phase} {result : Result (Option DecodeReport) PushError} (w : PushesBytes buffer phase bytes result buffer' phase') where
   pub push_reads : All (λ b. b < 256) bytes → (f m : List ℕ) → phase ≡ Idle → bytes ≡ f ++ 0 ∷ [] → IsPiece f → PushesMessage result buffer' m ↔ (Reads f m × (length m ≤ length buffer))
   push_reads below f m idle is piece =
-      let both = outcome_message f m (length buffer) piece (All-apart (λ b. b < 256) f (0 ∷ []) (rw is at below)).0 in (
-        λ p. both.0 (stated buffer bytes buffer' f m phase phase' idle is piece result w p),
-        λ r. pushed buffer bytes buffer' f m phase phase' idle is piece result w (both.1 r),
-      )
+      let both = outcome_message f m (length buffer) piece (All-apart (λ b. b < 256) f (0 ∷ []) (rw is at below)).0 in
+      let says = stated buffer bytes buffer' f m phase phase' idle is piece result w in
+      let reports = pushed buffer bytes buffer' f m phase phase' idle is piece result w in
+      grind arith
 
   -- the report of a push of bytes that are below 256
   pub push_message : ((i : ℕ) → Fits w8 (get_or bytes i 0)) → (f m : List ℕ) → phase ≡ Idle → bytes ≡ f ++ 0 ∷ [] → Reads f m → length m ≤ length buffer → PushesMessage result buffer' m

@@ -76,19 +76,23 @@ unfolding phase_after
 full-by [] n x nz fits e = grind (arith, ne_eqb)
 full-by (c ∷ p) n x nz fits e = grind (arith, ne_eqb, le-leb, cases_Bool, leb-false)
 
--- the phase of a decoder, by its fields
-at-by : (p : List ℕ) (n : ℕ) (going full : Bool) (left count : ℕ) → cond going (phase_with full left count) Overlong ≡ phase_after p n → length (output p) ≤ n → (count ≡ length (output p)) × (left ≡ missing (last_part p))
+-- these are the length of the output of p, and the missing bytes of its last part
+abbrev pub Counts : List ℕ → ℕ → ℕ → Type 0
+Counts p count left = (count ≡ length (output p)) × (left ≡ missing (last_part p))
+
+-- a phase has the counts of the piece that led to it
+at-by : (p : List ℕ) (n : ℕ) (going full : Bool) (left count : ℕ) → cond going (phase_with full left count) Overlong ≡ phase_after p n → length (output p) ≤ n → Counts p count left
 unfolding phase_after last_part output parts parts_after
 at-by [] n going full left count e fits = grind arith
 at-by (c ∷ p) n going full left count e fits = grind (arith, le-leb)
 
 within-by : (p : List ℕ) (n : ℕ) (full : Bool) (left count : ℕ) → Within full left count ≡ phase_after p n → length (output p) ≤ n
-    → (count ≡ length (output p)) × (left ≡ missing (last_part p))
+    → Counts p count left
 unfolding phase_after
 within-by [] n full left count e fits = absurd (cc)
 within-by (c ∷ p) n full left count e fits = grind (arith, le-leb)
 
-pub quiet-within : {old new p : List ℕ} {full : Bool} {left count : ℕ} → Quiet old new (Within full left count) p → (count ≡ length (output p)) × (left ≡ missing (last_part p))
+pub quiet-within : {old new p : List ℕ} {full : Bool} {left count : ℕ} → Quiet old new (Within full left count) p → Counts p count left
 quiet-within s = within-by _ _ _ _ _ s.after.phased.phase_is (omega (arith, s.len, s.fits))
 
 module _ (old new p : List ℕ) (phase : Phase) (s : Quiet old new phase p) where
@@ -108,5 +112,5 @@ module _ (old new p : List ℕ) (phase : Phase) (s : Quiet old new phase p) wher
     quiet-full = grind (arith, full-by, quiet-long, quiet-written, output-begins, take_all, drop_all, append-nil)
 
   -- the phase of the decoder
-  pub quiet-at : (inner : UnbufferedDecoder) → phase_of inner ≡ phase → (inner.written ≡ length (output p)) × (inner.missing ≡ missing (last_part p))
+  pub quiet-at : (inner : UnbufferedDecoder) → phase_of inner ≡ phase → Counts p inner.written inner.missing
   quiet-at inner is = at-by p (length new) (eqb inner.too_long 0) (eqb inner.joint 0) inner.missing inner.written (is ∙ s.after.phased.phase_is) (omega (arith, s.len, s.fits))

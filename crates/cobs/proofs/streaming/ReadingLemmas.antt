@@ -188,6 +188,20 @@ module _ {S : Type 0} {step : S → Read → S → Type 0} {from to : S} {reader
       let w = emptied kept e g p b in
       (w.0, (g.reads, refl), w.1))
 
+  -- the last read that is allowed ended no piece
+  pub ReadsNext-too_many : count ≡ 65536 → Going step from to reader₀ reader unfinished count → ReadsNext step from to reader₀ (Err faults.TooManyReads) reader
+  ReadsNext-too_many all g = record {
+    reads = g.reads;
+    runs = g.runs;
+    failed = (
+      λ f. absurd cc,
+      λ l. absurd (All-head GaveBytes None [] (All-apart GaveBytes l.0 (None ∷ []) (rw l.1 at g.gave)).1 refl),
+    );
+    called_for = λ p b.
+        rw append-nil at (called_for _ _ g.reads g.gave (none_so_far g p b) [] (omega arith) (rw append-nil (omega (arith, g.count_is))));
+    result_says = λ p b. (g.at_end p b, g.count_is ∙ all, g.gave);
+  }
+
 -- WHERE A PIECE ENDS
 
 -- after a stream in which no piece has ended, the first piece that ends in some bytes is reported
@@ -244,21 +258,6 @@ module _ {S : Type 0} {step : S → Read → S → Type 0} {from to to' : S} {re
         rw (given-push (p ++ reader₀.kept) g.reads (Some bytes), unended-append t bytes) (h _ (g.at_end p b).after).1;
     len = len ∙ g.len;
   }
-
--- the last read that is allowed ended no piece
-pub ReadsNext-too_many : {S : Type 0} {step : S → Read → S → Type 0} {from to : S} {reader₀ reader : ReaderState} {unfinished : Bool} {count : ℕ} → count ≡ 65536 → Going step from to reader₀ reader unfinished count
-    → ReadsNext step from to reader₀ (Err faults.TooManyReads) reader
-ReadsNext-too_many {reader₀} {reader} all g = record {
-  reads = g.reads;
-  runs = g.runs;
-  failed = (
-    λ f. absurd cc,
-    λ l. absurd (All-head GaveBytes None [] (All-apart GaveBytes l.0 (None ∷ []) (rw l.1 at g.gave)).1 refl),
-  );
-  called_for = λ p b.
-      rw append-nil at (called_for _ _ g.reads g.gave (none_so_far g p b) [] (omega arith) (rw append-nil (omega (arith, g.count_is))));
-  result_says = λ p b. (g.at_end p b, g.count_is ∙ all, g.gave);
-}
 
 -- THE FRONT OF A CHUNK
 

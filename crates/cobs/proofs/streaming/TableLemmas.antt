@@ -65,15 +65,8 @@ at_end c q = grind (arith, ne_eqb)
 
 -- the zero after p returns `DataComplete` exactly if p is a frame, and the data is then its message
 complete : (p m : List ℕ) → HasNoZero p → All (λ b. b < 256) p → ((table_result (state_after p) 0 ≡ Ok DataComplete) × (output p ≡ m)) ↔ Reads p m
-complete [] m nonzero below = (λ (e, is). absurd cc, λ r. absurd (((reads_iff [] m below).0 r).0 refl))
-complete (c ∷ q) m nonzero below = (
-  λ (e, is). (reads_iff (c ∷ q) m below).1 ((λ n. cc), nonzero, whole (is_whole (c ∷ q)) (sym (at_end c q) ∙ e), sym is),
-  λ r. let w = (reads_iff (c ∷ q) m below).0 r in (rw (at_end c q, w.2) refl, sym w.3),
-)
-  where
-    whole : (t : Bool) → cond t (Ok DataComplete) (Err (InvalidFrame 0)) ≡ Ok DataComplete → t ≡ true
-    whole true e = refl
-    whole false e = absurd cc
+complete [] m nonzero below = let both = reads_iff [] m below in grind arith
+complete (c ∷ q) m nonzero below = let both = reads_iff (c ∷ q) m below in grind (arith, at_end, cases_Bool)
 
 pub StateAfter-end : (state : DecoderState) (p so_far m : List ℕ) → StateAfter state p so_far → ((table_result state 0 ≡ Ok DataComplete) × (so_far ≡ m)) ↔ Reads p m
 StateAfter-end state p so_far m s = let h = complete p m s.piece s.bytes in grind arith
