@@ -9,7 +9,7 @@ use Rattle.cobs.specs.Overwritten.{overwritten}
 use Rattle.cobs.specs.Grammar.{Reads}
 use Rattle.cobs.specs.Piece.{output, kept_output, is_whole}
 use Rattle.cobs.specs.Stream.{Broken, Message, Outcome, TooLong, outcome_of, head}
-use Rattle.cobs.specs.Decode.{outcome_result, report_result, len_through_piece, result_of_decode, first_output, head_result_within, in_place, result_in_place, in_place_report, result_of_sentinel_decode, output_of}
+use Rattle.cobs.specs.Decode.{outcome_result, report_result, len_through_piece, result_of_decode, first_output, head_result_within, in_place, result_in_place, in_place_report, result_of_sentinel_decode}
 use Rattle.cobs.specs.Headline.{IsPiece, ReturnsMessage, ReportsMessage}
 use Rattle.cobs.specs.declared.error.DecodeReport.{DecodeReport}
 use Rattle.cobs.specs.declared.error.DecodeError.{DecodeError}

@@ -1,7 +1,7 @@
 -- The outcome of a piece follows from its output's length and from whether it is whole (`outcome_of_whole` and the lemmas after
 -- it), and says as much of the piece (`outcome_says`): so it is `Message m` exactly if the piece is a frame of m that fits
 -- (`outcome_message`). The first piece of a stream is the bytes before its first zero: std's `take_while`.
-use Rattle.std.proofs.Common.{◌≡◌, ◌≢◌, ℕ, ◌<◌, ◌≤◌, ◌↔◌, List, [], ◌∷◌, ◌++◌, length, filter, All, Some, refl, sym, ap, ◌∙◌, subst, arith, length-append, length-drop, length-take, false, not, ◌==◌, inl, inr}
+use Rattle.std.proofs.Common.{◌≡◌, ◌≢◌, ℕ, ◌<◌, ◌≤◌, ◌↔◌, List, [], ◌∷◌, ◌++◌, length, filter, All, Some, refl, ap, ◌∙◌, arith, length-append, length-drop, length-take, false, not, ◌==◌, inl, inr}
 use Rattle.std.specs.List.{position_or_len, take_while}
 use Rattle.std.proofs.lemmas.Bool.{cases_Bool, cases_eq, ne_eqb, le-leb, eq-eqb, lt-leb, leb-true, leb-false}
 use Rattle.std.proofs.lemmas.List.Elements.{All-cons, All-nil, All-weaker, All-take}

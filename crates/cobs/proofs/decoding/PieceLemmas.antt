@@ -71,4 +71,7 @@ EndsIn p full left = (is_full (last_part p) ≡ full) × (missing (last_part p) 
 
 -- both cases in one: the output grows at its end
 pub output-push : (c : ℕ) (p : List ℕ) (b : ℕ) → (more : List ℕ) × (output (c ∷ p ++ b ∷ []) ≡ output (c ∷ p) ++ more)
-output-push c p b = elim (cases_lt 0 (missing (last_part (c ∷ p)))) [ inl h ↦ (b ∷ [], output-push_more (c ∷ p) b h) | inr h ↦ (joint (last_part (c ∷ p)), output-push_next c p b (omega arith)) ]
+output-push c p b = elim (cases_lt 0 (missing (last_part (c ∷ p)))) [
+  | inl h ↦ (b ∷ [], output-push_more (c ∷ p) b h)
+  | inr h ↦ (joint (last_part (c ∷ p)), output-push_next c p b (omega arith))
+]

@@ -1,6 +1,6 @@
 -- The kept output of a piece is the output of all its bytes except some of the last 253, since a broken block has at
 -- most 253 bytes after its code. Proved in steps from block to block (`ends-next`), as `kept_len` makes them.
-use Rattle.std.proofs.Common.{◌≡◌, ◌≢◌, ℕ, zero, suc, All, inl, inr, refl, ◌+◌, ◌-◌, ◌<◌, ◌≤◌, List, [], ◌∷◌, ◌++◌, length, take, drop, replicate, get_or, subst, sym, ap, ◌∙◌, arith, append_assoc, append-nil, zero-add, length-append, take_at}
+use Rattle.std.proofs.Common.{◌≡◌, ◌≢◌, ℕ, zero, suc, All, inl, inr, refl, ◌+◌, ◌-◌, ◌<◌, ◌≤◌, List, [], ◌∷◌, ◌++◌, length, take, drop, replicate, get_or, arith, append_assoc, append-nil, zero-add, length-append, take_at}
 use Rattle.std.proofs.lemmas.List.{drop_more, take_more, length-take-le, length-drop, take-append-drop}
 use Rattle.std.proofs.Math.Seq.{take-add}
 use Rattle.std.proofs.lemmas.List.Elements.{All-head, All-drop}

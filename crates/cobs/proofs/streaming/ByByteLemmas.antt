@@ -1,5 +1,5 @@
 -- A piece that is taken byte by byte: each byte continues or ends the piece, by `SoFar-more` and `TakesBytes-byte`.
-use Rattle.std.proofs.Common.{◌≡◌, ◌≢◌, ℕ, ◌+◌, ◌<◌, ◌≤◌, List, [], ◌∷◌, ◌++◌, length, take, drop, get_or, Option, Some, None, Result, refl, ap, ◌∙◌, subst, arith, append_assoc, inl, inr, IfOk, IfSome}
+use Rattle.std.proofs.Common.{◌≡◌, ◌≢◌, ℕ, ◌+◌, ◌<◌, ◌≤◌, List, [], ◌∷◌, ◌++◌, length, take, drop, get_or, Option, Some, None, Result, refl, ◌∙◌, arith, append_assoc, inl, inr, IfOk, IfSome}
 use Rattle.std.proofs.lemmas.Bool.{cases_eq, eq-eqb, ne_eqb}
 use Rattle.std.proofs.lemmas.List.{append-nil, take_more}
 use Rattle.cobs.specs.Feed.{Phase, PhaseAfter, DecoderAfter, Feeds}

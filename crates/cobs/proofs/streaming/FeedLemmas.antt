@@ -1,7 +1,7 @@
 -- A step of the machine of `Step` meets `Feeds` (`Feeds-step`): after a front of a piece, its phase and its buffer are
 -- those for the front with the byte, and its result is the one for the byte. By `PieceLemmas`, with one case for each
 -- phase.
-use Rattle.std.proofs.Common.{◌≡◌, ◌≢◌, ℕ, zero, suc, ◌+◌, ◌<◌, ◌≤◌, Bool, true, false, cond, leb, eqb, List, [], ◌∷◌, ◌++◌, length, take, drop, set, refl, sym, arith, length-append, Option, None, Result, Ok, Err, add-one}
+use Rattle.std.proofs.Common.{◌≡◌, ◌≢◌, ℕ, zero, suc, ◌+◌, ◌<◌, ◌≤◌, Bool, false, cond, leb, eqb, List, [], ◌∷◌, ◌++◌, length, take, drop, set, refl, sym, arith, length-append, Option, None, Result, Ok, Err, add-one}
 use Rattle.std.proofs.lemmas.List.{take_all, take-append-le, append-nil, length_push, take_more_set, set_past, drop-set-lt, length-set}
 use Rattle.std.proofs.lemmas.List.Elements.{All-push, All-nil}
 use Rattle.std.proofs.lemmas.Bool.{cases_lt, cond-true, cond-false, ne_eqb, le-leb, leb-true, lt-leb, cases_Bool}

@@ -1,6 +1,6 @@
 -- A source that begins with a code, the front of which was fed to an idle decoder: up to the end of the source's first piece,
 -- or up to a byte for which the buffer has no room. The front has no zero, so it is a front of that piece (`QuietLemmas`).
-use Rattle.std.proofs.Common.{◌≡◌, ◌≢◌, ◌∙◌, ◌+◌, ◌<◌, ◌≤◌, ◌++◌, ℕ, List, ◌∷◌, length, take, drop, get_or, sym, ap, arith, length-append, length-take, length-take-le, refl}
+use Rattle.std.proofs.Common.{◌≡◌, ◌≢◌, ◌+◌, ◌<◌, ◌≤◌, ◌++◌, ℕ, List, ◌∷◌, length, take, drop, get_or, arith, length-append, length-take, length-take-le, refl}
 use Rattle.std.proofs.lemmas.List.{drop_more, get_or-take, take-append-drop}
 use Rattle.cobs.specs.Feed.{Idle, Overlong, Phase}
 use Rattle.cobs.specs.Grammar.{HasNoZero}

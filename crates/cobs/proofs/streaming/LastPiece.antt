@@ -1,8 +1,8 @@
 -- The last piece of a stream, and outputs that grow with it: by `StreamLemmas` and `output-push`.
-use Rattle.std.proofs.Common.{◌≡◌, ◌≢◌, ℕ, ◌<◌, ◌≤◌, List, [], ◌∷◌, ◌++◌, length, take, drop, filter, refl, sym, ap, ◌∙◌, subst, arith, append_assoc, length-append, take_at}
+use Rattle.std.proofs.Common.{◌≡◌, ◌≢◌, ℕ, ◌<◌, ◌≤◌, List, [], ◌∷◌, ◌++◌, length, take, drop, filter, refl, sym, ap, ◌∙◌, arith, append_assoc, length-append, take_at}
 use Rattle.std.proofs.lemmas.List.{append-nil, take-append-drop}
 use Rattle.std.proofs.lemmas.List.Elements.{filter-append}
-use Rattle.cobs.specs.Grammar.{HasNoZero, last_of}
+use Rattle.cobs.specs.Grammar.{last_of}
 use Rattle.cobs.specs.Piece.{output, parts, parts_after}
 use Rattle.cobs.specs.Stream.{stretches, is_nonempty, but_last, ended_pieces, unended}
 use Rattle.cobs.specs.Overwritten.{overwritten}

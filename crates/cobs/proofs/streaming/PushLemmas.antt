@@ -9,7 +9,7 @@ use Rattle.cobs.specs.Stream.{unended}
 use Rattle.cobs.specs.Feed.{DecoderAfter, Feeds, Idle, Phase, PhaseAfter, result_for}
 use Rattle.cobs.specs.FeedPiece.{TakesPiece, end_reported}
 use Rattle.cobs.specs.Internal.FeedsQuietly.{FeedsQuietly}
-use Rattle.cobs.specs.Push.{FeedsInTurn, PushesBytes, consumed, consumed_size, error_outcomes, last_result, pushed_outcomes}
+use Rattle.cobs.specs.Push.{FeedsInTurn, PushesBytes, consumed, consumed_size, last_result, pushed_outcomes}
 use Rattle.cobs.specs.Fields.Report.{frame_size_of}
 use Rattle.cobs.specs.declared.error.DecodeError.{DecodeError}
 use Rattle.cobs.proofs.streaming.ByByteLemmas.{piece-nothing, piece-more, takes_behind, holds_behind, untouched_behind}

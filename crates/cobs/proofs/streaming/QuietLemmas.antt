@@ -1,6 +1,6 @@
 -- Bytes fed quietly to an idle decoder, as the decoders of whole frames feed them: the buffer holds their output, and the
 -- phase is that after them. They are a piece that hasn't ended (`piece-all`).
-use Rattle.std.proofs.Common.{◌≡◌, ◌≢◌, ℕ, ◌<◌, ◌≤◌, Bool, cond, eqb, List, [], ◌∷◌, ◌++◌, length, drop, get_or, refl, sym, ap, ◌∙◌, subst, arith, append_assoc, append-nil, take_all, inl, inr}
+use Rattle.std.proofs.Common.{◌≡◌, ◌≢◌, ℕ, ◌<◌, ◌≤◌, Bool, cond, eqb, List, [], ◌∷◌, ◌++◌, length, drop, get_or, refl, sym, ap, ◌∙◌, subst, arith, append_assoc, append-nil, take_all, inl, inr, ◌+◌}
 use Rattle.std.proofs.lemmas.List.{drop_all}
 use Rattle.std.proofs.lemmas.Bool.{cases_Bool, cases_eq, cases_lt, ne_eqb, le-leb, lt-leb, leb-false}
 use Rattle.cobs.specs.Grammar.{HasNoZero}
@@ -12,7 +12,7 @@ use Rattle.cobs.specs.Fields.Decoders.{phase_of, phase_with}
 use Rattle.cobs.specs.Internal.FeedsQuietly.{FeedsQuietly}
 use Rattle.cobs.specs.Step.{next_phase, next_buffer}
 use Rattle.cobs.specs.Push.{last_piece}
-use Rattle.cobs.specs.Stream.{head, stream_outcomes}
+use Rattle.cobs.specs.Stream.{head}
 use Rattle.cobs.proofs.decoding.HeadLemmas.{head-cut, head-front, head_some}
 use Rattle.cobs.proofs.decoding.OutcomeLemmas.{head_nonzero}
 use Rattle.cobs.proofs.format.StreamLemmas.{ended_pieces-no_zero, fed-nonzero, stream_outcomes-front, unended-no_zero}
@@ -27,8 +27,8 @@ quiet-piece xs old new phase first f = elim (cases_lt (length (head xs)) (length
   | inl more ↦
       let none = (piece-all xs old new Idle phase f).takes.outcomes [] (DecoderAfter-idle old Idle refl) in
       let some : head xs ≢ [] = λ e. omega (arith, ap length e, head_some xs (omega arith) (first (omega arith))) in
-      let one = ap (λ (x : List ℕ). stream_outcomes x (length old)) (head-cut xs more)
-      ∙ stream_outcomes-front (head xs) _ (length old) some (head_nonzero xs) in
+      let cut = head-cut xs more in
+      let one = stream_outcomes-front (head xs) (drop (length (head xs) + 1) xs) (length old) some (head_nonzero xs) in
       absurd cc
   | inr all ↦ subst HasNoZero (sym (head-front xs) ∙ take_all (length (head xs)) xs all) (head_nonzero xs)
 ]

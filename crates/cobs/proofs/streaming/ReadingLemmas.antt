@@ -1,5 +1,5 @@
 -- Reads, one after another, and the first piece that ends in the bytes they gave: by `StreamLemmas`, one read at a time.
-use Rattle.std.proofs.Common.{◌≡◌, ◌≢◌, ℕ, ◌+◌, ◌-◌, ◌<◌, ◌≤◌, Bool, true, false, leb, List, [], ◌∷◌, ◌++◌, length, take, drop, refl, sym, ap, ◌∙◌, subst, arith, append_assoc, length-append, length-take, length-drop, take_at, ◌↔◌, Result, Some, None, Ok, Err}
+use Rattle.std.proofs.Common.{◌≡◌, ◌≢◌, ℕ, ◌+◌, ◌-◌, ◌<◌, ◌≤◌, Bool, true, false, leb, List, [], ◌∷◌, ◌++◌, length, take, drop, refl, sym, ap, ◌∙◌, arith, append_assoc, length-append, length-take, length-drop, take_at, ◌↔◌, Result, Some, None, Ok, Err}
 use Rattle.std.specs.List.{All}
 use Rattle.std.proofs.lemmas.List.{append-nil, nil_from_length, take_all, take-append-le, take-append-drop, drop-take, drop-drop, flat_map_more, length_push, same_from_push}
 use Rattle.std.proofs.lemmas.List.Elements.{All-nil, All-push, All-take, All-head}

@@ -54,8 +54,7 @@ as_piece first bytes {ys} {code} {left} w few nz =
 
 -- in two parts
 pub walked-append : (code n : ℕ) (xs ys : List ℕ) → walked code n (xs ++ ys) ≡ let w = walked code n xs in let v = walked w.1 w.2 ys in (w.0 ++ v.0, v.1, v.2)
-walked-append code zero [] ys = refl
-walked-append code (suc n) [] ys = refl
+walked-append code n [] ys = refl
 walked-append code (suc n) (x ∷ xs) ys = grind (arith, walked-append code n xs ys)
 walked-append code zero (x ∷ xs) ys = grind (arith, walked-append x (x - 1) xs ys)
 

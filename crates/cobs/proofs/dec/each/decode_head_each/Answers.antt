@@ -164,14 +164,14 @@ by_block-preserved c =
     let i = c.by_block.invariant in
     let rest : List ℕ = c.by_block.rest.now in
     let s : ℕ = c.args.sentinel in
-    let some = some-left rest _ c.is_empty-in-by_block.ensures c.by_block-test.true in
-    let long = next-long rest s some i.nonzero i.below c.if-rest-code.false in
+    let some = some-left _ _ c.is_empty-in-by_block.ensures c.by_block-test.true in
+    let long = next-long _ _ some i.nonzero i.below c.if-rest-code.false in
     let none : (length (drop (code rest s) (xor_each s rest)) ≡ 0) ⊎ (code rest s ≡ 255) = elim c.else-code-ne-FULL_CODE.branch [
       | else-code-ne-FULL_CODE-via-then-code-ne-FULL_CODE+else-not-is_empty w ↦ inl (long ∙ none-left _ _ w.is_empty-then-code-ne-FULL_CODE.ensures w.if-not-is_empty.false)
       | else-code-ne-FULL_CODE-via-else-code-ne-FULL_CODE w ↦ inr w.if-code-ne-FULL_CODE.false
     ] in
     let w = bytes-ended _ _ _ _ c.by_byte.invariant c.by_byte-test.false in
-    ended rest s some i.nonzero i.below c.if-rest-code.false _ _ _ _ i.whole (rw (zero_before-none _ _ none) at w)
+    ended _ _ some i.nonzero i.below c.if-rest-code.false _ _ _ _ i.whole (rw (zero_before-none _ _ none) at w)
 
 pub returns : goal.returns
 returns c =

@@ -1,6 +1,6 @@
 -- The recursion goes from code to code (`walked-next`). It reads each code from the bytes that were copied (`code-is`).
 -- In the last block nothing is replaced (`walked-past`).
-use Rattle.std.proofs.Common.{◌≡◌, ◌≢◌, ◌-◌, ◌<◌, ◌∙◌, ℕ, List, ap, sym, bit_xor, get_or, arith, take, drop, length, length-drop}
+use Rattle.std.proofs.Common.{◌≡◌, ◌≢◌, ◌-◌, ◌<◌, ℕ, List, bit_xor, get_or, arith, drop, length, length-drop}
 use Rattle.std.proofs.lemmas.List.{length-map, get_or-map}
 use Rattle.std.proofs.lemmas.Nat.{xor_lt}
 use Rattle.std.proofs.lemmas.List.Elements.{All-head}
