@@ -30,7 +30,7 @@ grown-last code bytes b short = record {
   next_last = λ h. grind (arith, last_part-last, last_part-more, length_push, drop_at, last_part-one);
 }
 
--- a piece that has others after its first part, if the lemma holds of these
+-- a piece of several parts, if the lemma holds for the bytes after the first part
 grown-more : (code : ℕ) (bytes : List ℕ) (b : ℕ) → code - 1 < length bytes → Grown (drop (code - 1) bytes) b → Grown (code ∷ bytes) b
 grown-more code bytes b more rest = grind (arith, last_part-more, output-more, length_push, take-append-le, drop-append-le, append_assoc)
 

@@ -1,7 +1,7 @@
 -- A step of the machine of `Step` meets `Feeds` (`Feeds-step`): after a front of a piece, its phase and its buffer are
 -- those for the front with the byte, and its result is the one for the byte. By `PieceLemmas`, with one case for each
 -- phase.
-use Rattle.std.proofs.Common.{◌≡◌, ◌≢◌, ℕ, zero, suc, ◌+◌, ◌<◌, ◌≤◌, Bool, false, cond, leb, eqb, List, [], ◌∷◌, ◌++◌, length, take, drop, set, refl, sym, arith, length-append, Option, None, Result, Ok, Err, add-one}
+use Rattle.std.proofs.Common.{◌≡◌, ◌≢◌, ℕ, zero, suc, ◌+◌, ◌<◌, ◌≤◌, Bool, false, cond, leb, eqb, List, [], ◌∷◌, ◌++◌, length, take, drop, set, refl, sym, arith, length-append, Option, None, Result, Ok, Err, add-one, inl, inr, ◌⊎◌, true}
 use Rattle.std.proofs.lemmas.List.{take_all, take-append-le, append-nil, length_push, take_more_set, set_past, drop-set-lt, length-set}
 use Rattle.std.proofs.lemmas.List.Elements.{All-push, All-nil}
 use Rattle.std.proofs.lemmas.Bool.{cases_lt, cond-true, cond-false, ne_eqb, le-leb, leb-true, lt-leb, cases_Bool}
@@ -99,16 +99,18 @@ begins-over buffer o more h e = grind (arith, take_all, length-append, take-appe
 begins-push : (buffer o : List ℕ) (w : ℕ) → Begins buffer o → Begins (set buffer (length o) w) (o ++ w ∷ [])
 begins-push buffer o w e = grind (arith, cases_lt, length_push, take_more_set, take_all, length-set, set_past, begins-over)
 
--- after one more byte
-begins_within : (buffer : List ℕ) (c : ℕ) (q : List ℕ) (b : ℕ) (full : Bool) (left : ℕ) → EndsIn (c ∷ q) full left → 0 < b
-    → Begins buffer (output (c ∷ q)) → Begins (next_buffer buffer (Within full left (length (output (c ∷ q)))) b) (output (c ∷ q ++ b ∷ []))
-begins_within buffer c q b full (suc left) is h e = grind (arith, output-push_more (c ∷ q) b, nonzero, begins-push)
-begins_within buffer c q b full zero is h e = grind (arith, cases_Bool, output-push_next, append-nil, nonzero, begins-push)
+-- a byte of a piece changes neither the output nor the buffer, or it adds the same byte to both
+adds_same : (buffer : List ℕ) (c : ℕ) (q : List ℕ) (b : ℕ) (full : Bool) (left : ℕ) → EndsIn (c ∷ q) full left → 0 < b
+    → let o = output (c ∷ q) in let o' = output (c ∷ q ++ b ∷ []) in let buffer' = next_buffer buffer (Within full left (length o)) b in
+    ((o' ≡ o) × (buffer' ≡ buffer)) ⊎ ((w : ℕ) × (o' ≡ o ++ w ∷ []) × (buffer' ≡ set buffer (length o) w))
+adds_same buffer c q b full (suc left) is h = inr (b, grind (arith, output-push_more (c ∷ q) b), grind (arith, nonzero))
+adds_same buffer c q b true zero is h = inl (grind (arith, output-push_next, append-nil), grind arith)
+adds_same buffer c q b false zero is h = inr (0, grind (arith, output-push_next), grind (arith, nonzero))
 
 begins-nonzero : (buffer p : List ℕ) (b : ℕ) → 0 < b → Begins buffer (output p) → Begins (next_buffer buffer (phase_after p (length buffer)) b) (output (p ++ b ∷ []))
 unfolding phase_after
 begins-nonzero buffer [] b h e = rw (output-one b) (begins-nil buffer)
-begins-nonzero buffer (c ∷ q) b h e = grind (arith, cases_lt, over_phase, fits_phase, begins-over, begins_within, (output-push c q b))
+begins-nonzero buffer (c ∷ q) b h e = grind (arith, cases_lt, over_phase, fits_phase, begins-over, begins-push, adds_same, output-push c q b)
 
 begins-step : (buffer p : List ℕ) (b : ℕ) → Begins buffer (output p) → Begins (next_buffer buffer (phase_after p (length buffer)) b) (output (fed p b))
 begins-step buffer p zero e = grind (arith, next_buffer-zero, output-nil, begins-nil)
@@ -134,17 +136,11 @@ PhaseAfter-result_for n phase b p h = grind (arith, end_result-is, nonzero, nonz
 DecoderAfter-step : (buffer : List ℕ) (phase : Phase) (b : ℕ) (p : List ℕ) → DecoderAfter buffer phase p → DecoderAfter (next_buffer buffer phase b) (next_phase (length buffer) phase b) (fed p b)
 DecoderAfter-step buffer phase b p h = grind (arith, common_steps, length-next_buffer, PhaseAfter-step, begins-step)
 
--- within a part, a byte changes nothing after the output
-untouched_within : (buffer : List ℕ) (c : ℕ) (q : List ℕ) (b : ℕ) (full : Bool) (left : ℕ) → EndsIn (c ∷ q) full left → 0 < b
-    → drop (length (output (c ∷ q ++ b ∷ []))) (next_buffer buffer (Within full left (length (output (c ∷ q)))) b) ≡ drop (length (output (c ∷ q ++ b ∷ []))) buffer
-untouched_within buffer c q b full (suc left) is h = grind (arith, output-push_more (c ∷ q) b, nonzero, drop-set-lt, length_push)
-untouched_within buffer c q b full zero is h = grind (arith, cases_Bool, output-push_next, nonzero, drop-set-lt, length_push)
-
 -- the bytes after the output stay
 PhaseAfter-untouched : (buffer : List ℕ) (phase : Phase) (b : ℕ) (p : List ℕ) → PhaseAfter (length buffer) phase p → b ≢ 0
     → drop (length (output (p ++ b ∷ []))) (next_buffer buffer phase b) ≡ drop (length (output (p ++ b ∷ []))) buffer
 unfolding phase_after
-PhaseAfter-untouched buffer phase b p h nz = grind (arith, cases_lt, over_phase, fits_phase, untouched_within)
+PhaseAfter-untouched buffer phase b p h nz = grind (arith, cases_lt, over_phase, fits_phase, adds_same, drop-set-lt, length_push)
 
 -- an idle decoder has taken nothing of a piece, whatever its buffer holds
 pub DecoderAfter-idle : (buffer : List ℕ) (phase : Phase) → phase ≡ Idle → DecoderAfter buffer phase []
