@@ -70,16 +70,16 @@ first_piece_nonzero [] some other = grind arith
 first_piece_nonzero (byte ∷ t) some other = first_piece_head byte t other
 
 -- a source after its leading zeros
-module _ (source : List ℕ) where
-  abbrev rest : List ℕ
-  rest = drop (leading_zeros source) source
+abbrev pub rest : List ℕ → List ℕ
+rest source = drop (leading_zeros source) source
 
-  pub first_piece_found : 0 < length rest → first_piece source ≡ Some (head rest)
+module _ (source : List ℕ) where
+  pub first_piece_found : 0 < length (rest source) → first_piece source ≡ Some (head (rest source))
   first_piece_found some = grind (arith, first_piece_behind, first_piece_nonzero, rest, leading_zeros-stop, length-drop)
 
-  pub first_piece_none : (0 < length rest → get_or rest 0 0 ≡ 0) → first_piece source ≡ None
+  pub first_piece_none : (0 < length (rest source) → get_or (rest source) 0 0 ≡ 0) → first_piece source ≡ None
   first_piece_none stop = grind (arith, length-drop, leading_zeros-stop, first_piece_behind, first_piece_empty)
 
   -- as far as its first zero
-  pub first_piece_some : (len : ℕ) → 0 < len → len ≤ length rest → HasNoZero (take len rest) → (len < length rest → get_or rest len 0 ≡ 0) → first_piece source ≡ Some (take len rest)
+  pub first_piece_some : (len : ℕ) → 0 < len → len ≤ length (rest source) → HasNoZero (take len (rest source)) → (len < length (rest source) → get_or (rest source) len 0 ≡ 0) → first_piece source ≡ Some (take len (rest source))
   first_piece_some len some within nonzero stop = grind (arith, first_piece_found, front_is_head, rest)

@@ -1,6 +1,6 @@
 -- The decoders of a whole list report the outcome of the list's first piece (`Reported`), so they return the message m exactly
 -- if the list reads as m (`outcome_message`).
-use Rattle.std.proofs.Common.{◌≡◌, ◌≢◌, ℕ, ◌<◌, ◌≤◌, ◌↔◌, ◌⊎◌, inl, inr, false, List, [], ◌∷◌, length, take, All, Result, Ok, Err, refl, sym, ap, ◌∙◌, subst, arith, get_or, Fits, w8}
+use Rattle.std.proofs.Common.{◌≡◌, ◌≢◌, ℕ, ◌<◌, ◌≤◌, ◌↔◌, ◌⊎◌, inl, inr, false, List, [], ◌∷◌, length, take, All, Result, Ok, Err, refl, sym, ap, ◌∙◌, arith, get_or, Fits, w8}
 use Rattle.std.proofs.lemmas.Bool.{cases_Bool, cases_lt}
 use Rattle.std.proofs.lemmas.List.Elements.{All-from_get_or, All-map, All-weaker}
 use Rattle.std.specs.Int.Bits.{bit_xor, xor_lt}
@@ -9,7 +9,7 @@ use Rattle.cobs.specs.Overwritten.{overwritten}
 use Rattle.cobs.specs.Grammar.{Reads}
 use Rattle.cobs.specs.Piece.{output, kept_output, is_whole}
 use Rattle.cobs.specs.Stream.{Broken, Message, Outcome, TooLong, outcome_of, head}
-use Rattle.cobs.specs.Decode.{outcome_result, report_result, len_through_piece, result_of_decode, first_output, head_result_within, in_place, result_in_place, in_place_report, result_of_sentinel_decode, output_of}
+use Rattle.cobs.specs.Decode.{outcome_result, report_result, len_through_piece, result_of_decode, first_output, head_result_within, in_place, result_in_place, in_place_report, result_of_sentinel_decode}
 use Rattle.cobs.specs.Headline.{IsPiece, ReturnsMessage, ReportsMessage}
 use Rattle.cobs.specs.declared.error.DecodeReport.{DecodeReport}
 use Rattle.cobs.specs.declared.error.DecodeError.{DecodeError}
@@ -49,8 +49,9 @@ returns-reads : (f m : List ℕ) (n : ℕ) (result : Result ℕ DecodeError) (bu
 returns-reads f m n result buffer piece below h =
     let r = reported (outcome_of f n) result buffer m h in
     let o = outcome_message f m n piece below in
-    (λ s. o.0 (r.0 s), λ s. r.1 (o.1 s))
+    grind arith
 
+-- the same for a report, which also has the number of parsed bytes
 reports : (parsed : ℕ) (result : Result ℕ DecodeError) (buffer m : List ℕ) (P : Type 0) → ReturnsMessage result buffer m ↔ P → ReportsMessage (report_result parsed result) buffer m ↔ P
 reports parsed result buffer m P h = grind arith
 
@@ -60,6 +61,7 @@ result_of_decode_alone : (f : List ℕ) (n : ℕ) → IsPiece f → result_of_de
 result_of_decode_alone [] n piece = grind arith
 result_of_decode_alone (byte ∷ bytes) n piece = grind (arith, result_by_piece, first_piece_alone)
 
+-- `decode` reports the outcome of a piece
 decode-reported : (f buffer buffer' : List ℕ) (outcome : Outcome) → outcome_of f (length buffer) ≡ outcome → buffer' ≡ overwritten buffer (output f)
     → Reported outcome (outcome_result outcome) buffer'
 decode-reported f buffer buffer' (Message m) e is =
@@ -68,13 +70,20 @@ decode-reported f buffer buffer' (Message m) e is =
 decode-reported f buffer buffer' (Broken count) e is = (InvalidFrame count, refl)
 decode-reported f buffer buffer' TooLong e is = (TargetBufTooSmall, refl)
 
-pub decode_reads : (f buffer : List ℕ) (result : Result DecodeReport DecodeError) (buffer' : List ℕ) → result ≡ result_of_decode f (length buffer) → buffer' ≡ overwritten buffer (first_output f)
-    → All (λ b. b < 256) f → IsPiece f → (m : List ℕ) → ReportsMessage result buffer' m ↔ (Reads f m × (length m ≤ length buffer))
-decode_reads f buffer result buffer' returned after below piece m =
-    let written : buffer' ≡ overwritten buffer (output f) = after ∙ ap (λ p. overwritten buffer (output_of p)) (first_piece_alone f piece.0 piece.1) in
-    rw (returned, result_of_decode_alone f (length buffer) piece)
-    (reports (len_through_piece f f) (outcome_result (outcome_of f _)) buffer' m _
-    (returns-reads f m _ (outcome_result (outcome_of f _)) buffer' piece below (decode-reported f buffer buffer' _ refl written)))
+module _ (f buffer : List ℕ) (result : Result DecodeReport DecodeError) (buffer' : List ℕ) (returned : result ≡ result_of_decode f (length buffer)) (after : buffer' ≡ overwritten buffer (first_output f))
+    (below : All (λ b. b < 256) f) where
+  decode_reported : IsPiece f → (m : List ℕ) → ReportsMessage result buffer' m ↔ (Reads f m × (length m ≤ length buffer))
+  decode_reported piece m =
+      let written : buffer' ≡ overwritten buffer (output f) = rw (first_piece_alone f piece.0 piece.1) at after in
+      rw (returned, result_of_decode_alone f (length buffer) piece)
+      (reports (len_through_piece f f) (outcome_result (outcome_of f _)) buffer' m _
+      (returns-reads f m _ (outcome_result (outcome_of f _)) buffer' piece below (decode-reported f buffer buffer' _ refl written)))
+
+  pub decode_reads : (m : List ℕ) → Reads f m → length m ≤ length buffer → ReportsMessage result buffer' m
+  decode_reads m r fits = (decode_reported (frame_piece r) m).1 (r, fits)
+
+  pub decode_only : IsPiece f → (m : List ℕ) → ReportsMessage result buffer' m → Reads f m × (length m ≤ length buffer)
+  decode_only piece m = (decode_reported piece m).0
 
 -- DECODING FROM A SOURCE FOR ANY SENTINEL
 
@@ -82,14 +91,14 @@ result_of_sentinel_decode_alone : (f : List ℕ) (n : ℕ) → IsPiece f → res
 result_of_sentinel_decode_alone [] n piece = grind arith
 result_of_sentinel_decode_alone (byte ∷ bytes) n piece = grind (arith, head_alone)
 
+-- a piece that is broken or too long is rejected
 within-rejected : (f : List ℕ) (n : ℕ) → f ≢ [] → (is_whole f ≡ false) ⊎ (n < length (output f)) → (error : DecodeError) × (head_result_within f n ≡ Err error)
 within-rejected f n some either = elim (cases_lt n (length (kept_output f))) [
-  | inl more ↦ (TargetBufTooSmall, sym (result-too_long f n more))
-  | inr fits ↦
-      let broken : is_whole f ≡ false = grind (arith, all-kept, cases_Bool) in
-      (InvalidFrame (length (kept_output f)), sym (result-fits f n fits) ∙ (grind arith))
+  | inl more ↦ (TargetBufTooSmall, grind (arith, result-too_long))
+  | inr fits ↦ (InvalidFrame (length (kept_output f)), grind (arith, all-kept, cases_Bool, result-fits))
 ]
 
+-- `decode_with_sentinel` reports the outcome of a piece
 source-reported : (f buffer buffer' : List ℕ) (outcome : Outcome) → outcome_of f (length buffer) ≡ outcome → f ≢ []
     → buffer' ≡ overwritten buffer (kept_output f) → Reported outcome (head_result_within f (length buffer)) buffer'
 source-reported f buffer buffer' (Message m) e some is =
@@ -103,8 +112,7 @@ module _ (f buffer : List ℕ) (result : Result ℕ DecodeError) (buffer' : List
     (below : All (λ b. b < 256) f) where
   source_reported : IsPiece f → (m : List ℕ) → ReturnsMessage result buffer' m ↔ (Reads f m × (length m ≤ length buffer))
   source_reported piece m =
-      let written : buffer' ≡ overwritten buffer (kept_output f)
-      = after ∙ ap (λ (h : List ℕ). overwritten buffer (kept_output h)) (head_alone f piece.1) in
+      let written : buffer' ≡ overwritten buffer (kept_output f) = rw (head_alone f piece.1) at after in
       rw (returned, result_of_sentinel_decode_alone f (length buffer) piece)
       (returns-reads f m _ _ buffer' piece below (source-reported f buffer buffer' _ refl piece.0 written))
 
@@ -123,7 +131,7 @@ in_place-source (byte ∷ bytes) = grind (arith, result-fits, kept_within, lengt
 module _ (f : List ℕ) (result : Result DecodeReport DecodeError) (buffer' : List ℕ) (returned : result ≡ in_place_report f) (after : buffer' ≡ in_place f) (below : All (λ b. b < 256) f) where
   in_place_reported : IsPiece f → (m : List ℕ) → ReportsMessage result buffer' m ↔ (Reads f m × (length m ≤ length f))
   in_place_reported piece m =
-      subst (λ r. ReportsMessage r buffer' m ↔ (Reads f m × (length m ≤ length f))) (sym returned)
+      rw returned
       (reports (length (head f)) (result_in_place f) buffer' m _ (source_reported f f (result_in_place f) buffer' (in_place-source f) after below piece m))
 
   pub in_place_reads : (m : List ℕ) → Reads f m → ReportsMessage result buffer' m

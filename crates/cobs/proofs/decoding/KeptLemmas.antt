@@ -1,13 +1,15 @@
 -- Lemmas on the kept output of a piece, on the kept output of a block and a piece after it, and on whether a piece is
 -- whole. They cut the piece after its first part (`PieceCuts`).
-use Rattle.std.proofs.Common.{◌≡◌, ◌≢◌, ℕ, ◌+◌, ◌-◌, ◌<◌, ◌≤◌, Bool, true, false, cond, List, [], ◌∷◌, ◌++◌, length, take, refl, ap, ◌∙◌, arith, append_assoc, length-append, take_all, take_at, drop_at, eqb, Ok, Err}
+use Rattle.std.proofs.Common.{◌≡◌, ◌≢◌, ℕ, ◌+◌, ◌-◌, ◌<◌, ◌≤◌, Bool, false, cond, List, [], ◌∷◌, ◌++◌, length, take, refl, arith, append_assoc, length-append, take_all, take_at, drop_at, eqb, Ok, Err, Result}
 use Rattle.std.proofs.Math.Seq.{take-append-add}
-use Rattle.std.proofs.lemmas.Bool.{ne_eqb, eq-eqb}
+use Rattle.std.proofs.lemmas.Bool.{ne_eqb, eq-eqb, cases_Bool}
 use Rattle.cobs.specs.Grammar.{bytes_of, joint, message_of, last_of, IsBlock}
 use Rattle.cobs.specs.Piece.{parts, output, last_part, is_whole, kept_output, IsWhole, missing, parts_after}
-use Rattle.cobs.specs.Decode.{head_result}
+use Rattle.cobs.specs.Decode.{head_result, head_result_within}
 use Rattle.cobs.specs.declared.error.DecodeError.TheVariants.{InvalidFrame}
 use Rattle.cobs.proofs.decoding.PieceCuts.{output-last, output-more, output-empty, last_part-more, last_part-last, is_whole-of}
+use Rattle.cobs.specs.Overwritten.{overwritten}
+use Rattle.cobs.specs.declared.error.DecodeError.{DecodeError}
 
 kept-is : (p : List ℕ) → kept_output p ≡ cond (is_whole p) (output p) (take (length (output p) - length (bytes_of (last_part p))) (output p))
 unfolding kept_output
@@ -26,11 +28,18 @@ unfolding last_part parts parts_after
 head_result-is [] = grind (arith, kept_output-empty)
 head_result-is (byte ∷ bytes) = grind (arith, is_whole-of, all-kept)
 
+-- the result and the buffer after the bytes h are decoded: into a buffer that may be too short, and in place
+abbrev pub Decoded : List ℕ → List ℕ → List ℕ → Result ℕ DecodeError → Type 0
+Decoded h old buffer result = record { returned : result ≡ head_result_within h (length old); buffer : buffer ≡ overwritten old (kept_output h) }
+
+abbrev pub DecodedInPlace : List ℕ → List ℕ → List ℕ → Result ℕ DecodeError → Type 0
+DecodedInPlace h old buffer result = record { returned : result ≡ head_result h; buffer : buffer ≡ overwritten old (kept_output h) }
+
 -- a last part is no longer than the output
 last_fits : (blocks : List (List ℕ)) → length (bytes_of (last_of blocks)) ≤ length (message_of blocks)
 last_fits [] = omega arith
 last_fits (part ∷ []) = omega arith
-last_fits (part ∷ next ∷ more) = grind (arith, length-append, (last_fits (next ∷ more)))
+last_fits (part ∷ next ∷ more) = grind (arith, length-append, last_fits (next ∷ more))
 
 last_part_fits : (p : List ℕ) → length (bytes_of (last_part p)) ≤ length (output p)
 unfolding last_part output
@@ -63,8 +72,9 @@ front-whole (code ∷ bytes) [] is some = grind arith
 front-whole (code ∷ bytes) (x ∷ p) is some = whole-same code bytes x p is
 
 cut-behind : (whole : Bool) (front out : List ℕ) (k : ℕ) → k ≤ length out → cond whole (front ++ out) (take (length (front ++ out) - k) (front ++ out)) ≡ front ++ cond whole out (take (length out - k) out)
-cut-behind true front out k fits = refl
-cut-behind false front out k fits = ap (λ (n : ℕ). take n (front ++ out)) (omega (arith, length-append front out)) ∙ take-append-add front out (length out - k)
+cut-behind whole front out k fits =
+    let same : length (front ++ out) - k ≡ length front + (length out - k) = omega (arith, length-append front out) in
+    grind (arith, cases_Bool, take-append-add)
 
 pub front-kept : (block p : List ℕ) → IsBlock block → p ≢ [] → kept_output (block ++ p) ≡ bytes_of block ++ joint block ++ kept_output p
 front-kept [] p is some = absurd is

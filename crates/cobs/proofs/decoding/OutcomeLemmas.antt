@@ -1,9 +1,9 @@
 -- The outcome of a piece follows from its output's length and from whether it is whole (`outcome_of_whole` and the lemmas after
 -- it), and says as much of the piece (`outcome_says`): so it is `Message m` exactly if the piece is a frame of m that fits
 -- (`outcome_message`). The first piece of a stream is the bytes before its first zero: std's `take_while`.
-use Rattle.std.proofs.Common.{◌≡◌, ◌≢◌, ℕ, zero, suc, ◌-◌, ◌<◌, ◌≤◌, ◌↔◌, List, [], ◌∷◌, ◌++◌, length, filter, All, Some, refl, sym, ap, ◌∙◌, subst, arith, length-append, length-drop, length-take, drop, false, not, ◌==◌, inl, inr}
+use Rattle.std.proofs.Common.{◌≡◌, ◌≢◌, ℕ, ◌<◌, ◌≤◌, ◌↔◌, List, [], ◌∷◌, ◌++◌, length, filter, All, Some, refl, ap, ◌∙◌, arith, length-append, length-drop, length-take, false, not, ◌==◌, inl, inr}
 use Rattle.std.specs.List.{position_or_len, take_while}
-use Rattle.std.proofs.lemmas.Bool.{cases_Bool, cases_eq, cases_lt, ne_eqb, le-leb, eq-eqb, lt-leb, leb-true, leb-false}
+use Rattle.std.proofs.lemmas.Bool.{cases_Bool, cases_eq, ne_eqb, le-leb, eq-eqb, lt-leb, leb-true, leb-false}
 use Rattle.std.proofs.lemmas.List.Elements.{All-cons, All-nil, All-weaker, All-take}
 use Rattle.std.proofs.lemmas.List.Folds.{length-prefix_len}
 use Rattle.std.proofs.lemmas.List.Sums.{take_while-cons}
@@ -12,7 +12,7 @@ use Rattle.cobs.specs.Grammar.{HasNoZero, Reads}
 use Rattle.cobs.specs.Headline.{IsPiece}
 use Rattle.cobs.specs.Piece.{IsWhole, output, is_whole, last_part, missing}
 use Rattle.cobs.specs.Stream.{first_piece, head, Message, outcome_of, Outcome, Broken, TooLong}
-use Rattle.cobs.proofs.decoding.PieceCuts.{is_whole-of, joint_of, output-empty, output-last, output-more}
+use Rattle.cobs.proofs.decoding.PieceCuts.{is_whole-of, joint_of, output-empty, output-last, output-more, by_parts}
 use Rattle.cobs.proofs.format.LengthLemmas.{no_zero, some_stretch, stretches-front}
 use Rattle.cobs.proofs.format.FrameLemmas.{frame_some, frame_nonzero, frame_whole, frame_output, reads_output}
 
@@ -24,20 +24,15 @@ reads_only f m r = (frame_some f m r, frame_nonzero f m r, frame_whole f m r, fr
 pub reads_iff : (f m : List ℕ) → All (λ b. b < 256) f → Reads f m ↔ ((f ≢ []) × HasNoZero f × IsWhole f × (m ≡ output f))
 reads_iff f m below = (
   λ r. reads_only f m r,
-  λ (some, nonzero, whole, is). subst (λ (x : List ℕ). Reads f x) (sym is) (reads_output f some nonzero below whole),
+  λ (some, nonzero, whole, is). rw is (reads_output f some nonzero below whole),
 )
 
 -- THE OUTPUT IS NO LONGER THAN THE PIECE
 
-within_by : (n : ℕ) (p : List ℕ) → length p ≤ n → length (output p) ≤ length p
-within_by n [] h = omega (arith, ap length (output-empty [] refl))
-within_by zero (code ∷ bytes) h = grind arith
-within_by (suc n) (code ∷ bytes) h =
-    let rest = within_by n (drop (code - 1) bytes) (omega (arith, length-drop (code - 1) bytes)) in
-    grind (arith, cases_lt, output-last, output-more, joint_of, length-append, length-drop, length-take)
-
 pub output_within : (p : List ℕ) → length (output p) ≤ length p
-output_within p = within_by (length p) p (omega arith)
+output_within =
+    by_parts (λ (p : List ℕ). length (output p) ≤ length p) (omega (arith, ap length (output-empty [] refl))) (λ code bytes short. grind (arith, output-last))
+    (λ code bytes more rest. grind (arith, output-more, joint_of, length-append, length-drop, length-take))
 
 -- THE OUTCOME OF A PIECE
 
@@ -47,20 +42,17 @@ Says (Message m) p n = (length (output p) ≤ n) × IsWhole p × (m ≡ output p
 Says (Broken count) p n = (length (output p) ≤ n) × (is_whole p ≡ false) × (count ≡ length (output p))
 Says TooLong p n = n < length (output p)
 
+-- each outcome says so of its piece
 says : (p : List ℕ) (n : ℕ) → Says (outcome_of p n) p n
 unfolding outcome_of
 says p n = grind (arith, cases_Bool, leb-true, leb-false)
 
 pub outcome_says : (p : List ℕ) (n : ℕ) {outcome : Outcome} → outcome_of p n ≡ outcome → Says outcome p n
-outcome_says p n e = subst (λ o. Says o p n) e (says p n)
+outcome_says p n e = rw e at (says p n)
 
 pub outcome_of_whole : (p : List ℕ) (n : ℕ) → length (output p) ≤ n → IsWhole p → outcome_of p n ≡ Message (output p)
 unfolding outcome_of
 outcome_of_whole p n fits whole = grind (arith, le-leb)
-
-pub outcome_of_broken : (p : List ℕ) (n : ℕ) → length (output p) ≤ n → is_whole p ≡ false → outcome_of p n ≡ Broken (length (output p))
-unfolding outcome_of
-outcome_of_broken p n fits broken = grind (arith, le-leb, broken)
 
 pub outcome_of_long : (p : List ℕ) (n : ℕ) → n < length (output p) → outcome_of p n ≡ TooLong
 unfolding outcome_of
@@ -71,20 +63,19 @@ pub outcome_of_none_missing : (p : List ℕ) (n : ℕ) → 0 < length p → leng
 outcome_of_none_missing p n some fits whole = grind (arith, outcome_of_whole, is_whole-of, eq-eqb)
 
 pub outcome_of_some_missing : (p : List ℕ) (n : ℕ) → 0 < length p → length (output p) ≤ n → missing (last_part p) ≢ 0 → outcome_of p n ≡ Broken (length (output p))
-outcome_of_some_missing p n some fits broken = grind (arith, outcome_of_broken, is_whole-of, ne_eqb)
+unfolding outcome_of
+outcome_of_some_missing p n some fits broken = grind (arith, le-leb, is_whole-of, ne_eqb)
 
 -- the outcome of a frame is its message, in each buffer that holds it
 pub outcome_frame : (f m : List ℕ) (n : ℕ) → Reads f m → length m ≤ n → outcome_of f n ≡ Message m
-outcome_frame f m n r fits =
-    let is = frame_output f m r in
-    outcome_of_whole f n (omega (arith, ap length is)) (frame_whole f m r) ∙ ap Message (sym is)
+outcome_frame f m n r fits = let is = frame_output f m r in rw is (outcome_of_whole f n (omega (arith, ap length is)) (frame_whole f m r))
 
 -- and only that of a frame
 pub outcome_message : (f m : List ℕ) (n : ℕ) → IsPiece f → All (λ b. b < 256) f → (outcome_of f n ≡ Message m) ↔ (Reads f m × (length m ≤ n))
 outcome_message f m n (some, nonzero) below = (
   λ e.
       let (fits, whole, is) = outcome_says f n e in
-      (subst (Reads f) (sym is) (reads_output f some nonzero below whole), omega (arith, ap length is)),
+      (rw is (reads_output f some nonzero below whole), omega (arith, ap length is)),
   λ (r, fits). outcome_frame f m n r fits,
 )
 
@@ -108,8 +99,7 @@ unfolding head
 head-is [] = refl
 head-is (byte ∷ t) = elim (cases_eq byte 0) [
   | inl none ↦ rw none refl
-  | inr some ↦ head-cons byte t some ∙ ap (λ (l : List ℕ). byte ∷ l) (head-is t)
-      ∙ sym (take_while-cons (λ b. not (b == 0)) byte t ∙ rw (ne_eqb byte 0 some) refl)
+  | inr some ↦ rw (head-cons byte t some, head-is t, take_while-cons (λ b. not (b == 0)) byte t, ne_eqb byte 0 some) refl
 ]
 
 pub length-head-is : (t : List ℕ) → length (head t) ≡ position_or_len (λ b. b == 0) t
@@ -134,9 +124,9 @@ first_piece_head byte bytes some = grind (arith, slice_split-cons_no, ne_eqb, he
 pub head_reads : (byte : ℕ) (bytes m : List ℕ) → byte ≢ 0 → All (λ b. b < 256) (byte ∷ bytes) → (outcome_of (head (byte ∷ bytes)) (length (byte ∷ bytes)) ≡ Message m) ↔ Reads (head (byte ∷ bytes)) m
 head_reads byte bytes m some below =
     let t = byte ∷ bytes in
-    let piece : IsPiece (head t) = (λ e. (let k = sym (head-cons byte bytes some) ∙ e in cc), head_nonzero t) in
+    let piece : IsPiece (head t) = (λ e. absurd (cc (head-cons byte bytes some)), head_nonzero t) in
     let both = outcome_message (head t) m (length t) piece (head_all (λ b. b < 256) t below) in
-    (λ e. (both.0 e).0, λ r. both.1 (r, omega (arith, ap length (frame_output (head t) m r), output_within (head t), length-head t)))
+    grind (arith, frame_output, output_within, length-head)
 
 -- A PIECE ALONE IS ITS OWN FIRST PIECE AND HEAD
 

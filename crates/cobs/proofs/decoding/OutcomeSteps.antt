@@ -29,6 +29,7 @@ overwritten-none buffer = grind arith
 pub overwritten-front : (old new bytes : List ℕ) (written : ℕ) → length new ≡ length old → written ≤ length old → drop written new ≡ drop written old → take written new ≡ bytes → new ≡ overwritten old bytes
 overwritten-front old new bytes written same within rest is = grind (arith, length-take-le, take-append-drop, take_all)
 
+-- the report of `decode_in_place_report`, by the result for the bytes before the first zero
 module _ (buffer h : List ℕ) (some : 0 < length buffer) (is : h ≡ head buffer) (result : Result ℕ DecodeError) (result-is : result ≡ head_result h) where
   pub in_place_report-rejected : (error : DecodeError) → result ≡ Err error → Err error ≡ in_place_report buffer
   in_place_report-rejected error e = grind arith

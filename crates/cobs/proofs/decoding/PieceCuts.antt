@@ -1,8 +1,24 @@
 -- A piece is its first part and the bytes after it. So the output and the last part of the piece follow from those of
--- these bytes, by the definition of `parts_after`.
-use Rattle.std.proofs.Common.{◌≡◌, ℕ, ◌-◌, ◌<◌, ◌≤◌, eqb, List, [], ◌∷◌, ◌++◌, length, take, drop, if◌then◌else◌, ◌==◌, refl, arith, take_all, length-drop}
+-- these bytes, by the definition of `parts_after`, and a fact about pieces is proved part by part (`by_parts`).
+use Rattle.std.proofs.Common.{◌≡◌, ℕ, ◌-◌, ◌<◌, ◌≤◌, eqb, List, [], ◌∷◌, ◌++◌, length, take, drop, if◌then◌else◌, ◌==◌, refl, arith, take_all, length-drop, zero, suc, inl, inr}
 use Rattle.cobs.specs.Piece.{last_part, is_whole, missing, parts, parts_after, output}
 use Rattle.cobs.proofs.format.FrameLemmas.{parts_after-drop, parts_after-past, last_of-cons, parts_after-some}
+use Rattle.std.proofs.lemmas.Bool.{cases_lt}
+
+-- P holds for each piece if it holds for no bytes (`none`) and for a piece that is one part (`last`), and if it holds for a
+-- longer piece when it holds for the bytes after the first part (`more`)
+module _ (P : List ℕ → Type 0) (none : P []) (last : (code : ℕ) (bytes : List ℕ) → length bytes ≤ code - 1 → P (code ∷ bytes))
+    (more : (code : ℕ) (bytes : List ℕ) → code - 1 < length bytes → P (drop (code - 1) bytes) → P (code ∷ bytes)) where
+  part_by_part : (n : ℕ) (p : List ℕ) → length p ≤ n → P p
+  part_by_part n [] h = none
+  part_by_part zero (code ∷ bytes) h = absurd (omega arith)
+  part_by_part (suc n) (code ∷ bytes) h = elim (cases_lt (code - 1) (length bytes)) [
+    | inl long ↦ more code bytes long (part_by_part n (drop (code - 1) bytes) (omega (arith, length-drop (code - 1) bytes)))
+    | inr short ↦ last code bytes short
+  ]
+
+  pub by_parts : (p : List ℕ) → P p
+  by_parts p = part_by_part (length p) p (omega arith)
 
 -- the last part
 pub output-last : (code : ℕ) (bytes : List ℕ) → length bytes ≤ code - 1 → output (code ∷ bytes) ≡ bytes

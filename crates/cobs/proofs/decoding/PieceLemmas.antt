@@ -1,11 +1,11 @@
 -- How one more byte changes the output and the last part of a piece: the byte joins the last part if bytes of that part
--- are missing; otherwise the byte is the next code. By induction on `parts_after`.
-use Rattle.std.proofs.Common.{◌≡◌, ℕ, zero, suc, ◌+◌, ◌-◌, ◌<◌, ◌≤◌, List, [], ◌∷◌, ◌++◌, length, drop, refl, arith, append_assoc, append-nil, inl, inr, length-drop, take_at, drop_at}
+-- are missing; otherwise the byte is the next code. By induction on the parts (`by_parts`).
+use Rattle.std.proofs.Common.{◌≡◌, ℕ, ◌+◌, ◌-◌, ◌<◌, ◌≤◌, List, [], ◌∷◌, ◌++◌, length, drop, refl, arith, append_assoc, append-nil, inl, inr, length-drop, take_at, drop_at, Bool}
 use Rattle.std.proofs.lemmas.List.{take-append-le, drop-append-le, length_push}
 use Rattle.std.proofs.lemmas.Bool.{cases_lt}
 use Rattle.cobs.specs.Grammar.{joint, is_full}
 use Rattle.cobs.specs.Piece.{parts, parts_after, missing, output, last_part}
-use Rattle.cobs.proofs.decoding.PieceCuts.{joint_of, output-last, output-more, last_part-last, last_part-more}
+use Rattle.cobs.proofs.decoding.PieceCuts.{joint_of, output-last, output-more, last_part-last, last_part-more, by_parts}
 
 -- the first byte of a piece is a code, and adds nothing to the output
 pub output-one : (b : ℕ) → output (b ∷ []) ≡ []
@@ -21,7 +21,7 @@ record Grown (p : List ℕ) (b : ℕ) : Type 0 where
   next_output : missing (last_part p) ≡ 0 → output (p ++ b ∷ []) ≡ output p ++ joint (last_part p)
   next_last : missing (last_part p) ≡ 0 → last_part (p ++ b ∷ []) ≡ b ∷ []
 
--- one part
+-- a piece that is one part
 grown-last : (code : ℕ) (bytes : List ℕ) (b : ℕ) → length bytes ≤ code - 1 → Grown (code ∷ bytes) b
 grown-last code bytes b short = record {
   more_output = λ h. grind (arith, last_part-last, output-last, length_push);
@@ -30,22 +30,17 @@ grown-last code bytes b short = record {
   next_last = λ h. grind (arith, last_part-last, last_part-more, length_push, drop_at, last_part-one);
 }
 
--- a part before others
+-- a piece of several parts, if the lemma holds for the bytes after the first part
 grown-more : (code : ℕ) (bytes : List ℕ) (b : ℕ) → code - 1 < length bytes → Grown (drop (code - 1) bytes) b → Grown (code ∷ bytes) b
 grown-more code bytes b more rest = grind (arith, last_part-more, output-more, length_push, take-append-le, drop-append-le, append_assoc)
 
-grown-by : (n : ℕ) (p : List ℕ) (b : ℕ) → length p ≤ n → 0 < length p → Grown p b
-grown-by n [] b le some = grind arith
-grown-by zero (code ∷ bytes) b le some = grind arith
-grown-by (suc n) (code ∷ bytes) b le some = elim (cases_lt (code - 1) (length bytes)) [
-  | inl more ↦ let d = length-drop (code - 1) bytes in grown-more code bytes b more (grown-by n (drop (code - 1) bytes) b (omega arith) (omega arith))
-  | inr short ↦ grown-last code bytes b short
-]
-
+-- so each piece grows like this
 grown : (c : ℕ) (p : List ℕ) (b : ℕ) → Grown (c ∷ p) b
-grown c p b = grind (arith, grown-by)
+grown c p b =
+    by_parts (λ (l : List ℕ). 0 < length l → Grown l b) (λ some. absurd (omega arith)) (λ code bytes short some. grown-last code bytes b short)
+    (λ code bytes more rest some. grown-more code bytes b more (rest (omega (arith, length-drop (code - 1) bytes)))) (c ∷ p) (omega arith)
 
-last_part-empty : missing (last_part []) ≡ 0
+pub last_part-empty : missing (last_part []) ≡ 0
 unfolding last_part parts parts_after
 last_part-empty = refl
 
@@ -60,8 +55,9 @@ last_part-push_more (c ∷ p) b h = (grown c p b).more_last h
 pub output-push_next : (c : ℕ) (p : List ℕ) (b : ℕ) → missing (last_part (c ∷ p)) ≡ 0 → output (c ∷ p ++ b ∷ []) ≡ output (c ∷ p) ++ joint (last_part (c ∷ p))
 output-push_next c p b h = (grown c p b).next_output h
 
-pub last_part-push_next : (c : ℕ) (p : List ℕ) (b : ℕ) → missing (last_part (c ∷ p)) ≡ 0 → last_part (c ∷ p ++ b ∷ []) ≡ b ∷ []
-last_part-push_next c p b h = (grown c p b).next_last h
+pub last_part-push_next : (p : List ℕ) (b : ℕ) → missing (last_part p) ≡ 0 → last_part (p ++ b ∷ []) ≡ b ∷ []
+last_part-push_next [] b h = last_part-one b
+last_part-push_next (c ∷ p) b h = (grown c p b).next_last h
 
 pub missing-push_more : (p : List ℕ) (b : ℕ) → 0 < missing (last_part p) → missing (last_part (p ++ b ∷ [])) + 1 ≡ missing (last_part p)
 missing-push_more p b h = grind (arith, last_part-push_more, length_push)
@@ -69,6 +65,13 @@ missing-push_more p b h = grind (arith, last_part-push_more, length_push)
 pub is_full-push_more : (p : List ℕ) (b : ℕ) → 0 < missing (last_part p) → is_full (last_part (p ++ b ∷ [])) ≡ is_full (last_part p)
 is_full-push_more p b h = grind (arith, last_part-push_more)
 
--- The step lemma in one: the output grows at its end
+-- a piece ends in a part that is full or not, and of which this many bytes are missing
+abbrev pub EndsIn : List ℕ → Bool → ℕ → Type 0
+EndsIn p full left = (is_full (last_part p) ≡ full) × (missing (last_part p) ≡ left)
+
+-- both cases in one: the output grows at its end
 pub output-push : (c : ℕ) (p : List ℕ) (b : ℕ) → (more : List ℕ) × (output (c ∷ p ++ b ∷ []) ≡ output (c ∷ p) ++ more)
-output-push c p b = elim (cases_lt 0 (missing (last_part (c ∷ p)))) [ inl h ↦ (b ∷ [], output-push_more (c ∷ p) b h) | inr h ↦ (joint (last_part (c ∷ p)), output-push_next c p b (omega arith)) ]
+output-push c p b = elim (cases_lt 0 (missing (last_part (c ∷ p)))) [
+  | inl h ↦ (b ∷ [], output-push_more (c ∷ p) b h)
+  | inr h ↦ (joint (last_part (c ∷ p)), output-push_next c p b (omega arith))
+]

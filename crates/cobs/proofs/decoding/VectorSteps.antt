@@ -35,6 +35,7 @@ module _ (source : List ℕ) (n : ℕ) (room : n ≡ length source) where
   abbrev Rejected : Result (List ℕ) DecodeError → DecodeError → Type 0
   Rejected returned error = (returned ≡ Err error) × (error ≢ TargetBufTooSmall)
 
+  -- the message is the front of the buffer that `decode` returns
   piece-message : (report : DecodeReport) (old : List ℕ) (p : Option (List ℕ)) → first_piece source ≡ p → length old ≡ n → Ok report ≡ result_by_piece source p n
       → message_of_piece p ≡ Ok (take (frame_size_of report) (overwritten old (output_of p)))
   piece-message report old None is long e = absurd (cc)
@@ -61,9 +62,11 @@ unfolding kept_output
 kept_within p = grind (arith, output_within, length-take)
 
 module _ (source : List ℕ) (n : ℕ) (room : n ≡ length source) where
+  -- the message of a source is that of the bytes before its first zero
   head-is : 0 < length source → decoded_head source ≡ message_of_head (head source)
   head-is some = grind arith
 
+  -- an error isn't `TargetBufTooSmall`, and a message is the front of the buffer
   rejected : (error : DecodeError) (h : List ℕ) → Err error ≡ head_result h → (message_of_head h ≡ Err error) × (error ≢ TargetBufTooSmall)
   rejected error h e = grind arith
 

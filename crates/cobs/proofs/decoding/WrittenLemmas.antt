@@ -1,19 +1,19 @@
 -- Lemmas on the kept output of a piece that is written to the front of a buffer byte by byte (`Written`), and on the
 -- part of it that comes from each block. They cut the piece after its first block (`kept-block`).
-use Rattle.std.proofs.Common.{◌≡◌, ◌≢◌, ◌∙◌, ◌+◌, ◌-◌, ◌<◌, ◌≤◌, ◌⊎◌, ◌==◌, ℕ, Bool, true, false, cond, if◌then◌else◌, List, [], ◌∷◌, ◌++◌, length, take, drop, get_or, set, Result, Ok, Err, refl, sym, ap, arith, inl, inr, append_assoc, append-nil, drop_at, length-append, length-drop, length-take-le, take-append-drop, take_all, take_at}
-use Rattle.std.proofs.lemmas.Bool.{eq-eqb, ne_eqb}
-use Rattle.std.proofs.lemmas.List.{drop-drop, drop_all, drop_more, get_or-drop, set_at}
+use Rattle.std.proofs.Common.{◌≡◌, ◌≢◌, ◌∙◌, ◌+◌, ◌-◌, ◌<◌, ◌≤◌, ◌⊎◌, ◌==◌, ℕ, Bool, true, false, cond, if◌then◌else◌, List, [], ◌∷◌, ◌++◌, length, take, drop, get_or, set, Result, Ok, Err, refl, ap, arith, append_assoc, append-nil, drop_at, length-append, length-drop, length-take-le, take-append-drop, take_all, take_at}
+use Rattle.std.proofs.lemmas.Bool.{eq-eqb, ne_eqb, cases_Bool}
+use Rattle.std.proofs.lemmas.List.{drop-drop, drop_all, drop_more, get_or-drop, set_at, nil_from_length}
 use Rattle.std.proofs.lemmas.List.Elements.{All-drop, All-get_or, All-take}
 use Rattle.std.proofs.lemmas.Grind.{common_steps}
-use Rattle.cobs.specs.Decode.{head_result, head_result_within}
+use Rattle.cobs.specs.Decode.{head_result}
 use Rattle.cobs.specs.Grammar.{HasNoZero, IsBlock, joint}
-use Rattle.cobs.specs.Overwritten.{overwritten}
 use Rattle.cobs.specs.Piece.{is_whole, kept_output}
 use Rattle.cobs.specs.declared.error.DecodeError.{DecodeError}
 use Rattle.cobs.specs.declared.error.DecodeError.TheVariants.{InvalidFrame, TargetBufTooSmall}
-use Rattle.cobs.proofs.decoding.KeptLemmas.{all-kept, block-whole, broken-part, front-kept, front-whole, kept-broken, kept_output-empty}
+use Rattle.cobs.proofs.decoding.KeptLemmas.{all-kept, block-whole, broken-part, front-kept, front-whole, kept-broken, kept_output-empty, Decoded, DecodedInPlace}
 use Rattle.cobs.proofs.decoding.PieceCuts.{output-last}
 use Rattle.cobs.proofs.decoding.SourceSteps.{result-fits, result-too_long}
+use Rattle.cobs.proofs.decoding.VectorSteps.{kept_within}
 
 -- THE PART OF THE KEPT OUTPUT THAT COMES FROM A BLOCK
 
@@ -29,13 +29,13 @@ zero_before code (byte ∷ bytes) = if code == 255 then [] else 0 ∷ []
 
 pub zero_before-none : (code : ℕ) (next : List ℕ) → (length next ≡ 0) ⊎ (code ≡ 255) → zero_before code next ≡ []
 zero_before-none code [] none = refl
-zero_before-none code (byte ∷ next) (inl last) = grind arith
-zero_before-none code (byte ∷ next) (inr full) = grind (arith, eq-eqb)
+zero_before-none code (byte ∷ next) none = grind (arith, eq-eqb)
 
 pub zero_before-some : (code : ℕ) (next : List ℕ) → 0 < length next → code ≢ 255 → zero_before code next ≡ 0 ∷ []
 zero_before-some code [] some other = grind arith
 zero_before-some code (byte ∷ next) some other = grind (arith, ne_eqb)
 
+-- the kept output of a block and the bytes after it, and whether these are whole
 kept-joined : (code : ℕ) (bytes next : List ℕ) → IsBlock (code ∷ bytes) → kept_output ((code ∷ bytes) ++ next) ≡ bytes ++ (zero_before code next ++ kept_output next)
 kept-joined code bytes [] is = grind (arith, append-nil, all-kept, block-whole, output-last, kept_output-empty)
 kept-joined code bytes (byte ∷ next) is = front-kept (code ∷ bytes) (byte ∷ next) is (λ e. cc) ∙ append_assoc bytes (joint (code ∷ bytes)) (kept_output (byte ∷ next))
@@ -52,10 +52,10 @@ module _ (p : List ℕ) (code : ℕ) (some : 0 < length p) (is : code ≡ get_or
 
   -- these bytes break off inside the block
   module _ (less : length p < code) where
-    pub kept-none : kept_output p ≡ []
+    kept-none : kept_output p ≡ []
     kept-none = grind (arith, front, kept-broken, length-drop)
 
-    pub whole-none : whole_left p ≡ false
+    whole-none : whole_left p ≡ false
     whole-none = grind (arith, front, broken-part, length-drop)
 
   module _ (nonzero : HasNoZero p) where
@@ -93,15 +93,10 @@ pub record Written (h old buffer : List ℕ) (written : ℕ) (left : List ℕ) :
 pub written-none : (h old : List ℕ) → Written h old old 0 (kept_output h)
 written-none h old = grind arith
 
--- the result and the buffer of a decoder of h
-abbrev pub Decoded : List ℕ → List ℕ → List ℕ → Result ℕ DecodeError → Type 0
-Decoded h old buffer result = (result ≡ head_result_within h (length old)) × (buffer ≡ overwritten old (kept_output h))
-
 -- the result for bytes of which n are kept
 kept-result : (h : List ℕ) (whole : Bool) (n : ℕ) → whole_left h ≡ whole → length (kept_output h) ≡ n → cond whole (Ok n) (Err (InvalidFrame n)) ≡ head_result h
 kept-result [] whole n w is = grind (arith, kept_output-empty)
-kept-result (byte ∷ h) true n w is = grind (arith, all-kept)
-kept-result (byte ∷ h) false n w is = grind arith
+kept-result (byte ∷ h) whole n w is = grind (arith, cases_Bool, all-kept)
 
 module _ {h old buffer : List ℕ} {written : ℕ} {left : List ℕ} (s : Written h old buffer written left) where
   pub written-long : length buffer ≡ length old
@@ -113,16 +108,12 @@ module _ {h old buffer : List ℕ} {written : ℕ} {left : List ℕ} (s : Writte
 
   -- nothing is left to be written
   module _ (none : left ≡ []) where
+    -- all of the kept output is written
     kept-long : length (kept_output h) ≡ written
     kept-long = grind (arith, append-nil)
 
-    -- the result and the buffer, if the buffer had room for all bytes, as it has in place
-    pub all-written-in_place : (whole : Bool) → whole_left h ≡ whole → (cond whole (Ok written) (Err (InvalidFrame written)) ≡ head_result h) × (buffer ≡ overwritten old (kept_output h))
-    all-written-in_place whole w = grind (arith, take_all, kept-result, kept-long, append-nil)
-
-    -- the result and the buffer, for any buffer
-    pub all-written : (whole : Bool) → whole_left h ≡ whole → Decoded h old buffer (cond whole (Ok written) (Err (InvalidFrame written)))
-    all-written whole w = grind (arith, common_steps, all-written-in_place, result-fits, kept-long)
+    all-written : (whole : Bool) → whole_left h ≡ whole → Decoded h old buffer (cond whole (Ok written) (Err (InvalidFrame written)))
+    all-written whole w = grind (arith, common_steps, take_all, kept-result, kept-long, append-nil, result-fits)
 
   -- the next byte
   module _ (byte : ℕ) (more : List ℕ) (next : left ≡ byte ∷ more) where
@@ -133,11 +124,24 @@ module _ {h old buffer : List ℕ} {written : ℕ} {left : List ℕ} (s : Writte
           done = s.done ++ byte ∷ [];
           count = omega (arith, length-append s.done (byte ∷ []), s.count);
           room = omega arith;
-          holds = ap (λ (x : List ℕ). set x written byte) (s.holds ∙ ap (λ (x : List ℕ). s.done ++ x) (drop_more old written 0 less)) ∙ set_at s.done _ (drop (written + 1) old) byte written s.count
-              ∙ sym (append_assoc s.done (byte ∷ []) (drop (written + 1) old));
-          kept = s.kept ∙ ap (λ (x : List ℕ). s.done ++ x) next ∙ sym (append_assoc s.done (byte ∷ []) more);
+          holds = rw (s.holds, drop_more old written 0 less, set_at s.done _ (drop (written + 1) old) byte written s.count, append_assoc) refl;
+          kept = rw (s.kept, next, append_assoc) refl;
         }
 
     -- there is no room for the next byte
     pub buffer-full : length buffer ≤ written → Decoded h old buffer (Err TargetBufTooSmall)
     buffer-full no-room = grind (arith, written-long, length-append, result-too_long, take_at, drop_all)
+
+-- the remaining bytes p aren't written yet, and h is whole if they are
+module _ {h old buffer : List ℕ} {written : ℕ} (p : List ℕ) (s : Written h old buffer written (kept_output p)) (same : whole_left h ≡ whole_left p) where
+  -- there are none
+  pub decoded-all : length p ≡ 0 → Decoded h old buffer (Ok written)
+  decoded-all none = let nil = nil_from_length p none in all-written s (ap kept_output nil ∙ kept_output-empty) true (same ∙ ap whole_left nil)
+
+  -- they break off inside their first block
+  pub decoded-broken : 0 < length p → length p < get_or p 0 0 → Decoded h old buffer (Err (InvalidFrame written))
+  decoded-broken some less = all-written s (kept-none p _ some refl less) false (same ∙ whole-none p _ some refl less)
+
+-- in place there is always room
+pub decoded-in_place : (h old : List ℕ) {buffer : List ℕ} {result : Result ℕ DecodeError} → length h ≤ length old → Decoded h old buffer result → DecodedInPlace h old buffer result
+decoded-in_place h old fits d = grind (arith, result-fits, kept_within)

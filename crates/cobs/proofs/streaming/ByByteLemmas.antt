@@ -1,5 +1,5 @@
 -- A piece that is taken byte by byte: each byte continues or ends the piece, by `SoFar-more` and `TakesBytes-byte`.
-use Rattle.std.proofs.Common.{◌≡◌, ◌≢◌, ℕ, ◌+◌, ◌<◌, ◌≤◌, List, [], ◌∷◌, ◌++◌, length, take, drop, get_or, Option, Some, None, Result, refl, ap, ◌∙◌, subst, arith, append_assoc, inl, inr, IfOk, IfSome}
+use Rattle.std.proofs.Common.{◌≡◌, ◌≢◌, ℕ, ◌+◌, ◌<◌, ◌≤◌, List, [], ◌∷◌, ◌++◌, length, take, drop, get_or, Option, Some, None, Result, refl, ◌∙◌, arith, append_assoc, inl, inr, IfOk, IfSome}
 use Rattle.std.proofs.lemmas.Bool.{cases_eq, eq-eqb, ne_eqb}
 use Rattle.std.proofs.lemmas.List.{append-nil, take_more}
 use Rattle.cobs.specs.Feed.{Phase, PhaseAfter, DecoderAfter, Feeds}
@@ -17,12 +17,14 @@ use Rattle.cobs_bytes.proofs.bytes.ListLemmas.{drop-later}
 
 -- THE RESULT FOR A ZERO
 
+-- the end that a result reports has the outcome that the result means
 stated-some : (result : Result (Option ℕ) DecodeError) (buffer : List ℕ) (end : PieceEnd) → end_reported result ≡ Some end → IfOk result (λ found. IfSome found (λ n. n ≤ length buffer))
     → (outcome_reported result buffer ≡ outcome_at end buffer ∷ []) × IsWithin (length buffer) end
 stated-some result buffer end e bound = grind arith
 
 -- THE BYTES SO FAR
 
+-- before the first byte
 pub piece-nothing : (buffer : List ℕ) (phase : Phase) → TakesPiece buffer phase [] None buffer phase
 piece-nothing buffer phase = record {
   takes = SoFar-start buffer phase;
@@ -40,35 +42,37 @@ piece-nothing buffer phase = record {
 -- bytes in which no piece ended, and one more byte
 module _ {buffer₀ buffer buffer' : List ℕ} {phase₀ phase phase' : Phase} {result : Result (Option ℕ) DecodeError} (bytes : List ℕ) (i : ℕ) (inside : i < length bytes)
     (t : TakesPiece buffer₀ phase₀ (take i bytes) None buffer phase) (f : Feeds buffer phase (get_or bytes i 0) result buffer' phase') where
-  pub none_before : (p : List ℕ) → PhaseAfter (length buffer₀) phase₀ p → stream_outcomes (p ++ take i bytes) (length buffer₀) ≡ []
-  none_before p h = grind arith
+  -- after a front p of a piece
+  module _ (p : List ℕ) (h : PhaseAfter (length buffer₀) phase₀ p) where
+    pub none_before : stream_outcomes (p ++ take i bytes) (length buffer₀) ≡ []
+    none_before = grind arith
 
-  stream_on : (p : List ℕ) → p ++ take (i + 1) bytes ≡ (p ++ take i bytes) ++ get_or bytes i 0 ∷ []
-  stream_on p = grind (arith, take_more, append_assoc, get_or)
+    stream_on : p ++ take (i + 1) bytes ≡ (p ++ take i bytes) ++ get_or bytes i 0 ∷ []
+    stream_on = grind (arith, take_more, append_assoc, get_or)
 
-  -- the piece that was read last
-  last_zero : get_or bytes i 0 ≡ 0 → (p : List ℕ) → PhaseAfter (length buffer₀) phase₀ p → last_piece (p ++ take (i + 1) bytes) ≡ unended (p ++ take i bytes)
-  last_zero z p h = grind (arith, stream_on, last_piece-zero, no_outcomes, none_before)
+    -- the piece that was read last
+    last_zero : get_or bytes i 0 ≡ 0 → last_piece (p ++ take (i + 1) bytes) ≡ unended (p ++ take i bytes)
+    last_zero z = grind (arith, stream_on, last_piece-zero, no_outcomes, none_before)
 
-  last_nonzero : get_or bytes i 0 ≢ 0 → (p : List ℕ) → PhaseAfter (length buffer₀) phase₀ p → last_piece (p ++ take (i + 1) bytes) ≡ unended (p ++ take i bytes) ++ get_or bytes i 0 ∷ []
-  last_nonzero nz p h = grind (arith, stream_on, last_piece-unended, get_or, ended_pieces-nonzero, no_outcomes, none_before, unended-push, fed-nonzero)
+    last_nonzero : get_or bytes i 0 ≢ 0 → last_piece (p ++ take (i + 1) bytes) ≡ unended (p ++ take i bytes) ++ get_or bytes i 0 ∷ []
+    last_nonzero nz = grind (arith, stream_on, last_piece-unended, get_or, ended_pieces-nonzero, no_outcomes, none_before, unended-push, fed-nonzero)
 
-  -- the bytes after the output of that piece stay as they were
-  left_so_far : (p : List ℕ) → PhaseAfter (length buffer₀) phase₀ p → drop (length (output (unended (p ++ take i bytes)))) buffer ≡ drop (length (output (unended (p ++ take i bytes)))) buffer₀
-  left_so_far p h = grind (arith, last_piece-unended, no_outcomes, none_before)
+    -- the bytes after the output of that piece stay as they were
+    left_so_far : drop (length (output (unended (p ++ take i bytes)))) buffer ≡ drop (length (output (unended (p ++ take i bytes)))) buffer₀
+    left_so_far = grind (arith, last_piece-unended, no_outcomes, none_before)
 
-  pub untouched_behind : (p : List ℕ) → PhaseAfter (length buffer₀) phase₀ p
-      → drop (length (output (last_piece (p ++ take (i + 1) bytes)))) buffer' ≡ drop (length (output (last_piece (p ++ take (i + 1) bytes)))) buffer₀
-  untouched_behind p h = elim (cases_eq (get_or bytes i 0) 0) [
-    | inl z ↦ rw (last_zero z p h, f.zero_unchanged z) (left_so_far p h)
-    | inr nz ↦ rw (last_nonzero nz p h) (f.untouched _ (phase_so_far t.takes p h) nz ∙ drop-later _ _ _ _ (output-longer _ (get_or bytes i 0)) (left_so_far p h))
-  ]
+    pub untouched_behind : drop (length (output (last_piece (p ++ take (i + 1) bytes)))) buffer' ≡ drop (length (output (last_piece (p ++ take (i + 1) bytes)))) buffer₀
+    untouched_behind = elim (cases_eq (get_or bytes i 0) 0) [
+      | inl z ↦ rw (last_zero z, f.zero_unchanged z) left_so_far
+      | inr nz ↦ rw (last_nonzero nz) (f.untouched _ (phase_so_far t.takes p h) nz ∙ drop-later _ _ _ _ (output-longer _ (get_or bytes i 0)) left_so_far)
+    ]
 
+  -- the buffer begins with that output
   begins_behind : (p : List ℕ) → DecoderAfter buffer₀ phase₀ p
       → take (length (output (last_piece (p ++ take (i + 1) bytes)))) buffer' ≡ take (length buffer') (output (last_piece (p ++ take (i + 1) bytes)))
   begins_behind p h = elim (cases_eq (get_or bytes i 0) 0) [
-    | inl z ↦ rw (last_zero z p h.phased, f.zero_unchanged z) (t.takes.after p h).begins
-    | inr nz ↦ rw (last_nonzero nz p h.phased) (rw (fed-nonzero _ _ nz) at (f.after _ (t.takes.after p h))).begins
+    | inl z ↦ rw (last_zero p h.phased z, f.zero_unchanged z) (t.takes.after p h).begins
+    | inr nz ↦ rw (last_nonzero p h.phased nz) (rw (fed-nonzero _ _ nz) at (f.after _ (t.takes.after p h))).begins
   ]
 
   pub holds_behind : (p : List ℕ) → DecoderAfter buffer₀ phase₀ p → buffer' ≡ overwritten buffer₀ (output (last_piece (p ++ take (i + 1) bytes)))
@@ -80,7 +84,7 @@ module _ {buffer₀ buffer buffer' : List ℕ} {phase₀ phase phase' : Phase} {
   -- the byte ends no piece
   pub piece-more : (get_or bytes i 0 ≡ 0 → end_reported result ≡ None) → TakesPiece buffer₀ phase₀ (take (i + 1) bytes) None buffer' phase'
   piece-more none = record {
-    takes = subst (λ stated. TakesBytes buffer₀ phase₀ (take (i + 1) bytes) stated buffer' phase') nothing takes_behind;
+    takes = rw nothing at takes_behind;
     ends = tt;
     holds = holds_behind;
     untouched = untouched_behind;
@@ -97,13 +101,13 @@ module _ {buffer₀ buffer buffer' : List ℕ} {phase₀ phase phase' : Phase} {
   piece-ended end z is =
       let e = stated-some result buffer' end is (rw f.len f.bound) in
       let stated : reported_by (get_or bytes i 0) result buffer' ≡ outcome_at end buffer' ∷ [] = rw (eq-eqb _ 0 z) e.0 in
-      let takes = subst (λ stated. TakesBytes buffer₀ phase₀ (take (i + 1) bytes) stated buffer' phase') stated takes_behind in
-      let fits = subst (λ n. IsWithin n end) (f.len ∙ t.takes.len) e.1 in
+      let takes = rw stated at takes_behind in
+      let fits = rw (f.len ∙ t.takes.len) at e.1 in
       record {
         takes = takes;
         ends = record {
           front = take i bytes;
-          taken = take_more bytes i 0 inside ∙ ap (λ (x : ℕ). take i bytes ++ x ∷ []) z;
+          taken = rw (take_more bytes i 0 inside, z) refl;
           none_before = none_before;
         };
         holds = holds_behind;

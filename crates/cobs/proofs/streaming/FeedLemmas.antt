@@ -1,10 +1,10 @@
 -- A step of the machine of `Step` meets `Feeds` (`Feeds-step`): after a front of a piece, its phase and its buffer are
 -- those for the front with the byte, and its result is the one for the byte. By `PieceLemmas`, with one case for each
 -- phase.
-use Rattle.std.proofs.Common.{◌≡◌, ◌≢◌, ℕ, zero, suc, ◌+◌, ◌<◌, ◌≤◌, Bool, true, false, cond, leb, eqb, List, [], ◌∷◌, ◌++◌, length, take, drop, set, refl, sym, arith, length-append, Option, None, Result, Ok, Err, add-one}
+use Rattle.std.proofs.Common.{◌≡◌, ◌≢◌, ℕ, zero, suc, ◌+◌, ◌<◌, ◌≤◌, Bool, false, cond, leb, eqb, List, [], ◌∷◌, ◌++◌, length, take, drop, set, refl, sym, arith, length-append, Option, None, Result, Ok, Err, add-one, inl, inr, ◌⊎◌, true}
 use Rattle.std.proofs.lemmas.List.{take_all, take-append-le, append-nil, length_push, take_more_set, set_past, drop-set-lt, length-set}
 use Rattle.std.proofs.lemmas.List.Elements.{All-push, All-nil}
-use Rattle.std.proofs.lemmas.Bool.{cases_lt, cond-true, cond-false, ne_eqb, le-leb, leb-true, lt-leb}
+use Rattle.std.proofs.lemmas.Bool.{cases_lt, cond-true, cond-false, ne_eqb, le-leb, leb-true, lt-leb, cases_Bool}
 use Rattle.cobs.specs.Grammar.{HasNoZero, is_full}
 use Rattle.cobs.specs.Piece.{missing, output, last_part, is_whole}
 use Rattle.cobs.specs.Stream.{outcome_of}
@@ -20,7 +20,7 @@ use Rattle.cobs.proofs.decoding.OutcomeLemmas.{outcome_of_long}
 use Rattle.cobs.proofs.format.StreamLemmas.{fed-nonzero}
 use Rattle.cobs.proofs.streaming.LastPiece.{output-longer}
 use Rattle.cobs.proofs.streaming.TableLemmas.{output-nil}
-use Rattle.cobs.proofs.decoding.PieceLemmas.{output-one, last_part-one, output-push_more, output-push_next, last_part-push_next, missing-push_more, is_full-push_more, output-push}
+use Rattle.cobs.proofs.decoding.PieceLemmas.{output-one, last_part-one, output-push_more, output-push_next, last_part-push_next, missing-push_more, is_full-push_more, output-push, EndsIn}
 
 -- a decoder whose output was too long is in the phase `Overlong`, whatever its other numbers are
 pub over_is : (decoder : UnbufferedDecoder) → decoder.too_long ≢ 0 → phase_of decoder ≡ Overlong
@@ -39,6 +39,7 @@ next_phase-zero n phase = grind arith
 next_buffer-zero : (buffer : List ℕ) (phase : Phase) → next_buffer buffer phase 0 ≡ buffer
 next_buffer-zero buffer phase = grind arith
 
+-- the phase after one more byte of output
 grows-is : (n : ℕ) (full : Bool) (left count : ℕ) → grows n full left count ≡ cond (leb (count + 1) n) (Within full left (count + 1)) Overlong
 grows-is n full left count = rw add-one refl
 
@@ -46,12 +47,12 @@ nonzero : (b : ℕ) → 0 < b → eqb b 0 ≡ false
 nonzero b h = grind (arith, ne_eqb)
 
 -- within a part
-within_step : (n c : ℕ) (q : List ℕ) (b : ℕ) (full : Bool) (left : ℕ) → is_full (last_part (c ∷ q)) ≡ full → missing (last_part (c ∷ q)) ≡ left → 0 < b → length (output (c ∷ q)) ≤ n
+within_step : (n c : ℕ) (q : List ℕ) (b : ℕ) (full : Bool) (left : ℕ) → EndsIn (c ∷ q) full left → 0 < b → length (output (c ∷ q)) ≤ n
     → next_phase n (Within full left (length (output (c ∷ q)))) b ≡ phase_after (c ∷ q ++ b ∷ []) n
-within_step n c q b full (suc left) f l h fits = grind (arith, nonzero, grows-is, phase_after-is, is_full-push_more (c ∷ q) b, missing-push_more (c ∷ q) b, output-push_more (c ∷ q) b, length_push)
-within_step n c q b true zero f l h fits = grind (arith, nonzero, phase_after-is, last_part-push_next, output-push_next, append-nil, cond-true, le-leb)
-within_step n c q b false zero f l h fits = grind (arith, nonzero, grows-is, phase_after-is, last_part-push_next, output-push_next, length_push)
+within_step n c q b full (suc left) is h fits = grind (arith, nonzero, grows-is, phase_after-is, is_full-push_more (c ∷ q) b, missing-push_more (c ∷ q) b, output-push_more (c ∷ q) b, length_push)
+within_step n c q b full zero is h fits = grind (arith, cases_Bool, nonzero, grows-is, phase_after-is, last_part-push_next (c ∷ q) b, output-push_next, append-nil, length_push, cond-true, le-leb)
 
+-- the phase after a piece whose output fits, and after one whose output is too long
 fits_phase : (c : ℕ) (q : List ℕ) (n : ℕ) → length (output (c ∷ q)) ≤ n → phase_after (c ∷ q) n ≡ Within (is_full (last_part (c ∷ q))) (missing (last_part (c ∷ q))) (length (output (c ∷ q)))
 fits_phase c q n h = grind (arith, phase_after-is, cond-true, le-leb)
 
@@ -66,6 +67,7 @@ nonzero_step n (c ∷ q) b h = grind (arith, cases_lt, over_phase, nonzero, outp
 
 -- RESULTS
 
+-- the result for the zero that ends a piece, if the output fits, and for any output
 result_within : (n c : ℕ) (q : List ℕ) (left : ℕ) → missing (last_part (c ∷ q)) ≡ left → length (output (c ∷ q)) ≤ n
     → end_result n (Within (is_full (last_part (c ∷ q))) left (length (output (c ∷ q)))) ≡ result_at_end (c ∷ q) n
 unfolding result_at_end outcome_of is_whole
@@ -75,13 +77,11 @@ end_result-is : (n : ℕ) (p : List ℕ) → end_result n (phase_after p n) ≡ 
 unfolding phase_after result_at_end
 end_result-is n p = grind (arith, cases_lt, over_phase, outcome_of_long, fits_phase, result_within)
 
-error_if_overlong-is : (c : ℕ) (q : List ℕ) (n : ℕ) → error_if_overlong (phase_after (c ∷ q) n) ≡ cond (leb (length (output (c ∷ q))) n) (Ok None) (Err TargetBufTooSmall)
-unfolding phase_after
-error_if_overlong-is c q n = grind arith
-
+-- the result for a byte of a piece
 error_if_overlong-push : (p : List ℕ) (b n : ℕ) → error_if_overlong (phase_after (p ++ b ∷ []) n) ≡ cond (leb (length (output (p ++ b ∷ []))) n) (Ok None) (Err TargetBufTooSmall)
-error_if_overlong-push [] b n = error_if_overlong-is b [] n
-error_if_overlong-push (c ∷ q) b n = error_if_overlong-is c (q ++ b ∷ []) n
+unfolding phase_after
+error_if_overlong-push [] b n = grind arith
+error_if_overlong-push (c ∷ q) b n = grind arith
 
 -- BUFFERS
 
@@ -92,22 +92,25 @@ Begins buffer o = take (length o) buffer ≡ take (length buffer) o
 begins-nil : (buffer : List ℕ) → Begins buffer []
 begins-nil buffer = grind (arith, take_all)
 
+-- a full buffer, and one that gets a byte
 begins-over : (buffer o more : List ℕ) → length buffer ≤ length o → Begins buffer o → Begins buffer (o ++ more)
 begins-over buffer o more h e = grind (arith, take_all, length-append, take-append-le)
 
 begins-push : (buffer o : List ℕ) (w : ℕ) → Begins buffer o → Begins (set buffer (length o) w) (o ++ w ∷ [])
 begins-push buffer o w e = grind (arith, cases_lt, length_push, take_more_set, take_all, length-set, set_past, begins-over)
 
-begins_within : (buffer : List ℕ) (c : ℕ) (q : List ℕ) (b : ℕ) (full : Bool) (left : ℕ) → is_full (last_part (c ∷ q)) ≡ full → missing (last_part (c ∷ q)) ≡ left → 0 < b
-    → Begins buffer (output (c ∷ q)) → Begins (next_buffer buffer (Within full left (length (output (c ∷ q)))) b) (output (c ∷ q ++ b ∷ []))
-begins_within buffer c q b full (suc left) f l h e = grind (arith, output-push_more (c ∷ q) b, nonzero, begins-push)
-begins_within buffer c q b true zero f l h e = grind (arith, output-push_next, append-nil)
-begins_within buffer c q b false zero f l h e = grind (arith, output-push_next, nonzero, begins-push)
+-- a byte of a piece changes neither the output nor the buffer, or it adds the same byte to both
+adds_same : (buffer : List ℕ) (c : ℕ) (q : List ℕ) (b : ℕ) (full : Bool) (left : ℕ) → EndsIn (c ∷ q) full left → 0 < b
+    → let o = output (c ∷ q) in let o' = output (c ∷ q ++ b ∷ []) in let buffer' = next_buffer buffer (Within full left (length o)) b in
+    ((o' ≡ o) × (buffer' ≡ buffer)) ⊎ ((w : ℕ) × (o' ≡ o ++ w ∷ []) × (buffer' ≡ set buffer (length o) w))
+adds_same buffer c q b full (suc left) is h = inr (b, grind (arith, output-push_more (c ∷ q) b), grind (arith, nonzero))
+adds_same buffer c q b true zero is h = inl (grind (arith, output-push_next, append-nil), grind arith)
+adds_same buffer c q b false zero is h = inr (0, grind (arith, output-push_next), grind (arith, nonzero))
 
 begins-nonzero : (buffer p : List ℕ) (b : ℕ) → 0 < b → Begins buffer (output p) → Begins (next_buffer buffer (phase_after p (length buffer)) b) (output (p ++ b ∷ []))
 unfolding phase_after
 begins-nonzero buffer [] b h e = rw (output-one b) (begins-nil buffer)
-begins-nonzero buffer (c ∷ q) b h e = grind (arith, cases_lt, over_phase, fits_phase, begins-over, begins_within, (output-push c q b))
+begins-nonzero buffer (c ∷ q) b h e = grind (arith, cases_lt, over_phase, fits_phase, begins-over, begins-push, adds_same, output-push c q b)
 
 begins-step : (buffer p : List ℕ) (b : ℕ) → Begins buffer (output p) → Begins (next_buffer buffer (phase_after p (length buffer)) b) (output (fed p b))
 begins-step buffer p zero e = grind (arith, next_buffer-zero, output-nil, begins-nil)
@@ -122,28 +125,22 @@ piece-fed p (suc b) h = grind (arith, common_steps, fed-nonzero, All-push)
 
 -- THE STEP, for `PhaseAfter` and `DecoderAfter`
 
-pub PhaseAfter-step : (n : ℕ) (phase : Phase) (p : List ℕ) (b : ℕ) → PhaseAfter n phase p → PhaseAfter n (next_phase n phase b) (fed p b)
+PhaseAfter-step : (n : ℕ) (phase : Phase) (b : ℕ) (p : List ℕ) → PhaseAfter n phase p → PhaseAfter n (next_phase n phase b) (fed p b)
 unfolding phase_after
-PhaseAfter-step n phase p b h = grind (arith, piece-fed, next_phase-zero, nonzero_step, fed-nonzero)
+PhaseAfter-step n phase b p h = grind (arith, piece-fed, next_phase-zero, nonzero_step, fed-nonzero)
 
-pub PhaseAfter-result_for : (n : ℕ) (phase : Phase) (p : List ℕ) (b : ℕ) → PhaseAfter n phase p → next_result n phase b ≡ result_for p b n
+PhaseAfter-result_for : (n : ℕ) (phase : Phase) (b : ℕ) (p : List ℕ) → PhaseAfter n phase p → next_result n phase b ≡ result_for p b n
 unfolding result_for
-PhaseAfter-result_for n phase p b h = grind (arith, end_result-is, nonzero, nonzero_step, error_if_overlong-push)
+PhaseAfter-result_for n phase b p h = grind (arith, end_result-is, nonzero, nonzero_step, error_if_overlong-push)
 
-pub DecoderAfter-step : (buffer : List ℕ) (phase : Phase) (p : List ℕ) (b : ℕ) → DecoderAfter buffer phase p → DecoderAfter (next_buffer buffer phase b) (next_phase (length buffer) phase b) (fed p b)
-DecoderAfter-step buffer phase p b h = grind (arith, common_steps, length-next_buffer, PhaseAfter-step, begins-step)
-
-untouched_within : (buffer : List ℕ) (c : ℕ) (q : List ℕ) (b : ℕ) (full : Bool) (left : ℕ) → is_full (last_part (c ∷ q)) ≡ full → missing (last_part (c ∷ q)) ≡ left → 0 < b
-    → drop (length (output (c ∷ q ++ b ∷ []))) (next_buffer buffer (Within full left (length (output (c ∷ q)))) b) ≡ drop (length (output (c ∷ q ++ b ∷ []))) buffer
-untouched_within buffer c q b full (suc left) f l h = grind (arith, output-push_more (c ∷ q) b, nonzero, drop-set-lt, length_push)
-untouched_within buffer c q b true zero f l h = refl
-untouched_within buffer c q b false zero f l h = grind (arith, output-push_next, nonzero, drop-set-lt, length_push)
+DecoderAfter-step : (buffer : List ℕ) (phase : Phase) (b : ℕ) (p : List ℕ) → DecoderAfter buffer phase p → DecoderAfter (next_buffer buffer phase b) (next_phase (length buffer) phase b) (fed p b)
+DecoderAfter-step buffer phase b p h = grind (arith, common_steps, length-next_buffer, PhaseAfter-step, begins-step)
 
 -- the bytes after the output stay
-pub PhaseAfter-untouched : (buffer : List ℕ) (phase : Phase) (p : List ℕ) (b : ℕ) → PhaseAfter (length buffer) phase p → b ≢ 0
+PhaseAfter-untouched : (buffer : List ℕ) (phase : Phase) (b : ℕ) (p : List ℕ) → PhaseAfter (length buffer) phase p → b ≢ 0
     → drop (length (output (p ++ b ∷ []))) (next_buffer buffer phase b) ≡ drop (length (output (p ++ b ∷ []))) buffer
 unfolding phase_after
-PhaseAfter-untouched buffer phase p b h nz = grind (arith, cases_lt, over_phase, fits_phase, untouched_within)
+PhaseAfter-untouched buffer phase b p h nz = grind (arith, cases_lt, over_phase, fits_phase, adds_same, drop-set-lt, length_push)
 
 -- an idle decoder has taken nothing of a piece, whatever its buffer holds
 pub DecoderAfter-idle : (buffer : List ℕ) (phase : Phase) → phase ≡ Idle → DecoderAfter buffer phase []
@@ -157,10 +154,10 @@ result-bound n phase byte = grind (arith, leb-true)
 -- the machine feeds a byte
 pub Feeds-step : (buffer : List ℕ) (phase : Phase) (b : ℕ) → let n = length buffer in Feeds buffer phase b (next_result n phase b) (next_buffer buffer phase b) (next_phase n phase b)
 Feeds-step buffer phase b = record {
-  returned = λ p h. PhaseAfter-result_for (length buffer) phase p b h;
-  phased = λ p h. PhaseAfter-step (length buffer) phase p b h;
-  after = λ p h. DecoderAfter-step buffer phase p b h;
-  untouched = λ p h nz. PhaseAfter-untouched buffer phase p b h nz;
+  returned = PhaseAfter-result_for (length buffer) phase b;
+  phased = PhaseAfter-step (length buffer) phase b;
+  after = DecoderAfter-step buffer phase b;
+  untouched = PhaseAfter-untouched buffer phase b;
   zero_idle = λ e. rw e (next_phase-zero (length buffer) phase);
   zero_unchanged = λ e. rw e (next_buffer-zero buffer phase);
   bound = result-bound (length buffer) phase b;

@@ -18,6 +18,7 @@ use Rattle.cobs.proofs.format.StreamLemmas.{outcomes-first, outcomes-none, strea
 
 -- A ZERO THAT IS FED
 
+-- for a frame the result is the length of its message, and for no other piece it is a length
 result_is : (f m : List ℕ) (n : ℕ) → Reads f m → length m ≤ n → result_for f 0 n ≡ Ok (Some (length m))
 unfolding result_for result_at_end
 result_is [] m n r fits = absurd ((frame_piece r).0 refl)
@@ -41,6 +42,7 @@ module _ {buffer buffer' f : List ℕ} {phase phase' : Phase} {result : Result (
 
 -- A PIECE THAT IS TAKEN
 
+-- a reported message is at the front of the buffer
 message_at : (end : PieceEnd) (buffer m : List ℕ) → IsWithin (length buffer) end → outcome_at end buffer ≡ Message m
     → (end ≡ ends.Message (length m)) × (take (length m) buffer ≡ m)
 message_at end buffer m within e = grind (arith, length-take-le)
@@ -69,14 +71,14 @@ module _ (buffer buffer' f more : List ℕ) (phase phase' : Phase) (idle : phase
   pub taken-piece : (result : Option (PieceEnd × ℕ)) → TakesPiece buffer phase (f ++ 0 ∷ more) result buffer' phase'
       → (end : PieceEnd) × (result ≡ Some (end, length f + 1)) × (outcome_at end buffer' ≡ outcome_of f (length buffer))
   taken-piece None t = absurd (not_none t)
-  taken-piece (Some (end, count)) t = let e = ended end count t in (end, ap (λ (k : ℕ). Some (end, k)) e.0, e.1)
+  taken-piece (Some (end, count)) t = let e = ended end count t in (end, rw e.0 refl, e.1)
 
   pub taken-reads : (result : Option (PieceEnd × ℕ)) → TakesPiece buffer phase (f ++ 0 ∷ more) result buffer' phase' → (m : List ℕ) → Reads f m → length m ≤ length buffer
       → (result ≡ Some (ends.Message (length m), length f + 1)) × (take (length m) buffer' ≡ m)
-  taken-reads None t m r fits = absurd (not_none t)
-  taken-reads (Some (end, count)) t m r fits =
-      let e = ended end count t in
-      let at = message_at end buffer' m (rw (← t.takes.len) at t.within.1) (e.1 ∙ outcome_frame f m (length buffer) r fits) in
+  taken-reads result t m r fits =
+      let (end, is, outcome) = taken-piece result t in
+      let within = (rw is at t).within.1 in
+      let at = message_at end buffer' m (rw (← t.takes.len) at within) (outcome ∙ outcome_frame f m (length buffer) r fits) in
       (cc, at.1)
 
   pub taken-only : (n count : ℕ) → TakesPiece buffer phase (f ++ 0 ∷ more) (Some (ends.Message n, count)) buffer' phase' → All (λ b. b < 256) f → Reads f (take n buffer')

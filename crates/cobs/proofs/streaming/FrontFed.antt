@@ -1,8 +1,7 @@
 -- A source that begins with a code, the front of which was fed to an idle decoder: up to the end of the source's first piece,
 -- or up to a byte for which the buffer has no room. The front has no zero, so it is a front of that piece (`QuietLemmas`).
-use Rattle.std.proofs.Common.{◌≡◌, ◌≢◌, ◌∙◌, ◌+◌, ◌<◌, ◌≤◌, ◌++◌, ℕ, List, ◌∷◌, length, take, drop, get_or, sym, ap, arith, length-append, length-take, length-take-le}
+use Rattle.std.proofs.Common.{◌≡◌, ◌≢◌, ◌+◌, ◌<◌, ◌≤◌, ◌++◌, ℕ, List, ◌∷◌, length, take, drop, get_or, arith, length-append, length-take, length-take-le, refl}
 use Rattle.std.proofs.lemmas.List.{drop_more, get_or-take, take-append-drop}
-use Rattle.cobs.specs.Decode.{leading_zeros}
 use Rattle.cobs.specs.Feed.{Idle, Overlong, Phase}
 use Rattle.cobs.specs.Grammar.{HasNoZero}
 use Rattle.cobs.specs.Internal.FeedsQuietly.{FeedsQuietly}
@@ -14,15 +13,9 @@ use Rattle.cobs.proofs.decoding.HeadLemmas.{front_is_head, head-most}
 use Rattle.cobs.proofs.decoding.OutcomeLemmas.{head-append, head-cons, length-head}
 use Rattle.cobs.proofs.streaming.QuietLemmas.{Quiet, quiet, quiet-full, quiet-long, quiet-piece}
 
--- a source after its leading zeros
-abbrev pub rest : List ℕ → List ℕ
-rest source = drop (leading_zeros source) source
-
 -- a front of a source that begins with a code begins with it
 code-first : (source : List ℕ) (n : ℕ) → 0 < length (head source) → 0 < length (take n source) → get_or (take n source) 0 0 ≢ 0
-code-first source n begins some e =
-    let first : get_or source 0 0 ≡ 0 = sym (get_or-take n source 0 0 (omega (arith, length-take n source))) ∙ e in
-    omega (arith, length-head source, head-most source 0 (omega (arith, length-head source)) first)
+code-first source n begins some e = grind (arith, get_or-take, length-take, length-head, head-most)
 
 -- the first `run` bytes were fed
 pub record FrontFed (source old new : List ℕ) (phase : Phase) (run : ℕ) : Type 0 where
@@ -31,6 +24,7 @@ pub record FrontFed (source old new : List ℕ) (phase : Phase) (run : ℕ) : Ty
   pub fed : FeedsQuietly old Idle (take run source) new phase
 
 module _ {source old new : List ℕ} {phase : Phase} {run : ℕ} (f : FrontFed source old new phase run) where
+  -- the front has no zero
   none : HasNoZero (take run source)
   none = grind (arith, quiet-piece, code-first)
 
@@ -55,8 +49,8 @@ module _ {source old new : List ℕ} {phase : Phase} {run : ℕ} (f : FrontFed s
 
     split : take run source ++ get_or source run 0 ∷ tail ≡ head source
     split =
-        ap (λ (l : List ℕ). take run source ++ l) (sym (ap head (drop_more source run 0 more) ∙ head-cons _ _ other))
-        ∙ sym (head-append (take run source) (drop run source) none) ∙ ap head (take-append-drop run source)
+        let rest : head (drop run source) ≡ get_or source run 0 ∷ tail = rw (drop_more source run 0 more) (head-cons _ _ other) in
+        rw (← rest, ← head-append (take run source) (drop run source) none, take-append-drop run source) refl
 
     pub over-long : length old < length (output (head source))
     over-long = grind (arith, split, quiet-long, front, tail)

@@ -1,8 +1,8 @@
 -- The last piece of a stream, and outputs that grow with it: by `StreamLemmas` and `output-push`.
-use Rattle.std.proofs.Common.{◌≡◌, ◌≢◌, ℕ, ◌<◌, ◌≤◌, List, [], ◌∷◌, ◌++◌, length, take, drop, filter, refl, sym, ap, ◌∙◌, subst, arith, append_assoc, length-append, take_at}
+use Rattle.std.proofs.Common.{◌≡◌, ◌≢◌, ℕ, ◌<◌, ◌≤◌, List, [], ◌∷◌, ◌++◌, length, take, drop, filter, refl, sym, ap, ◌∙◌, arith, append_assoc, length-append, take_at}
 use Rattle.std.proofs.lemmas.List.{append-nil, take-append-drop}
 use Rattle.std.proofs.lemmas.List.Elements.{filter-append}
-use Rattle.cobs.specs.Grammar.{HasNoZero, last_of}
+use Rattle.cobs.specs.Grammar.{last_of}
 use Rattle.cobs.specs.Piece.{output, parts, parts_after}
 use Rattle.cobs.specs.Stream.{stretches, is_nonempty, but_last, ended_pieces, unended}
 use Rattle.cobs.specs.Overwritten.{overwritten}
@@ -36,9 +36,8 @@ ended_pieces-zero t = grind (arith, ended_pieces-append, stretches-piece, unende
 
 pub ended_pieces-nonzero : (t : List ℕ) (b : ℕ) → b ≢ 0 → ended_pieces (t ++ b ∷ []) ≡ ended_pieces t
 ended_pieces-nonzero t b h =
-    ended_pieces-append t (b ∷ [])
-    ∙ ap (λ (z : List (List ℕ)). ended_pieces t ++ z) (ended_pieces-no_zero (unended t ++ b ∷ []) (subst HasNoZero (unended-push t b ∙ fed-nonzero (unended t) b h) (unended_no_zero (t ++ b ∷ []))))
-    ∙ append-nil (ended_pieces t)
+    let none = rw (unended-push t b, fed-nonzero (unended t) b h) at (unended_no_zero (t ++ b ∷ [])) in
+    ended_pieces-append t (b ∷ []) ∙ rw (ended_pieces-no_zero (unended t ++ b ∷ []) none) (append-nil (ended_pieces t))
 
 -- where none had ended before a zero, the last piece is the one that it ends
 pub last_piece-zero : (t : List ℕ) → ended_pieces t ≡ [] → last_piece (t ++ 0 ∷ []) ≡ unended t

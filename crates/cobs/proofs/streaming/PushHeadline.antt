@@ -24,7 +24,7 @@ use Rattle.cobs.proofs.decoding.HeadlineLemmas.{bytes_below}
 
 -- a front's output is no longer
 output-take : (f : List ℕ) (k : ℕ) → length (output (take k f)) ≤ length (output f)
-output-take f k = let h = output-grows (take k f) (drop k f) in let e = ap (λ (x : List ℕ). length (output x)) (take-append-drop k f) in omega arith
+output-take f k = rw (take-append-drop k f) at (output-grows (take k f) (drop k f))
 
 -- a byte of the piece whose output so far fits returns `Ok(None)`
 result_for-quiet : (q : List ℕ) (b n : ℕ) → b ≢ 0 → length (output (q ++ b ∷ [])) ≤ n → result_for q b n ≡ Ok None
@@ -39,6 +39,7 @@ quiet_inside f n place piece fits within =
     = ap unended front ∙ unended-no_zero (take place f) (All-take (λ b. b ≢ 0) place f piece) in
     grind (arith, take-append-le, unended-no_zero, All-take, get_or_append_left, take_more, output-take, result_for-quiet, All-get_or)
 
+-- a push that fails reports no message
 pushed-no_message : (bytes : List ℕ) (failure : PushError) (buffer m : List ℕ) (rest : List Outcome)
     → Message m ∷ rest ≡ pushed_outcomes bytes (Err failure) buffer → ⊥
 pushed-no_message bytes failure buffer m rest e = grind (arith, cases_Bool)
@@ -47,9 +48,10 @@ module _ (buffer bytes buffer' f m : List ℕ) (phase phase' : Phase) (idle : ph
   after : DecoderAfter buffer phase []
   after = DecoderAfter-idle buffer phase idle
 
+  -- the outcomes of the bytes that the push consumed are those that its result reports
   outcomes : (result : Result (Option DecodeReport) PushError) → PushesBytes buffer phase bytes result buffer' phase'
       → stream_outcomes (take (consumed_size bytes result) (f ++ 0 ∷ [])) (length buffer) ≡ pushed_outcomes bytes result buffer'
-  outcomes result w = ap (λ (x : List ℕ). stream_outcomes (take (consumed_size bytes result) x) (length buffer)) (sym is) ∙ w.outcomes [] after
+  outcomes result w = rw (← is) (w.outcomes [] after)
 
   -- a message is reported only after the zero, and it is the outcome of f
   stated : (result : Result (Option DecodeReport) PushError) → PushesBytes buffer phase bytes result buffer' phase'
@@ -82,19 +84,17 @@ module _ (buffer bytes buffer' f m : List ℕ) (phase phase' : Phase) (idle : ph
         absurd (let e = sym quiet ∙ ap (λ (x : List ℕ). result_at [] x (length buffer) k) (sym is) ∙ last in cc)
   ]
 
-pub push_reads : {buffer bytes buffer' : List ℕ} {phase phase' : Phase} {result : Result (Option DecodeReport) PushError} → PushesBytes buffer phase bytes result buffer' phase' → All (λ b. b < 256) bytes
-    → (f m : List ℕ) → phase ≡ Idle → bytes ≡ f ++ 0 ∷ [] → IsPiece f → PushesMessage result buffer' m ↔ (Reads f m × (length m ≤ length buffer))
-push_reads {buffer} {bytes} {buffer'} {phase} {phase'} {result} w below f m idle is piece =
-    let both = outcome_message f m (length buffer) piece (All-apart (λ b. b < 256) f (0 ∷ []) (rw is at below)).0 in (
-      λ p. both.0 (stated buffer bytes buffer' f m phase phase' idle is piece result w p),
-      λ r. pushed buffer bytes buffer' f m phase phase' idle is piece result w (both.1 r),
-    )
+module _ {buffer bytes buffer' : List ℕ} {phase phase' : Phase} {result : Result (Option DecodeReport) PushError} (w : PushesBytes buffer phase bytes result buffer' phase') where
+  pub push_reads : All (λ b. b < 256) bytes → (f m : List ℕ) → phase ≡ Idle → bytes ≡ f ++ 0 ∷ [] → IsPiece f → PushesMessage result buffer' m ↔ (Reads f m × (length m ≤ length buffer))
+  push_reads below f m idle is piece =
+      let both = outcome_message f m (length buffer) piece (All-apart (λ b. b < 256) f (0 ∷ []) (rw is at below)).0 in
+      let says = stated buffer bytes buffer' f m phase phase' idle is piece result w in
+      let reports = pushed buffer bytes buffer' f m phase phase' idle is piece result w in
+      grind arith
 
--- the report of a push of bytes that are below 256
-pub push_message : {buffer bytes buffer' : List ℕ} {phase phase' : Phase} {result : Result (Option DecodeReport) PushError} → PushesBytes buffer phase bytes result buffer' phase' → ((i : ℕ) → Fits w8 (get_or bytes i 0))
-    → (f m : List ℕ) → phase ≡ Idle → bytes ≡ f ++ 0 ∷ [] → Reads f m → length m ≤ length buffer → PushesMessage result buffer' m
-push_message {bytes = bytes} w fits f m idle is r room = (push_reads w (bytes_below bytes fits) f m idle is (frame_piece r)).1 (r, room)
+  -- the report of a push of bytes that are below 256
+  pub push_message : ((i : ℕ) → Fits w8 (get_or bytes i 0)) → (f m : List ℕ) → phase ≡ Idle → bytes ≡ f ++ 0 ∷ [] → Reads f m → length m ≤ length buffer → PushesMessage result buffer' m
+  push_message fits f m idle is r room = (push_reads (bytes_below bytes fits) f m idle is (frame_piece r)).1 (r, room)
 
-pub push_only : {buffer bytes buffer' : List ℕ} {phase phase' : Phase} {result : Result (Option DecodeReport) PushError} → PushesBytes buffer phase bytes result buffer' phase' → ((i : ℕ) → Fits w8 (get_or bytes i 0))
-    → (f m : List ℕ) → phase ≡ Idle → bytes ≡ f ++ 0 ∷ [] → IsPiece f → PushesMessage result buffer' m → Reads f m × (length m ≤ length buffer)
-push_only {bytes = bytes} w fits f m idle is piece stated = grind (arith, push_reads, bytes_below, stated)
+  pub push_only : ((i : ℕ) → Fits w8 (get_or bytes i 0)) → (f m : List ℕ) → phase ≡ Idle → bytes ≡ f ++ 0 ∷ [] → IsPiece f → PushesMessage result buffer' m → Reads f m × (length m ≤ length buffer)
+  push_only fits f m idle is piece = (push_reads (bytes_below bytes fits) f m idle is piece).0

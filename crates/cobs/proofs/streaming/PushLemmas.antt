@@ -9,7 +9,7 @@ use Rattle.cobs.specs.Stream.{unended}
 use Rattle.cobs.specs.Feed.{DecoderAfter, Feeds, Idle, Phase, PhaseAfter, result_for}
 use Rattle.cobs.specs.FeedPiece.{TakesPiece, end_reported}
 use Rattle.cobs.specs.Internal.FeedsQuietly.{FeedsQuietly}
-use Rattle.cobs.specs.Push.{FeedsInTurn, PushesBytes, consumed, consumed_size, error_outcomes, last_result, pushed_outcomes}
+use Rattle.cobs.specs.Push.{FeedsInTurn, PushesBytes, consumed, consumed_size, last_result, pushed_outcomes}
 use Rattle.cobs.specs.Fields.Report.{frame_size_of}
 use Rattle.cobs.specs.declared.error.DecodeError.{DecodeError}
 use Rattle.cobs.proofs.streaming.ByByteLemmas.{piece-nothing, piece-more, takes_behind, holds_behind, untouched_behind}
@@ -51,10 +51,16 @@ FeedsInTurn-push (x ∷ []) buffer₀ phase₀ {buffer} {buffer'} {phase} f g = 
 FeedsInTurn-push (x ∷ y ∷ xs) buffer₀ phase₀ (between, phase_between, f, more) g = grind (arith, FeedsInTurn-push (y ∷ xs) between phase_between more g)
 
 pub Pushed-start : (buffer : List ℕ) (phase : Phase) (bytes : List ℕ) → Pushed buffer phase buffer phase bytes 0
-Pushed-start buffer phase bytes = record { piece = piece-nothing buffer phase; quiet = λ p h place below. absurd (omega arith); zero_idle = λ front e. absurd (omega (arith, ap length e, length_push front 0)); feeds = (refl, refl, refl) }
+Pushed-start buffer phase bytes = record {
+  piece = piece-nothing buffer phase;
+  quiet = λ p h place below. absurd (omega arith);
+  zero_idle = λ front e. absurd (omega (arith, ap length e, length_push front 0));
+  feeds = (refl, refl, refl);
+}
 
 module _ {buffer₀ buffer buffer' : List ℕ} {phase₀ phase phase' : Phase} {result : Result (Option ℕ) DecodeError} (bytes : List ℕ) (i : ℕ) (within : i < length bytes)
     (s : Pushed buffer₀ phase₀ buffer phase bytes i) (f : Feeds buffer phase (get_or bytes i 0) result buffer' phase') where
+  -- the byte after the first i bytes returns the result; after it, `zero_idle` and `feeds` hold again
   result_here : (p : List ℕ) → PhaseAfter (length buffer₀) phase₀ p → result_at p bytes (length buffer₀) i ≡ result
   result_here p h = grind (arith, get_or, phase_so_far)
 
@@ -102,7 +108,7 @@ module _ {buffer₀ buffer buffer' : List ℕ} {phase₀ phase phase' : Phase} {
   -- an error is returned
   pub pushed_error : (e : DecodeError) → result ≡ Err e → PushesBytes buffer₀ phase₀ bytes (Err (record { error = e; parsed_size = i + 1 })) buffer' phase'
   pushed_error e is = ended (Err (record { error = e; parsed_size = i + 1 })) refl (sym is)
-      (λ p h. ap (λ r. reported_by (get_or bytes i 0) r buffer') is ∙ ap (λ (k : ℕ). cond (eqb (get_or bytes k 0) 0) (error_outcomes e) []) (omega arith)) tt
+      (λ p h. grind arith) tt
 
 -- no byte is left
 pub pushed_none : {buffer₀ buffer : List ℕ} {phase₀ phase : Phase} (bytes : List ℕ) (i : ℕ) → i ≡ length bytes → Pushed buffer₀ phase₀ buffer phase bytes i → PushesBytes buffer₀ phase₀ bytes (Ok None) buffer phase

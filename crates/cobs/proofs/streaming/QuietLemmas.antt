@@ -1,6 +1,6 @@
 -- Bytes fed quietly to an idle decoder, as the decoders of whole frames feed them: the buffer holds their output, and the
 -- phase is that after them. They are a piece that hasn't ended (`piece-all`).
-use Rattle.std.proofs.Common.{◌≡◌, ◌≢◌, ℕ, ◌<◌, ◌≤◌, Bool, cond, eqb, List, [], ◌∷◌, ◌++◌, length, drop, get_or, refl, sym, ap, ◌∙◌, subst, arith, append_assoc, append-nil, take_all, inl, inr}
+use Rattle.std.proofs.Common.{◌≡◌, ◌≢◌, ℕ, ◌<◌, ◌≤◌, Bool, cond, eqb, List, [], ◌∷◌, ◌++◌, length, drop, get_or, refl, sym, ap, ◌∙◌, subst, arith, append_assoc, append-nil, take_all, inl, inr, ◌+◌}
 use Rattle.std.proofs.lemmas.List.{drop_all}
 use Rattle.std.proofs.lemmas.Bool.{cases_Bool, cases_eq, cases_lt, ne_eqb, le-leb, lt-leb, leb-false}
 use Rattle.cobs.specs.Grammar.{HasNoZero}
@@ -12,7 +12,7 @@ use Rattle.cobs.specs.Fields.Decoders.{phase_of, phase_with}
 use Rattle.cobs.specs.Internal.FeedsQuietly.{FeedsQuietly}
 use Rattle.cobs.specs.Step.{next_phase, next_buffer}
 use Rattle.cobs.specs.Push.{last_piece}
-use Rattle.cobs.specs.Stream.{head, stream_outcomes}
+use Rattle.cobs.specs.Stream.{head}
 use Rattle.cobs.proofs.decoding.HeadLemmas.{head-cut, head-front, head_some}
 use Rattle.cobs.proofs.decoding.OutcomeLemmas.{head_nonzero}
 use Rattle.cobs.proofs.format.StreamLemmas.{ended_pieces-no_zero, fed-nonzero, stream_outcomes-front, unended-no_zero}
@@ -27,8 +27,8 @@ quiet-piece xs old new phase first f = elim (cases_lt (length (head xs)) (length
   | inl more ↦
       let none = (piece-all xs old new Idle phase f).takes.outcomes [] (DecoderAfter-idle old Idle refl) in
       let some : head xs ≢ [] = λ e. omega (arith, ap length e, head_some xs (omega arith) (first (omega arith))) in
-      let one = ap (λ (x : List ℕ). stream_outcomes x (length old)) (head-cut xs more)
-      ∙ stream_outcomes-front (head xs) _ (length old) some (head_nonzero xs) in
+      let cut = head-cut xs more in
+      let one = stream_outcomes-front (head xs) (drop (length (head xs) + 1) xs) (length old) some (head_nonzero xs) in
       absurd cc
   | inr all ↦ subst HasNoZero (sym (head-front xs) ∙ take_all (length (head xs)) xs all) (head_nonzero xs)
 ]
@@ -46,6 +46,7 @@ going [] buffer new phase phase' some f = grind arith
 going (x ∷ xs) buffer new phase phase' some f =
     going xs (next_buffer buffer phase x) new (next_phase (length buffer) phase x) phase' (λ over. grind (arith, cases_eq, ne_eqb)) f.1
 
+-- so the output fits
 fits-by : (p : List ℕ) (n : ℕ) → phase_after p n ≢ Overlong → length (output p) ≤ n
 unfolding phase_after
 fits-by [] n some = omega (arith, ap length output-nil)
@@ -64,7 +65,7 @@ quiet p old new phase none f =
       fits = rw (← t.takes.len) (fits-by p (length new) (λ over. going p old new Idle phase (λ e. cc) f (after.phased.phase_is ∙ over)));
     }
 
--- a phase that is too long, and one that the next byte makes so
+-- the output is longer than the buffer if the phase is `Overlong`, and fills it if the next byte makes the phase `Overlong`
 long-by : (p : List ℕ) (n : ℕ) → Overlong ≡ phase_after p n → n < length (output p)
 unfolding phase_after
 long-by [] n e = absurd (cc)
@@ -75,21 +76,24 @@ unfolding phase_after
 full-by [] n x nz fits e = grind (arith, ne_eqb)
 full-by (c ∷ p) n x nz fits e = grind (arith, ne_eqb, le-leb, cases_Bool, leb-false)
 
--- the phase of a decoder, by its fields
-at-by : (p : List ℕ) (n : ℕ) (going full : Bool) (left count : ℕ) → cond going (phase_with full left count) Overlong ≡ phase_after p n → length (output p) ≤ n → (count ≡ length (output p)) × (left ≡ missing (last_part p))
+-- these are the length of the output of p, and the missing bytes of its last part
+abbrev pub Counts : List ℕ → ℕ → ℕ → Type 0
+Counts p count left = (count ≡ length (output p)) × (left ≡ missing (last_part p))
+
+-- a phase has the counts of the piece that led to it
+at-by : (p : List ℕ) (n : ℕ) (going full : Bool) (left count : ℕ) → cond going (phase_with full left count) Overlong ≡ phase_after p n → length (output p) ≤ n → Counts p count left
 unfolding phase_after last_part output parts parts_after
 at-by [] n going full left count e fits = grind arith
 at-by (c ∷ p) n going full left count e fits = grind (arith, le-leb)
 
 within-by : (p : List ℕ) (n : ℕ) (full : Bool) (left count : ℕ) → Within full left count ≡ phase_after p n → length (output p) ≤ n
-    → (count ≡ length (output p)) × (left ≡ missing (last_part p))
+    → Counts p count left
 unfolding phase_after
 within-by [] n full left count e fits = absurd (cc)
 within-by (c ∷ p) n full left count e fits = grind (arith, le-leb)
 
-pub quiet-within : {old new p : List ℕ} {full : Bool} {left count : ℕ} → Quiet old new (Within full left count) p
-    → (count ≡ length (output p)) × (left ≡ missing (last_part p))
-quiet-within {old} {new} {p} {full} {left} {count} s = within-by p (length new) full left count s.after.phased.phase_is (omega (arith, s.len, s.fits))
+pub quiet-within : {old new p : List ℕ} {full : Bool} {left count : ℕ} → Quiet old new (Within full left count) p → Counts p count left
+quiet-within s = within-by _ _ _ _ _ s.after.phased.phase_is (omega (arith, s.len, s.fits))
 
 module _ (old new p : List ℕ) (phase : Phase) (s : Quiet old new phase p) where
   pub quiet-written : new ≡ overwritten old (output p)
@@ -108,5 +112,5 @@ module _ (old new p : List ℕ) (phase : Phase) (s : Quiet old new phase p) wher
     quiet-full = grind (arith, full-by, quiet-long, quiet-written, output-begins, take_all, drop_all, append-nil)
 
   -- the phase of the decoder
-  pub quiet-at : (inner : UnbufferedDecoder) → phase_of inner ≡ phase → (inner.written ≡ length (output p)) × (inner.missing ≡ missing (last_part p))
+  pub quiet-at : (inner : UnbufferedDecoder) → phase_of inner ≡ phase → Counts p inner.written inner.missing
   quiet-at inner is = at-by p (length new) (eqb inner.too_long 0) (eqb inner.joint 0) inner.missing inner.written (is ∙ s.after.phased.phase_is) (omega (arith, s.len, s.fits))

@@ -1,6 +1,6 @@
 -- The first piece of a source, read byte by byte into a buffer: `IsRead` says how far. A byte that has room keeps it
 -- (`read-byte`, `read-full`, `read-zero`); one without room, a zero or the source's end is the last (`Ended`).
-use Rattle.std.proofs.Common.{◌≡◌, ◌≢◌, ◌∙◌, ◌+◌, ◌-◌, ◌<◌, ◌≤◌, ℕ, zero, suc, Bool, true, false, eqb, List, [], ◌∷◌, length, take, drop, get_or, set, min, Option, Some, None, refl, sym, ap, arith, length-drop, length-set}
+use Rattle.std.proofs.Common.{◌≡◌, ◌≢◌, ◌∙◌, ◌+◌, ◌-◌, ◌<◌, ◌≤◌, ℕ, zero, suc, Bool, true, false, eqb, List, [], ◌∷◌, length, take, drop, get_or, set, min, Option, Some, None, refl, ap, arith, length-drop, length-set}
 use Rattle.std.proofs.lemmas.Bool.{cases_eq, le-ltb, lt-ltb, ne_eqb}
 use Rattle.std.proofs.lemmas.List.{drop-drop, drop_more, get_or-drop}
 use Rattle.cobs.specs.Decode.{first_output, leading_zeros}
@@ -13,10 +13,10 @@ use Rattle.cobs.specs.Step.{grows, next_buffer, next_phase}
 use Rattle.cobs.specs.Stream.{head, outcome_of}
 use Rattle.cobs.specs.declared.dec.frame_decoder.PieceEnd.{PieceEnd}
 use Rattle.cobs.specs.declared.dec.frame_decoder.PieceEnd.TheVariants as ends
-use Rattle.cobs.proofs.decoding.HeadLemmas.{first_piece_found, first_piece_none, head_some, leading_zeros-stop}
+use Rattle.cobs.proofs.decoding.HeadLemmas.{first_piece_found, first_piece_none, head_some, leading_zeros-stop, rest}
 use Rattle.cobs.proofs.decoding.OutcomeLemmas.{length-head, outcome_of_long, outcome_of_none_missing, outcome_of_some_missing}
 use Rattle.cobs.proofs.decoding.OutcomeSteps.{overwritten-none}
-use Rattle.cobs.proofs.streaming.FrontFed.{FrontFed, over-count, over-long, over-written, rest, whole, whole-count}
+use Rattle.cobs.proofs.streaming.FrontFed.{FrontFed, over-count, over-long, over-written, whole, whole-count}
 use Rattle.cobs.proofs.streaming.QuietLemmas.{quiet-within, quiet-written}
 use Rattle.cobs.proofs.streaming.SpanLemmas.{FeedsQuietly-more}
 
@@ -29,9 +29,8 @@ pub record IsRead (source old : List ℕ) (at : ℕ) (new : List ℕ) (full : Bo
   pub front : FrontFed (rest source) old new (Within full left written) n
 
 -- the result and the buffer are those of the source's first piece
-pub record Ended (source old new : List ℕ) (result : Option (PieceEnd × ℕ)) : Type 0 where
-  pub answer : result ≡ end_of_first source (length old)
-  pub buffer : new ≡ overwritten old (first_output source)
+abbrev pub Ended : List ℕ → List ℕ → List ℕ → Option (PieceEnd × ℕ) → Type 0
+Ended source old new result = record { answer : result ≡ end_of_first source (length old); buffer : new ≡ overwritten old (first_output source) }
 
 -- one byte, fed
 one : (dest : List ℕ) (phase : Phase) {dest' : List ℕ} {b : ℕ} {full : Bool} {left count : ℕ} → b ≢ 0 → dest' ≡ next_buffer dest phase b → Within full left count ≡ next_phase (length dest) phase b
@@ -42,6 +41,7 @@ one dest phase {dest'} {b} other is next = grind (arith, ne_eqb)
 pub first-code : (source : List ℕ) (start : ℕ) → start ≡ leading_zeros source → start < length source → get_or source start 0 ≢ 0
 first-code source start is more e = grind (arith, leading_zeros-stop, get_or-drop, get_or)
 
+-- the first code is read
 pub read-first : (source old : List ℕ) (start : ℕ) → start ≡ leading_zeros source → start < length source → IsRead source old (start + 1) old (eqb (get_or source start 0) 255) (get_or source start 0 - 1) 0
 read-first source old start is more = grind (arith, length-drop, leading_zeros-stop, head_some, ne_eqb, drop_more, first-code)
 
@@ -60,6 +60,7 @@ module _ {source old new : List ℕ} {at left written : ℕ} {full : Bool} (s : 
   abbrev piece : List ℕ
   piece = head (rest source)
 
+  -- the next byte of the source
   here : get_or (rest source) s.n 0 ≡ get_or source at 0
   here = grind (arith, get_or-drop, get_or)
 
@@ -83,11 +84,11 @@ module _ {source old new : List ℕ} {at left written : ℕ} {full : Bool} (s : 
     abbrev byte : ℕ
     byte = get_or source at 0
 
+    -- one that has room
     read-more : {new' : List ℕ} {full' : Bool} {left' written' : ℕ} → new' ≡ next_buffer new (Within full left written) byte
         → Within full' left' written' ≡ next_phase (length new) (Within full left written) byte → written' ≤ length new' → IsRead source old (at + 1) new' full' left' written'
     read-more buffer next room =
-        let last : take 1 (drop s.n (rest source)) ≡ byte ∷ [] =
-        ap (take 1) (drop-drop s.n (leading_zeros source) source ∙ ap (λ (k : ℕ). drop k source) (sym s.place) ∙ drop_more source at 0 more) in
+        let last : take 1 (drop s.n (rest source)) ≡ byte ∷ [] = grind (arith, drop-drop, drop_more) in
         record {
           n = s.n + 1;
           place = omega (arith, s.place);
@@ -100,14 +101,18 @@ module _ {source old new : List ℕ} {at left written : ℕ} {full : Bool} (s : 
           };
         }
 
-    -- one for which there is no room
-    over : next_phase (length new) (Within full left written) byte ≡ Overlong → {count : ℕ} → count ≡ min (length source) (at + 1 + length (head (drop (at + 1) source)) + 1)
+    -- the phase is `Overlong` after a byte that adds to a full buffer
+    no-room : (left ≡ 0 → full ≡ false) → length new ≤ written → next_phase (length new) (Within full left written) byte ≡ Overlong
+    no-room adds past = grind (arith, cases_eq, open-byte, ne_eqb, le-ltb)
+
+    -- one that adds a byte to the output, of the block or the zero before a code, for which there is no room
+    pub over : (left ≡ 0 → full ≡ false) → length new ≤ written → {count : ℕ} → count ≡ min (length source) (at + 1 + length (head (drop (at + 1) source)) + 1)
         → Ended source old new (Some (ends.TooLong, count))
-    over no-room {count} counted =
+    over adds past {count} counted =
         let inside : s.n < length (rest source) = omega (arith, s.place, length-drop (leading_zeros source) source) in
         let not-zero : get_or (rest source) s.n 0 ≢ 0 = rw here other in
-        let too-long : next_phase (length new) (Within full left written) (get_or (rest source) s.n 0) ≡ Overlong = rw here no-room in
-        let behind : drop (s.n + 1) (rest source) ≡ drop (at + 1) source = drop-drop (s.n + 1) (leading_zeros source) source ∙ ap (λ (k : ℕ). drop k source) (omega (arith, s.place)) in
+        let too-long : next_phase (length new) (Within full left written) (get_or (rest source) s.n 0) ≡ Overlong = rw here (no-room adds past) in
+        let behind : drop (s.n + 1) (rest source) ≡ drop (at + 1) source = grind (arith, drop-drop) in
         let long = over-count s.front inside not-zero too-long in
         ended-by ends.TooLong count (ap end_with (outcome_of_long piece (length old) (over-long s.front inside not-zero too-long)))
         (omega (arith, counted, long, ap (λ (l : List ℕ). length (head l)) behind, s.place)) (over-written s.front inside not-zero too-long)
@@ -116,10 +121,6 @@ module _ {source old new : List ℕ} {at left written : ℕ} {full : Bool} (s : 
     pub read-byte : left ≢ 0 → written ≢ length new → IsRead source old (at + 1) (set new written byte) full (left - 1) (written + 1)
     read-byte some room = grind (arith, read-more, open-byte, byte, lt-ltb, length-set)
 
-    pub over-byte : left ≢ 0 → length new ≤ written → {count : ℕ} → count ≡ min (length source) (at + 1 + length (head (drop (at + 1) source)) + 1)
-        → Ended source old new (Some (ends.TooLong, count))
-    over-byte some no-room = over ((open-byte new full left written byte other some).1 ∙ rw (le-ltb written (length new) no-room) refl)
-
     -- the code after a full block
     pub read-full : left ≡ 0 → full ≡ true → IsRead source old (at + 1) new (eqb byte 255) (byte - 1) written
     read-full none is = grind (arith, read-more, ne_eqb, byte)
@@ -127,7 +128,3 @@ module _ {source old new : List ℕ} {at left written : ℕ} {full : Bool} (s : 
     -- the code after another, with the zero before it
     pub read-zero : left ≡ 0 → full ≡ false → written ≢ length new → IsRead source old (at + 1) (set new written 0) (eqb byte 255) (byte - 1) (written + 1)
     read-zero none is room = grind (arith, read-more, ne_eqb, byte, lt-ltb, length-set)
-
-    pub over-zero : left ≡ 0 → full ≡ false → length new ≤ written → {count : ℕ} → count ≡ min (length source) (at + 1 + length (head (drop (at + 1) source)) + 1)
-        → Ended source old new (Some (ends.TooLong, count))
-    over-zero none is no-room = over (rw (none, is, ne_eqb byte 0 other, le-ltb written (length new) no-room) refl)

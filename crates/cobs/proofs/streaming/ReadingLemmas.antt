@@ -1,5 +1,5 @@
 -- Reads, one after another, and the first piece that ends in the bytes they gave: by `StreamLemmas`, one read at a time.
-use Rattle.std.proofs.Common.{◌≡◌, ◌≢◌, ℕ, ◌+◌, ◌-◌, ◌<◌, ◌≤◌, Bool, true, false, leb, List, [], ◌∷◌, ◌++◌, length, take, drop, refl, sym, ap, ◌∙◌, subst, arith, append_assoc, length-append, length-take, length-drop, take_at, ◌↔◌, Result, Some, None, Ok, Err}
+use Rattle.std.proofs.Common.{◌≡◌, ◌≢◌, ℕ, ◌+◌, ◌-◌, ◌<◌, ◌≤◌, Bool, true, false, leb, List, [], ◌∷◌, ◌++◌, length, take, drop, refl, sym, ap, ◌∙◌, arith, append_assoc, length-append, length-take, length-drop, take_at, ◌↔◌, Result, Some, None, Ok, Err}
 use Rattle.std.specs.List.{All}
 use Rattle.std.proofs.lemmas.List.{append-nil, nil_from_length, take_all, take-append-le, take-append-drop, drop-take, drop-drop, flat_map_more, length_push, same_from_push}
 use Rattle.std.proofs.lemmas.List.Elements.{All-nil, All-push, All-take, All-head}
@@ -26,16 +26,6 @@ use Rattle.cobs.proofs.streaming.LastPiece.{last_piece-zero}
 
 -- THE FIRST PIECE THAT ENDS
 
--- a piece that a decoder has taken
-abbrev pub EndsFirstIn-taken : {buffer buffer' : List ℕ} {phase phase' : Phase} {end : PieceEnd} {count : ℕ} (bytes : List ℕ) → TakesPiece buffer phase bytes (Some (end, count)) buffer' phase'
-    → (p : List ℕ) → DecoderAfter buffer phase p → EndsFirstIn p bytes (length buffer') (outcome_at end buffer') (drop count bytes)
-EndsFirstIn-taken {buffer} {buffer'} {phase} {phase'} {end} {count} bytes t p h = record {
-  front = t.ends.front;
-  cut = sym (take-append-drop count bytes) ∙ ap (λ (x : List ℕ). x ++ drop count bytes) t.ends.taken ∙ append_assoc t.ends.front (0 ∷ []) (drop count bytes);
-  none_before = ap (stream_outcomes (p ++ t.ends.front)) t.takes.len ∙ t.ends.none_before p h.phased;
-  here = ap (stream_outcomes (p ++ (t.ends.front ++ 0 ∷ []))) t.takes.len ∙ ap (λ (x : List ℕ). stream_outcomes (p ++ x) (length buffer)) (sym t.ends.taken) ∙ sym (t.takes.outcomes p h);
-}
-
 -- the contents of the buffer after a piece that a zero ends, once the piece's output is written over its front
 written-fits : (out buffer : List ℕ) (count : ℕ) → length out ≤ length buffer → count ≡ length out → (count ≤ length (overwritten buffer out)) × (take count (overwritten buffer out) ≡ out)
 written-fits out buffer count fits is = grind (arith, take_all, length-append, take-append-le)
@@ -52,16 +42,25 @@ HasDecoded-written TooLong (byte ∷ bytes) buffer e =
     let long : length buffer < length (output (byte ∷ bytes)) = outcome_says (byte ∷ bytes) (length buffer) is in
     grind (arith, common_steps, nil_from_length, length-drop, append-nil, length-take)
 
--- the contents of the buffer after a piece that a decoder has taken
-pub HasDecoded-taken : {buffer buffer' : List ℕ} {phase phase' : Phase} {end : PieceEnd} {count : ℕ} (bytes : List ℕ) → (t : TakesPiece buffer phase bytes (Some (end, count)) buffer' phase')
-    → (p : List ℕ) → DecoderAfter buffer phase p → HasDecoded (outcome_at end buffer') buffer' (unended (p ++ t.ends.front))
-HasDecoded-taken {buffer} {buffer'} {phase} {phase'} {end} {count} bytes t p h =
-    let front = p ++ t.ends.front in
-    let none = t.ends.none_before p h.phased in
-    let cut : p ++ take count bytes ≡ front ++ 0 ∷ [] = ap (λ (x : List ℕ). p ++ x) t.ends.taken ∙ sym (append_assoc p t.ends.front (0 ∷ [])) in
-    grind (arith, HasDecoded-written, last_piece-zero, no_outcomes, outcomes_at, stream_outcomes-push)
+-- a piece that a decoder has taken, and the contents of the buffer after it
+module _ {buffer buffer' : List ℕ} {phase phase' : Phase} {end : PieceEnd} {count : ℕ} (bytes : List ℕ) (t : TakesPiece buffer phase bytes (Some (end, count)) buffer' phase')
+    (p : List ℕ) (h : DecoderAfter buffer phase p) where
+  abbrev pub EndsFirstIn-taken : EndsFirstIn p bytes (length buffer') (outcome_at end buffer') (drop count bytes)
+  EndsFirstIn-taken = record {
+    front = t.ends.front;
+    cut = sym (take-append-drop count bytes) ∙ rw (t.ends.taken, append_assoc) refl;
+    none_before = let none = t.ends.none_before p h.phased in grind arith;
+    here = let said = t.takes.outcomes p h in grind arith;
+  }
 
--- bytes after a stream t in which no piece has ended
+  pub HasDecoded-taken : HasDecoded (outcome_at end buffer') buffer' (unended (p ++ t.ends.front))
+  HasDecoded-taken =
+      let front = p ++ t.ends.front in
+      let none = t.ends.none_before p h.phased in
+      let cut : p ++ take count bytes ≡ front ++ 0 ∷ [] = rw (t.ends.taken, append_assoc) refl in
+      grind (arith, HasDecoded-written, last_piece-zero, no_outcomes, outcomes_at, stream_outcomes-push)
+
+-- the first piece that ends in bytes after a stream t, in which no piece has ended
 abbrev pub EndsFirst-behind : (t : List ℕ) {bytes behind : List ℕ} {n : ℕ} {outcome : Outcome} → stream_outcomes t n ≡ [] → EndsFirstIn (unended t) bytes n outcome behind → EndsFirst (t ++ bytes) n outcome behind
 EndsFirst-behind t {bytes} {behind} {n} {outcome} none w = record {
   front = t ++ w.front;
@@ -69,11 +68,12 @@ EndsFirst-behind t {bytes} {behind} {n} {outcome} none w = record {
   none_before = rw (stream_outcomes-append t w.front n, none) w.none_before;
   outcomes =
       let cut : t ++ bytes ≡ (t ++ (w.front ++ 0 ∷ [])) ++ behind = grind (arith, append_assoc) in
-      rw (cut, stream_outcomes-append (t ++ (w.front ++ 0 ∷ [])) behind n, stream_outcomes-append t (w.front ++ 0 ∷ []) n, none, w.here, ← append_assoc t w.front (0 ∷ []), unended-zero (t ++ w.front)) refl;
+      grind (arith, stream_outcomes-append, append_assoc, unended-zero);
 }
 
--- THE READER'S OWN NOTE OF A BEGUN PIECE
+-- THE FLAG OF THE READER FOR A BEGUN PIECE
 
+-- the flag of a decoder in this phase
 not_idle : Phase → Bool
 not_idle Idle = false
 not_idle (Within full left count) = true
@@ -93,6 +93,7 @@ HasTaken-any buffer phase flag q some h = record {
 
 -- ONE MORE READ
 
+-- the steps of the source, and the bytes that the reads gave
 Runs-push : {S : Type 0} (step : S → Read → S → Type 0) (a : S) (reads : List Read) (b c : S) (read : Read) → Runs step a reads b → step b read c → Runs step a (reads ++ read ∷ []) c
 Runs-push step a [] b c read r s = grind arith
 Runs-push step a (first ∷ reads) b c read r s = (r.0, r.1, Runs-push step r.0 reads b c read r.2 s)
@@ -110,14 +111,11 @@ module _ (front : List ℕ) (n : ℕ) (reads : List Read) (gave : All GaveBytes 
   -- after the first k of them another read is made
   called_after : (k : ℕ) → k < 65536 → CallsForMore front n (take k reads)
   called_after k few =
-      let whole : all_given (take k reads) ++ all_given (drop k reads) ≡ all_given reads
-      = sym (flat_map-append bytes_given (take k reads) (drop k reads)) ∙ ap all_given (take-append-drop k reads) in
-      let all = append_assoc front (all_given (take k reads)) (all_given (drop k reads)) ∙ ap (λ (x : List ℕ). front ++ x) whole in
+      let cut = flat_map-append bytes_given (take k reads) (drop k reads) in
       record {
         few = omega (arith, length-take k reads);
         gave = All-take GaveBytes k reads gave;
-        none_ended = left_nothing _ _ (sym (stream_outcomes-append (front ++ all_given (take k reads)) (all_given (drop k reads)) n)
-            ∙ ap (λ (x : List ℕ). stream_outcomes x n) all ∙ none);
+        none_ended = grind (arith, take-append-drop, append_assoc, left_nothing, stream_outcomes-append);
       }
 
   -- so each of them was called for, and so was one read after them
@@ -126,9 +124,8 @@ module _ (front : List ℕ) (n : ℕ) (reads : List Read) (gave : All GaveBytes 
       let long = ap length e ∙ length-append earlier (read ∷ later) in
       let within : length earlier ≤ length reads = omega (arith, long, length-append reads more) in
       let same : take (length earlier) reads ≡ earlier
-      = sym (take-append-le (length earlier) reads more within) ∙ ap (take (length earlier)) e
-      ∙ take_at earlier (read ∷ later) (length earlier) refl in
-      subst (λ (x : List Read). CallsForMore front n x) same (called_after (length earlier) (omega (arith, long)))
+      = sym (take-append-le (length earlier) reads more within) ∙ ap (take (length earlier)) e ∙ take_at earlier (read ∷ later) (length earlier) refl in
+      rw same at (called_after (length earlier) (omega (arith, long)))
 
 -- A CALL THAT GOES ON
 
@@ -150,9 +147,10 @@ pub Going-start : {S : Type 0} (step : S → Read → S → Type 0) (source : S)
 Going-start step source reader₀ reader unfinished h len = grind (arith, All-nil, append-nil)
 
 module _ {S : Type 0} {step : S → Read → S → Type 0} {from to : S} {reader₀ reader : ReaderState} {unfinished : Bool} {count : ℕ} where
+  -- no piece has ended
   none_so_far : (g : Going step from to reader₀ reader unfinished count) → (p : List ℕ) → ReaderAfter reader₀ p
       → stream_outcomes (p ++ reader₀.kept ++ all_given g.reads) (length reader₀.buffer) ≡ []
-  none_so_far g p b = ap (stream_outcomes (p ++ reader₀.kept ++ all_given g.reads)) (sym g.len) ∙ (g.at_end p b).none_ended
+  none_so_far g p b = rw (← g.len) (g.at_end p b).none_ended
 
   -- one more read is the last
   ReadsNext-read : {to' : S} {reader' : ReaderState} {result : Result Next ReadFault} (read : Read) → count < 65536
@@ -164,7 +162,7 @@ module _ {S : Type 0} {step : S → Read → S → Type 0} {from to : S} {reader
   ReadsNext-read {to'} read few g s failed says = record {
     reads = g.reads ++ read ∷ [];
     runs = Runs-push step from g.reads to to' read g.runs s;
-    failed = (λ e. (g.reads, ap (λ (r : Read). g.reads ++ r ∷ []) (failed.0 e)), λ l. failed.1 (last_read g.reads read None l));
+    failed = (λ e. (g.reads, rw (failed.0 e) refl), λ l. failed.1 (last_read g.reads read None l));
     called_for = λ p b. called_for _ _ g.reads g.gave (none_so_far g p b) (read ∷ [])
         (omega arith) (omega (arith, length_push g.reads read, g.count_is));
     result_says = λ p b. rw (given-push (p ++ reader₀.kept) g.reads read) (says p b);
@@ -190,16 +188,28 @@ module _ {S : Type 0} {step : S → Read → S → Type 0} {from to : S} {reader
       let w = emptied kept e g p b in
       (w.0, (g.reads, refl), w.1))
 
+  -- the last read that is allowed ended no piece
+  pub ReadsNext-too_many : count ≡ 65536 → Going step from to reader₀ reader unfinished count → ReadsNext step from to reader₀ (Err faults.TooManyReads) reader
+  ReadsNext-too_many all g = record {
+    reads = g.reads;
+    runs = g.runs;
+    failed = (
+      λ f. absurd cc,
+      λ l. absurd (All-head GaveBytes None [] (All-apart GaveBytes l.0 (None ∷ []) (rw l.1 at g.gave)).1 refl),
+    );
+    called_for = λ p b.
+        rw append-nil at (called_for _ _ g.reads g.gave (none_so_far g p b) [] (omega arith) (rw append-nil (omega (arith, g.count_is))));
+    result_says = λ p b. (g.at_end p b, g.count_is ∙ all, g.gave);
+  }
+
 -- WHERE A PIECE ENDS
 
--- an outcome is reported
--- the first piece that ends in some bytes is reported, after a stream in which none has ended
+-- after a stream in which no piece has ended, the first piece that ends in some bytes is reported
 Reports-first : (next : Next) (reads : List Read) (t bytes : List ℕ) (reader : ReaderState) → stream_outcomes t (length reader.buffer) ≡ []
     → ReportsFirst next (unended t) bytes reader.buffer reader.kept → ReaderAfter reader [] → Reports (Ok next) reads (t ++ bytes) reader
 Reports-first next reads t bytes reader none w b =
     let first = EndsFirst-behind t none w.first in
-    let decoded : HasDecoded w.outcome reader.buffer (unended first.front) = subst (λ (x : List ℕ). HasDecoded w.outcome reader.buffer x) (sym (unended-append t w.first.front)) w.decoded in
-    let ended : AtPieceEnd (t ++ bytes) w.outcome reader = record { first = first; decoded = decoded; idle = b } in
+    let ended : AtPieceEnd (t ++ bytes) w.outcome reader = record { first = first; decoded = rw (unended-append t w.first.front) w.decoded; idle = b } in
     grind arith
 
 -- the kept bytes end a piece: nothing is read
@@ -229,14 +239,14 @@ module _ {S : Type 0} {step : S → Read → S → Type 0} {from to to' : S} {re
       let end = g.at_end p b in
       Reports-first next _ _ bytes reader' (ap (stream_outcomes (p ++ reader₀.kept ++ all_given g.reads)) len ∙ end.none_ended) (h _ end.after) idle)
 
-  -- they end none, and the call continues
+  -- they end no piece, and the call continues
   pub Going-push : (bytes : List ℕ) (unfinished' : Bool) → bytes ≢ [] → Going step from to reader₀ reader unfinished count → step to (Some bytes) to' → length reader'.buffer ≡ length reader.buffer
       → ((q : List ℕ) → ReaderAfter reader q → AtStreamEnd (q ++ bytes) reader' × (unfinished' ≡ is_nonempty (unended (q ++ bytes))))
       → Going step from to' reader₀ reader' unfinished' (count + 1)
   Going-push bytes unfinished' some g s len h = record {
     reads = g.reads ++ Some bytes ∷ [];
     runs = Runs-push step from g.reads to to' (Some bytes) g.runs s;
-    count_is = length_push g.reads (Some bytes) ∙ ap (λ (k : ℕ). k + 1) g.count_is;
+    count_is = length_push g.reads (Some bytes) ∙ rw g.count_is refl;
     gave = All-push GaveBytes g.reads (Some bytes) g.gave some;
     at_end = λ p b.
         let t = p ++ reader₀.kept ++ all_given g.reads in
@@ -248,23 +258,6 @@ module _ {S : Type 0} {step : S → Read → S → Type 0} {from to to' : S} {re
         rw (given-push (p ++ reader₀.kept) g.reads (Some bytes), unended-append t bytes) (h _ (g.at_end p b).after).1;
     len = len ∙ g.len;
   }
-
--- the last read that is allowed ended no piece
-pub ReadsNext-too_many : {S : Type 0} {step : S → Read → S → Type 0} {from to : S} {reader₀ reader : ReaderState} {unfinished : Bool} {count : ℕ} → count ≡ 65536 → Going step from to reader₀ reader unfinished count
-    → ReadsNext step from to reader₀ (Err faults.TooManyReads) reader
-ReadsNext-too_many {reader₀} {reader} all g = record {
-  reads = g.reads;
-  runs = g.runs;
-  failed = (
-    λ f. absurd cc,
-    λ l.
-        let last = (All-apart GaveBytes l.0 (None ∷ []) (subst (λ (x : List Read). All GaveBytes x) l.1 g.gave)).1 in
-        absurd (All-head GaveBytes None [] last refl),
-  );
-  called_for = λ p b.
-      rw append-nil at (called_for _ _ g.reads g.gave (none_so_far g p b) [] (omega arith) (rw append-nil (omega (arith, g.count_is))));
-  result_says = λ p b. (g.at_end p b, g.count_is ∙ all, g.gave);
-}
 
 -- THE FRONT OF A CHUNK
 

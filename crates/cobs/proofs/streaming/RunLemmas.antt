@@ -1,6 +1,6 @@
 -- Bytes that the machine takes quietly at once are as many feeds (`ran-on`), by induction on the bytes; and what such bytes
 -- leave of the buffer.
-use Rattle.std.proofs.Common.{◌≡◌, ◌≢◌, ℕ, zero, suc, ◌+◌, ◌-◌, ◌<◌, ◌≤◌, Bool, List, [], ◌∷◌, ◌++◌, length, take, drop, set, get_or, sym, ap, ◌∙◌, subst, refl, arith, append_assoc, take_all, None, Ok}
+use Rattle.std.proofs.Common.{◌≡◌, ◌≢◌, ℕ, zero, suc, ◌+◌, ◌-◌, ◌<◌, ◌≤◌, Bool, List, [], ◌∷◌, ◌++◌, length, take, drop, set, get_or, ap, subst, refl, arith, append_assoc, take_all, None, Ok}
 use Rattle.std.proofs.Math.Seq.{take-length}
 use Rattle.std.proofs.lemmas.List.{drop_more, take_more_set, drop-set-lt, drop-drop}
 use Rattle.cobs.specs.declared.dec.unbuffered.UnbufferedDecoder.{UnbufferedDecoder}
@@ -35,8 +35,10 @@ pub ran-on : (P : List ℕ → Phase → ℕ → Type 0) (bytes : List ℕ)
     → (buffer buffer' : List ℕ) (phase phase' : Phase) (i r : ℕ) → i + r ≤ length bytes → P buffer phase i → FeedsQuietly buffer phase (take r (drop i bytes)) buffer' phase' → P buffer' phase' (i + r)
 ran-on P bytes more buffer buffer' phase phase' i zero within s f = grind arith
 ran-on P bytes more buffer buffer' phase phase' i (suc r) within s f =
-    let fed = subst (λ (l : List ℕ). FeedsQuietly buffer phase l buffer' phase') (from_here bytes i r (omega arith)) f in
-    subst (P buffer' phase') (omega arith) (ran-on P bytes more (next_buffer buffer phase (get_or bytes i 0)) buffer' (next_phase (length buffer) phase (get_or bytes i 0)) phase' (i + 1) r (omega arith) (more buffer phase i (omega arith) s fed.0) fed.1)
+    let fed = rw (from_here bytes i r (omega arith)) at f in
+    let byte = get_or bytes i 0 in
+    let rest = ran-on P bytes more (next_buffer buffer phase byte) buffer' (next_phase (length buffer) phase byte) phase' (i + 1) r (omega arith) (more buffer phase i (omega arith) s fed.0) fed.1 in
+    subst (P buffer' phase') (omega arith) rest
 
 -- so a piece that hasn't ended continues
 pub piece-run : {buffer₀ buffer buffer' : List ℕ} {phase₀ phase phase' : Phase} (bytes : List ℕ) (i r : ℕ) → i + r ≤ length bytes → TakesPiece buffer₀ phase₀ (take i bytes) None buffer phase
@@ -57,10 +59,10 @@ pub piece-over : {buffer₀ buffer : List ℕ} {phase₀ : Phase} (bytes : List 
     → TakesPiece buffer₀ phase₀ (take i bytes) None buffer Overlong → TakesPiece buffer₀ phase₀ (take (i + r) bytes) None buffer Overlong
 piece-over bytes i zero within some t = grind arith
 piece-over {buffer₀} {buffer} {phase₀} bytes i (suc r) within some t =
-    let rest = subst HasNoZero (from_here bytes i r (omega arith)) some in
+    let rest = rw (from_here bytes i r (omega arith)) at some in
     let nz = All-head (λ b. b ≢ 0) _ _ rest in
     let over : next_phase (length buffer) Overlong (get_or bytes i 0) ≡ Overlong = rw (ne_eqb _ 0 nz) refl in
-    let one = subst (λ phase. TakesPiece buffer₀ phase₀ (take (i + 1) bytes) None buffer phase) over (piece-more bytes i (omega arith) t (Feeds-step buffer Overlong (get_or bytes i 0)) (λ z. absurd (nz z))) in
+    let one = rw over at (piece-more bytes i (omega arith) t (Feeds-step buffer Overlong (get_or bytes i 0)) (λ z. absurd (nz z))) in
     subst (λ (k : ℕ). TakesPiece buffer₀ phase₀ (take k bytes) None buffer Overlong) (omega arith) (piece-over bytes (i + 1) r (omega arith) (All-tail (λ b. b ≢ 0) _ _ rest) one)
 
 -- THE RUN OF A DECODER
@@ -69,6 +71,7 @@ piece-over {buffer₀} {buffer} {phase₀} bytes i (suc r) within some t =
 pub phase_with-begun : (full : Bool) (left count : ℕ) → 0 < left + count → phase_with full left count ≡ Within full left count
 phase_with-begun full left count h = grind arith
 
+-- bytes that are fed quietly change nothing after the output
 quiet_rest : (xs buffer buffer' : List ℕ) (phase phase' : Phase) → HasNoZero xs → FeedsQuietly buffer phase xs buffer' phase' →
     (written_in phase ≤ written_in phase') × ((k : ℕ) → written_in phase' ≤ k → drop k buffer' ≡ drop k buffer)
 quiet_rest [] buffer buffer' phase phase' nz f = grind arith
@@ -77,9 +80,9 @@ quiet_rest (x ∷ xs) buffer buffer' phase phase' nz f = grind (arith, ne_eqb, c
 pub rest_kept : (xs buffer buffer' : List ℕ) (inner inner' : UnbufferedDecoder) (k : ℕ) → HasNoZero xs → FeedsQuietly buffer (phase_of inner) xs buffer' (phase_of inner') → inner'.written ≤ k → drop k buffer' ≡ drop k buffer
 rest_kept xs buffer buffer' inner inner' k nz f past = grind (arith, quiet_rest)
 
--- so do those from a place on, when a decoder has read those before it, from another place on
+-- so the bytes from index `at` on are as they were, after a decoder has read those from index `read` to `at`
 pub rest_read : (buffer buffer' : List ℕ) (inner inner' : UnbufferedDecoder) (read at end : ℕ) → read ≤ at → at ≤ end → HasNoZero (take (end - read) (drop read buffer))
     → FeedsQuietly buffer (phase_of inner) (take (at - read) (drop read buffer)) buffer' (phase_of inner') → inner'.written ≤ at → drop at buffer' ≡ drop (at - read) (drop read buffer)
 rest_read buffer buffer' inner inner' read at end order within nz f past =
-    rest_kept _ buffer buffer' inner inner' at (part-nonzero 0 (at - read) (end - read) (drop read buffer) nz (omega arith)) f past
-    ∙ ap (λ (k : ℕ). drop k buffer) (omega arith) ∙ sym (drop-drop (at - read) read buffer)
+    let none = part-nonzero 0 (at - read) (end - read) (drop read buffer) nz (omega arith) in
+    grind (arith, rest_kept, drop-drop)

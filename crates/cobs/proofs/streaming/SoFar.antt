@@ -1,6 +1,6 @@
 -- A stream so far: the invariant of a loop that feeds one byte after another (`TakesBytes`), for one byte by `Feeds` and for more
 -- by `SoFar-more`.
-use Rattle.std.proofs.Common.{◌≡◌, ◌≢◌, ℕ, zero, suc, ◌+◌, ◌-◌, ◌<◌, ◌≤◌, List, [], ◌∷◌, ◌++◌, length, take, drop, refl, sym, ap, ◌∙◌, subst, arith, append_assoc, length-append, length-take, length-drop, map, inl, inr, ◌⊎◌, Option, Some, None, Result, Ok, Err, cond, eqb}
+use Rattle.std.proofs.Common.{◌≡◌, ◌≢◌, ℕ, zero, suc, ◌+◌, ◌-◌, ◌<◌, ◌≤◌, List, [], ◌∷◌, ◌++◌, length, take, drop, refl, sym, ap, ◌∙◌, arith, append_assoc, length-append, length-take, length-drop, map, inl, inr, ◌⊎◌, Option, Some, None, Result, Ok, Err, cond, eqb}
 use Rattle.std.specs.List.{Contains}
 use Rattle.std.proofs.lemmas.List.{append-nil, nil_from_length, length-map, take_rest, take_all, take-append-drop}
 use Rattle.std.proofs.lemmas.List.Elements.{All-nil, All-cons, All-append, Contains-push_cases, Contains-append_cases}
@@ -78,6 +78,7 @@ SoFar-start buffer phase = grind (arith, append-nil, unended-no_zero, stream_out
 -- A BYTE ALONE
 
 module _ {buffer buffer' : List ℕ} {phase phase' : Phase} {byte : ℕ} {result : Result (Option ℕ) DecodeError} (f : Feeds buffer phase byte result buffer' phase') where
+  -- its result reports the outcome of the piece that it ends
   reported_byte : (p : List ℕ) → DecoderAfter buffer phase p → reported_by byte result buffer' ≡ outcomes_at p byte (length buffer)
   unfolding result_for result_at_end outcome_of
   reported_byte p h = grind (arith, cases_eq, eq-eqb, ne_eqb, take_all, leb-true, outcomes_at-nonzero)
@@ -97,6 +98,7 @@ phase_so_far {buffer₀} {buffer} {phase₀} {phase} {done} s p h = grind arith
 
 -- MORE BYTES AT ONCE
 
+-- the stream is cut after the bytes so far
 unended_more : (p done more : List ℕ) → unended (p ++ (done ++ more)) ≡ unended (unended (p ++ done) ++ more)
 unended_more p done more = grind (arith, append_assoc, unended-append)
 
@@ -104,6 +106,7 @@ outcomes_more : (p done more : List ℕ) (n : ℕ) → stream_outcomes (p ++ (do
 outcomes_more p done more n = grind (arith, append_assoc, stream_outcomes-append)
 
 module _ {buffer₀ buffer buffer' : List ℕ} {phase₀ phase phase' : Phase} {done more : List ℕ} {found stated : List Outcome} where
+  -- the outcomes of the later bytes, after the unended bytes so far
   reported_more : SoFar buffer₀ phase₀ buffer phase done found → TakesBytes buffer phase more stated buffer' phase' → (p : List ℕ) → DecoderAfter buffer phase (unended (p ++ done))
       → stated ≡ stream_outcomes (unended (p ++ done) ++ more) (length buffer₀)
   reported_more s t p w = grind arith
@@ -113,7 +116,7 @@ module _ {buffer₀ buffer buffer' : List ℕ} {phase₀ phase phase' : Phase} {
   SoFar-more s t = record {
     len = t.len ∙ s.len;
     feeds = FeedsEach-append done more buffer₀ buffer buffer' phase₀ phase phase' s.feeds t.feeds;
-    phased = λ p h. rw (unended_more p done more) (subst (λ n. PhaseAfter n phase' (unended (unended (p ++ done) ++ more))) s.len (t.phased _ (phase_so_far s p h)));
+    phased = λ p h. rw (unended_more p done more, ← s.len) (t.phased _ (phase_so_far s p h));
     after = λ p h. rw (unended_more p done more) (t.after _ (s.after p h));
     outcomes = λ p h. rw (outcomes_more p done more (length buffer₀), ← s.outcomes p h, reported_more s t p (s.after p h)) refl;
     alike = λ p h. elim (zero_or_none done) [
@@ -121,7 +124,7 @@ module _ {buffer₀ buffer buffer' : List ℕ} {phase₀ phase phase' : Phase} {
       | inr none ↦
           let plain : stream_outcomes (p ++ done) (length buffer₀) ≡ [] = stream_outcomes-no_zero (p ++ done) (length buffer₀) (All-append (λ b. b ≢ 0) p done h.piece none) in
           rw (outcomes_more p done more (length buffer₀), plain, alike-nil found (rw plain at (s.alike p h)))
-          (subst (λ n. AreAlikeAtFirst stated (stream_outcomes (unended (p ++ done) ++ more) n)) s.len (t.alike _ (phase_so_far s p h)))
+          (rw s.len at (t.alike _ (phase_so_far s p h)))
     ];
     after_zero = λ p h z. rw (unended_more p done more) (elim (Contains-append_cases done more 0 z) [
       | inl old ↦ t.after _ (s.after_zero p h old)
@@ -129,6 +132,7 @@ module _ {buffer₀ buffer buffer' : List ℕ} {phase₀ phase phase' : Phase} {
     ]);
   }
 
+-- a stream without outcomes has no ended pieces
 pub no_outcomes : (t : List ℕ) (n : ℕ) → stream_outcomes t n ≡ [] → ended_pieces t ≡ []
 unfolding stream_outcomes
 no_outcomes t n e = nil_from_length (ended_pieces t) (sym (length-map (ended_pieces t) (λ p. outcome_of p n)) ∙ ap length e)
@@ -146,17 +150,16 @@ module _ {buffer₀ buffer buffer' : List ℕ} {phase₀ phase phase' : Phase} {
   SoFar-all s t = rw (append-nil found, take-append-drop i bytes) at (SoFar-more s (rw (take_rest bytes i) at t.takes))
 
   -- a piece ends in them after that many
-  pub SoFar-piece : (end : PieceEnd) (count : ℕ) → SoFar buffer₀ phase₀ buffer phase (take i bytes) found → TakesPiece buffer phase (take (length bytes - i) (drop i bytes)) (Some (end, count)) buffer' phase'
-      → SoFar buffer₀ phase₀ buffer' phase' (take (i + count) bytes) (found ++ outcome_at end buffer' ∷ [])
-  SoFar-piece end count s t = rw (take-add i count bytes) (SoFar-more s (rw (take_rest bytes i) at t.takes))
+  module _ (end : PieceEnd) (count : ℕ) (s : SoFar buffer₀ phase₀ buffer phase (take i bytes) found) (t : TakesPiece buffer phase (take (length bytes - i) (drop i bytes)) (Some (end, count)) buffer' phase') where
+    pub SoFar-piece : SoFar buffer₀ phase₀ buffer' phase' (take (i + count) bytes) (found ++ outcome_at end buffer' ∷ [])
+    SoFar-piece = rw (take-add i count bytes) (SoFar-more s (rw (take_rest bytes i) at t.takes))
 
-  -- so the stream has an outcome
-  pub outcome_there : (end : PieceEnd) (count : ℕ) → SoFar buffer₀ phase₀ buffer phase (take i bytes) found → TakesPiece buffer phase (take (length bytes - i) (drop i bytes)) (Some (end, count)) buffer' phase'
-      → (p : List ℕ) → PhaseAfter (length buffer₀) phase₀ p → stream_outcomes (p ++ bytes) (length buffer₀) ≡ [] → ⊥
-  outcome_there end count s t p h none =
-      let n = length buffer₀ in
-      let whole : stream_outcomes (p ++ bytes) n ≡ stream_outcomes (p ++ _) n ++ stream_outcomes (unended (p ++ _) ++ drop (i + count) bytes) n
-      = ap (λ (x : List ℕ). stream_outcomes (p ++ x) n) (sym (take-append-drop (i + count) bytes)) ∙ outcomes_more p _ (drop (i + count) bytes) n in
-      let nothing : stream_outcomes (p ++ _) n ≡ [] = left_nothing _ _ (sym whole ∙ none) in
-      let nil : found ++ outcome_at end buffer' ∷ [] ≡ [] = alike-nil _ (rw nothing at ((SoFar-piece end count s t).alike p h)) in
-      grind (arith, length-append)
+    -- so the stream has an outcome
+    pub outcome_there : (p : List ℕ) → PhaseAfter (length buffer₀) phase₀ p → stream_outcomes (p ++ bytes) (length buffer₀) ≡ [] → ⊥
+    outcome_there p h none =
+        let n = length buffer₀ in
+        let whole : stream_outcomes (p ++ bytes) n ≡ stream_outcomes (p ++ _) n ++ stream_outcomes (unended (p ++ _) ++ drop (i + count) bytes) n
+        = ap (λ (x : List ℕ). stream_outcomes (p ++ x) n) (sym (take-append-drop (i + count) bytes)) ∙ outcomes_more p _ (drop (i + count) bytes) n in
+        let nothing : stream_outcomes (p ++ _) n ≡ [] = left_nothing _ _ (sym whole ∙ none) in
+        let nil : found ++ outcome_at end buffer' ∷ [] ≡ [] = alike-nil _ (rw nothing at (SoFar-piece.alike p h)) in
+        grind (arith, length-append)

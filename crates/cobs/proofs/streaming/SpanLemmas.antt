@@ -1,6 +1,6 @@
 -- Bytes after an open block in which no full block ends, fed as a whole: they are written with a zero over each code
 -- (`walked`). By `fed_walked`, for the bytes of one span (`IsSpan`).
-use Rattle.std.proofs.Common.{◌≡◌, ◌≢◌, ℕ, zero, suc, ◌+◌, ◌-◌, ◌<◌, ◌≤◌, Bool, eqb, List, [], ◌∷◌, ◌++◌, length, take, drop, refl, sym, ap, ◌∙◌, arith, length-take-le, length-drop, replicate, take-append-drop, take_all}
+use Rattle.std.proofs.Common.{◌≡◌, ◌≢◌, ℕ, zero, suc, ◌+◌, ◌-◌, ◌<◌, ◌≤◌, eqb, List, [], ◌∷◌, ◌++◌, length, take, drop, refl, sym, ◌∙◌, arith, length-take-le, length-drop, replicate, take-append-drop, take_all}
 use Rattle.std.proofs.lemmas.List.{append-nil, drop_all, drop-drop, length-replicate, take_rest, take-append-drop}
 use Rattle.std.proofs.Math.Seq.{drop-append_seam, take-add, take-append_seam}
 use Rattle.std.proofs.lemmas.Bool.{ne_eqb, cases_eq}
@@ -15,7 +15,7 @@ use Rattle.cobs.specs.Internal.Walk.{walked}
 use Rattle.cobs.specs.Sentinel.{xor_each}
 use Rattle.cobs.specs.Step.{next_phase, next_buffer}
 use Rattle.cobs.proofs.streaming.RunLemmas.{over, phase_with-begun}
-use Rattle.cobs.proofs.streaming.WalkLemmas.{fed_walked, length-walked, walked-past, walked-any}
+use Rattle.cobs.proofs.streaming.WalkLemmas.{fed_walked, length-walked, walked-past, walked-any, IsWalked}
 use Rattle.cobs_bytes.proofs.bytes.ListLemmas.{ones-nonzero}
 
 -- the bytes are fed in two parts
@@ -78,21 +78,18 @@ record IsSpan (inner : UnbufferedDecoder) (len : ℕ) (before xs : List ℕ) : T
   some : 0 < len
   few : inner.missing < len → len < 254
 
+-- the phase, by the code of the open block in place of `joint`
 block-phase : (inner : UnbufferedDecoder) → inner.too_long ≡ 0 → (inner.joint ≡ 0 → 0 < inner.missing) → phase_of inner ≡ Within (eqb (code_by inner.joint) 255) inner.missing inner.written
 block-phase inner going full = grind (arith, cases_eq, phase_with-begun, ne_eqb, code_by-full)
 
--- they are written as what they are from code to code
+-- they are written with a zero over each code; `joint` is set for the last code
 module _ {inner : UnbufferedDecoder} {len : ℕ} {before xs : List ℕ} (s : IsSpan inner len before xs) (joint : ℕ) {ys : List ℕ} {code left : ℕ}
-    (w : ◌≡◌ {A = List ℕ × ℕ × ℕ} (ys, code, left) (walked (code_by inner.joint) inner.missing xs)) (joint-is : eqb joint 0 ≡ eqb code 255) where
+    (w : IsWalked ys code left (code_by inner.joint) inner.missing xs) (joint-is : eqb joint 0 ≡ eqb code 255) where
   open_fed : FeedsQuietly before (phase_of inner) xs (over inner.written before ys) (phase_of (moved_on inner len left joint))
   open_fed =
-      let v = walked (code_by inner.joint) inner.missing xs in
-      let to : phase_of (moved_on inner len left joint) ≡ Within (eqb v.1 255) v.2 (inner.written + length xs)
-      = rw s.going (phase_with-begun (eqb joint 0) left (inner.written + len) (omega (arith, s.some))) ∙ ap (λ (b : Bool). Within b left (inner.written + len)) joint-is
-      ∙ ap (λ (t : List ℕ × ℕ × ℕ). Within (eqb t.1 255) t.2 (inner.written + len)) w ∙ ap (λ (k : ℕ). Within (eqb v.1 255) v.2 (inner.written + k)) (sym s.long) in
-      rw (block-phase inner s.going (λ e. omega (arith, s.some, s.full e)), to, ap (λ (t : List ℕ × ℕ × ℕ). t.0) w)
-      (fed_walked xs before (code_by inner.joint) inner.missing inner.written s.nonzero
-      (λ e. omega (arith, s.long, s.full (full_by inner.joint e))) (λ h. omega (arith, s.long, s.few (omega (arith, s.long)))) (omega (arith, s.long, s.room)))
+      let fed = fed_walked xs before (code_by inner.joint) inner.missing inner.written s.nonzero
+      (λ e. omega (arith, s.long, s.full (full_by inner.joint e))) (λ h. omega (arith, s.long, s.few (omega (arith, s.long)))) (omega (arith, s.long, s.room)) in
+      grind (arith, block-phase, phase_with-begun)
 
   -- written over a copy of them
   written_over : (dest : List ℕ) → dest ≡ over inner.written before xs → put_mid inner.written (inner.written + len - inner.written) dest ys ≡ over inner.written before ys
@@ -111,6 +108,7 @@ block_fed inner (suc run) dest bytes new going most room within nz is =
     let fed = open_fed s inner.joint (sym past) (code_by-full inner.joint) in
     grind arith
 
+-- read from code to code, n codes 1 become n zeros
 row_ones : (n : ℕ) → walked 1 0 (replicate n 1) ≡ (replicate n 0, 1, 0)
 row_ones zero = refl
 row_ones (suc n) = grind (arith, row_ones n)
@@ -124,10 +122,9 @@ row_fed n inner dest bytes new some few going none due room ones is =
     let long : length (replicate {A = ℕ} n 1) ≡ n = length-replicate {A = ℕ} n 1 in
     let s : IsSpan inner n dest (replicate n 1)
     = record { room = room; long = long; going = going; full = λ e. absurd (due e); nonzero = ones-nonzero n; some = some; few = λ _. few } in
-    rw (ones, is ∙ ap (λ (k : ℕ). take inner.written dest ++ (replicate n 0 ++ drop (inner.written + k) dest)) (sym (length-replicate {A = ℕ} n 0)))
-    (open_fed s inner.joint
-    (ap (λ (k : ℕ). (replicate n 0, 1, k)) none ∙ sym (row_ones n) ∙ walked-any 1 code 0 (replicate n 1) (omega (arith, long)) ∙ ap (λ (k : ℕ). walked code k (replicate n 1)) (sym none))
-    (ne_eqb inner.joint 0 due))
+    let same = walked-any 1 code 0 (replicate n 1) (omega (arith, long)) in
+    let fed = open_fed s inner.joint {ys = replicate n 0} {code = 1} {left = 0} (grind (arith, row_ones)) (ne_eqb inner.joint 0 due) in
+    grind (arith, length-replicate)
 
 -- what `joint_after` returns for a code
 pub joint-is : (code joint : ℕ) → (code ≡ 255 → joint ≡ 0) → (code ≢ 255 → joint ≡ 1) → eqb joint 0 ≡ eqb code 255
@@ -136,6 +133,7 @@ joint-is code joint full other = grind (arith, cases_eq, ne_eqb)
 -- bytes that were copied or moved to the end of the output
 module _ (inner : UnbufferedDecoder) (len : ℕ) (dest : List ℕ) (nz : HasNoZero (take len (drop inner.written dest))) (before xs : List ℕ) (room : inner.written + len ≤ length before) (long : length xs ≡ len)
     (is : dest ≡ take inner.written before ++ (xs ++ drop (inner.written + len) before)) (going : inner.too_long ≡ 0) (full : inner.joint ≡ 0 → len ≤ inner.missing) (few : (0 < len) × (len < 254)) where
+  -- the bytes at the end of the output, and the code of the open block
   abbrev part : List ℕ
   part = take (inner.written + len - inner.written) (drop inner.written dest)
 
@@ -150,19 +148,21 @@ module _ (inner : UnbufferedDecoder) (len : ℕ) (dest : List ℕ) (nz : HasNoZe
 
   -- with a code after it, a code of one more than its missing bytes is as good as its own
   own : inner.missing < len → walked (inner.missing + 1) (inner.missing + 1 - 1) part ≡ walked code inner.missing xs
-  own more = ap (λ (k : ℕ). walked (inner.missing + 1) k part) (omega arith) ∙ ap (walked (inner.missing + 1) inner.missing) part-is ∙ walked-any (inner.missing + 1) code inner.missing xs (omega arith)
+  own more =
+      let same : inner.missing + 1 - 1 ≡ inner.missing = omega arith in
+      rw (part-is, same) (walked-any (inner.missing + 1) code inner.missing xs (omega arith))
 
   dest-is : dest ≡ take inner.written before ++ (xs ++ drop (inner.written + length xs) before)
   dest-is = grind arith
 
-  -- fed, as they were left there
+  -- no code is among them: they stay as they are
   pub kept : len ≤ inner.missing → FeedsQuietly before (phase_of inner) xs dest (phase_of (moved_on inner len (inner.missing - len) inner.joint))
   kept most =
       let all : take len xs ≡ xs = take_all len xs (omega (arith, long)) in
       rw all at (block_fed inner len before xs dest going most room (omega (arith, long)) (rw all nonzero) (rw all is))
 
-  -- fed, as they were written over
-  pub marked : inner.missing < len → (ys : List ℕ) (last left joint : ℕ) → ◌≡◌ {A = List ℕ × ℕ × ℕ} (ys, last, left) (walked (inner.missing + 1) (inner.missing + 1 - 1) part) → eqb joint 0 ≡ eqb last 255
+  -- a code is among them: a zero was written over each code
+  pub marked : inner.missing < len → (ys : List ℕ) (last left joint : ℕ) → IsWalked ys last left (inner.missing + 1) (inner.missing + 1 - 1) part → eqb joint 0 ≡ eqb last 255
       → FeedsQuietly before (phase_of inner) xs (put_mid inner.written (inner.written + len - inner.written) dest ys) (phase_of (moved_on inner len left joint))
   marked more ys last left joint e due =
       let s : IsSpan inner len before xs = record { room = room; long = long; going = going; full = full; nonzero = nonzero; some = few.0; few = λ _. few.1 } in

@@ -1,12 +1,12 @@
 -- The table of `DecoderState` agrees with the grammar and with the machine of `Step`. By `PieceLemmas`, with one case
 -- for each state.
-use Rattle.std.proofs.Common.{◌≡◌, ◌≢◌, ℕ, zero, suc, ◌-◌, ◌<◌, ◌+◌, ◌⊎◌, ◌↔◌, Bool, true, false, cond, eqb, Some, List, [], ◌∷◌, ◌++◌, length, All, Ok, Err, refl, sym, ap, ◌∙◌, arith}
-use Rattle.std.proofs.lemmas.Bool.{cases_lt, eqb-true, ne_eqb}
+use Rattle.std.proofs.Common.{◌≡◌, ◌≢◌, ℕ, zero, suc, ◌-◌, ◌<◌, ◌+◌, ◌⊎◌, ◌↔◌, Bool, cond, eqb, Some, List, [], ◌∷◌, ◌++◌, length, All, Ok, Err, refl, arith}
+use Rattle.std.proofs.lemmas.Bool.{cases_lt, eqb-true, ne_eqb, cases_Bool}
 use Rattle.std.proofs.lemmas.List.{append-nil}
 use Rattle.std.proofs.lemmas.List.Elements.{All-nil, All-push}
 use Rattle.std.proofs.lemmas.Grind.{common_steps}
-use Rattle.cobs.specs.Grammar.{HasNoZero, is_full, Reads}
-use Rattle.cobs.specs.Piece.{parts, parts_after, last_part, missing, is_whole, output}
+use Rattle.cobs.specs.Grammar.{HasNoZero, Reads}
+use Rattle.cobs.specs.Piece.{parts, parts_after, last_part, is_whole, output}
 use Rattle.cobs.specs.Table.{opened_by, table_result, table_state, data_of, state_after, StateAfter, counted, state_in, written_in, FeedsByTable}
 use Rattle.cobs.specs.declared.dec.state.DecoderState.{DecoderState}
 use Rattle.cobs.specs.declared.dec.state.DecoderState.TheVariants.{Idle, Grab, GrabChain}
@@ -16,31 +16,28 @@ use Rattle.cobs.specs.Step.{next_result, next_phase}
 use Rattle.cobs.specs.declared.dec.state.DecodeResult.TheVariants.{DataComplete}
 use Rattle.cobs.specs.declared.error.DecodeError.TheVariants.{InvalidFrame, TargetBufTooSmall}
 use Rattle.cobs.proofs.decoding.OutcomeLemmas.{reads_iff}
-use Rattle.cobs.proofs.decoding.PieceLemmas.{output-one, last_part-one, output-push_more, output-push_next, last_part-push_next, missing-push_more, is_full-push_more}
+use Rattle.cobs.proofs.decoding.PieceLemmas.{output-one, last_part-one, output-push_more, output-push_next, last_part-push_next, missing-push_more, is_full-push_more, EndsIn}
 
 -- in a block, full or not, of which that many bytes are missing
 abbrev pub inside : Bool → ℕ → DecoderState
 inside full left = cond full (GrabChain left) (Grab left)
 
-state_after-is : (c : ℕ) (q : List ℕ) {full : Bool} {left : ℕ} → is_full (last_part (c ∷ q)) ≡ full → missing (last_part (c ∷ q)) ≡ left → state_after (c ∷ q) ≡ inside full left
-state_after-is c q f l = grind (arith, inside)
+-- the state after a piece, by its last part; and after a code that begins a part
+state_after-is : (c : ℕ) (q : List ℕ) {full : Bool} {left : ℕ} → EndsIn (c ∷ q) full left → state_after (c ∷ q) ≡ inside full left
+state_after-is c q is = grind (arith, inside)
 
 opened_after : (c : ℕ) (q : List ℕ) (b : ℕ) → last_part (c ∷ q) ≡ b ∷ [] → opened_by b ≡ state_after (c ∷ q)
 opened_after c q b is = grind (arith, state_after-is, eqb-true)
 
 -- one more byte inside a piece
 module _ (c : ℕ) (q : List ℕ) (b : ℕ) (some : b ≢ 0) where
-  state_step : (full : Bool) (left : ℕ) → is_full (last_part (c ∷ q)) ≡ full → missing (last_part (c ∷ q)) ≡ left → table_state (inside full left) b ≡ state_after (c ∷ q ++ b ∷ [])
-  state_step true (suc left) f l = grind (arith, ne_eqb, state_after-is, is_full-push_more (c ∷ q) b, missing-push_more (c ∷ q) b)
-  state_step false (suc left) f l = grind (arith, ne_eqb, state_after-is, is_full-push_more (c ∷ q) b, missing-push_more (c ∷ q) b)
-  state_step true zero f l = grind (arith, ne_eqb, opened_after, last_part-push_next)
-  state_step false zero f l = grind (arith, ne_eqb, opened_after, last_part-push_next)
+  state_step : (full : Bool) (left : ℕ) → EndsIn (c ∷ q) full left → table_state (inside full left) b ≡ state_after (c ∷ q ++ b ∷ [])
+  state_step full (suc left) is = grind (arith, cases_Bool, ne_eqb, state_after-is, is_full-push_more (c ∷ q) b, missing-push_more (c ∷ q) b)
+  state_step full zero is = grind (arith, cases_Bool, ne_eqb, opened_after, last_part-push_next (c ∷ q) b)
 
-  data_step : (full : Bool) (left : ℕ) → is_full (last_part (c ∷ q)) ≡ full → missing (last_part (c ∷ q)) ≡ left → output (c ∷ q) ++ data_of (table_result (inside full left) b) ≡ output (c ∷ q ++ b ∷ [])
-  data_step true (suc left) f l = grind (arith, ne_eqb, output-push_more (c ∷ q) b)
-  data_step false (suc left) f l = grind (arith, ne_eqb, output-push_more (c ∷ q) b)
-  data_step true zero f l = grind (arith, ne_eqb, output-push_next)
-  data_step false zero f l = grind (arith, ne_eqb, output-push_next)
+  data_step : (full : Bool) (left : ℕ) → EndsIn (c ∷ q) full left → output (c ∷ q) ++ data_of (table_result (inside full left) b) ≡ output (c ∷ q ++ b ∷ [])
+  data_step full (suc left) is = grind (arith, cases_Bool, ne_eqb, output-push_more (c ∷ q) b)
+  data_step full zero is = grind (arith, cases_Bool, ne_eqb, output-push_next)
 
 -- the state after a byte that is no zero, and the data so far followed by the table's data for this byte
 next_state : (p : List ℕ) (b : ℕ) → b ≢ 0 → table_state (state_after p) b ≡ state_after (p ++ b ∷ [])
@@ -61,21 +58,15 @@ StateAfter-step state p so_far b below s some = grind (arith, common_steps, All-
 pub StateAfter-start : StateAfter Idle [] []
 StateAfter-start = grind (arith, All-nil, output-nil)
 
+-- the result for the zero that ends a piece
 at_end : (c : ℕ) (q : List ℕ) → table_result (state_after (c ∷ q)) 0 ≡ cond (is_whole (c ∷ q)) (Ok DataComplete) (Err (InvalidFrame 0))
 unfolding is_whole
 at_end c q = grind (arith, ne_eqb)
 
 -- the zero after p returns `DataComplete` exactly if p is a frame, and the data is then its message
 complete : (p m : List ℕ) → HasNoZero p → All (λ b. b < 256) p → ((table_result (state_after p) 0 ≡ Ok DataComplete) × (output p ≡ m)) ↔ Reads p m
-complete [] m nonzero below = (λ (e, is). absurd cc, λ r. absurd (((reads_iff [] m below).0 r).0 refl))
-complete (c ∷ q) m nonzero below = (
-  λ (e, is). (reads_iff (c ∷ q) m below).1 ((λ n. cc), nonzero, whole (is_whole (c ∷ q)) (sym (at_end c q) ∙ e), sym is),
-  λ r. let w = (reads_iff (c ∷ q) m below).0 r in (at_end c q ∙ ap (λ (t : Bool). cond t (Ok DataComplete) (Err (InvalidFrame 0))) w.2, sym w.3),
-)
-  where
-    whole : (t : Bool) → cond t (Ok DataComplete) (Err (InvalidFrame 0)) ≡ Ok DataComplete → t ≡ true
-    whole true e = refl
-    whole false e = absurd cc
+complete [] m nonzero below = let both = reads_iff [] m below in grind arith
+complete (c ∷ q) m nonzero below = let both = reads_iff (c ∷ q) m below in grind (arith, at_end, cases_Bool)
 
 pub StateAfter-end : (state : DecoderState) (p so_far m : List ℕ) → StateAfter state p so_far → ((table_result state 0 ≡ Ok DataComplete) × (so_far ≡ m)) ↔ Reads p m
 StateAfter-end state p so_far m s = let h = complete p m s.piece s.bytes in grind arith

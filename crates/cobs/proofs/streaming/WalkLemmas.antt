@@ -1,8 +1,8 @@
 -- Bytes read from code to code: fed to a decoder, their output as a piece, in two parts, and up to their last code. By induction
 -- on `walked`, and `quiet` for the output.
-use Rattle.std.proofs.Common.{◌≡◌, ◌≢◌, ℕ, zero, suc, ◌+◌, ◌-◌, ◌<◌, ◌≤◌, eqb, List, [], ◌∷◌, ◌++◌, length, take, drop, get_or, set, refl, sym, ap, ◌∙◌, arith, append_assoc, append-nil, length-set, length-drop, length-take-le, take-append-drop, take_all}
+use Rattle.std.proofs.Common.{◌≡◌, ◌≢◌, ℕ, zero, suc, ◌+◌, ◌-◌, ◌<◌, ◌≤◌, eqb, List, [], ◌∷◌, ◌++◌, length, take, drop, get_or, set, refl, ap, arith, append_assoc, append-nil, length-set, length-drop, length-take-le, take-append-drop, take_all}
 use Rattle.std.proofs.lemmas.List.{drop_all, drop_more, drop-set-lt, take_more_set}
-use Rattle.std.proofs.lemmas.List.Elements.{All-head, All-tail}
+use Rattle.std.proofs.lemmas.List.Elements.{All-head, All-tail, All-cons, All-get_or, All-drop}
 use Rattle.std.proofs.lemmas.Bool.{ne_eqb, lt-ltb}
 use borrow.Rule.Slice.PartMut.{put_mid}
 use Rattle.cobs.specs.Grammar.{HasNoZero}
@@ -12,6 +12,10 @@ use Rattle.cobs.specs.Internal.Walk.{walked}
 use Rattle.cobs.specs.Piece.{output, last_part, missing}
 use Rattle.cobs.proofs.streaming.QuietLemmas.{quiet, quiet-within}
 use Rattle.cobs.proofs.streaming.RunLemmas.{over, over-cons}
+
+-- these are the bytes with a zero over each code, the last code, and how many bytes of the last code's block are missing
+abbrev pub IsWalked : List ℕ → ℕ → ℕ → ℕ → ℕ → List ℕ → Type 0
+IsWalked ys code left first n bytes = ◌≡◌ {A = List ℕ × ℕ × ℕ} (ys, code, left) (walked first n bytes)
 
 pub length-walked : (code n : ℕ) (bytes : List ℕ) → length (walked code n bytes).0 ≡ length bytes
 length-walked code n [] = refl
@@ -34,30 +38,23 @@ fed_walked (x ∷ xs) buffer code zero count nz full few room =
     grind (arith, All-head, length-set, over, ne_eqb, lt-ltb, over-cons)
 
 -- so they are the output of the piece that begins with this code
-pub as_piece : (first : ℕ) (bytes : List ℕ) {ys : List ℕ} {code left : ℕ} → ◌≡◌ {A = List ℕ × ℕ × ℕ} (ys, code, left) (walked first (first - 1) bytes) → length bytes < 254 → HasNoZero (first ∷ bytes)
+pub as_piece : (first : ℕ) (bytes : List ℕ) {ys : List ℕ} {code left : ℕ} → IsWalked ys code left first (first - 1) bytes → length bytes < 254 → HasNoZero (first ∷ bytes)
     → (ys ≡ output (first ∷ bytes)) × (left ≡ missing (last_part (first ∷ bytes)))
 as_piece first bytes {ys} {code} {left} w few nz =
     let v = walked first (first - 1) bytes in
     let some = All-head (λ b. b ≢ 0) first bytes nz in
     let f : FeedsQuietly bytes Idle (first ∷ bytes) (over 0 bytes v.0) (Within (eqb v.1 255) v.2 (0 + length bytes))
-    = (
-      rw (ne_eqb first 0 some) refl,
-      rw (ne_eqb first 0 some)
-          (fed_walked bytes bytes first (first - 1) 0 (All-tail (λ b. b ≢ 0) first bytes nz) (λ e. omega arith) (λ h. few) (omega arith)),
-    ) in
+    = let fed = fed_walked bytes bytes first (first - 1) 0 (All-tail (λ b. b ≢ 0) first bytes nz) (λ e. omega arith) (λ h. few) (omega arith) in grind (arith, ne_eqb) in
     let q = quiet (first ∷ bytes) bytes (over 0 bytes v.0) (Within (eqb v.1 255) v.2 (0 + length bytes)) nz f in
     let counts = quiet-within q in
     let all : length (output (first ∷ bytes)) ≡ length v.0 = omega (arith, counts.0, length-walked first (first - 1) bytes) in
-    let whole : over 0 bytes v.0 ≡ v.0
-    = rw (drop_all (0 + length v.0) bytes (omega (arith, length-walked first (first - 1) bytes))) (append-nil v.0) in
+    let whole : over 0 bytes v.0 ≡ v.0 = rw (drop_all (0 + length v.0) bytes (omega (arith, length-walked first (first - 1) bytes))) (append-nil v.0) in
     let begins = rw whole at q.after.begins in
-    let out : v.0 ≡ output (first ∷ bytes) = grind (arith, take_all) in
-    (cc, cc)
+    grind (arith, take_all)
 
 -- in two parts
 pub walked-append : (code n : ℕ) (xs ys : List ℕ) → walked code n (xs ++ ys) ≡ let w = walked code n xs in let v = walked w.1 w.2 ys in (w.0 ++ v.0, v.1, v.2)
-walked-append code zero [] ys = refl
-walked-append code (suc n) [] ys = refl
+walked-append code n [] ys = refl
 walked-append code (suc n) (x ∷ xs) ys = grind (arith, walked-append code n xs ys)
 walked-append code zero (x ∷ xs) ys = grind (arith, walked-append x (x - 1) xs ys)
 
@@ -84,15 +81,16 @@ module _ (first : ℕ) (bytes : List ℕ) (some : 0 < first) (more : first ≤ l
   pub behind-code : take (length marked - first) (drop first marked) ≡ drop first bytes
   behind-code = grind (arith, length-set, length-drop, drop-set-lt, take_all)
 
+  pub next-nonzero : HasNoZero (first ∷ bytes) → HasNoZero (next ∷ drop first bytes)
+  next-nonzero nz =
+      let others = All-tail (λ b. b ≢ 0) first bytes nz in
+      All-cons (λ b. b ≢ 0) next (drop first bytes) (All-get_or (λ b. b ≢ 0) bytes (first - 1) 0 (omega arith) others) (All-drop (λ b. b ≢ 0) first bytes others)
+
   front : walked first (first - 1) (take (first - 1) bytes) ≡ (take (first - 1) bytes, first, 0)
   front = grind (arith, walked-past, length-take-le)
 
-  pub walked-next : (ys : List ℕ) (code left : ℕ) → ◌≡◌ {A = List ℕ × ℕ × ℕ} (ys, code, left) (walked next (next - 1) (drop first bytes)) → ◌≡◌ {A = List ℕ × ℕ × ℕ} (put_mid first (length marked - first) marked ys, code, left) (walked first (first - 1) bytes)
+  pub walked-next : (ys : List ℕ) (code left : ℕ) → IsWalked ys code left next (next - 1) (drop first bytes) → IsWalked (put_mid first (length marked - first) marked ys) code left first (first - 1) bytes
   walked-next ys code left e =
-      let past : drop (length marked - first) (drop first marked) ≡ [] = drop_all (length marked - first) (drop first marked) (omega (arith, length-drop first marked)) in
-      let cut : drop (first - 1) bytes ≡ next ∷ drop first bytes = drop_more bytes (first - 1) 0 (omega arith) ∙ ap (λ (k : ℕ). next ∷ drop k bytes) (omega arith) in
-      let begins : take first marked ≡ take (first - 1) bytes ++ 0 ∷ [] = ap (λ (k : ℕ). take k marked) (omega arith) ∙ take_more_set bytes (first - 1) 0 (omega arith) in
-      let put : put_mid first (length marked - first) marked ys ≡ take (first - 1) bytes ++ (0 ∷ ys) = rw (begins, past, append-nil ys) (append_assoc (take (first - 1) bytes) (0 ∷ []) ys) in
-      ap (λ (l : List ℕ). (l, code, left)) put ∙ ap (λ (t : List ℕ × ℕ × ℕ). (take (first - 1) bytes ++ (0 ∷ t.0), t.1, t.2)) e
-      ∙ sym (ap (walked first (first - 1)) (sym (take-append-drop (first - 1) bytes) ∙ ap (λ (l : List ℕ). take (first - 1) bytes ++ l) cut) ∙ walked-append first (first - 1) (take (first - 1) bytes) (next ∷ drop first bytes)
-      ∙ ap (λ (t : List ℕ × ℕ × ℕ). let v = walked t.1 t.2 (next ∷ drop first bytes) in (t.0 ++ v.0, v.1, v.2)) front)
+      let cut : bytes ≡ take (first - 1) bytes ++ (next ∷ drop first bytes) = grind (arith, take-append-drop, drop_more) in
+      let put : put_mid first (length marked - first) marked ys ≡ take (first - 1) bytes ++ (0 ∷ ys) = grind (arith, drop_all, length-drop, take_more_set, append-nil, append_assoc) in
+      grind (arith, walked-append, front)

@@ -1,12 +1,11 @@
 -- The part of the kept output that isn't written yet begins with the bytes of the open block (`kept-block`). Each of
 -- these bytes is moved to its place.
-use Rattle.std.proofs.Common.{◌≡◌, ◌≢◌, ◌∙◌, ◌+◌, ◌-◌, ◌<◌, ◌≤◌, ◌++◌, ◌∷◌, [], ℕ, suc, List, true, false, length, take, drop, get_or, set, refl, sym, ap, arith, length-drop, length-take-le}
-use Rattle.std.proofs.lemmas.List.{drop-drop, drop_all, drop_more, get_or-drop, get_or-take}
+use Rattle.std.proofs.Common.{◌≡◌, ◌≢◌, ◌∙◌, ◌+◌, ◌-◌, ◌<◌, ◌≤◌, ◌++◌, ◌∷◌, ℕ, suc, List, length, take, drop, get_or, set, refl, sym, ap, arith, length-drop, length-take-le}
+use Rattle.std.proofs.lemmas.List.{drop-drop, drop_more, get_or-drop, get_or-take}
 use Rattle.std.proofs.lemmas.List.Elements.{All-drop}
 use Rattle.cobs.specs.Grammar.{HasNoZero}
 use Rattle.cobs.specs.Piece.{kept_output}
-use Rattle.cobs.proofs.decoding.KeptLemmas.{kept_output-empty}
-use Rattle.cobs.proofs.decoding.WrittenLemmas.{Written, code-some, all-written-in_place, kept-block, kept-none, whole-block, whole-none, whole_left, written-behind, written-long, written-more, written-none, zero_before, zero_before-none, zero_before-some}
+use Rattle.cobs.proofs.decoding.WrittenLemmas.{Written, code-some, decoded-all, decoded-broken, decoded-in_place, kept-block, whole-block, whole_left, written-behind, written-long, written-more, written-none, zero_before, zero_before-none, zero_before-some}
 use Rattle.cobs.proofs.dec.each.decode_blocks_each.Goals as goal
 use Rattle.cobs.proofs.dec.each.decode_blocks_each.Goals.{Joined-read-next, then-read-next+then-read-next-2, else-read-next}
 
@@ -25,48 +24,45 @@ module _ (old : List ℕ) (end : ℕ) (fits : end ≤ length old) where
     next-byte : (next : ℕ) (tail : List ℕ) → read < next → take (next - read) (drop read h) ++ tail ≡ get_or buffer read 0 ∷ (take (next - (read + 1)) (drop (read + 1) h) ++ tail)
     next-byte next tail more =
         let one : next - read ≡ suc (next - (read + 1)) = omega arith in
-        ap (λ (x : List ℕ). take (next - read) x ++ tail) (drop_more h read 0 (omega (arith, long)))
-        ∙ ap (λ (k : ℕ). take k (get_or h read 0 ∷ drop (read + 1) h) ++ tail) one ∙ ap (λ (b : ℕ). b ∷ (take (next - (read + 1)) (drop (read + 1) h) ++ tail)) (sym byte-is)
+        rw (one, drop_more h read 0 (omega (arith, long)), byte-is) refl
 
     -- the last byte of a block
     last-byte : (next : ℕ) (tail : List ℕ) → left ≡ take (next - read) (drop read h) ++ tail → read + 1 ≡ next → written < length buffer → Written h old (set buffer written (get_or buffer read 0)) (written + 1) tail
     last-byte next tail e last room = grind (arith, written-more, next-byte)
 
     -- the code of a block
-    module _ (nonzero : HasNoZero h) (small : (i : ℕ) → get_or old i 0 < 256) where
-      abbrev code : ℕ
-      code = get_or buffer read 0
+    abbrev code : ℕ
+    code = get_or buffer read 0
 
-      abbrev p : List ℕ
-      p = drop read h
+    code-is : code ≡ get_or (drop read h) 0 0
+    code-is = grind (arith, byte-is, get_or-drop)
 
-      p-long : length p ≡ end - read
-      p-long = grind (arith, length-drop, long)
+    rest-long : length (drop read h) ≡ end - read
+    rest-long = grind (arith, length-drop, long)
 
-      some : 0 < length p
-      some = omega (arith, p-long)
+    -- the whole block is there
+    module _ (nonzero : HasNoZero h) (small : (i : ℕ) → get_or old i 0 < 256) (whole : code ≤ end - read) where
+      some : 0 < length (drop read h)
+      some = omega (arith, rest-long)
 
-      is : code ≡ get_or p 0 0
-      is = grind (arith, byte-is, get_or-drop)
+      rest-nonzero : HasNoZero (drop read h)
+      rest-nonzero = All-drop (λ b. b ≢ 0) read h nonzero
 
-      p-nonzero : HasNoZero p
-      p-nonzero = All-drop (λ b. b ≢ 0) read h nonzero
+      positive : 0 < code
+      positive = code-some (drop read h) code some code-is rest-nonzero
 
       below : code < 256
       below = omega (arith, written-behind w read order, small read)
 
-      positive : 0 < code
-      positive = code-some p code some is p-nonzero
+      inside : code ≤ length (drop read h)
+      inside = omega (arith, rest-long)
 
-      module _ (whole : code ≤ end - read) where
-        p-fits : code ≤ length p
-        p-fits = omega (arith, p-long)
+      block-begun : left ≡ kept_output (drop read h)
+          → Written h old buffer written (take (code - 1) (drop (read + 1) h) ++ (zero_before code (drop (read + code) h) ++ kept_output (drop (read + code) h)))
+      block-begun e = rw (← drop-drop 1 read h, ← drop-drop code read h, ← kept-block (drop read h) code some code-is rest-nonzero below inside, ← e) w
 
-        block-begun : left ≡ kept_output p → Written h old buffer written (take (code - 1) (drop (read + 1) h) ++ (zero_before code (drop (read + code) h) ++ kept_output (drop (read + code) h)))
-        block-begun e = rw (← drop-drop 1 read h, ← drop-drop code read h, ← kept-block p code some is p-nonzero below p-fits, ← e) w
-
-        whole-next : whole_left p ≡ whole_left (drop (read + code) h)
-        whole-next = whole-block p code some is p-nonzero below p-fits ∙ ap whole_left (drop-drop code read h)
+      whole-next : whole_left (drop read h) ≡ whole_left (drop (read + code) h)
+      whole-next = whole-block (drop read h) code some code-is rest-nonzero below inside ∙ ap whole_left (drop-drop code read h)
 
 -- the bytes of the block with this code are moved, up to `r` and to `w`
 record BlockMoved (old : List ℕ) (end code next : ℕ) (after : List ℕ) (r w : ℕ) : Type 0 where
@@ -80,24 +76,16 @@ by_block-init c = grind (arith, below, written-none)
 pub returns-then-end-read : goal.returns-then-end-read
 returns-then-end-read c =
     let i = c.by_block.invariant in
-    let old : List ℕ = c.args.buffer.now in
-    let here : c.by_block.read < c.args.end = c.by_block-test.true in
-    let is-code = is old c.args.end c.requires.within i.written c.by_block.read i.order here c.requires.nonzero i.below in
-    let p-some = some old c.args.end c.requires.within i.written c.by_block.read i.order here c.requires.nonzero i.below in
-    let less : length (drop c.by_block.read (take c.args.end old)) < get_or c.by_block.buffer c.by_block.read 0
-    = omega (arith, c.if-end-read.true, p-long old c.args.end c.requires.within i.written c.by_block.read i.order here c.requires.nonzero i.below) in
-    let both = all-written-in_place i.written (kept-none _ _ p-some is-code less) false (i.whole ∙ whole-none _ _ p-some is-code less) in
-    record { returned = both.0; buffer = both.1 }
+    let is = code-is _ _ c.requires.within i.written _ i.order c.by_block-test.true in
+    let rest = rest-long _ _ c.requires.within i.written _ i.order c.by_block-test.true in
+    decoded-in_place _ _ (omega (arith, long _ _ c.requires.within)) (decoded-broken _ i.written i.whole (omega (arith, rest)) (omega (arith, is, rest)))
 
 pub by_byte-init : goal.by_byte-init
 by_byte-init c =
     let i = c.by_block.invariant in
-    let old : List ℕ = c.args.buffer.now in
-    let here : c.by_block.read < c.args.end = c.by_block-test.true in
-    let b = block-begun old c.args.end c.requires.within i.written c.by_block.read i.order here c.requires.nonzero i.below c.if-end-read.false refl in
-    let some = positive old c.args.end c.requires.within i.written c.by_block.read i.order here c.requires.nonzero i.below in
-    let rest : c.by_block.read + get_or c.by_block.buffer c.by_block.read 0 - (c.by_block.read + 1) ≡ get_or c.by_block.buffer c.by_block.read 0 - 1 = omega arith in
-    record { from = omega arith; order = omega arith; left = omega (arith, some, c.if-read-next.true); written = rw rest b }
+    let begun = block-begun _ _ c.requires.within i.written _ i.order c.by_block-test.true c.requires.nonzero i.below c.if-end-read.false refl in
+    let some = positive _ _ c.requires.within i.written _ i.order c.by_block-test.true c.requires.nonzero i.below c.if-end-read.false in
+    grind arith
 
 pub by_byte-preserved : goal.by_byte-preserved
 by_byte-preserved c = grind (arith, written-more, next-byte, written-long)
@@ -140,6 +128,5 @@ by_block-preserved c = grind (arith, moved, length-drop, long, below, whole-from
 pub returns : goal.returns
 returns c =
     let i = c.by_block.invariant in
-    let none : drop c.by_block.read (take c.args.end c.args.buffer.now) ≡ [] = drop_all c.by_block.read _ (omega (arith, long c.args.buffer.now c.args.end c.requires.within, c.by_block-test.false)) in
-    let both = all-written-in_place i.written (ap kept_output none ∙ kept_output-empty) true (i.whole ∙ ap whole_left none) in
-    record { returned = both.0; buffer = both.1 }
+    let all = long _ _ c.requires.within in
+    decoded-in_place _ _ (omega arith) (decoded-all _ i.written i.whole (omega (arith, length-drop c.by_block.read (take c.args.end c.args.buffer.now))))

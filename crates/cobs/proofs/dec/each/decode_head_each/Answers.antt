@@ -1,6 +1,6 @@
 -- The part of the kept output that isn't written yet begins with the bytes of the open block (`kept-block`). Each of
 -- these bytes is written if there is room for it.
-use Rattle.std.proofs.Common.{All, ◌≡◌, ◌≢◌, ◌∙◌, ◌+◌, ◌-◌, ◌<◌, ◌≤◌, ◌⊎◌, ◌++◌, ◌∷◌, [], ℕ, List, Result, true, false, length, take, drop, get_or, refl, sym, ap, arith, inl, inr, Bool, eqb}
+use Rattle.std.proofs.Common.{All, ◌≡◌, ◌≢◌, ◌∙◌, ◌+◌, ◌-◌, ◌<◌, ◌≤◌, ◌⊎◌, ◌++◌, ◌∷◌, ℕ, List, Result, true, false, length, take, drop, get_or, sym, ap, arith, inl, inr, Bool, eqb}
 use Rattle.std.proofs.lemmas.Bool.{eqb-true, eqb-false}
 use Rattle.std.proofs.lemmas.List.{drop_all, drop_more, drop-map, get_or-map, length-map, take-map}
 use Rattle.std.proofs.lemmas.List.Elements.{All-drop, All-get_or, All-take}
@@ -13,9 +13,9 @@ use Rattle.cobs.specs.Sentinel.{xor_each}
 use Rattle.cobs.specs.Stream.{head}
 use Rattle.cobs.specs.declared.error.DecodeError.{DecodeError}
 use Rattle.cobs.proofs.decoding.HeadlineLemmas.{xored_below}
-use Rattle.cobs.proofs.decoding.KeptLemmas.{kept_output-empty}
+use Rattle.cobs.proofs.decoding.KeptLemmas.{Decoded}
 use Rattle.cobs.proofs.decoding.SourceSteps.{nothing_kept, result_of_sentinel_decode-head, xor_head, xor_no_zero}
-use Rattle.cobs.proofs.decoding.WrittenLemmas.{code-some, Decoded, Written, all-written, buffer-full, kept-block, kept-none, whole-block, whole-none, whole_left, written-more, written-none, zero_before, zero_before-none, zero_before-some}
+use Rattle.cobs.proofs.decoding.WrittenLemmas.{code-some, Written, buffer-full, decoded-all, decoded-broken, kept-block, whole-block, whole_left, written-more, written-none, zero_before, zero_before-none, zero_before-some}
 use Rattle.cobs.proofs.format.SentinelLemmas.{front_xored, rest_xored}
 use Rattle.cobs.proofs.dec.each.decode_head_each.Goals as goal
 use Rattle.cobs.proofs.dec.each.decode_head_each.Goals.{else-code-ne-FULL_CODE-via-then-code-ne-FULL_CODE+else-not-is_empty, else-code-ne-FULL_CODE-via-else-code-ne-FULL_CODE}
@@ -26,10 +26,6 @@ none-left rest empty is e = eqb-true (length rest) 0 (sym is ∙ e)
 
 some-left : (rest : List ℕ) (empty : Bool) → empty ≡ eqb (length rest) 0 → empty ≡ false → 0 < length rest
 some-left rest empty is e = grind (arith, eqb-false, is)
-
-no-bytes : (s : ℕ) (bytes : List ℕ) → length bytes ≡ 0 → xor_each s bytes ≡ []
-no-bytes s [] none = refl
-no-bytes s (b ∷ bytes) none = absurd (omega arith)
 
 -- the next byte of a block
 more-bytes : (s : ℕ) (items tail : List ℕ) (k : ℕ) → k < length items → xor_each s (drop k items) ++ tail ≡ bit_xor (get_or items k 0) s ∷ (xor_each s (drop (k + 1) items) ++ tail)
@@ -98,6 +94,7 @@ module _ (rest : List ℕ) (s : ℕ) where
       next-zero : 0 < length next → code ≢ 255 → zero_before code (drop code p) ++ kept_output (drop code p) ≡ 0 ∷ kept_output (drop code p)
       next-zero more other = grind (arith, zero_before-some, next-long)
 
+      -- the invariant for the next block
       ended : (h old buffer : List ℕ) (written : ℕ) → whole_left h ≡ whole_left p → Written h old buffer written (kept_output (drop code p))
           → record { nonzero : HasNoZero (xor_each s next); below : All (λ b. b < 256) (xor_each s next); whole : whole_left h ≡ whole_left (xor_each s next); written : Written h old buffer written (kept_output (xor_each s next)) }
       ended h old buffer written whole w = record {
@@ -127,9 +124,8 @@ returns-then-rest-code c =
     let rest : List ℕ = c.by_block.rest.now in
     let s : ℕ = c.args.sentinel in
     let some = some-left rest _ c.is_empty-in-by_block.ensures c.by_block-test.true in
-    let less : length (xor_each s rest) < code rest s = omega (arith, long rest s, c.if-rest-code.true) in
     answered _ _ _ _ _ (some-left _ _ c.is_empty.ensures c.if-is_empty.false)
-    (all-written i.written (kept-none _ _ (p-some rest s some) (is rest s some) less) false (i.whole ∙ whole-none _ _ (p-some rest s some) (is rest s some) less))
+    (decoded-broken _ i.written i.whole (p-some rest s some) (omega (arith, is rest s some, long rest s, c.if-rest-code.true)))
 
 pub slice_bounds-byte-items-count : goal.slice_bounds-byte-items-count
 slice_bounds-byte-items-count c = grind (arith, some-left, code-some, p-some, is)
@@ -150,40 +146,35 @@ returns-then-dest-written c =
 pub returns-then-dest-written-2 : goal.returns-then-dest-written-2
 returns-then-dest-written-2 c =
     let i = c.by_block.invariant in
-    let rest : List ℕ = c.by_block.rest.now in
-    let s : ℕ = c.args.sentinel in
-    let some = some-left rest _ c.is_empty-in-by_block.ensures c.by_block-test.true in
+    let some = some-left _ _ c.is_empty-in-by_block.ensures c.by_block-test.true in
     let w = bytes-ended _ _ _ _ c.by_byte.invariant c.by_byte-test.false in
-    let zero = next-zero rest s some i.nonzero i.below c.if-rest-code.false (some-left _ _ c.is_empty-then-code-ne-FULL_CODE.ensures c.if-not-is_empty.true) c.if-code-ne-FULL_CODE.true in
+    let zero = next-zero _ _ some i.nonzero i.below c.if-rest-code.false (some-left _ _ c.is_empty-then-code-ne-FULL_CODE.ensures c.if-not-is_empty.true) c.if-code-ne-FULL_CODE.true in
     answered _ _ _ _ _ (some-left _ _ c.is_empty.ensures c.if-is_empty.false) (buffer-full w _ _ zero c.if-dest-written-2.true)
 
 pub by_block-preserved-then-not-is_empty : goal.by_block-preserved-then-not-is_empty
 by_block-preserved-then-not-is_empty c =
     let i = c.by_block.invariant in
-    let rest : List ℕ = c.by_block.rest.now in
-    let s : ℕ = c.args.sentinel in
-    let some = some-left rest _ c.is_empty-in-by_block.ensures c.by_block-test.true in
+    let some = some-left _ _ c.is_empty-in-by_block.ensures c.by_block-test.true in
     let w = bytes-ended _ _ _ _ c.by_byte.invariant c.by_byte-test.false in
-    let zero = next-zero rest s some i.nonzero i.below c.if-rest-code.false (some-left _ _ c.is_empty-then-code-ne-FULL_CODE.ensures c.if-not-is_empty.true) c.if-code-ne-FULL_CODE.true in
-    ended rest s some i.nonzero i.below c.if-rest-code.false _ _ _ _ i.whole (written-more w _ _ zero c.if-dest-written-2.false)
+    let zero = next-zero _ _ some i.nonzero i.below c.if-rest-code.false (some-left _ _ c.is_empty-then-code-ne-FULL_CODE.ensures c.if-not-is_empty.true) c.if-code-ne-FULL_CODE.true in
+    ended _ _ some i.nonzero i.below c.if-rest-code.false _ _ _ _ i.whole (written-more w _ _ zero c.if-dest-written-2.false)
 
 pub by_block-preserved : goal.by_block-preserved
 by_block-preserved c =
     let i = c.by_block.invariant in
     let rest : List ℕ = c.by_block.rest.now in
     let s : ℕ = c.args.sentinel in
-    let some = some-left rest _ c.is_empty-in-by_block.ensures c.by_block-test.true in
-    let long = next-long rest s some i.nonzero i.below c.if-rest-code.false in
+    let some = some-left _ _ c.is_empty-in-by_block.ensures c.by_block-test.true in
+    let long = next-long _ _ some i.nonzero i.below c.if-rest-code.false in
     let none : (length (drop (code rest s) (xor_each s rest)) ≡ 0) ⊎ (code rest s ≡ 255) = elim c.else-code-ne-FULL_CODE.branch [
       | else-code-ne-FULL_CODE-via-then-code-ne-FULL_CODE+else-not-is_empty w ↦ inl (long ∙ none-left _ _ w.is_empty-then-code-ne-FULL_CODE.ensures w.if-not-is_empty.false)
       | else-code-ne-FULL_CODE-via-else-code-ne-FULL_CODE w ↦ inr w.if-code-ne-FULL_CODE.false
     ] in
     let w = bytes-ended _ _ _ _ c.by_byte.invariant c.by_byte-test.false in
-    ended rest s some i.nonzero i.below c.if-rest-code.false _ _ _ _ i.whole (rw (zero_before-none _ _ none) at w)
+    ended _ _ some i.nonzero i.below c.if-rest-code.false _ _ _ _ i.whole (rw (zero_before-none _ _ none) at w)
 
 pub returns : goal.returns
 returns c =
-    let i = c.by_block.invariant in
-    let s : ℕ = c.args.sentinel in
-    let is : xor_each s c.by_block.rest.now ≡ [] = no-bytes s _ (none-left _ _ c.is_empty-in-by_block.ensures c.by_block-test.false) in
-    answered _ _ _ _ _ (some-left _ _ c.is_empty.ensures c.if-is_empty.false) (all-written i.written (ap kept_output is ∙ kept_output-empty) true (i.whole ∙ ap whole_left is))
+    let none = none-left _ _ c.is_empty-in-by_block.ensures c.by_block-test.false in
+    answered _ _ _ _ _ (some-left _ _ c.is_empty.ensures c.if-is_empty.false)
+    (decoded-all _ c.by_block.invariant.written c.by_block.invariant.whole (long c.by_block.rest.now c.args.sentinel ∙ none))

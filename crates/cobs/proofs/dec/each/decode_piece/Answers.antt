@@ -1,16 +1,13 @@
 -- For each byte a lemma of `ReadPiece` says that the invariant still holds, or that the piece ends.
 use Rattle.std.proofs.Common.{arith}
 use Rattle.std.proofs.lemmas.Bool.{eq-eqb, ne_eqb}
-use Rattle.cobs.proofs.streaming.ReadPiece.{ended, first-code, no-piece, over-byte, over-zero, read-byte, read-first, read-full, read-zero}
+use Rattle.cobs.proofs.streaming.ReadPiece.{ended, first-code, no-piece, over, read-byte, read-first, read-full, read-zero}
 use Rattle.cobs.proofs.dec.each.decode_piece.Goals as goal
 use Rattle.cobs.proofs.dec.each.decode_piece.Goals.{else-by_byte-test, then-by_byte-test+then-byte-eq0}
 
-pub returns-then-start-source-clause-answer : goal.returns-then-start-source-clause-answer
-returns-then-start-source-clause-answer c = grind (arith, no-piece)
-
-pub returns-then-start-source-clause-buffer : goal.returns-then-start-source-clause-buffer
-returns-then-start-source-clause-buffer c =
-    (no-piece c.args.source.now c.args.dest.now _ c.leading_zeros-start.ensures.count c.if-start-source.true).buffer
+-- a source of zeros only
+pub returns-then-start-source : goal.returns-then-start-source
+returns-then-start-source c = no-piece _ _ _ c.leading_zeros-start.ensures.count c.if-start-source.true
 
 pub overflow_sub-left : goal.overflow_sub-left
 overflow_sub-left c = grind (arith, first-code)
@@ -19,44 +16,26 @@ pub by_byte-init : goal.by_byte-init
 by_byte-init c = grind (arith, read-first)
 
 -- a byte of the block
-pub returns-then-written-dest-clause-answer : goal.returns-then-written-dest-clause-answer
-returns-then-written-dest-clause-answer c =
-    (over-byte c.by_byte.invariant c.by_byte-test.true c.if-byte-eq0.false c.if-left-ne0.true (omega arith) c.through_piece.ensures.end).answer
-
-pub returns-then-written-dest-clause-buffer : goal.returns-then-written-dest-clause-buffer
-returns-then-written-dest-clause-buffer c =
-    (over-byte c.by_byte.invariant c.by_byte-test.true c.if-byte-eq0.false c.if-left-ne0.true (omega arith) c.through_piece.ensures.end).buffer
+pub returns-then-written-dest : goal.returns-then-written-dest
+returns-then-written-dest c =
+    over c.by_byte.invariant c.by_byte-test.true c.if-byte-eq0.false (λ none. absurd (c.if-left-ne0.true none)) (omega arith) c.through_piece.ensures.end
 
 pub by_byte-preserved-then-left-ne0 : goal.by_byte-preserved-then-left-ne0
 by_byte-preserved-then-left-ne0 c = grind (arith, read-byte)
 
 -- a code after a block that isn't full, and a code after a full block
-pub returns-then-written-dest-2-clause-answer : goal.returns-then-written-dest-2-clause-answer
-returns-then-written-dest-2-clause-answer c =
-    let after = c.through_piece-then-written-dest-2.ensures.end in
-    (over-zero c.by_byte.invariant c.by_byte-test.true c.if-byte-eq0.false c.if-left-ne0.false (ne_eqb _ 255 c.if-code.true) (omega arith) after).answer
-
-pub returns-then-written-dest-2-clause-buffer : goal.returns-then-written-dest-2-clause-buffer
-returns-then-written-dest-2-clause-buffer c =
-    let after = c.through_piece-then-written-dest-2.ensures.end in
-    (over-zero c.by_byte.invariant c.by_byte-test.true c.if-byte-eq0.false c.if-left-ne0.false (ne_eqb _ 255 c.if-code.true) (omega arith) after).buffer
+pub returns-then-written-dest-2 : goal.returns-then-written-dest-2
+returns-then-written-dest-2 c =
+    over c.by_byte.invariant c.by_byte-test.true c.if-byte-eq0.false (λ _. ne_eqb _ 255 c.if-code.true) (omega arith) c.through_piece-then-written-dest-2.ensures.end
 
 pub by_byte-preserved : goal.by_byte-preserved
 by_byte-preserved c = grind (arith, read-zero, ne_eqb, read-full, eq-eqb)
 
 -- the end of the source, or a zero
-pub returns-clause-answer : goal.returns-clause-answer
-returns-clause-answer c =
+pub returns : goal.returns
+returns c =
     let is = c.ended.ensures in
     elim c.by_byte-test.branch [
-      | else-by_byte-test w ↦ (ended c.by_byte.invariant (λ more. absurd (omega (arith, w.by_byte-test.false))) (omega (arith, w.at-is, w.by_byte-test.false, c.by_byte.invariant.within)) is.whole is.broken).answer
-      | then-by_byte-test+then-byte-eq0 w ↦ (ended c.by_byte.invariant (λ more. w.if-byte-eq0.true) (omega (arith, w.at-is, w.by_byte-test.true)) is.whole is.broken).answer
-    ]
-
-pub returns-clause-buffer : goal.returns-clause-buffer
-returns-clause-buffer c =
-    let is = c.ended.ensures in
-    elim c.by_byte-test.branch [
-      | else-by_byte-test w ↦ (ended c.by_byte.invariant (λ more. absurd (omega (arith, w.by_byte-test.false))) (omega (arith, w.at-is, w.by_byte-test.false, c.by_byte.invariant.within)) is.whole is.broken).buffer
-      | then-by_byte-test+then-byte-eq0 w ↦ (ended c.by_byte.invariant (λ more. w.if-byte-eq0.true) (omega (arith, w.at-is, w.by_byte-test.true)) is.whole is.broken).buffer
+      | else-by_byte-test w ↦ ended c.by_byte.invariant (λ more. absurd (omega (arith, w.by_byte-test.false))) (omega (arith, w.at-is, w.by_byte-test.false, c.by_byte.invariant.within)) is.whole is.broken
+      | then-by_byte-test+then-byte-eq0 w ↦ ended c.by_byte.invariant (λ more. w.if-byte-eq0.true) (omega (arith, w.at-is, w.by_byte-test.true)) is.whole is.broken
     ]

@@ -1,9 +1,9 @@
 -- A short frame is decoded as one span into a local buffer, and any other frame by `decode_blocks`. Each of the two
 -- results is the result for the bytes before the first sentinel (`result_of_sentinel_decode-head`).
-use Rattle.std.proofs.Common.{◌≡◌, ◌<◌, ◌-◌, ℕ, List, Some, Ok, length, take, ap, length-take-le, sym, ◌∙◌, arith}
+use Rattle.std.proofs.Common.{◌≡◌, ◌<◌, ◌-◌, ℕ, List, Some, Ok, length, take, ap, length-take-le, sym, arith}
 use Rattle.std.proofs.lemmas.Bool.{eqb-true, eqb-false}
 use Rattle.cobs.specs.Overwritten.{overwritten}
-use Rattle.cobs.specs.Decode.{head_result_within, result_of_sentinel_decode}
+use Rattle.cobs.specs.Decode.{result_of_sentinel_decode}
 use Rattle.cobs.specs.Piece.{kept_output, last_part, missing, output}
 use Rattle.cobs.specs.Sentinel.{xor_each}
 use Rattle.cobs.specs.Stream.{head}
@@ -19,6 +19,7 @@ returns-then-not-has_vectors c = grind (arith, xored_below, source_reads, source
 pub returns-then-is_empty-clause-buffer : goal.returns-then-is_empty-clause-buffer
 returns-then-is_empty-clause-buffer c = grind (arith, nothing_kept, eqb-true)
 
+-- the span is a frame (`found`), and its message was copied from the local buffer (`written`)
 pub returns-then-eq : goal.returns-then-eq
 returns-then-eq c =
     let source : List ℕ = c.args.source.now in
@@ -32,13 +33,11 @@ returns-then-eq c =
     let d = rw found at c.decode_span.ensures in
     let long = length-take-le len source e.within in
     let whole : missing (last_part h) ≡ 0 = sym d.left in
-    let kept = ap length (whole-kept h whole) in
     let is : h ≡ head f = front-head source len s e.within d.nonzero e.stop in
-    let written : c.copy_from_slice.new.self ≡ output h = c.copy_from_slice.ensures.after ∙ ap (λ (k : ℕ). take (k - 1) c.decode_span.new.dest) (sym long) ∙ d.begins in
+    let written : c.copy_from_slice.new.self ≡ output h = grind arith in
     let count = ap length written in
     let some : 0 < length source = omega (arith, d.some) in
-    let returned : Ok (len - 1) ≡ result_of_sentinel_decode f n
-    = ap Ok (omega (arith, d.len)) ∙ sym (whole_result h whole) ∙ result-fits h n (omega (arith, d.len)) ∙ ap (λ (l : List ℕ). head_result_within l n) is ∙ result_of_sentinel_decode-head source s n some in
+    let returned : Ok (len - 1) ≡ result_of_sentinel_decode f n = grind (arith, whole_result, result-fits, whole-kept, result_of_sentinel_decode-head) in
     let buffer = rw is at (whole_front h c.args.dest.now _ (len - 1) whole written (omega (arith, d.len)) (omega (arith, d.len))) in
     let below = xored_below s source c.ranges.sentinel.fits c.type_inv.source in
     record {

@@ -1,5 +1,6 @@
 -- First all bytes except the last 254 are fed, and then as many of the last 254 as the kept output needs (`kept_len`).
--- From these two steps `kept_fed` derives the result and the buffer.
+-- From these two steps `kept_fed` derives the result and the buffer. In the last lemma p is the bytes of the first step,
+-- and q is the last 254 bytes.
 use Rattle.std.proofs.Common.{◌≡◌, ◌+◌, ◌-◌, ◌<◌, ◌≤◌, ◌∙◌, ◌++◌, ℕ, List, length, take, drop, ap, sym, arith, length-take, length-drop, length-take-le, rules}
 use Rattle.std.proofs.lemmas.List.{take-take}
 use Rattle.std.proofs.lemmas.List.Elements.{All-take}
@@ -46,11 +47,13 @@ module _ (c : After-take_in_place) where
   rest : drop tail new ≡ drop tail old
   rest =
       let nz = part-nonzero 0 (tail - 0) c.args.end old c.requires.nonzero (omega arith) in
-      rest_read old new START c.take_in_place.new.self 0 tail tail (omega arith) (omega arith) nz c.take_in_place.ensures.fed c.take_in_place.ensures.behind ∙ ap (λ (k : ℕ). drop k old) (omega arith)
+      grind (arith, rest_read old new START c.take_in_place.new.self 0 tail tail (omega arith) (omega arith) nz c.take_in_place.ensures.fed c.take_in_place.ensures.behind)
 
+  -- the missing bytes of the open block
   left : c.take_in_place.new.self.missing ≡ missing (last_part (take tail old))
   left = grind (arith, quiet-at, old, new, tail, phase, quiet, first, fed)
 
+  -- the last 254 bytes
   abbrev bytes : List ℕ
   bytes = take (c.args.end - tail) (drop tail old)
 
@@ -91,6 +94,5 @@ returns c =
     let next = rw (count, rest at, ← take-take n (c.args.end - tail at) (drop (tail at) (old at)) few) at c.take_in_place-2.ensures.fed in
     let kept = rw (bytes-are at) at (e.kept p (sym (left at))) in
     let whole = rw (bytes-are at) at (e.whole p (sym (left at))) in
-    let both = rw all at (kept_fed p q (old at) (new at) c.take_in_place-2.new.buffer (phase at) c.take_in_place-2.new.self n c.kept_len-len.result.1 c.message_len.result
-    (first at) (last at) (fed at) next kept whole c.message_len.ensures.whole c.message_len.ensures.broken) in
-    record { returned = both.0; buffer = both.1 }
+    rw all at (kept_fed p q (old at) (new at) c.take_in_place-2.new.buffer (phase at) c.take_in_place-2.new.self n c.kept_len-len.result.1 c.message_len.result
+    (first at) (last at) (fed at) next kept whole c.message_len.ensures.whole c.message_len.ensures.broken)

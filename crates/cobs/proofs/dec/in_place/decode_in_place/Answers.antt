@@ -1,20 +1,16 @@
 -- The clauses `reads` and `only` are those of `decode_in_place_report`, with the report's `frame_size` in place of the
 -- report.
-use Rattle.std.proofs.Common.{arith, subst}
-use Rattle.cobs.specs.Headline.{ReportsMessage}
+use Rattle.std.proofs.Common.{arith}
 use Rattle.cobs.proofs.dec.in_place.decode_in_place.Goals as goal
 
 pub returns-in_err-decode_in_place_report-clause-reads : goal.returns-in_err-decode_in_place_report-clause-reads
-returns-in_err-decode_in_place_report-clause-reads c m r =
-    absurd (subst (λ x. ReportsMessage x c.decode_in_place_report.new.buf m) c.in_err-decode_in_place_report.was (c.decode_in_place_report.ensures.reads m r))
+returns-in_err-decode_in_place_report-clause-reads c m r = let stated = c.decode_in_place_report.ensures.reads m r in grind arith
 
 pub returns-in_err-decode_in_place_report-clause-only : goal.returns-in_err-decode_in_place_report-clause-only
 returns-in_err-decode_in_place_report-clause-only c piece m stated = grind arith
 
 pub returns-clause-reads : goal.returns-clause-reads
-returns-clause-reads c m r =
-    let stated = subst (λ x. ReportsMessage x c.decode_in_place_report.new.buf m) c.in_ok-decode_in_place_report.was (c.decode_in_place_report.ensures.reads m r) in
-    grind arith
+returns-clause-reads c m r = let stated = c.decode_in_place_report.ensures.reads m r in grind arith
 
 pub returns-clause-only : goal.returns-clause-only
 returns-clause-only c piece m stated = grind arith

@@ -6,12 +6,11 @@ use Rattle.std.proofs.lemmas.List.Elements.{All-cons}
 use borrow.Rule.Slice.PartMut.{put_mid}
 use Rattle.cobs.specs.Decode.{head_result}
 use Rattle.cobs.specs.Grammar.{HasNoZero}
-use Rattle.cobs.specs.Internal.Walk.{walked}
 use Rattle.cobs.specs.Overwritten.{overwritten}
 use Rattle.cobs.specs.Piece.{kept_output, last_part, missing, output}
 use Rattle.cobs.specs.Sentinel.{xor_each}
 use Rattle.cobs.proofs.streaming.KeptQuiet.{whole_front, whole_result}
-use Rattle.cobs.proofs.streaming.WalkLemmas.{as_piece, length-walked}
+use Rattle.cobs.proofs.streaming.WalkLemmas.{as_piece, length-walked, IsWalked}
 use Rattle.cobs.proofs.dec.in_place.decode_span_in_place.Goals.{After-move_to_front}
 use Rattle.cobs.proofs.dec.in_place.decode_span_in_place.Goals as goal
 use Rattle.cobs_bytes.proofs.bytes.XoredLemmas.{xor_each-zero}
@@ -54,16 +53,18 @@ module _ {old moved : List ℕ} {len : ℕ} (m : Moved old moved len) where
   frame-nonzero = rw frame-is nonzero
 
   -- these bytes with a zero over each code are the output of the piece
-  module _ {ys : List ℕ} {last left : ℕ} (w : ◌≡◌ {A = List ℕ × ℕ × ℕ} (ys, last, left) (walked (get_or old 0 0) (get_or old 0 0 - 1) (take (len - 1) moved))) where
+  module _ {ys : List ℕ} {last left : ℕ} (w : IsWalked ys last left (get_or old 0 0) (get_or old 0 0 - 1) (take (len - 1) moved)) where
     piece : (ys ≡ output (take len old)) × (left ≡ missing (last_part (take len old)))
     piece = rw frame-is (as_piece _ _ (rw front at w) (omega (arith, long)) nonzero)
 
     ys-long : length ys ≡ len - 1
     ys-long = grind (arith, length-walked, front, long)
 
+    -- a copy of the frame is put back over its bytes
     put_back : (copy : List ℕ) → copy ≡ take len old → copy ++ drop len (ys ++ drop (len - 1) moved) ≡ old
     put_back copy is = grind (arith, drop_at, ys-long, rest, drop-later, take-append-drop)
 
+    -- the last block is whole
     module _ (none : left ≡ 0) where
       whole : missing (last_part (take len old)) ≡ 0
       whole = sym piece.1 ∙ none

@@ -1,9 +1,10 @@
 -- By induction on the codes. The bytes of the first code's block are left as they are, a zero replaces the next code,
--- and a shorter list follows that code (`walked-next`). In the last block nothing is replaced (`walked-past`).
-use Rattle.std.proofs.Common.{◌≢◌, ◌-◌, ◌<◌, ℕ, List, ◌∷◌, get_or, arith, drop, length, length-drop}
-use Rattle.std.proofs.lemmas.List.Elements.{All-cons, All-head, All-drop, All-get_or, All-tail}
-use Rattle.cobs.specs.Grammar.{HasNoZero}
-use Rattle.cobs.proofs.streaming.WalkLemmas.{behind-code, walked-next, walked-past}
+-- and a shorter list follows that code (`walked-next`). In the last block nothing is replaced (`walked-past`). The call
+-- of the function itself needs three facts: its `dest` is shorter (`less`), its code is below 256, and its code and
+-- bytes contain no zero (`rest`).
+use Rattle.std.proofs.Common.{◌≢◌, ◌<◌, ℕ, List, arith, drop, length, length-drop}
+use Rattle.std.proofs.lemmas.List.Elements.{All-head}
+use Rattle.cobs.proofs.streaming.WalkLemmas.{behind-code, walked-next, walked-past, next-nonzero}
 use Rattle.cobs.proofs.dec.span.+write_zeros_at_codes.Goals as goal
 
 pub returns-then-dest-first : goal.returns-then-dest-first
@@ -16,8 +17,7 @@ write_zeros_at_codes-requires t c =
     let some : 0 < c.args.first = omega (arith, All-head (λ b. b ≢ 0) c.args.first bytes nz) in
     let same = behind-code c.args.first bytes some (omega arith) in
     let less : length (drop c.args.first bytes) < t = omega (arith, c.decreases, length-drop c.args.first bytes) in
-    let rest : HasNoZero (get_or bytes (c.args.first - 1) 0 ∷ drop c.args.first bytes)
-    = All-cons (λ b. b ≢ 0) _ _ (All-get_or (λ b. b ≢ 0) bytes (c.args.first - 1) 0 (omega arith) (All-tail (λ b. b ≢ 0) c.args.first bytes nz)) (All-drop (λ b. b ≢ 0) c.args.first bytes (All-tail (λ b. b ≢ 0) c.args.first bytes nz)) in
+    let rest = next-nonzero c.args.first bytes some (omega arith) nz in
     (rw (← same) at less, (omega arith, rw (← same) at rest))
 
 pub returns : goal.returns

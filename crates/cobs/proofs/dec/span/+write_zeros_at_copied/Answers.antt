@@ -1,12 +1,12 @@
 -- The recursion goes from code to code (`walked-next`). It reads each code from the bytes that were copied (`code-is`).
-use Rattle.std.proofs.Common.{◌≡◌, ◌≢◌, ◌-◌, ◌<◌, ◌∙◌, ℕ, List, ap, sym, ◌∷◌, bit_xor, get_or, arith, take, drop, length, length-drop}
+-- In the last block nothing is replaced (`walked-past`).
+use Rattle.std.proofs.Common.{◌≡◌, ◌≢◌, ◌-◌, ◌<◌, ℕ, List, bit_xor, get_or, arith, drop, length, length-drop}
 use Rattle.std.proofs.lemmas.List.{length-map, get_or-map}
 use Rattle.std.proofs.lemmas.Nat.{xor_lt}
-use Rattle.std.proofs.lemmas.List.Elements.{All-cons, All-head, All-drop, All-get_or, All-tail}
-use Rattle.cobs.specs.Grammar.{HasNoZero}
+use Rattle.std.proofs.lemmas.List.Elements.{All-head}
 use Rattle.cobs.specs.Sentinel.{xor_each}
 use Rattle.cobs.proofs.format.SentinelLemmas.{rest_xored}
-use Rattle.cobs.proofs.streaming.WalkLemmas.{behind-code, walked-next, walked-past}
+use Rattle.cobs.proofs.streaming.WalkLemmas.{behind-code, walked-next, walked-past, next-nonzero}
 use Rattle.cobs.proofs.dec.span.+write_zeros_at_copied.Goals as goal
 
 -- there are as many copied bytes as bytes, and each of them is a byte XORed with the sentinel
@@ -30,11 +30,8 @@ write_zeros_at_copied-requires t c =
     let code = code-is c.args.copied.now dest c.args.sentinel c.requires.copied (c.args.first - 1) (omega (arith, some)) in
     let less : length (drop c.args.first dest) < t = omega (arith, c.decreases, length-drop c.args.first dest) in
     let below = xor_lt 8 (get_or c.args.copied.now (c.args.first - 1) 0) c.args.sentinel (c.type_inv.copied (c.args.first - 1)).fits c.ranges.sentinel.fits in
-    let copied : drop c.args.first dest ≡ xor_each c.args.sentinel (take (length c.args.copied.now - c.args.first) (drop c.args.first c.args.copied.now))
-    = ap (drop c.args.first) c.requires.copied ∙ sym (rest_xored c.args.copied.now c.args.sentinel c.args.first) in
-    let rest : HasNoZero (get_or dest (c.args.first - 1) 0 ∷ drop c.args.first dest)
-    = All-cons (λ b. b ≢ 0) _ _ (All-get_or (λ b. b ≢ 0) dest (c.args.first - 1) 0 (omega (arith, same)) (All-tail (λ b. b ≢ 0) c.args.first dest nz)) (All-drop (λ b. b ≢ 0) c.args.first dest (All-tail (λ b. b ≢ 0) c.args.first dest nz)) in
-    grind arith
+    let rest = next-nonzero c.args.first dest some (omega (arith, same)) nz in
+    grind (arith, rest_xored)
 
 pub returns : goal.returns
 returns t c =

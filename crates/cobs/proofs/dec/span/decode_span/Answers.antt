@@ -6,11 +6,10 @@ use Rattle.std.proofs.lemmas.List.{drop_more, length-map, take_rest}
 use Rattle.std.proofs.lemmas.List.Elements.{All-cons, All-drop}
 use Rattle.std.proofs.lemmas.Grind.{common_steps}
 use Rattle.cobs.specs.Grammar.{HasNoZero}
-use Rattle.cobs.specs.Internal.Walk.{walked}
 use Rattle.cobs.specs.Piece.{last_part, missing, output}
 use Rattle.cobs.specs.Sentinel.{xor_each}
 use Rattle.cobs.proofs.format.SentinelLemmas.{rest_xored}
-use Rattle.cobs.proofs.streaming.WalkLemmas.{as_piece, length-walked}
+use Rattle.cobs.proofs.streaming.WalkLemmas.{as_piece, length-walked, IsWalked}
 use Rattle.cobs.proofs.dec.span.decode_span.Goals as goal
 use Rattle.cobs_bytes.proofs.bytes.XoredLemmas.{xor_twice}
 
@@ -28,7 +27,8 @@ module _ (source dest rest : List ℕ) (s : ℕ) (some : 0 < length source) (cop
   source-is : xor_each s source ≡ bit_xor (get_or source 0 0) s ∷ behind
   source-is = grind (arith, drop_more, bit_xor, get_or, behind-is)
 
-  piece : length source ≤ 65 → get_or source 0 0 ≢ s → HasNoZero (xor_each s (take (length source - 1) (drop 1 source))) → {ys : List ℕ} {code left : ℕ} → ◌≡◌ {A = List ℕ × ℕ × ℕ} (ys, code, left) (walked (bit_xor (get_or source 0 0) s) (bit_xor (get_or source 0 0) s - 1) behind)
+  -- with a zero over each code, these bytes are the output
+  piece : length source ≤ 65 → get_or source 0 0 ≢ s → HasNoZero (xor_each s (take (length source - 1) (drop 1 source))) → {ys : List ℕ} {code left : ℕ} → IsWalked ys code left (bit_xor (get_or source 0 0) s) (bit_xor (get_or source 0 0) s - 1) behind
       → (ys ≡ output (xor_each s source)) × (left ≡ missing (last_part (xor_each s source)))
   piece few other nz w = rw source-is (as_piece _ _ w (omega (arith, long))
       (All-cons (λ b. b ≢ 0) _ behind (λ e. other (sym (xor_twice (get_or source 0 0) s) ∙ ap (λ (x : ℕ). bit_xor x s) e)) (rw behind-is (rw (take_rest source 1) at nz))))
@@ -37,15 +37,16 @@ pub returns-then-not-copy_xored_short-clause-taken : goal.returns-then-not-copy_
 returns-then-not-copy_xored_short-clause-taken c few room nz =
     c.if-not-copy_xored_short.ensures.taken (rw (rest_xored c.args.source.now c.args.sentinel 1) (All-drop (λ b. b ≢ 0) 1 (xor_each c.args.sentinel c.args.source.now) nz))
 
+-- the bytes of the output, and the missing bytes of the last block
 module _ (c : goal.After-slice_known-3-1) where
-  whole : (c.write_zeros_at_copied-left.new.dest ≡ output (xor_each c.args.sentinel c.args.source.now)) × (c.write_zeros_at_copied-left.result.1 ≡ missing (last_part (xor_each c.args.sentinel c.args.source.now)))
-  whole = piece c.args.source.now c.copy_xored_short.new.dest _ c.args.sentinel (omega arith) (c.if-not-copy_xored_short.ensures.copied refl) (omega arith) c.if-source-sentinel.false (c.if-not-copy_xored_short.ensures.nonzero refl) c.write_zeros_at_copied-left.ensures
+  decoded : (c.write_zeros_at_copied-left.new.dest ≡ output (xor_each c.args.sentinel c.args.source.now)) × (c.write_zeros_at_copied-left.result.1 ≡ missing (last_part (xor_each c.args.sentinel c.args.source.now)))
+  decoded = piece c.args.source.now c.copy_xored_short.new.dest _ c.args.sentinel (omega arith) (c.if-not-copy_xored_short.ensures.copied refl) (omega arith) c.if-source-sentinel.false (c.if-not-copy_xored_short.ensures.nonzero refl) c.write_zeros_at_copied-left.ensures
 
 pub returns-clause-len : goal.returns-clause-len
-returns-clause-len c = grind (arith, whole, length-walked, long)
+returns-clause-len c = grind (arith, decoded, length-walked, long)
 
 pub returns-clause-left : goal.returns-clause-left
-returns-clause-left c = (whole c).1
+returns-clause-left c = (decoded c).1
 
 pub returns-clause-begins : goal.returns-clause-begins
-returns-clause-begins c = grind (arith, length-walked, long, take-append_seam, whole)
+returns-clause-begins c = grind (arith, length-walked, long, take-append_seam, decoded)

@@ -27,8 +27,7 @@ by_block-preserved-then-is_all c =
     let s : ℕ = c.args.sentinel in
     let ones : take 32 (drop c.by_block.at (xor_each s c.args.bytes.now)) ≡ replicate 32 1
     = rw (drop-map (λ b. bit_xor b s) c.by_block.at c.args.bytes.now) (ones_xored (drop c.by_block.at c.args.bytes.now) s 32 (c.is_all.ensures c.if-is_all.true)) in
-    let same = length-map c.args.bytes.now (λ (b : ℕ). bit_xor b s) in
-    (omega arith, λ p is. ends-ones 32 p (xor_each s c.args.bytes.now) c.by_block.at (omega (arith, same)) ones (c.by_block.invariant.1 p is))
+    grind (arith, ends-ones, length-map)
 
 pub by_block-smaller : goal.by_block-smaller
 by_block-smaller c = grind (arith, some)

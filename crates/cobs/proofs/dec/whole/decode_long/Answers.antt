@@ -11,13 +11,14 @@ use Rattle.cobs.specs.Piece.{output}
 use Rattle.cobs.specs.Step.{next_phase}
 use Rattle.cobs.specs.Stream.{first_piece, head}
 use Rattle.cobs.proofs.decoding.OutcomeLemmas.{outcome_of_long}
-use Rattle.cobs.proofs.decoding.HeadLemmas.{first_piece_empty, first_piece_none, first_piece_found, head_some, leading_zeros-stop}
+use Rattle.cobs.proofs.decoding.HeadLemmas.{first_piece_empty, first_piece_none, first_piece_found, head_some, leading_zeros-stop, rest}
 use Rattle.cobs.proofs.decoding.OutcomeSteps.{answer-by, result_of_decode-none, overwritten-none, result-by, always}
-use Rattle.cobs.proofs.streaming.FrontFed.{FrontFed, over-long, over-written, rest, whole, whole-count}
+use Rattle.cobs.proofs.streaming.FrontFed.{FrontFed, over-long, over-written, whole, whole-count}
 use Rattle.cobs.proofs.streaming.QuietLemmas.{Quiet, quiet-at, quiet-written}
 use Rattle.cobs.proofs.dec.whole.decode_long.Goals as goal
 use Rattle.cobs.proofs.dec.whole.decode_long.Goals.{After-take_run-len}
 
+-- after the call of `take_run`
 module _ (c : After-take_run-len) where
   abbrev source : List ℕ
   source = c.args.source.now
@@ -25,6 +26,7 @@ module _ (c : After-take_run-len) where
   abbrev slice : List ℕ
   slice = take (length source - c.leading_zeros-start.result) (drop c.leading_zeros-start.result source)
 
+  -- the slice is the source after its leading zeros
   rest-is : slice ≡ rest source
   rest-is = grind (arith, take_rest, source)
 
@@ -34,7 +36,7 @@ module _ (c : After-take_run-len) where
   found : first_piece source ≡ Some (head (rest source))
   found = first_piece_found source some
 
-  -- the run
+  -- the bytes that `take_run` fed, and why it stopped before the end of the piece
   front : FrontFed (rest source) c.args.dest.now c.take_run-len.new.dest (phase_of c.take_run-len.new.self) c.take_run-len.result
   front = grind (arith, head_some, rest, some, leading_zeros-stop, rest-is)
 
@@ -58,6 +60,7 @@ module _ (c : After-take_run-len) where
 pub returns-then-is_empty-clause-buffer : goal.returns-then-is_empty-clause-buffer
 returns-then-is_empty-clause-buffer c = grind (arith, first_piece_empty, eqb-true, overwritten-none)
 
+-- a source of zeros only has no piece
 pub returns-then-start-source-clause-returned : goal.returns-then-start-source-clause-returned
 returns-then-start-source-clause-returned c = grind (arith, first_piece_none, length-drop, result_of_decode-none, eqb-false)
 

@@ -1,8 +1,8 @@
 -- A short frame is one span of `decode_span`. The bytes of the span are the source's first piece, so its counts give the result
 -- (`result-by`, `answer-by`).
-use Rattle.std.proofs.Common.{◌≡◌, ◌≢◌, ◌<◌, ◌+◌, ℕ, zero, suc, min, List, [], ◌∷◌, length, take, get_or, Some, refl, sym, ap, ◌∙◌, subst, arith, rules, length-take-le}
+use Rattle.std.proofs.Common.{◌≡◌, ◌≢◌, ◌<◌, ◌+◌, ℕ, min, List, [], ◌∷◌, length, take, get_or, Some, refl, sym, ap, ◌∙◌, subst, arith, rules, length-take-le, length-take}
 use Rattle.std.proofs.lemmas.Bool.{eqb-true}
-use Rattle.std.proofs.lemmas.List.Elements.{All-head}
+use Rattle.std.proofs.lemmas.List.Elements.{All-get_or}
 use Rattle.cobs.specs.Decode.{leading_zeros, report_result, outcome_result}
 use Rattle.cobs.specs.Grammar.{HasNoZero}
 use Rattle.cobs.specs.Sentinel.{xor_each}
@@ -12,15 +12,15 @@ use Rattle.cobs.proofs.decoding.OutcomeLemmas.{head_nonzero, length-head}
 use Rattle.cobs.proofs.decoding.OutcomeSteps.{answer-by, result-by, always, overwritten-front}
 use Rattle.cobs.proofs.dec.whole.decode_short.Goals as goal
 use Rattle.cobs_bytes.proofs.bytes.XoredLemmas.{xor_each-zero}
+use Rattle.std.proofs.lemmas.List.{get_or-take}
 
+-- a source that begins with a code has no leading zeros, and it does if a front of it has no zero
 no_leading : (source : List ℕ) → get_or source 0 0 ≢ 0 → leading_zeros source ≡ 0
 no_leading [] nz = refl
 no_leading (byte ∷ bytes) nz = grind arith
 
 nonzero_first : (source : List ℕ) (n : ℕ) → 0 < length (take n source) → HasNoZero (take n source) → get_or source 0 0 ≢ 0
-nonzero_first source zero some none = absurd (omega arith)
-nonzero_first [] (suc n) some none = absurd (omega arith)
-nonzero_first (byte ∷ source) (suc n) some none = grind (arith, All-head)
+nonzero_first source n some none = grind (arith, All-get_or, get_or-take, length-take)
 
 pub returns-then-is_empty-clause-taken : goal.returns-then-is_empty-clause-taken
 returns-then-is_empty-clause-taken c short room = grind (arith, eqb-true, length-head)
