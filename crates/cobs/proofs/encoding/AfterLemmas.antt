@@ -17,16 +17,17 @@ use Rattle.cobs.proofs.encoding.OpenLemmas.{blocks-of, f-is, message_of-close, f
 use Rattle.cobs.proofs.format.FrameLemmas.{last_of-push}
 use Rattle.cobs.specs.Internal.Reaches.{Opened, ends_in_full}
 
+-- if the frame ends in a full block, the open block after it has no bytes
 no_bytes : (front : List (List ℕ)) (bytes : List ℕ) → true ≡ ends_in_full front bytes → (bytes ≡ []) × (is_full (last_of front) ≡ true)
 no_bytes front bytes h = grind (arith, true≢false)
 
 -- blocks are an encoded frame if the last one isn't the lone block after a full block
 encoded-open : {f m : List ℕ} (front : List (List ℕ)) (code : ℕ) (bytes : List ℕ) → let blocks = front ++ (code ∷ bytes) ∷ [] in
     IsFrameOf f blocks → m ≡ message_of blocks → false ≡ ends_in_full front bytes → IsEncodedFrame f m
-encoded-open front code bytes frame message noted = encoded-by (front ++ (code ∷ bytes) ∷ []) frame message lone_behind
+encoded-open front code bytes frame message noted = encoded-by (front ++ (code ∷ bytes) ∷ []) frame message not_lone
   where
-    lone_behind : (fr : List (List ℕ)) (c : List ℕ) → IsFull c → front ++ (code ∷ bytes) ∷ [] ≢ fr ++ c ∷ lone_block ∷ []
-    lone_behind fr c full e =
+    not_lone : (fr : List (List ℕ)) (c : List ℕ) → IsFull c → front ++ (code ∷ bytes) ∷ [] ≢ fr ++ c ∷ lone_block ∷ []
+    not_lone fr c full e =
         let same = same_from_push front (fr ++ c ∷ []) (code ∷ bytes) lone_block (e ∙ sym (append_assoc fr (c ∷ []) (lone_block ∷ []))) in
         grind (arith, true≢false, last_of-push)
 
@@ -38,12 +39,13 @@ module _ (front : List (List ℕ)) (full : is_full (last_of front) ≡ true) whe
   full-frame : All IsBlock front → IsFrameOf (concat front) front
   full-frame each = grind arith
 
-  ends_lone : (fr : List (List ℕ)) (c : List ℕ) → front ≢ fr ++ c ∷ lone_block ∷ []
-  ends_lone fr c e = let last = last_of-push (fr ++ c ∷ []) lone_block in grind (arith, true≢false, append_assoc)
+  front-not_lone : (fr : List (List ℕ)) (c : List ℕ) → front ≢ fr ++ c ∷ lone_block ∷ []
+  front-not_lone fr c e = grind (arith, true≢false, append_assoc, last_of-push (fr ++ c ∷ []) lone_block)
 
   encoded-full : {m : List ℕ} → All IsBlock front → m ≡ message_of (front ++ lone_block ∷ []) → IsEncodedFrame (concat front) m
-  encoded-full each message = grind (arith, encoded-by, full-frame, message_of-close, append-nil, ends_lone)
+  encoded-full each message = grind (arith, encoded-by, full-frame, message_of-close, append-nil, front-not_lone)
 
+-- a slice that has the blocks of m and the open block's bytes is the slice of an encoder that has taken m
 pub to_after : {slice m : List ℕ} {index next : ℕ} {full : Bool} (code : ℕ) → index + code ≡ next → code < 255 → (if full then index else next) ≤ length slice
     → Opened slice m index next full → CobsEncoderAfter slice (place_at index code full) m
 unfolding encoded-open encoded-full
@@ -125,19 +127,19 @@ module _ {slice m : List ℕ} {r : Reached} (h : CobsEncoderAfter slice r m) whe
   noted-is : r.full ≡ ends_in_full o.front o.bytes
   noted-is = h.noted ∙ (frame-is h.encoded o).0
 
+  -- the open block is part of the frame, unless it is only a placeholder after a full block
   pub whole-is : {full : Bool} → r.full ≡ full → h.frame ≡ concat o.front ++ (if full then [] else r.block.code ∷ o.bytes)
   whole-is is = (frame-is h.encoded o).1 ∙ ap (λ (full : Bool). concat o.front ++ (if full then [] else r.block.code ∷ o.bytes)) (sym noted-is ∙ is)
 
-  -- the contents of an encoder's slice: the open block is a placeholder after the frame, or part of it
+  -- so an encoder's slice has the blocks before the open block, and the open block's bytes after the place of its code
   there : (r.full ≡ true) ⊎ (r.full ≡ false) → (take r.block.index slice ≡ concat o.front) × (drop (r.block.index + 1) (take (next_of r) slice) ≡ o.bytes)
   there (inl full) =
       let none = no_bytes o.front o.bytes (sym full ∙ noted-is) in
-      let z = ap length none.0 in
+      let long = ap length none.0 in
       let c = parts.1.0 in
-      let b = o.begins in
+      let begins = o.begins in
       let is : h.frame ≡ concat o.front = whole-is full ∙ append-nil (concat o.front) in
-      let l = length-take (next_of r) slice in
-      grind (arith, drop_all, set_past)
+      grind (arith, drop_all, set_past, length-take (next_of r) slice)
   there (inr open') =
       let c = parts.1.0 in
       let b = o.begins in
@@ -150,6 +152,7 @@ module _ {slice m : List ℕ} {r : Reached} (h : CobsEncoderAfter slice r m) whe
         ap (drop (r.block.index + 1)) (front ∙ sym (append_assoc (concat o.front) (x ∷ []) o.bytes)) ∙ drop_at (concat o.front ++ x ∷ []) o.bytes (r.block.index + 1) one,
       )
 
+  -- the converse of `to_after`
   pub from_after : Opened slice m r.block.index (next_of r) r.full
   from_after =
       let bytes = there (cases_Bool r.full) in
@@ -159,7 +162,7 @@ module _ {slice m : List ℕ} {r : Reached} (h : CobsEncoderAfter slice r m) whe
         bytes = o.bytes;
         each = parts.0;
         nonzero = parts.1.2;
-        few = let n = o.not_full in omega arith;
+        few = omega (arith, o.not_full);
         message = rw (← c) o.message;
         begins = o.begins;
         place = omega arith;
@@ -171,9 +174,7 @@ module _ {slice m : List ℕ} {r : Reached} (h : CobsEncoderAfter slice r m) whe
   -- the end of the frame
   pub end-is : encoded_len m ≡ end_of r
   end-is =
-      let l = sym (length-encoded h.frame m h.encoded) in
-      let c = parts.1.0 in
-      grind (arith, cases_Bool, whole-is refl, length-append, append-nil, o.begins)
+      grind (arith, cases_Bool, whole-is refl, length-append, append-nil, o.begins, sym (length-encoded h.frame m h.encoded), parts.1.0)
 
   length-frame : length h.frame ≡ end_of r
   length-frame = length-encoded h.frame m h.encoded ∙ end-is
@@ -191,6 +192,7 @@ module _ {slice m : List ℕ} {r : Reached} (h : CobsEncoderAfter slice r m) whe
       let code : next_of r - r.block.index ≡ r.block.code = omega arith in
       rw code at (Opened-len bytes (λ full. some) from_after)
 
+  -- the same, also if there are no such bytes
   pub after-end : (bytes : List ℕ) → encoded_len (m ++ bytes) ≡ end_after r bytes
   after-end [] = grind (arith, append-nil, end-is)
   after-end (b ∷ bytes) = grind (arith, after-len)

@@ -30,7 +30,7 @@ module _ {source slice : List ℕ} {r : Reached} {next : ℕ} (place : IsPlaceIn
   byte-zero {code = code} zero coded is =
       let closed = Reaches-zero start {Q = IsNotFull} fits some zero (omega (arith, place.not_full)) refl in
       let code-is : next - r.block.index ≡ code = omega arith in
-      let n = length-set slice r.block.index code in
+      let long = length-set slice r.block.index code in
       front-open (omega arith) (rw code-is at closed) (omega arith) refl is
 
   -- any other byte joins the open block
@@ -39,12 +39,12 @@ module _ {source slice : List ℕ} {r : Reached} {next : ℕ} (place : IsPlaceIn
 
   pub byte-joins : {r' : Reached} {code : ℕ} → get_or source 0 0 ≢ 0 → r.block.code ≢ 254 → code ≡ r.block.code + 1 → r' ≡ place_at r.block.index code false → TakesFront slice r source 1 (set slice next (get_or source 0 0)) r'
   byte-joins other open' coded is =
-      let n = length-set slice next (get_or source 0 0) in
+      let long = length-set slice next (get_or source 0 0) in
       front-open (omega arith) (more other) (omega (arith, place.not_full)) (omega arith) is
 
   -- the byte fills the open block if it is the block's 254th byte
   pub byte-fills : {r' : Reached} → get_or source 0 0 ≢ 0 → r.block.code ≡ 254 → r' ≡ place_at (next + 1) 1 true → TakesFront slice r source 1 (set (set slice next (get_or source 0 0)) r.block.index 255) r'
-  byte-fills other last is = let n = length-set slice next (get_or source 0 0) in front-filled (omega arith) (omega arith) (more other) refl is
+  byte-fills other last is = let long = length-set slice next (get_or source 0 0) in front-filled (omega arith) (omega arith) (more other) refl is
 
 -- there is room for a byte
 pub fits-byte : (slice : List ℕ) (r : Reached) (byte : ℕ) → 0 < r.block.code → r.block.code < 255 → next_of r < length slice → end_after r (byte ∷ []) ≤ length slice

@@ -17,7 +17,7 @@ use Rattle.cobs.specs.Internal.Reaches.{Reaches, Start, start_with, whole_end}
 use Rattle.cobs.specs.Internal.Taking.{TakesFront}
 use Rattle.cobs_bytes.specs.Mask.{lowest, without_lowest, zero_mask}
 use Rattle.cobs_bytes.proofs.bytes.ListLemmas.{behind-three, front-three, mid-three}
-use Rattle.cobs_bytes.proofs.bytes.MaskLemmas.{mask_behind, mask_behind-none, mask_behind-and, some_left, lowest_bit, lowest_left, nonzero_len, nonzero_len-lt, nonzero_len-before, nonzero_len-at, clear_front}
+use Rattle.cobs_bytes.proofs.bytes.MaskLemmas.{mask_behind, mask_behind-none, mask_behind-and, some_left, lowest-within, lowest_left, nonzero_len, nonzero_len-lt, nonzero_len-before, nonzero_len-at, clear_front}
 use Rattle.cobs.proofs.encoding.ReachLemmas.{Reaches-at, Reaches-weaker, Reaches-full, Reaches-join, Reaches-zero, Reaches-zeros, IsNotFull, least}
 use Rattle.cobs.proofs.encoding.TakingLemmas.{front-open, reaches-start}
 
@@ -36,7 +36,7 @@ module _ {s : Start} {slice after : List ℕ} {read len index next : ℕ} (c : C
   length-row = grind (arith, length-take-le, length-drop)
 
   pub length-after : whole_end s ≤ length after
-  length-after = let l = least c.reaches in grind (arith, length-row, length-append, length-take-le, length-drop)
+  length-after = grind (arith, length-row, length-append, length-take-le, length-drop, least c.reaches)
 
   pub copied-reaches : Reaches s after read index next (λ _. Unit {0})
   copied-reaches = grind (arith, common_steps, least, Opened-same, front-three, length-row, behind-three)
@@ -48,7 +48,7 @@ module _ {s : Start} {slice after : List ℕ} {read len index next : ℕ} (c : C
   copied-joins : (k : ℕ) → 0 < k → k ≤ len → next + k ≤ index + 255 → HasNoZero (take k (drop read s.source)) → Reaches s after (read + k) index (next + k) IsNotFull
   copied-joins k some le short nonzero =
       let here = sym (take-take k len (drop next after) le) ∙ ap (take k) copied-here ∙ take-take k len (drop read s.source) le in
-      Reaches-join copied-reaches length-after k (let i = c.inside in omega arith) short nonzero here (λ full z p. absurd (omega arith)) (λ z. refl)
+      Reaches-join copied-reaches length-after k (omega (arith, c.inside)) short nonzero here (λ full z p. absurd (omega arith)) (λ z. refl)
 
 -- the copied bytes are a window, whose bits say which of them are zeros
 pub record CopiedWindow (s : Start) (slice after : List ℕ) (read len index next zeros : ℕ) : Type 0 where
@@ -64,15 +64,11 @@ module _ {s : Start} {slice after : List ℕ} {read len index next zeros : ℕ} 
 
   -- a zero is within the window
   pub first-within : zeros ≢ 0 → lowest zeros < len
-  first-within some = grind (arith, common_steps, length-row, lowest_bit, nonzero_len-lt)
+  first-within some = grind (arith, common_steps, length-row, lowest-within)
 
   pub masked-start : min (lowest zeros) len < index + 255 - next → IsMasked s read len next zeros index after
   masked-start near =
-      let l = least w.copied.reaches in
-      let room = length-after w.copied in
-      let here = copied-here w.copied in
-      let reaches = copied-reaches w.copied in
-      grind (arith, mask_behind, Reaches-at)
+      grind (arith, mask_behind, Reaches-at, least w.copied.reaches, length-after w.copied, copied-here w.copied, copied-reaches w.copied)
 
   -- no zero is near enough to keep the block from being full
   pub filled : index + 255 - next ≤ min (lowest zeros) len → read + (index + 255 - next) < length s.source
@@ -80,9 +76,9 @@ module _ {s : Start} {slice after : List ℕ} {read len index next zeros : ℕ} 
   filled none more =
       let until_full : ℕ = index + 255 - next in
       let sum : next + until_full ≡ index + 255 = omega arith in
-      let l = length-row w.copied in
+      let long = length-row w.copied in
       let near = ap (λ (n : ℕ). min (lowest n) len) w.bits in
-      let nonzero = rw (take-take until_full len (drop read s.source) (omega arith)) at (clear_front window until_full (omega arith) (omega arith)) in
+      let nonzero = rw (take-take until_full len (drop read s.source) (omega arith)) at (clear_front window (omega arith) until_full (omega arith)) in
       let joined = copied-joins w.copied until_full (omega arith) (omega arith) (omega arith) nonzero in
       Reaches-full (rw sum at joined) more refl (length-after w.copied) refl
 
@@ -135,7 +131,7 @@ module _ {s : Start} {slice : List ℕ} {read len index next zeros d : ℕ} (m :
         let j : ℕ = nonzero_len left in
         let e = first-is in
         let lt = first-lt in
-        let n = m.seen in
+        let seen = m.seen in
         let sum : len - d ≡ j + 1 + (len - (k + 1)) = omega arith in
         let cut : (xs : List ℕ) (a : ℕ) → drop (j + 1) (take (len - d) (drop (a + d) xs)) ≡ take (len - (k + 1)) (drop (a + (k + 1)) xs) =
         λ xs a. ap (λ (m : ℕ). drop (j + 1) (take m (drop (a + d) xs))) sum ∙ drop-take (j + 1) (len - (k + 1)) (drop (a + d) xs)
@@ -150,8 +146,7 @@ module _ {s : Start} {slice : List ℕ} {read len index next zeros d : ℕ} (m :
         let closed = Reaches-zero joined {Q = λ full. 0 < k + 1 → full ≡ false} m.room (omega arith) zero_at (omega arith) (λ lt. refl) in
         let code : next + d + j - index ≡ next + k - index = omega arith in
         let long = length-set slice index (next + k - index) in
-        let others = ap without_lowest m.bits ∙ mask_behind-and d left small some_bits in
-        grind (arith, mask_behind, left, Reaches-at, set, drop-set-lt)
+        grind (arith, mask_behind, left, Reaches-at, set, drop-set-lt, ap without_lowest m.bits ∙ mask_behind-and d left small some_bits)
 
   -- the place of the next code is no later than the next zero
   pub masked-ordered : index ≤ next + lowest zeros
@@ -166,7 +161,7 @@ masked-first {s} {slice} {read} {len} {index} {next} {zeros} m after r is none s
       let same : IsMasked s read len next zeros index (set slice index byte) = masked-code m byte in
       rw (is, none e, ← e) same)
   | inr other ↦ (let byte : ℕ = next + lowest zeros - index in
-      let o = m.reaches.ordered in
+      let ordered = m.reaches.ordered in
       let first = first-is m other in
       let lt = first-lt m other in
       let short = m.short in

@@ -1,9 +1,9 @@
 -- Lemmas on the length of the encoded frame, counted from its open block. The values of that block's nonzero bytes
 -- don't matter (`same_start`), so ones stand for them.
-use Rattle.std.proofs.Common.{◌≡◌, ◌≢◌, ℕ, ◌+◌, ◌-◌, ◌<◌, ◌≤◌, Bool, true, List, [], ◌∷◌, ◌++◌, length, drop, get_or, length-drop, replicate, All, refl, ap, arith, append-nil, append_assoc, length-append}
+use Rattle.std.proofs.Common.{◌≡◌, ◌≢◌, ℕ, ◌+◌, ◌-◌, ◌<◌, ◌≤◌, Bool, true, List, [], ◌∷◌, ◌++◌, length, drop, take, get_or, length-drop, length-take-le, take-append-drop, replicate, All, refl, ap, arith, append-nil, append_assoc, length-append}
 use Rattle.std.specs.List.{concat}
 use Rattle.std.proofs.lemmas.Bool.{cases_Bool, eqb-true, eqb-false}
-use Rattle.std.proofs.lemmas.List.{drop_all, drop_more, nil_from_length}
+use Rattle.std.proofs.lemmas.List.{drop-drop, drop_all, drop_more, nil_from_length}
 use Rattle.std.proofs.lemmas.List.Elements.{All-append, All-cons, All-nil, All-head, All-tail}
 use Rattle.cobs.specs.Grammar.{HasNoZero, IsBlock, is_full, bytes_of, joint, last_of, message_of}
 use Rattle.cobs.specs.Length.{encoded_len, max_encoded_len, open_len}
@@ -23,6 +23,12 @@ open_len-join code more t some nonzero =
     let longer : List ℕ = replicate (code + length more - 1) 1 in
     let both = All-append (λ byte. byte ≢ 0) front more (ones-nonzero (code - 1)) nonzero in
     grind (arith, append_assoc, same_start, ones-nonzero, length-append, length-ones)
+
+-- so do the next k bytes of a source, if none of them is a zero
+pub open_len-run : (source : List ℕ) (read k code : ℕ) → 0 < code → read + k ≤ length source → HasNoZero (take k (drop read source))
+    → open_len code (drop read source) ≡ open_len (code + k) (drop (read + k) source)
+open_len-run source read k code some within nonzero =
+    grind (arith, drop-drop, length-take-le, length-drop, open_len-join, take-append-drop k (drop read source))
 
 -- a full block is closed if more bytes follow
 pub open_len-full : (t : List ℕ) → t ≢ [] → open_len 255 t ≡ 255 + open_len 1 t
@@ -48,7 +54,7 @@ len-block (code ∷ bytes) m t is some = grind (arith, eqb-true, append-nil, app
 some_message : (block : List ℕ) (blocks : List (List ℕ)) → IsBlock block → blocks ≢ [] → message_of (block ∷ blocks) ≢ []
 some_message [] blocks is more e = absurd is
 some_message (code ∷ bytes) [] is more e = more refl
-some_message (code ∷ bytes) (next ∷ blocks) is more e = let z = ap length e in grind (arith, cases_Bool, eqb-true, length-append)
+some_message (code ∷ bytes) (next ∷ blocks) is more e = grind (arith, cases_Bool, eqb-true, length-append, ap length e)
 
 -- the frame of the bytes that follow some blocks
 pub len-blocks : (front : List (List ℕ)) (code : ℕ) (bytes t : List ℕ) → All IsBlock front → (is_full (last_of front) ≡ true → bytes ++ t ≢ [])
@@ -59,10 +65,8 @@ len-blocks (b ∷ c ∷ front) code bytes t each some =
     let more = All-tail IsBlock b (c ∷ front) each in
     let m : List ℕ = message_of (c ∷ front ++ (code ∷ bytes) ∷ []) in
     let is_some : m ≢ [] = some_message c (front ++ (code ∷ bytes) ∷ []) (All-head IsBlock c front more) (append-some front (code ∷ bytes) []) in
-    let not_none : m ++ t ≢ [] = λ e. is_some (nil_from_length m (let l = length-append m t in let z = ap length e in omega arith)) in
-    let ih = len-blocks (c ∷ front) code bytes t more some in
-    let l = length-append b (concat (c ∷ front)) in
-    grind (arith, len-block, All-head)
+    let not_none : m ++ t ≢ [] = λ e. is_some (nil_from_length m (omega (arith, length-append m t, ap length e))) in
+    grind (arith, len-block, All-head, len-blocks (c ∷ front) code bytes t more some, length-append b (concat (c ∷ front)))
 
 -- the frame of a message that continues
 pub Opened-len : {slice m : List ℕ} {index next : ℕ} {full : Bool} (t : List ℕ) → (full ≡ true → t ≢ []) → Opened slice m index next full → encoded_len (m ++ t) ≡ index + open_len (next - index) t

@@ -79,6 +79,6 @@ module _ {slice m : List ℕ} {index next : ℕ} {full : Bool} (o : Opened slice
         begins = rw (concat-push o.front block) (omega (arith, length-append (concat o.front) block));
         place = refl;
         written = wrote ∙ sym (concat-push o.front block);
-        bytes_there = drop_all (next + 1) (take (next + 1) (set slice index code)) (let l = length-take (next + 1) (set slice index code) in omega arith);
+        bytes_there = drop_all (next + 1) (take (next + 1) (set slice index code)) (omega (arith, length-take (next + 1) (set slice index code)));
         noted = ap is_full (sym (last_of-push o.front block));
       }

@@ -8,7 +8,7 @@ use Rattle.std.proofs.lemmas.List.Splits.{slice_split_none, slice_split_at}
 use Rattle.cobs.specs.Grammar.{HasNoZero}
 use Rattle.cobs.specs.Length.{runs, full_blocks, encoded_len, open_len}
 use Rattle.cobs.proofs.format.LengthLemmas.{no_zero, some_stretch, encoded_len-le}
-use Rattle.cobs.proofs.encoding.OpenLenLemmas.{open_len-join, open_len-least, open_len-most}
+use Rattle.cobs.proofs.encoding.OpenLenLemmas.{open_len-join, open_len-run, open_len-least, open_len-most}
 use Rattle.cobs_bytes.proofs.bytes.ListLemmas.{length-ones, ones-nonzero}
 
 abbrev pub blocks_in : List ℕ → ℕ
@@ -25,8 +25,7 @@ blocks-cons run (p ∷ ps) some = refl
 -- there are at most as many full blocks as bytes
 pub blocks-le : (run : ℕ) (t : List ℕ) → blocks_in (behind run t) ≤ run + length t
 blocks-le run t =
-    let most = encoded_len-le (behind run t) in
-    grind (arith, length-append, replicate, length-ones)
+    grind (arith, length-append, replicate, length-ones, encoded_len-le (behind run t))
 
 -- the length of the frame, counted from the open block
 pub open_len-is : (code : ℕ) (t : List ℕ) → 0 < code → open_len code t ≡ code + length t + blocks_in (behind (code - 1) t)
@@ -38,8 +37,7 @@ pub ruleset counted = (open_len-least, open_len-most, blocks-le)
 -- nonzero bytes lengthen the run
 pub blocks-more : (run : ℕ) (more t : List ℕ) → HasNoZero more → blocks_in (behind run (more ++ t)) ≡ blocks_in (behind (run + length more) t)
 blocks-more run more t nonzero =
-    let j = open_len-join (run + 1) more t (omega arith) nonzero in
-    grind (arith, open_len-is, length-append)
+    grind (arith, open_len-is, length-append, open_len-join (run + 1) more t (omega arith) nonzero)
 
 blocks-nonzero : (run b : ℕ) (t : List ℕ) → b ≢ 0 → blocks_in (behind run (b ∷ t)) ≡ blocks_in (behind (run + 1) t)
 blocks-nonzero run b t other = blocks-more run (b ∷ []) t (All-cons (λ byte. byte ≢ 0) b [] other (All-nil (λ byte. byte ≢ 0)))
@@ -60,8 +58,7 @@ blocks-skip n (b ∷ bytes) t few = grind (arith, cases_eq, blocks-zero, blocks-
 -- the bytes are too few for a full block that another block follows
 pub blocks-none : (run : ℕ) (t : List ℕ) → run + length t < 255 → blocks_in (behind run t) ≡ 0
 blocks-none run t few =
-    let most = encoded_len-le (behind run t) in
-    grind (arith, length-append, replicate, length-ones)
+    grind (arith, length-append, replicate, length-ones, encoded_len-le (behind run t))
 
 -- the next bytes of a message
 module _ (source : List ℕ) (read run k : ℕ) where
@@ -74,7 +71,8 @@ module _ (source : List ℕ) (read run k : ℕ) where
 
   -- nonzero bytes
   pub run-more : read + k ≤ length source → HasNoZero (take k (drop read source)) → blocks_in (behind run (drop read source)) ≡ blocks_in (behind (run + k) (drop (read + k) source))
-  run-more inside nonzero = grind (arith, length-take-le, length-drop, blocks_in, behind, next-are, blocks-more)
+  run-more inside nonzero =
+      grind (arith, open_len-is, length-drop, open_len-run source read k (run + 1) (omega arith) inside nonzero)
 
 -- more bytes after a run don't make the number of full blocks smaller
 blocks-least : (run : ℕ) (t : List ℕ) → (run - 1) / 254 ≤ blocks_in (behind run t)
@@ -87,4 +85,4 @@ blocks-longer run (b ∷ m) d = grind (arith, cases_eq, blocks-zero, blocks-nonz
 
 -- more bytes after a message don't make its frame shorter
 pub encoded_len-longer : (m d : List ℕ) → encoded_len m ≤ encoded_len (m ++ d)
-encoded_len-longer m d = let b : blocks_in m ≤ blocks_in (m ++ d) = blocks-longer 0 m d in let l = length-append m d in omega arith
+encoded_len-longer m d = let b : blocks_in m ≤ blocks_in (m ++ d) = blocks-longer 0 m d in omega (arith, length-append m d)

@@ -30,8 +30,7 @@ last_run-all bytes h = grind (arith, slice_split_none, no_zero)
 
 last_run-append : (bytes m : List ℕ) → HasNoZero bytes → (last_run (bytes ++ m) ≡ last_run m) ⊎ ((last_run (bytes ++ m) ≡ length bytes + last_run m) × (length m ≡ last_run m))
 last_run-append bytes m h =
-    let j = join_with_byte-slice_split 0 m in
-    grind (arith, stretches-front, length-append, some_stretch)
+    grind (arith, stretches-front, length-append, some_stretch, join_with_byte-slice_split 0 m)
 
 -- the message after a full block ends in a full run exactly if the whole message does
 full_run-append : (bytes k : List ℕ) → length bytes ≡ 254 → HasNoZero bytes → k ≢ [] → EndsInFullRun (bytes ++ k) ↔ EndsInFullRun k
@@ -43,7 +42,7 @@ full_run-append bytes (x ∷ k) l h some = grind (arith, last_run-append)
 ends_full : (bs : List (List ℕ)) → bs ≢ [] → All IsBlock bs → IsShorter bs → IsFull (last_of bs) ↔ EndsInFullRun (message_of bs)
 ends_full [] some h s = grind arith
 ends_full ([] ∷ bs) some h s = grind (arith, All-head)
-ends_full ((c ∷ bytes) ∷ []) some h s = let is = All-head IsBlock (c ∷ bytes) [] h in grind (arith, eqb-true, eqb-false, last_run-all)
+ends_full ((c ∷ bytes) ∷ []) some h s = grind (arith, eqb-true, eqb-false, last_run-all, All-head IsBlock (c ∷ bytes) [] h)
 ends_full ((c ∷ bytes) ∷ d ∷ ds) some h s =
     let nonzero = (All-head IsBlock (c ∷ bytes) (d ∷ ds) h).2 in
     let k : List ℕ = message_of (d ∷ ds) in
@@ -123,7 +122,7 @@ open_shorter f m index code o other = ⊎_elim (λ e. e) (λ w. absurd (other w.
 pub open_longer : (f m : List ℕ) (index code : ℕ) → IsOpenFrame f m index code → EndsInFullRun m → (g : List ℕ) × IsEncodedFrame g m × (f ≡ g ++ lone_block)
 open_longer f m index code o x = ⊎_elim
     -- the encoded frame of such a message ends in a full block
-    (λ e. let full = (ends_in_full f m (record { reads = open_reads f m index code o; canonical = e.canonical })).1 x in grind (arith, eqb-true, last_of-push))
+    (λ e. grind (arith, eqb-true, last_of-push, (ends_in_full f m (record { reads = open_reads f m index code o; canonical = e.canonical })).1 x))
     (λ w. w.1)
     (frames_of f m (open_reads f m index code o))
 
@@ -133,8 +132,8 @@ open_longer f m index code o x = ⊎_elim
 pub EncoderAfter-push : (state : OpenBlock) (m : List ℕ) (b : ℕ) → EncoderAfter state m → EncoderAfter (next_open state b) (m ++ b ∷ [])
 EncoderAfter-push state m zero (f, o) = let r = open-zero o (0, refl) 0 in (r.0, r.1)
 EncoderAfter-push state m (suc b) (f, o) = ⊎_elim
-    (λ (full : state.code ≡ 254). let r = open-full o (0, refl) (suc b) (λ e. omega arith) 0 full in grind arith)
-    (λ (room : state.code ≢ 254). let r = open-more o (0, refl) (suc b) (λ e. omega arith) room in grind arith)
+    (λ (full : state.code ≡ 254). grind (arith, open-full o (0, refl) (suc b) (λ e. omega arith) 0 full))
+    (λ (room : state.code ≢ 254). grind (arith, open-more o (0, refl) (suc b) (λ e. omega arith) room))
     (cases_eq state.code 254)
 
 after_all : (more m : List ℕ) (state : OpenBlock) → EncoderAfter state m → (next : OpenBlock) × EncoderAfter next (m ++ more)

@@ -28,7 +28,7 @@ IsShorter-cons b bs apart s [] block full e = grind arith
 IsShorter-cons b bs apart s (x ∷ front) block full e = grind arith
 
 pub IsShorter-single : (b : List ℕ) → IsShorter (b ∷ [])
-IsShorter-single b front block full e = (let n = ap length e in let l = length-append front (block ∷ lone_block ∷ []) in omega arith)
+IsShorter-single b front block full e = (omega (arith, ap length e, length-append front (block ∷ lone_block ∷ [])))
 
 -- an encoded frame, given its blocks
 abbrev pub encoded-by : {f m : List ℕ} (blocks : List (List ℕ)) → IsFrameOf f blocks → m ≡ message_of blocks → IsShorter blocks → IsEncodedFrame f m

@@ -55,4 +55,4 @@ front_frame p q m r some = (
 )
 
 pub front_message : (p q k m : List ℕ) → Reads (p ++ q) m → Reads p k → IsFront k m
-front_message p q k m r s = let more = message_of-front s.blocks (parts q) s.frame.some in grind (arith, first_blocks)
+front_message p q k m r s = grind (arith, first_blocks, message_of-front s.blocks (parts q) s.frame.some)

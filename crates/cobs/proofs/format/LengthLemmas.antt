@@ -15,7 +15,7 @@ pub no_zero : (bytes : List ℕ) → HasNoZero bytes → All (λ b. (b == 0) ≡
 no_zero bytes h = grind (arith, All-weaker, ne_eqb)
 
 pub some_stretch : (m : List ℕ) → stretches m ≢ []
-some_stretch m e = let n = length-slice_split (λ b. b == 0) m in let l = ap length e in omega arith
+some_stretch m e = omega (arith, length-slice_split (λ b. b == 0) m, ap length e)
 
 -- a last run of at most 254 bytes is one block
 pub encoded_len-last : (bytes : List ℕ) → length bytes < 255 → HasNoZero bytes → encoded_len bytes ≡ length bytes + 1
@@ -44,8 +44,7 @@ full_more bytes (p ∷ q ∷ ps) l some more = grind (arith, length-append)
 -- 254 bytes of a run that continues are one block
 pub encoded_len-full : (bytes m : List ℕ) → length bytes ≡ 254 → HasNoZero bytes → m ≢ [] → encoded_len (bytes ++ m) ≡ 255 + encoded_len m
 encoded_len-full bytes m l h more =
-    let joined = join_with_byte-slice_split 0 m in
-    grind (arith, stretches-front, full_more, some_stretch, length-append)
+    grind (arith, stretches-front, full_more, some_stretch, length-append, join_with_byte-slice_split 0 m)
 
 full_blocks-le : (parts : List (List ℕ)) → full_blocks (map length parts) + 1 ≤ max_overhead (length (join_with_byte 0 parts))
 full_blocks-le [] = omega arith

@@ -41,7 +41,7 @@ first_xored (b ∷ bytes) s some = refl
 pub behind_sentinels : (dest part : List ℕ) (k n : ℕ) → n ≤ k → length part ≡ k → k < length dest → drop n part ≡ drop n (take k (drop 1 dest))
     → drop (n + 2) (set (set (put_mid 1 k dest part) 0 0) (n + 1) 0) ≡ drop (n + 2) dest
 behind_sentinels dest part k n short len within behind =
-    same_lists _ _ (search (rules, places)) (λ i d h. let same = ap (λ (x : List ℕ). get_or x (1 + i) d) behind in grind (arith, places))
+    same_lists _ _ (search (rules, places)) (λ i d h. grind (arith, places, ap (λ (x : List ℕ). get_or x (1 + i) d) behind))
 
 -- FREE OF THE SENTINEL
 
@@ -66,4 +66,4 @@ encoded_free s f {m} e = no_sentinel_for s f (m, e.reads)
 
 -- a frame between two sentinels
 pub delimited_nonzero : {bytes m : List ℕ} → IsDelimitedFrame bytes m → HasNoZero (between_ends bytes)
-delimited_nonzero {bytes} {m} (f, e, is) = let n = encoded_nonzero e in grind (arith, take_at, length-append)
+delimited_nonzero {bytes} {m} (f, e, is) = grind (arith, take_at, length-append, encoded_nonzero e)

@@ -72,17 +72,17 @@ no_more b d ds h short e =
     let rest : [] ≡ joint b ++ message_of (d ∷ ds) = append_cancel_left (bytes_of b) [] _ (append-nil (bytes_of b) ∙ e ∙ append_assoc (bytes_of b) (joint b) (message_of (d ∷ ds))) in
     grind (arith, full-more)
 
+-- two lists of canonical blocks with one message are equal, block by block
 one_blocks : (bs cs : List (List ℕ)) → bs ≢ [] → cs ≢ [] → All IsBlock bs → All IsBlock cs → IsShorter bs → IsShorter cs → message_of bs ≡ message_of cs → bs ≡ cs
-one_blocks [] cs p q h i s t e = absurd (p refl)
-one_blocks (b ∷ bs) [] p q h i s t e = absurd (q refl)
-one_blocks (b ∷ []) (c ∷ []) p q h i s t e = ap (λ (l : List ℕ). l ∷ []) (same_first b c [] [] h i e)
-one_blocks (b ∷ []) (c ∷ d ∷ ds) p q h i s t e = let first = same_first b c [] (d ∷ ds) h i e in grind (arith, no_more)
-one_blocks (b ∷ d ∷ ds) (c ∷ []) p q h i s t e = let first = same_first b c (d ∷ ds) [] h i e in grind (arith, no_more)
-one_blocks (b ∷ d ∷ ds) (c ∷ k ∷ ks) p q h i s t e =
-    let first = same_first b c (d ∷ ds) (k ∷ ks) h i e in
-    let rest : message_of (d ∷ ds) ≡ message_of (k ∷ ks) = append_cancel_left (bytes_of c ++ joint c) _ _ (ap (λ (l : List ℕ). message_of (l ∷ d ∷ ds)) (sym first) ∙ e) in
-    let more = one_blocks (d ∷ ds) (k ∷ ks) (λ z. cc) (λ z. cc) (All-tail IsBlock b (d ∷ ds) h) (All-tail IsBlock c (k ∷ ks) i) (IsShorter-tail b (d ∷ ds) s) (IsShorter-tail c (k ∷ ks) t) rest in
-    cc
+one_blocks [] cs some some' each each' shorter shorter' same = absurd (some refl)
+one_blocks (b ∷ bs) [] some some' each each' shorter shorter' same = absurd (some' refl)
+one_blocks (b ∷ []) (c ∷ []) some some' each each' shorter shorter' same = ap (λ (l : List ℕ). l ∷ []) (same_first b c [] [] each each' same)
+one_blocks (b ∷ []) (c ∷ d ∷ ds) some some' each each' shorter shorter' same = grind (arith, no_more, same_first b c [] (d ∷ ds) each each' same)
+one_blocks (b ∷ d ∷ ds) (c ∷ []) some some' each each' shorter shorter' same = grind (arith, no_more, same_first b c (d ∷ ds) [] each each' same)
+one_blocks (b ∷ d ∷ ds) (c ∷ k ∷ ks) some some' each each' shorter shorter' same =
+    let first = same_first b c (d ∷ ds) (k ∷ ks) each each' same in
+    let rest : message_of (d ∷ ds) ≡ message_of (k ∷ ks) = append_cancel_left (bytes_of c ++ joint c) _ _ (ap (λ (l : List ℕ). message_of (l ∷ d ∷ ds)) (sym first) ∙ same) in
+    cc (one_blocks (d ∷ ds) (k ∷ ks) (λ z. cc) (λ z. cc) (All-tail IsBlock b (d ∷ ds) each) (All-tail IsBlock c (k ∷ ks) each') (IsShorter-tail b (d ∷ ds) shorter) (IsShorter-tail c (k ∷ ks) shorter') rest)
 
 pub IsEncodedFrame-shorter : (f m : List ℕ) (e : IsEncodedFrame f m) → IsShorter e.reads.blocks
 IsEncodedFrame-shorter f m e = grind (arith, IsShorter, one_frame)

@@ -35,7 +35,7 @@ module _ (dest part : List ℕ) (at n : ℕ) (long : length part ≡ n) (fits : 
 
   pub behind-three : (r : ℕ) → at + n ≤ r → drop r (take at dest ++ (part ++ drop (at + n) dest)) ≡ drop r dest
   behind-three r le =
-      let l = length-take-le at dest fits in
+      let front_long = length-take-le at dest fits in
       ap (drop r) (sym (append_assoc (take at dest) part (drop (at + n) dest)))
       ∙ drop-append-drop (at + n) dest (take at dest ++ part) r le (length-append (take at dest) part ∙ omega arith)
 
@@ -43,6 +43,6 @@ module _ (dest part : List ℕ) (at n : ℕ) (long : length part ≡ n) (fits : 
   pub three-next : (more : List ℕ) (k : ℕ) → let three = take at dest ++ (part ++ drop (at + n) dest) in take (at + n) three ++ (more ++ drop (at + n + k) three) ≡ take at dest ++ ((part ++ more) ++ drop (at + (n + k)) dest)
   three-next more k =
       let b = behind-three (at + n + k) (omega arith) in
-      let l = length-take-le at dest fits in
+      let front_long = length-take-le at dest fits in
       let front : take (at + n) (take at dest ++ (part ++ drop (at + n) dest)) ≡ take at dest ++ part = grind (arith, append_assoc, take_at, length-append) in
       grind (arith, append_assoc)

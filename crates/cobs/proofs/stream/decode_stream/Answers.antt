@@ -44,8 +44,7 @@ returns-clause-alike g c = (SoFar-all _ _ c.by_piece.invariant.so_far c.in_defau
 
 pub returns-clause-phase_after : goal.returns-clause-phase_after
 returns-clause-phase_after g c =
-    let s = SoFar-all _ _ c.by_piece.invariant.so_far c.in_default.ensures.takes in
-    grind arith
+    grind (arith, SoFar-all _ _ c.by_piece.invariant.so_far c.in_default.ensures.takes)
 
 pub returns-clause-after_zero : goal.returns-clause-after_zero
 returns-clause-after_zero g c = (SoFar-all _ _ c.by_piece.invariant.so_far c.in_default.ensures.takes).after_zero

@@ -36,7 +36,7 @@ module _ (c : After-copy_from_slice) where
       let i = c.by_block.invariant in
       let ordered = i.ordered in
       let place = i.taken.place in
-      let e = i.taken.end in
+      let end = i.taken.end in
       let within = c.requires.run.within in
       let long = length-drop c.by_block.read c.args.source.now in
       let at : c.by_block.index + (c.by_block.next - c.by_block.index) ≡ c.by_block.next = omega arith in
@@ -46,7 +46,7 @@ module _ (c : After-copy_from_slice) where
 pub by_block-preserved : goal.by_block-preserved
 by_block-preserved c =
     let s = joined (goal.at.by_block-preserved c).After-copy_from_slice in
-    let e = c.by_block.invariant.taken.end in
+    let end = c.by_block.invariant.taken.end in
     let o = s.ordered in
     let short = s.short in
     record {
@@ -60,7 +60,7 @@ by_block-preserved c =
 pub by_block-preserved-then-next-index : goal.by_block-preserved-then-next-index
 by_block-preserved-then-next-index c =
     let s = joined (goal.at.by_block-preserved-then-next-index c).After-copy_from_slice in
-    let e = c.by_block.invariant.taken.end in
+    let end = c.by_block.invariant.taken.end in
     record {
       within = omega arith;
       ordered = omega arith;

@@ -12,7 +12,7 @@ by_row-preserved c =
     let at : ℕ = c.args.at in
     let len : ℕ = c.by_row.len in
     let source : List ℕ = c.args.source.now in
-    let long = length-take-le 32 (drop len source) (let l = length-drop len source in omega arith) in
+    let long = length-take-le 32 (drop len source) (omega (arith, length-drop len source)) in
     let row = (window_all _ (omega arith) (sym c.zeros_at.ensures ∙ c.if-zeros_at-eq-ALL_ZEROS.true)).1 in
     record {
       within = omega arith;

@@ -25,10 +25,7 @@ there a k x y le e =
 -- the frame with one byte more is within the slice
 fits-one : {slice m : List ℕ} {r : Reached} (byte n : ℕ) → CobsEncoderAfter slice r m → length m < n → max_encoded_len n ≤ length slice → end_after r (byte ∷ []) ≤ length slice
 fits-one {m = m} byte n h more fits =
-    let longer = encoded_len-le (m ++ byte ∷ []) in
-    let long = length_push m byte in
-    let end = after-end h (byte ∷ []) in
-    omega arith
+    omega (arith, encoded_len-le (m ++ byte ∷ []), length_push m byte, after-end h (byte ∷ []))
 
 pub by_byte-init : goal.by_byte-init
 by_byte-init c = grind arith
@@ -59,9 +56,7 @@ by_byte-preserved c =
     let byte : get_or c.by_byte.buffer at 0 ≡ get_or (drop before old) c.by_byte.taken 0 =
     there (end_of r) at c.by_byte.buffer old (omega arith) i.rest ∙ sym (get_or-drop before old c.by_byte.taken 0) in
     let more : take (c.by_byte.taken + 1) (drop before old) ≡ take c.by_byte.taken (drop before old) ++ get_or c.by_byte.buffer at 0 ∷ [] = grind (arith, take_more) in
-    let le = end-le r in
-    let least = next-least r (get_or c.by_byte.buffer at 0 ∷ []) (after-place i.after).some (omega arith) in
-    grind (arith, all-rest, drop-later, all-end)
+    grind (arith, all-rest, drop-later, all-end, end-le r, next-least r (get_or c.by_byte.buffer at 0 ∷ []) (after-place i.after).some (omega arith))
 
 pub close_block-requires : goal.close_block-requires
 close_block-requires c = after-place c.by_byte.invariant.after
