@@ -17,7 +17,7 @@ use Rattle.cobs.specs.Internal.Reaches.{Reaches, Start, start_with, whole_end}
 use Rattle.cobs.specs.Internal.Taking.{TakesFront}
 use Rattle.cobs_bytes.specs.Mask.{lowest, without_lowest, zero_mask}
 use Rattle.cobs_bytes.proofs.bytes.ListLemmas.{behind-three, front-three, mid-three}
-use Rattle.cobs_bytes.proofs.bytes.MaskLemmas.{mask_behind, mask_behind-none, mask_behind-and, some_left, lowest-within, lowest_left, nonzero_len, nonzero_len-lt, nonzero_len-before, nonzero_len-at, clear_front}
+use Rattle.cobs_bytes.proofs.bytes.MaskLemmas.{mask_behind, mask_behind-none, mask_behind-and, mask_behind-some, lowest-within, lowest_left, nonzero_len, nonzero_len-lt, nonzero_len-before, nonzero_len-at, clear_front}
 use Rattle.cobs.proofs.encoding.ReachLemmas.{Reaches-at, Reaches-weaker, Reaches-full, Reaches-join, Reaches-zero, Reaches-zeros, IsNotFull, least}
 use Rattle.cobs.proofs.encoding.TakingLemmas.{front-open, reaches-start}
 
@@ -123,7 +123,7 @@ module _ {s : Start} {slice : List ℕ} {read len index next zeros d : ℕ} (m :
     first-is = grind (arith, lowest_left, small, some_bits)
 
     first-lt : nonzero_len left < len - d
-    first-lt = grind (arith, nonzero_len-lt, some_left, small, some_bits, length-take-le, length-drop)
+    first-lt = grind (arith, nonzero_len-lt, mask_behind-some, small, some_bits, length-take-le, length-drop)
 
     pub masked-step : IsMasked s read len next (without_lowest zeros) (next + lowest zeros) (set slice index (next + lowest zeros - index))
     masked-step =
@@ -137,7 +137,7 @@ module _ {s : Start} {slice : List ℕ} {read len index next zeros d : ℕ} (m :
         λ xs a. ap (λ (m : ℕ). drop (j + 1) (take m (drop (a + d) xs))) sum ∙ drop-take (j + 1) (len - (k + 1)) (drop (a + d) xs)
         ∙ ap (take (len - (k + 1))) (drop-drop (j + 1) (a + d) xs ∙ ap (λ (m : ℕ). drop m xs) (omega arith)) in
         let front = take-take j (len - d) (drop (read + d) s.source) (omega arith) in
-        let there = some_left d left small some_bits in
+        let there = mask_behind-some d left some_bits in
         let nonzero = subst HasNoZero front (nonzero_len-before left there) in
         let here = sym (take-take j (len - d) (drop (next + d) slice) (omega arith)) ∙ ap (take j) m.here ∙ front in
         let zero_at : get_or s.source (read + d + j) 0 ≡ 0 =

@@ -9,7 +9,7 @@ use Rattle.cobs.specs.Grammar.{HasNoZero, IsBlock, is_full, bytes_of, joint, las
 use Rattle.cobs.specs.Length.{encoded_len, max_encoded_len, open_len}
 use Rattle.cobs.proofs.format.LengthLemmas.{stretches-front, encoded_len-zero, encoded_len-full, encoded_len-last, encoded_len-le}
 use Rattle.cobs.proofs.encoding.OpenLemmas.{append-some}
-use Rattle.cobs_bytes.proofs.bytes.ListLemmas.{length-ones, ones-nonzero}
+use Rattle.cobs_bytes.proofs.bytes.ListLemmas.{length-ones, one-nonzero, ones-nonzero}
 use Rattle.cobs.specs.Internal.Reaches.{Opened, ends_in_full}
 
 -- the values of the nonzero bytes at the start of a message don't matter
@@ -86,8 +86,7 @@ module _ (bytes : List ℕ) (i : ℕ) where
     -- a byte joins the block
     pub len-byte : (code : ℕ) → 0 < code → get_or bytes i 0 ≢ 0 → open_len code (drop i bytes) ≡ open_len (code + 1) (drop (i + 1) bytes)
     len-byte code some other =
-        let nonzero = All-cons (λ byte. byte ≢ 0) (get_or bytes i 0) [] other (All-nil (λ byte. byte ≢ 0)) in
-        rw (drop_more bytes i 0 more) (open_len-join code (get_or bytes i 0 ∷ []) (drop (i + 1) bytes) some nonzero)
+        rw (drop_more bytes i 0 more) (open_len-join code (get_or bytes i 0 ∷ []) (drop (i + 1) bytes) some (one-nonzero _ other))
 
     -- a zero closes the open block
     pub len-zero : (code : ℕ) → 0 < code → code < 255 → get_or bytes i 0 ≡ 0 → open_len code (drop i bytes) ≡ code + open_len 1 (drop (i + 1) bytes)

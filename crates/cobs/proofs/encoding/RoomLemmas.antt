@@ -9,7 +9,7 @@ use Rattle.cobs.specs.Grammar.{HasNoZero}
 use Rattle.cobs.specs.Length.{runs, full_blocks, encoded_len, open_len}
 use Rattle.cobs.proofs.format.LengthLemmas.{no_zero, some_stretch, encoded_len-le}
 use Rattle.cobs.proofs.encoding.OpenLenLemmas.{open_len-join, open_len-run, open_len-least, open_len-most}
-use Rattle.cobs_bytes.proofs.bytes.ListLemmas.{length-ones, ones-nonzero}
+use Rattle.cobs_bytes.proofs.bytes.ListLemmas.{length-ones, one-nonzero, ones-nonzero}
 
 abbrev pub blocks_in : List ℕ → ℕ
 blocks_in m = full_blocks (runs m)
@@ -22,17 +22,16 @@ blocks-cons : (run : ℕ) (parts : List (List ℕ)) → parts ≢ [] → full_bl
 blocks-cons run [] some = grind arith
 blocks-cons run (p ∷ ps) some = refl
 
--- there are at most as many full blocks as bytes
-pub blocks-le : (run : ℕ) (t : List ℕ) → blocks_in (behind run t) ≤ run + length t
-blocks-le run t =
-    grind (arith, length-append, replicate, length-ones, encoded_len-le (behind run t))
+-- each full block that another block follows has 254 of the bytes before the last one
+pub blocks-most : (run : ℕ) (t : List ℕ) → blocks_in (behind run t) ≤ (run + length t - 1) / 254
+blocks-most run t = grind (arith, length-append, length-ones, encoded_len-le (behind run t))
 
 -- the length of the frame, counted from the open block
 pub open_len-is : (code : ℕ) (t : List ℕ) → 0 < code → open_len code t ≡ code + length t + blocks_in (behind (code - 1) t)
 open_len-is code t some = grind (arith, length-append, length-ones)
 
 -- the rule set for the tactics of `fits` and `has_room`
-pub ruleset counted = (open_len-least, open_len-most, blocks-le)
+pub ruleset counted = (open_len-least, open_len-most, blocks-most)
 
 -- nonzero bytes lengthen the run
 pub blocks-more : (run : ℕ) (more t : List ℕ) → HasNoZero more → blocks_in (behind run (more ++ t)) ≡ blocks_in (behind (run + length more) t)
@@ -40,7 +39,7 @@ blocks-more run more t nonzero =
     grind (arith, open_len-is, length-append, open_len-join (run + 1) more t (omega arith) nonzero)
 
 blocks-nonzero : (run b : ℕ) (t : List ℕ) → b ≢ 0 → blocks_in (behind run (b ∷ t)) ≡ blocks_in (behind (run + 1) t)
-blocks-nonzero run b t other = blocks-more run (b ∷ []) t (All-cons (λ byte. byte ≢ 0) b [] other (All-nil (λ byte. byte ≢ 0)))
+blocks-nonzero run b t other = blocks-more run (b ∷ []) t (one-nonzero b other)
 
 -- a zero ends the run
 pub blocks-zero : (run : ℕ) (t : List ℕ) → blocks_in (behind run (0 ∷ t)) ≡ run / 254 + blocks_in t
@@ -54,11 +53,6 @@ blocks-end run = grind (arith, length-ones, blocks_in, append-nil, slice_split_n
 blocks-skip : (n : ℕ) (bytes t : List ℕ) → n + length bytes < 254 → blocks_in (behind n (bytes ++ 0 ∷ t)) ≡ blocks_in t
 blocks-skip n [] t few = grind (arith, blocks-zero)
 blocks-skip n (b ∷ bytes) t few = grind (arith, cases_eq, blocks-zero, blocks-nonzero, (blocks-skip 0 bytes t), (blocks-skip (n + 1) bytes t))
-
--- the bytes are too few for a full block that another block follows
-pub blocks-none : (run : ℕ) (t : List ℕ) → run + length t < 255 → blocks_in (behind run t) ≡ 0
-blocks-none run t few =
-    grind (arith, length-append, replicate, length-ones, encoded_len-le (behind run t))
 
 -- the next bytes of a message
 module _ (source : List ℕ) (read run k : ℕ) where

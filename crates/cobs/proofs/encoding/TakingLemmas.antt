@@ -9,6 +9,7 @@ use Rattle.std.proofs.lemmas.List.Elements.{All-cons, All-nil}
 use Rattle.std.proofs.lemmas.Grind.{common_steps}
 use Rattle.cobs.proofs.encoding.OpenedLemmas.{Opened-same}
 use Rattle.cobs.specs.Grammar.{HasNoZero}
+use Rattle.cobs_bytes.proofs.bytes.ListLemmas.{one-nonzero}
 use Rattle.cobs.specs.Length.{encoded_len, open_len}
 use Rattle.cobs.specs.OpenBlock.{Reached, CobsEncoderAfter, IsPlaceIn, end_after, end_of, next_of, place_at}
 use Rattle.cobs.specs.Internal.Taking.{TakesFront}
@@ -43,7 +44,7 @@ module _ {s : Start} {slice : List ℕ} {read index next : ℕ} {P : Bool → Ty
       let long = length-set slice next byte in
       let one : take 1 (drop read s.source) ≡ byte ∷ [] = grind (arith, drop_more) in
       let here : take 1 (drop next (set slice next byte)) ≡ take 1 (drop read s.source) = grind (arith, drop-set) in
-      let nonzero : HasNoZero (take 1 (drop read s.source)) = rw one (All-cons (λ byte. byte ≢ 0) byte [] other (All-nil (λ byte. byte ≢ 0))) in
+      let nonzero : HasNoZero (take 1 (drop read s.source)) = rw one (one-nonzero byte other) in
       Reaches-join written (omega arith) 1 (omega arith) (omega arith) nonzero here (λ full z p. absurd (omega arith)) (λ z. refl)
 
 -- the end of a step

@@ -1,5 +1,5 @@
 -- A frame reads as its output, since the parts of a frame are its blocks: by induction on the blocks.
-use Rattle.std.proofs.Common.{◌≡◌, ◌≢◌, ℕ, zero, suc, ◌-◌, ◌<◌, ◌≤◌, List, [], ◌∷◌, ◌++◌, length, drop, All, refl, sym, ap, ◌∙◌, subst, arith, append-nil, append_assoc, length-take, length-take-le, take-append-drop, take_at, drop_at}
+use Rattle.std.proofs.Common.{◌≡◌, ◌≢◌, ℕ, zero, suc, ◌-◌, ◌<◌, ◌≤◌, List, [], ◌∷◌, ◌++◌, length, drop, All, refl, sym, ap, ◌∙◌, subst, arith, append-nil, append_assoc, length-append, length-take, length-take-le, take-append-drop, take_at, drop_at}
 use Rattle.std.specs.List.{concat}
 use Rattle.std.proofs.lemmas.Bool.{eq-eqb, eqb-true}
 use Rattle.std.proofs.lemmas.List.{drop_all}
@@ -47,10 +47,12 @@ parts-some (c ∷ p) some = grind (arith, parts_after-some)
 pub last_of-cons : (xs : List ℕ) (more : List (List ℕ)) → more ≢ [] → last_of (xs ∷ more) ≡ last_of more
 last_of-cons xs more h = grind arith
 
+pub last_of-append : (xs ys : List (List ℕ)) → 0 < length ys → last_of (xs ++ ys) ≡ last_of ys
+last_of-append [] ys some = refl
+last_of-append (x ∷ xs) ys some = grind (arith, length-append xs ys, last_of-append xs ys some)
+
 pub last_of-push : (xs : List (List ℕ)) (x : List ℕ) → last_of (xs ++ x ∷ []) ≡ x
-last_of-push [] x = refl
-last_of-push (y ∷ []) x = refl
-last_of-push (y ∷ z ∷ xs) x = last_of-push (z ∷ xs) x
+last_of-push xs x = last_of-append xs (x ∷ []) (omega arith)
 
 -- THE PARTS OF BLOCKS ARE THE BLOCKS
 
@@ -63,12 +65,9 @@ pub parts-append : (blocks : List (List ℕ)) (rest : List ℕ) → All IsBlock 
 parts-append [] rest h = refl
 parts-append (block ∷ blocks) rest h = grind (arith, append_assoc, parts-block, All-head, (parts-append blocks rest (All-tail IsBlock block blocks h)))
 
-pub parts-blocks : (blocks : List (List ℕ)) → All IsBlock blocks → parts (concat blocks) ≡ blocks
-unfolding parts parts_after
-parts-blocks blocks h = ap parts (sym (append-nil (concat blocks))) ∙ parts-append blocks [] h ∙ append-nil blocks
-
 pub parts-frame : (f : List ℕ) (blocks : List (List ℕ)) → IsFrameOf f blocks → parts f ≡ blocks
-parts-frame f blocks frame = grind (arith, parts-blocks)
+unfolding parts parts_after
+parts-frame f blocks frame = grind (arith, append-nil, parts-append blocks [] frame.each)
 
 -- no byte of the last block is missing
 missing-last : (blocks : List (List ℕ)) → All IsBlock blocks → missing (last_of blocks) ≡ 0

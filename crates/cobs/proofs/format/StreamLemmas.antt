@@ -10,6 +10,7 @@ use Rattle.cobs.specs.Grammar.{HasNoZero, last_of}
 use Rattle.cobs.specs.Stream.{stretches, is_nonempty, but_last, ended_pieces, unended, Outcome, outcome_of, stream_outcomes}
 use Rattle.cobs.specs.Feed.{fed}
 use Rattle.cobs.specs.Laws.{IsAtSentinel}
+use Rattle.cobs.proofs.format.FrameLemmas.{last_of-append}
 use Rattle.cobs.proofs.format.LengthLemmas.{no_zero}
 
 -- A FRONT OF A PIECE AND ONE MORE BYTE
@@ -35,10 +36,6 @@ but_last-append : (xs ys : List (List ℕ)) → 0 < length ys → but_last (xs +
 unfolding but_last
 but_last-append [] ys h = refl
 but_last-append (x ∷ xs) ys h = grind (arith, (but_last-append xs ys h), length-append xs ys)
-
-last_of-append : (xs ys : List (List ℕ)) → 0 < length ys → last_of (xs ++ ys) ≡ last_of ys
-last_of-append [] ys h = refl
-last_of-append (x ∷ xs) ys h = grind (arith, (last_of-append xs ys h), length-append xs ys)
 
 -- the pieces of a stream in two parts
 pub ended_pieces-append : (t u : List ℕ) → ended_pieces (t ++ u) ≡ ended_pieces t ++ ended_pieces (unended t ++ u)

@@ -1,9 +1,9 @@
 -- Facts about bytes and lists, for all crates that use this one: lists of ones, lists that are equal from an index on,
 -- parts without a zero, and the three parts of a list that was overwritten in its middle. Each follows from std's
 -- lemmas on `take`, `drop` and `++`.
-use Rattle.std.proofs.Common.{◌≡◌, ◌≢◌, ℕ, ◌+◌, ◌-◌, ◌≤◌, List, ◌++◌, length, drop, take, replicate, sym, ap, ◌∙◌, subst, arith, append_assoc, take_at, drop_at, length-append, length-take-le}
+use Rattle.std.proofs.Common.{◌≡◌, ◌≢◌, ℕ, ◌+◌, ◌-◌, ◌≤◌, List, [], ◌∷◌, ◌++◌, length, drop, take, replicate, sym, ap, ◌∙◌, subst, arith, append_assoc, take_at, drop_at, length-append, length-take-le}
 use Rattle.std.proofs.lemmas.List.{drop-drop, drop-take, take-take, length-replicate}
-use Rattle.std.proofs.lemmas.List.Elements.{All-drop, All-replicate, All-take}
+use Rattle.std.proofs.lemmas.List.Elements.{All-cons, All-drop, All-nil, All-replicate, All-take}
 use Rattle.std.proofs.lemmas.Slice.{drop-append-drop}
 use Rattle.cobs_bytes.specs.Bytes.{HasNoZero}
 
@@ -12,6 +12,9 @@ length-ones n = length-replicate n 1
 
 pub ones-nonzero : (n : ℕ) → HasNoZero (replicate n 1)
 ones-nonzero n = All-replicate (λ byte. byte ≢ 0) n 1 (λ e. omega arith)
+
+pub one-nonzero : (b : ℕ) → b ≢ 0 → HasNoZero (b ∷ [])
+one-nonzero b other = All-cons (λ b. b ≢ 0) b [] other (All-nil (λ b. b ≢ 0))
 
 -- lists that are equal from an index on are equal from each later index on
 pub drop-later : (a b : ℕ) (xs ys : List ℕ) → a ≤ b → drop a xs ≡ drop a ys → drop b xs ≡ drop b ys

@@ -82,7 +82,7 @@ pub mask_behind-none : (d : ℕ) (bytes : List ℕ) → mask_behind d bytes ≡ 
 mask_behind-none zero bytes e = zero_mask-none bytes e
 mask_behind-none (suc d) bytes e = let m = mask_behind-more d bytes in mask_behind-none d bytes (omega arith)
 
-mask_behind-some : (d : ℕ) (bytes : List ℕ) → mask_behind d bytes ≢ 0 → zero_mask bytes ≢ 0
+pub mask_behind-some : (d : ℕ) (bytes : List ℕ) → mask_behind d bytes ≢ 0 → zero_mask bytes ≢ 0
 mask_behind-some zero bytes some = some
 mask_behind-some (suc d) bytes some = let m = mask_behind-more d bytes in mask_behind-some d bytes (λ e. some (omega arith))
 
@@ -134,9 +134,6 @@ mask-and (b ∷ bytes) some =
 
 -- a mask from which the bits of some zeros have been removed
 module _ (d : ℕ) (bytes : List ℕ) (few : d + length bytes ≤ 64) (some : mask_behind d bytes ≢ 0) where
-  pub some_left : zero_mask bytes ≢ 0
-  some_left = mask_behind-some d bytes some
-
   pub lowest_left : count_trailing_zeros 64 (mask_behind d bytes) ≡ d + nonzero_len bytes
   lowest_left = grind (arith, length-append, length-ones, lowest_bit, nonzero_len-behind)
 

@@ -3,7 +3,7 @@ use Rattle.std.proofs.Common.{◌≡◌, ◌+◌, ◌-◌, ◌/◌, ℕ, List, d
 use Rattle.std.proofs.lemmas.Bool.{eqb-true}
 use Rattle.std.proofs.lemmas.List.{drop_all, get_or-take, get_or-drop, take_rest, drop_more}
 use Rattle.cobs.specs.Grammar.{HasNoZero}
-use Rattle.cobs.proofs.encoding.RoomLemmas.{blocks_in, behind, blocks-le, blocks-end, blocks-none, skipped, run-more, blocks-zero, open_len-is}
+use Rattle.cobs.proofs.encoding.RoomLemmas.{blocks_in, behind, blocks-most, blocks-end, skipped, run-more, blocks-zero, open_len-is}
 use Rattle.cobs.proofs.enc.room.fits.Goals.{Then-read-source, Else-read-source}
 use Rattle.cobs.proofs.enc.room.fits.Goals as goal
 
@@ -32,7 +32,7 @@ stopped c =
     grind (arith, get_or-drop, drop_more, blocks-zero, run-more source read c.by_run.run more (omega arith) nonzero)
 
 pub overflow_add-counted-in_default : goal.overflow_add-counted-in_default
-overflow_add-counted-in_default c = grind (arith, blocks-le, stopped)
+overflow_add-counted-in_default c = grind (arith, blocks-most, stopped)
 
 pub by_run-preserved-in-Some : goal.by_run-preserved-in-Some
 by_run-preserved-in-Some c =
@@ -42,4 +42,4 @@ pub by_run-preserved : goal.by_run-preserved
 by_run-preserved c = grind (arith, stopped, take_rest, length-drop)
 
 pub returns-then-held-counted-clause-fits : goal.returns-then-held-counted-clause-fits
-returns-then-held-counted-clause-fits c = grind (arith, length-drop, blocks-none, open_len-is)
+returns-then-held-counted-clause-fits c = grind (arith, length-drop, blocks-most, open_len-is)
