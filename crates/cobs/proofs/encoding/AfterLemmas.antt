@@ -68,9 +68,9 @@ to_after {slice} {m} {index} {next} {full} code is short fits o = by_end full fi
 
     by_end : (noted : Bool) → (if noted then index else next) ≤ length slice → noted ≡ ends_in_full o.front o.bytes → CobsEncoderAfter slice (place_at index code noted) m
     by_end false fits noted =
-        let b = o.begins in
+        let begins' = o.begins in
         let long : length f ≡ next = length-append (concat o.front) (code ∷ o.bytes) ∙ omega arith in
-        let l = length-take-le next slice fits in
+        let front_long = length-take-le next slice fits in
         let x : ℕ = get_or (take next slice) index 0 in
         let split = take-append-drop index (take next slice) in
         let front = take-take index next slice (omega arith) in
@@ -82,18 +82,18 @@ to_after {slice} {m} {index} {next} {full} code is short fits o = by_end full fi
           noted = sym (ap is_full (last_of-push o.front (code ∷ o.bytes)) ∙ ne_eqb code 255 (λ e. omega arith));
           follows = (f, follows);
           fits = omega arith;
-          begins = (x, rw long (begins ∙ sym (set_at (concat o.front) code o.bytes x index (sym b))));
+          begins = (x, rw long (begins ∙ sym (set_at (concat o.front) code o.bytes x index (sym begins'))));
         }
     by_end true fits noted =
-        let n = no_bytes o.front o.bytes noted in
-        let b = o.begins in
+        let none = no_bytes o.front o.bytes noted in
+        let begins' = o.begins in
         record {
           frame = concat o.front;
-          encoded = encoded-full o.front n.1 o.each (rw n.0 at o.message);
-          noted = sym n.1;
+          encoded = encoded-full o.front none.1 o.each (rw none.0 at o.message);
+          noted = sym none.1;
           follows = (f, follows);
           fits = omega arith;
-          begins = (0, rw (← b) (o.written ∙ sym (set_past (concat o.front) index 0 (omega arith))));
+          begins = (0, rw (← begins') (o.written ∙ sym (set_past (concat o.front) index 0 (omega arith))));
         }
 
 -- The encoded frame of a message, by the blocks of its open frame: a lone block after a full one is no part of it.
@@ -121,9 +121,11 @@ module _ {slice m : List ℕ} {r : Reached} (h : CobsEncoderAfter slice r m) whe
   abbrev o : IsOpenFrame h.follows.0 m r.block.index r.block.code
   o = h.follows.1
 
+  -- its blocks
   parts : All IsBlock o.front × IsBlock (r.block.code ∷ o.bytes)
   parts = blocks-of o
 
+  -- an encoder notes that the frame ends in a full block exactly if it does
   noted-is : r.full ≡ ends_in_full o.front o.bytes
   noted-is = h.noted ∙ (frame-is h.encoded o).0
 
@@ -136,34 +138,34 @@ module _ {slice m : List ℕ} {r : Reached} (h : CobsEncoderAfter slice r m) whe
   there (inl full) =
       let none = no_bytes o.front o.bytes (sym full ∙ noted-is) in
       let long = ap length none.0 in
-      let c = parts.1.0 in
+      let code-is = parts.1.0 in
       let begins = o.begins in
       let is : h.frame ≡ concat o.front = whole-is full ∙ append-nil (concat o.front) in
       grind (arith, drop_all, set_past, length-take (next_of r) slice)
   there (inr open') =
-      let c = parts.1.0 in
-      let b = o.begins in
-      let x : ℕ = h.begins.0 in
+      let code-is = parts.1.0 in
+      let begins = o.begins in
+      let byte : ℕ = h.begins.0 in
       let is : h.frame ≡ concat o.front ++ r.block.code ∷ o.bytes = whole-is open' in
       let long : length h.frame ≡ next_of r = ap length is ∙ length-append (concat o.front) (r.block.code ∷ o.bytes) ∙ omega arith in
-      let front : take (next_of r) slice ≡ concat o.front ++ x ∷ o.bytes = (rw (long, is) at h.begins.1) ∙ set_at (concat o.front) r.block.code o.bytes x r.block.index (sym b) in
-      let one : length (concat o.front ++ x ∷ []) ≡ r.block.index + 1 = length-append (concat o.front) (x ∷ []) ∙ omega arith in (
-        sym (take-take r.block.index (next_of r) slice (omega arith)) ∙ ap (take r.block.index) front ∙ take_at (concat o.front) (x ∷ o.bytes) r.block.index (sym b),
-        ap (drop (r.block.index + 1)) (front ∙ sym (append_assoc (concat o.front) (x ∷ []) o.bytes)) ∙ drop_at (concat o.front ++ x ∷ []) o.bytes (r.block.index + 1) one,
+      let front : take (next_of r) slice ≡ concat o.front ++ byte ∷ o.bytes = (rw (long, is) at h.begins.1) ∙ set_at (concat o.front) r.block.code o.bytes byte r.block.index (sym begins) in
+      let one : length (concat o.front ++ byte ∷ []) ≡ r.block.index + 1 = length-append (concat o.front) (byte ∷ []) ∙ omega arith in (
+        sym (take-take r.block.index (next_of r) slice (omega arith)) ∙ ap (take r.block.index) front ∙ take_at (concat o.front) (byte ∷ o.bytes) r.block.index (sym begins),
+        ap (drop (r.block.index + 1)) (front ∙ sym (append_assoc (concat o.front) (byte ∷ []) o.bytes)) ∙ drop_at (concat o.front ++ byte ∷ []) o.bytes (r.block.index + 1) one,
       )
 
   -- the converse of `to_after`
   pub from_after : Opened slice m r.block.index (next_of r) r.full
   from_after =
       let bytes = there (cases_Bool r.full) in
-      let c = parts.1.0 in
+      let code-is = parts.1.0 in
       record {
         front = o.front;
         bytes = o.bytes;
         each = parts.0;
         nonzero = parts.1.2;
         few = omega (arith, o.not_full);
-        message = rw (← c) o.message;
+        message = rw (← code-is) o.message;
         begins = o.begins;
         place = omega arith;
         written = bytes.0;

@@ -42,6 +42,7 @@ open_len-zero code t some short = grind (arith, length-ones, encoded_len-zero, o
 pub open_len-least : (code : ℕ) (t : List ℕ) → 0 < code → code + length t ≤ open_len code t
 open_len-least code t some = grind (arith, length-append, length-ones)
 
+-- the frame is at most as long as the longest one for so many bytes
 pub open_len-most : (code : ℕ) (t : List ℕ) → 0 < code → open_len code t ≤ max_encoded_len (code - 1 + length t)
 open_len-most code t some = grind (arith, length-append, length-ones, encoded_len-le)
 

@@ -11,6 +11,7 @@ use Rattle.cobs.proofs.encoding.OpenLemmas.{append-some, concat-push, message_of
 use Rattle.cobs.proofs.format.FrameLemmas.{last_of-push}
 use Rattle.cobs.specs.Internal.Reaches.{Opened, ends_in_full}
 
+-- an open block with bytes is no placeholder
 not_full-more : (front : List (List ℕ)) (bytes more : List ℕ) → more ≢ [] → ends_in_full front (bytes ++ more) ≡ false
 not_full-more front [] [] some = grind arith
 not_full-more front [] (x ∷ more) some = refl

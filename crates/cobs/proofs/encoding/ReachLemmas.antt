@@ -27,6 +27,7 @@ module _ {s : Start} {slice : List ℕ} {pos index next : ℕ} {P : Bool → Typ
   pub Reaches-weaker : {Q : Bool → Type 0} → ((full : Bool) → P full → Q full) → Reaches s slice pos index next Q
   Reaches-weaker weaker = grind (arith, Reaches-at)
 
+  -- if the open block has no bytes, the byte in its code's place doesn't matter
   Reaches-same-empty : (slice' : List ℕ) → next ≡ index + 1 → take index slice' ≡ take index slice → drop (whole_end s) slice' ≡ drop (whole_end s) s.slice → Reaches s slice' pos index next P
   Reaches-same-empty slice' empty front back = grind (arith, Opened-same-empty)
 
@@ -101,6 +102,7 @@ module _ {s : Start} {slice : List ℕ} {pos index next : ℕ} {P : Bool → Typ
 abbrev pub IsNotFull : Bool → Type 0
 IsNotFull full = full ≡ false
 
+-- n + 1 zeros are a zero and n zeros
 zero-first : (n pos : ℕ) (source : List ℕ) → pos + suc n ≤ length source → take (suc n) (drop pos source) ≡ replicate (suc n) 0 → (get_or source pos 0 ≡ 0) × (take n (drop (pos + 1) source) ≡ replicate n 0)
 zero-first n pos source within zeros = let left = drop_more source pos 0 (omega arith) in (cc, cc)
 

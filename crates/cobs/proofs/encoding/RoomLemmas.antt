@@ -18,6 +18,7 @@ blocks_in m = full_blocks (runs m)
 abbrev pub behind : ℕ → List ℕ → List ℕ
 behind n t = replicate n 1 ++ t
 
+-- a run that others follow has one full block for each 254 bytes
 blocks-cons : (run : ℕ) (parts : List (List ℕ)) → parts ≢ [] → full_blocks (run ∷ map length parts) ≡ run / 254 + full_blocks (map length parts)
 blocks-cons run [] some = grind arith
 blocks-cons run (p ∷ ps) some = refl
@@ -56,6 +57,7 @@ blocks-skip n (b ∷ bytes) t few = grind (arith, cases_eq, blocks-zero, blocks-
 
 -- the next bytes of a message
 module _ (source : List ℕ) (read run k : ℕ) where
+  -- the next k bytes, and the bytes after them
   next-are : drop read source ≡ take k (drop read source) ++ drop (read + k) source
   next-are = sym (take-append-drop k (drop read source)) ∙ ap (λ (x : List ℕ). take k (drop read source) ++ x) (drop-drop k read source)
 

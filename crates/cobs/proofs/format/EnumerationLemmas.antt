@@ -28,6 +28,7 @@ last_number-cons x (p ∷ ps) some = refl
 last_run-all : (bytes : List ℕ) → HasNoZero bytes → last_run bytes ≡ length bytes
 last_run-all bytes h = grind (arith, slice_split_none, no_zero)
 
+-- bytes without a zero lengthen the last run if it is the only one
 last_run-append : (bytes m : List ℕ) → HasNoZero bytes → (last_run (bytes ++ m) ≡ last_run m) ⊎ ((last_run (bytes ++ m) ≡ length bytes + last_run m) × (length m ≡ last_run m))
 last_run-append bytes m h =
     grind (arith, stretches-front, length-append, some_stretch, join_with_byte-slice_split 0 m)
@@ -60,6 +61,7 @@ ends_in_full g m e =
 abbrev EndsInLone : List (List ℕ) → Type 0
 EndsInLone bs = (cs : List (List ℕ)) × (bs ≡ cs ++ lone_block ∷ []) × (cs ≢ []) × IsShorter cs × IsFull (last_of cs)
 
+-- two blocks are canonical unless the second one is the lone block and the first one is full
 two : (b c : List ℕ) → IsBlock c → IsShorter (b ∷ c ∷ []) ⊎ EndsInLone (b ∷ c ∷ [])
 two b [] h = absurd h
 two b (k ∷ x ∷ bytes) h = inl (IsShorter-cons b ((k ∷ x ∷ bytes) ∷ []) (λ full e. cc) (IsShorter-single (k ∷ x ∷ bytes)))

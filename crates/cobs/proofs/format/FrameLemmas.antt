@@ -47,6 +47,7 @@ parts-some (c ∷ p) some = grind (arith, parts_after-some)
 pub last_of-cons : (xs : List ℕ) (more : List (List ℕ)) → more ≢ [] → last_of (xs ∷ more) ≡ last_of more
 last_of-cons xs more h = grind arith
 
+-- the last element of two lists end to end is the last one of the second
 pub last_of-append : (xs ys : List (List ℕ)) → 0 < length ys → last_of (xs ++ ys) ≡ last_of ys
 last_of-append [] ys some = refl
 last_of-append (x ∷ xs) ys some = grind (arith, length-append xs ys, last_of-append xs ys some)
@@ -140,6 +141,7 @@ All-apart P xs ys h = (
   subst (All P) (drop_at xs ys (length xs) refl) (All-drop P (length xs) (xs ++ ys) h),
 )
 
+-- the code of a block is below 256, so if its bytes are, the whole block is
 block_bytes : (block : List ℕ) → IsBlock block → All (λ b. b < 256) (bytes_of block) → All (λ b. b < 256) block
 block_bytes block h e = grind (arith, All-cons)
 

@@ -68,6 +68,7 @@ last-block : (rest : List ℕ) → HasNoZero rest → All (λ b. b < 256) rest �
 last-block [] nonzero below some last = grind arith
 last-block (code ∷ bytes) nonzero below some last = (omega arith, All-head (λ b. b < 256) code bytes below, All-tail (λ b. b ≢ 0) code bytes nonzero)
 
+-- a block of one byte is the lone block
 lone-is : (rest : List ℕ) → length rest ≡ get_or rest 0 0 → length rest ≡ 1 → rest ≡ lone_block
 lone-is [] last one = grind arith
 lone-is (code ∷ []) last one = grind arith

@@ -35,6 +35,7 @@ pub stretches-front : (bytes m : List ℕ) → HasNoZero bytes → stretches (by
 stretches-front [] m h = grind (arith, some_stretch)
 stretches-front (b ∷ bs) m h = grind (arith, slice_split-cons_no, ne_eqb, All-head, All-tail, stretches-front bs m (All-tail (λ b. b ≢ 0) b bs h))
 
+-- 254 bytes before the first part are one full block more, if a part is left
 full_more : (bytes : List ℕ) (parts : List (List ℕ)) → length bytes ≡ 254 → parts ≢ [] → join_with_byte 0 parts ≢ [] → full_blocks (map length (onto_parts bytes parts)) ≡ 1 + full_blocks (map length parts)
 full_more bytes [] l some more = grind arith
 full_more bytes ([] ∷ []) l some more = grind arith
@@ -46,6 +47,7 @@ pub encoded_len-full : (bytes m : List ℕ) → length bytes ≡ 254 → HasNoZe
 encoded_len-full bytes m l h more =
     grind (arith, stretches-front, full_more, some_stretch, length-append, join_with_byte-slice_split 0 m)
 
+-- no message of the same length has more full blocks than one without zeros
 full_blocks-le : (parts : List (List ℕ)) → full_blocks (map length parts) + 1 ≤ max_overhead (length (join_with_byte 0 parts))
 full_blocks-le [] = omega arith
 full_blocks-le (p ∷ []) = omega arith

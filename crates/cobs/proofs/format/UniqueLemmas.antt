@@ -42,10 +42,10 @@ first-block c a d ds h s =
 
 -- how long canonical blocks are
 length-blocks : (bs : List (List ℕ)) → bs ≢ [] → All IsBlock bs → IsShorter bs → length (concat bs) ≡ encoded_len (message_of bs)
-length-blocks [] p h s = absurd (p refl)
-length-blocks ([] ∷ bs) p h s = grind (arith, All-head)
-length-blocks ((c ∷ a) ∷ []) p h s = let is = All-head IsBlock (c ∷ a) [] h in omega (arith, encoded_len-last a (omega arith) is.2, ap length (append-nil a))
-length-blocks ((c ∷ a) ∷ d ∷ ds) p h s = grind (arith, All-head, All-tail, IsShorter-tail, length-append, encoded_len-zero, encoded_len-full, first-block, length-blocks (d ∷ ds) (λ e. cc) (All-tail IsBlock (c ∷ a) (d ∷ ds) h) (IsShorter-tail (c ∷ a) (d ∷ ds) s))
+length-blocks [] some each short = absurd (some refl)
+length-blocks ([] ∷ bs) some each short = grind (arith, All-head)
+length-blocks ((c ∷ a) ∷ []) some each short = let is = All-head IsBlock (c ∷ a) [] each in omega (arith, encoded_len-last a (omega arith) is.2, ap length (append-nil a))
+length-blocks ((c ∷ a) ∷ d ∷ ds) some each short = grind (arith, All-head, All-tail, IsShorter-tail, length-append, encoded_len-zero, encoded_len-full, first-block, length-blocks (d ∷ ds) (λ e. cc) (All-tail IsBlock (c ∷ a) (d ∷ ds) each) (IsShorter-tail (c ∷ a) (d ∷ ds) short))
 
 -- THERE IS ONE ENCODED FRAME
 

@@ -75,6 +75,7 @@ lowest_bit bytes few some =
 abbrev pub mask_behind : ℕ → List ℕ → ℕ
 mask_behind d bytes = zero_mask (replicate d 1 ++ bytes)
 
+-- one more byte before the others doubles the mask
 mask_behind-more : (d : ℕ) (bytes : List ℕ) → mask_behind (suc d) bytes ≡ 2 * mask_behind d bytes
 mask_behind-more d bytes = grind (arith, mask_behind)
 
@@ -168,6 +169,7 @@ pub zero_mask-all : (bytes : List ℕ) → zero_mask bytes + 1 ≡ 2 ^ length by
 zero_mask-all [] e = refl
 zero_mask-all (b ∷ bytes) e = grind (arith, pow-suc, cases_eq, set_if, clear_if, zero_mask-all bytes)
 
+-- if 32 bytes have the mask of 32 zeros, they are 32 zeros
 pub window_all : (bytes : List ℕ) → length bytes ≤ 32 → zero_mask bytes ≡ 4294967295 → (length bytes ≡ 32) × (bytes ≡ replicate 32 0)
 window_all bytes few e =
     let most = zero_mask-lt bytes in

@@ -14,9 +14,11 @@ use Rattle.cobs.proofs.encoding.TakingLemmas.{all-end, all-rest, next-least}
 use Rattle.cobs.proofs.enc.in_place.encode_in_place.Goals as goal
 use Rattle.cobs_bytes.proofs.bytes.ListLemmas.{drop-later}
 
+-- the frame ends at the place of the next byte at the latest
 end-le : (r : Reached) → end_of r ≤ next_of r
 end-le r = grind (arith, cases_Bool)
 
+-- lists that are equal from index a on have the same element at each index from a on
 there : (a k : ℕ) (x y : List ℕ) → a ≤ k → drop a x ≡ drop a y → get_or x k 0 ≡ get_or y k 0
 there a k x y le e =
     let s : k ≡ a + (k - a) = omega arith in
