@@ -103,16 +103,16 @@ frame-is {f} {m} {o} {index} {code} e r = elim (cases_Bool (ends_in_full r.front
   | inl full ↦
       let each = blocks-of r in
       let n = no_bytes r.front r.bytes (sym full) in
-      let one : code ≡ 1 = each.1.0 ∙ ap (λ (x : List ℕ). length x + 1) n.0 in
+      let one : code ≡ 1 = each.1.0 ∙ ap (λ x. length x + 1) n.0 in
       let same = one_encoded f (concat r.front) m e (encoded-full r.front n.1 each.0 (rw (n.0, one) at r.message)) in
       let parse = one_frame f e.reads.blocks r.front e.reads.frame (rw same (full-frame r.front n.1 each.0)) in
-      rw full (ap (λ (l : List (List ℕ)). is_full (last_of l)) parse ∙ n.1, same ∙ sym (append-nil (concat r.front)))
+      rw full (ap (λ l. is_full (last_of l)) parse ∙ n.1, same ∙ sym (append-nil (concat r.front)))
   | inr open' ↦
       let same = one_encoded f o m e (encoded-open r.front code r.bytes r.frame r.message (sym open')) in
       let parse = one_frame f e.reads.blocks (r.front ++ (code ∷ r.bytes) ∷ []) e.reads.frame (rw same r.frame) in
       let short = r.not_full in
       rw open' (
-        ap (λ (l : List (List ℕ)). is_full (last_of l)) parse ∙ ap is_full (last_of-push r.front (code ∷ r.bytes)) ∙ ne_eqb code 255 (λ k. omega arith),
+        ap (λ l. is_full (last_of l)) parse ∙ ap is_full (last_of-push r.front (code ∷ r.bytes)) ∙ ne_eqb code 255 (λ k. omega arith),
         same ∙ f-is r,
       )
 ]
@@ -131,7 +131,7 @@ module _ {slice m : List ℕ} {r : Reached} (h : CobsEncoderAfter slice r m) whe
 
   -- the open block is part of the frame, unless it is only a placeholder after a full block
   pub whole-is : {full : Bool} → r.full ≡ full → h.frame ≡ concat o.front ++ (if full then [] else r.block.code ∷ o.bytes)
-  whole-is is = (frame-is h.encoded o).1 ∙ ap (λ (full : Bool). concat o.front ++ (if full then [] else r.block.code ∷ o.bytes)) (sym noted-is ∙ is)
+  whole-is is = (frame-is h.encoded o).1 ∙ ap (λ full. concat o.front ++ (if full then [] else r.block.code ∷ o.bytes)) (sym noted-is ∙ is)
 
   -- so an encoder's slice has the blocks before the open block, and the open block's bytes after the place of its code
   there : (r.full ≡ true) ⊎ (r.full ≡ false) → (take r.block.index slice ≡ concat o.front) × (drop (r.block.index + 1) (take (next_of r) slice) ≡ o.bytes)

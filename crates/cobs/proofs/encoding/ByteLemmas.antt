@@ -18,7 +18,7 @@ use Rattle.cobs.specs.Internal.Reaches.{Reaches, start_with}
 pub after-more : {slice m : List ℕ} {r : Reached} (a bytes : List ℕ) → CobsEncoderAfter slice r m → HasNoZero a → length a + 1 ≡ r.block.code → bytes ≢ [] → encoded_len (m ++ bytes) ≡ r.block.index + encoded_len (a ++ bytes)
 after-more {r = r} a bytes h nonzero long some =
     let k = length-ones (r.block.code - 1) in
-    after-len h bytes some ∙ ap (λ (n : ℕ). r.block.index + n) (same_start (replicate (r.block.code - 1) 1) a bytes (ones-nonzero (r.block.code - 1)) nonzero (omega arith))
+    after-len h bytes some ∙ ap (λ n. r.block.index + n) (same_start (replicate (r.block.code - 1) 1) a bytes (ones-nonzero (r.block.code - 1)) nonzero (omega arith))
 
 -- the first byte of a source is taken
 module _ {source slice : List ℕ} {r : Reached} {next : ℕ} (place : IsPlaceIn (length slice) r) (fits : end_after r source ≤ length slice) (some : 0 < length source) (at : next ≡ next_of r) where
@@ -61,7 +61,7 @@ module _ {slice m : List ℕ} {r : Reached} (h : CobsEncoderAfter slice r m) (ro
   pub after-filled : (byte : ℕ) → byte ≢ 0 → r.block.code ≡ 254 → CobsEncoderAfter (set (set slice (next_of r) byte) r.block.index 255) (place_at (r.block.index + 255) 1 true) (m ++ byte ∷ [])
   after-filled byte other last =
       let full : r.block.index + 255 ≡ next_of r + 1 = omega arith in
-      (byte-fills {source = byte ∷ []} (after-place h) (fits byte) (omega arith) refl other last (ap (λ (i : ℕ). place_at i 1 true) full)).after m h
+      (byte-fills {source = byte ∷ []} (after-place h) (fits byte) (omega arith) refl other last (ap (λ i. place_at i 1 true) full)).after m h
 
   pub after-zero : CobsEncoderAfter (set slice r.block.index r.block.code) (place_at (next_of r) 1 false) (m ++ 0 ∷ [])
   after-zero = (byte-zero {source = 0 ∷ []} (after-place h) (fits 0) (omega arith) refl refl refl refl).after m h

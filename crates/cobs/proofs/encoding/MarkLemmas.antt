@@ -77,7 +77,7 @@ module _ {s : Start} {slice after : List ℕ} {read len index next zeros : ℕ} 
       let until_full : ℕ = index + 255 - next in
       let sum : next + until_full ≡ index + 255 = omega arith in
       let long = length-row w.copied in
-      let near = ap (λ (n : ℕ). min (lowest n) len) w.bits in
+      let near = ap (λ n. min (lowest n) len) w.bits in
       let nonzero = rw (take-take until_full len (drop read s.source) (omega arith)) at (clear_front window (omega arith) until_full (omega arith)) in
       let joined = copied-joins w.copied until_full (omega arith) (omega arith) (omega arith) nonzero in
       Reaches-full (rw sum at joined) more refl (length-after w.copied) refl
@@ -134,8 +134,8 @@ module _ {s : Start} {slice : List ℕ} {read len index next zeros d : ℕ} (m :
         let seen = m.seen in
         let sum : len - d ≡ j + 1 + (len - (k + 1)) = omega arith in
         let cut : (xs : List ℕ) (a : ℕ) → drop (j + 1) (take (len - d) (drop (a + d) xs)) ≡ take (len - (k + 1)) (drop (a + (k + 1)) xs) =
-        λ xs a. ap (λ (m : ℕ). drop (j + 1) (take m (drop (a + d) xs))) sum ∙ drop-take (j + 1) (len - (k + 1)) (drop (a + d) xs)
-        ∙ ap (take (len - (k + 1))) (drop-drop (j + 1) (a + d) xs ∙ ap (λ (m : ℕ). drop m xs) (omega arith)) in
+        λ xs a. ap (λ m. drop (j + 1) (take m (drop (a + d) xs))) sum ∙ drop-take (j + 1) (len - (k + 1)) (drop (a + d) xs)
+        ∙ ap (take (len - (k + 1))) (drop-drop (j + 1) (a + d) xs ∙ ap (λ m. drop m xs) (omega arith)) in
         let front = take-take j (len - d) (drop (read + d) s.source) (omega arith) in
         let there = mask_behind-some d left some_bits in
         let nonzero = subst HasNoZero front (nonzero_len-before left there) in
@@ -188,7 +188,7 @@ short-copied {source} {old} {slice} {r} {mask} code some few short fits is bits 
 pub window-front : {source old slice : List ℕ} {r r' : Reached} {read len index next : ℕ} → WindowTaken (start_with old r source) slice read len index next
     → read + len ≡ length source → r' ≡ place_at index (next + len - index) false → TakesFront old r source (length source) slice r'
 window-front {source} {old} {slice} {r} {r'} w last is =
-    subst (λ (n : ℕ). TakesFront old r source n slice r') last (front-open w.room w.reaches w.open' (omega (arith, w.ordered)) is)
+    subst (λ n. TakesFront old r source n slice r') last (front-open w.room w.reaches w.open' (omega (arith, w.ordered)) is)
 
 -- BYTES THAT ARE TAKEN WITHOUT A MASK
 

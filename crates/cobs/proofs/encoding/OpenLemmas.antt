@@ -87,8 +87,8 @@ module _ {m f g : List ℕ} {index code : ℕ} (o : IsOpenFrame f m index code) 
       let is = blocks-of o in
       let begins = o.begins in
       let long : length (concat o.front ++ code ∷ o.bytes) ≡ index + code = length-append (concat o.front) (code ∷ o.bytes) ∙ omega (arith, is.1.0) in
-      let zero : joint (code ∷ o.bytes) ≡ 0 ∷ [] = ap (λ (t : Bool). if t then [] else 0 ∷ []) (ne_eqb code 255 (λ e. omega (arith, o.not_full))) in
-      closed o (code ∷ o.bytes) (index + code) x is.1 long (rw zero (ap (λ (l : List ℕ). l ++ 0 ∷ []) (sym o.message))) (ap (λ (l : List ℕ). l ++ x ∷ []) (set-g code))
+      let zero : joint (code ∷ o.bytes) ≡ 0 ∷ [] = ap (λ t. if t then [] else 0 ∷ []) (ne_eqb code 255 (λ e. omega (arith, o.not_full))) in
+      closed o (code ∷ o.bytes) (index + code) x is.1 long (rw zero (ap (λ l. l ++ 0 ∷ []) (sym o.message))) (ap (λ l. l ++ x ∷ []) (set-g code))
 
   module _ (byte : ℕ) (nonzero : byte ≢ 0) where
     -- the open block's bytes and this byte are a block
@@ -103,7 +103,7 @@ module _ {m f g : List ℕ} {index code : ℕ} (o : IsOpenFrame f m index code) 
         front = o.front;
         bytes = o.bytes ++ byte ∷ [];
         frame = frame_push o.front ((code + 1) ∷ (o.bytes ++ byte ∷ [])) (blocks-of o).0 (longer (code + 1) refl (omega (arith, o.not_full)));
-        message = rw (message_of-more o.front (code + 1) code o.bytes (byte ∷ [])) (ap (λ (l : List ℕ). l ++ byte ∷ []) o.message);
+        message = rw (message_of-more o.front (code + 1) code o.bytes (byte ∷ [])) (ap (λ l. l ++ byte ∷ []) o.message);
         begins = o.begins;
         not_full = omega (arith, o.not_full);
       },
@@ -116,7 +116,7 @@ module _ {m f g : List ℕ} {index code : ℕ} (o : IsOpenFrame f m index code) 
         let begins = o.begins in
         let more = longer 255 (omega arith) (omega arith) in
         let long : length (concat o.front ++ 255 ∷ (o.bytes ++ byte ∷ [])) ≡ index + 255 = length-append (concat o.front) (255 ∷ (o.bytes ++ byte ∷ [])) ∙ omega (arith, more.0) in
-        let message = append-nil _ ∙ message_of-more o.front 255 code o.bytes (byte ∷ []) ∙ ap (λ (l : List ℕ). l ++ byte ∷ []) (sym o.message) in
+        let message = append-nil _ ∙ message_of-more o.front 255 code o.bytes (byte ∷ []) ∙ ap (λ l. l ++ byte ∷ []) (sym o.message) in
         closed o (255 ∷ (o.bytes ++ byte ∷ [])) (index + 255) x more long message (rw (set-g 255) (grind (arith, append_assoc)))
 
 -- the output of a caller that carried out the results ends with the open block

@@ -67,7 +67,7 @@ len-blocks (b ∷ c ∷ front) code bytes t each some =
     let m : List ℕ = message_of (c ∷ front ++ (code ∷ bytes) ∷ []) in
     let is_some : m ≢ [] = some_message c (front ++ (code ∷ bytes) ∷ []) (All-head IsBlock c front more) (append-some front (code ∷ bytes) []) in
     let not_none : m ++ t ≢ [] = λ e. is_some (nil_from_length m (omega (arith, length-append m t, ap length e))) in
-    grind (arith, len-block, All-head, len-blocks (c ∷ front) code bytes t more some, length-append b (concat (c ∷ front)))
+    grind (arith, len-block, All-head, All-tail, len-blocks (c ∷ front) code bytes t, length-append b (concat (c ∷ front)))
 
 -- the frame of a message that continues
 pub Opened-len : {slice m : List ℕ} {index next : ℕ} {full : Bool} (t : List ℕ) → (full ≡ true → t ≢ []) → Opened slice m index next full → encoded_len (m ++ t) ≡ index + open_len (next - index) t

@@ -49,7 +49,7 @@ module _ {slice m : List ℕ} {index next : ℕ} {full : Bool} (o : Opened slice
         each = o.each;
         nonzero = All-append (λ byte. byte ≢ 0) o.bytes more o.nonzero nonzero;
         few = omega arith;
-        message = rw (message_of-more o.front (length (o.bytes ++ more) + 1) (length o.bytes + 1) o.bytes more) (ap (λ (x : List ℕ). x ++ more) o.message);
+        message = rw (message_of-more o.front (length (o.bytes ++ more) + 1) (length o.bytes + 1) o.bytes more) (ap (λ x. x ++ more) o.message);
         begins = o.begins;
         place = omega arith;
         written = o.written;
@@ -76,7 +76,7 @@ module _ {slice m : List ℕ} {index next : ℕ} {full : Bool} (o : Opened slice
         each = All-push IsBlock o.front block o.each (sym code-is, omega arith, o.nonzero);
         nonzero = All-nil (λ byte. byte ≢ 0);
         few = omega arith;
-        message = rw (message_of-close front' (append-some o.front block []), last_of-push o.front block, ← code-is) (ap (λ (x : List ℕ). x ++ joint ((length o.bytes + 1) ∷ [])) o.message);
+        message = rw (message_of-close front' (append-some o.front block []), last_of-push o.front block, ← code-is) (ap (λ x. x ++ joint ((length o.bytes + 1) ∷ [])) o.message);
         begins = rw (concat-push o.front block) (omega (arith, length-append (concat o.front) block));
         place = refl;
         written = wrote ∙ sym (concat-push o.front block);

@@ -59,7 +59,7 @@ blocks-skip n (b ∷ bytes) t few = grind (arith, cases_eq, blocks-zero, blocks-
 module _ (source : List ℕ) (read run k : ℕ) where
   -- the next k bytes, and the bytes after them
   next-are : drop read source ≡ take k (drop read source) ++ drop (read + k) source
-  next-are = sym (take-append-drop k (drop read source)) ∙ ap (λ (x : List ℕ). take k (drop read source) ++ x) (drop-drop k read source)
+  next-are = sym (take-append-drop k (drop read source)) ∙ ap (λ x. take k (drop read source) ++ x) (drop-drop k read source)
 
   -- the last zero of those that the open block could have
   pub skipped : read + k < length source → run + k < 254 → get_or source (read + k) 0 ≡ 0 → blocks_in (behind run (drop read source)) ≡ blocks_in (behind 0 (drop (read + (k + 1)) source))

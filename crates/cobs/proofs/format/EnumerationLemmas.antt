@@ -54,7 +54,7 @@ ends_full ((c ∷ bytes) ∷ d ∷ ds) some h s =
 pub ends_in_full : (g m : List ℕ) (e : IsEncodedFrame g m) → IsFull (last_of e.reads.blocks) ↔ EndsInFullRun m
 ends_in_full g m e =
     let r = e.reads in
-    subst (λ (l : List ℕ). IsFull (last_of r.blocks) ↔ EndsInFullRun l) (sym r.message) (ends_full _ r.frame.some r.frame.each (IsEncodedFrame-shorter g m e))
+    subst (λ l. IsFull (last_of r.blocks) ↔ EndsInFullRun l) (sym r.message) (ends_full _ r.frame.some r.frame.each (IsEncodedFrame-shorter g m e))
 
 -- BLOCKS ARE CANONICAL, OR CANONICAL BLOCKS THAT END IN A FULL ONE AND THE LONE BLOCK
 
@@ -66,7 +66,7 @@ two : (b c : List ℕ) → IsBlock c → IsShorter (b ∷ c ∷ []) ⊎ EndsInLo
 two b [] h = absurd h
 two b (k ∷ x ∷ bytes) h = inl (IsShorter-cons b ((k ∷ x ∷ bytes) ∷ []) (λ full e. cc) (IsShorter-single (k ∷ x ∷ bytes)))
 two b (k ∷ []) h = ⊎_elim
-    (λ (full : is_full b ≡ true). inr (b ∷ [], ap (λ (n : ℕ). b ∷ (n ∷ []) ∷ []) h.0, λ e. cc, IsShorter-single b, full))
+    (λ (full : is_full b ≡ true). inr (b ∷ [], ap (λ n. b ∷ (n ∷ []) ∷ []) h.0, λ e. cc, IsShorter-single b, full))
     (λ (open' : is_full b ≡ false). inl (IsShorter-cons b ((k ∷ []) ∷ []) (λ full. cc) (IsShorter-single (k ∷ []))))
     (cases_Bool (is_full b))
 
@@ -78,9 +78,9 @@ either_blocks (b ∷ c ∷ d ∷ ds) some h = ⊎_elim
     (λ s. inl (IsShorter-cons b (c ∷ d ∷ ds) (λ full e. cc) s))
     (λ (w : EndsInLone (c ∷ d ∷ ds)). inr (
       b ∷ w.0,
-      ap (λ (l : List (List ℕ)). b ∷ l) w.1,
+      ap (λ l. b ∷ l) w.1,
       λ e. cc,
-      IsShorter-cons b w.0 (λ full e. true≢false (sym w.4 ∙ ap (λ (l : List (List ℕ)). is_full (last_of l)) e)) w.3,
+      IsShorter-cons b w.0 (λ full e. true≢false (sym w.4 ∙ ap (λ l. is_full (last_of l)) e)) w.3,
       ap is_full (last_of-cons b w.0 w.2) ∙ w.4,
     ))
     (either_blocks (c ∷ d ∷ ds) (λ e. cc) (All-tail IsBlock b (c ∷ d ∷ ds) h))
@@ -111,7 +111,7 @@ all_frames f m = (frames_of f m, frames_from f m)
 
 -- the second frame is one byte longer than the encoded frame
 pub length-second : (f m : List ℕ) → IsEncodedFrame f m → EndsInFullRun m → length (f ++ lone_block) ≡ encoded_len m + 1
-length-second f m e x = length_push f 1 ∙ ap (λ (n : ℕ). n + 1) (length-encoded f m e)
+length-second f m e x = length_push f 1 ∙ ap (λ n. n + 1) (length-encoded f m e)
 
 -- AN OPEN FRAME
 
@@ -140,7 +140,7 @@ EncoderAfter-push state m (suc b) (f, o) = ⊎_elim
 
 after_all : (more m : List ℕ) (state : OpenBlock) → EncoderAfter state m → (next : OpenBlock) × EncoderAfter next (m ++ more)
 after_all [] m state h = grind (arith, append-nil)
-after_all (b ∷ more) m state h = grind (arith, EncoderAfter-push, append_assoc, after_all more (m ++ b ∷ []) (next_open state b) (EncoderAfter-push state m b h))
+after_all (b ∷ more) m state h = grind (arith, EncoderAfter-push, append_assoc, after_all more (m ++ b ∷ []) (next_open state b))
 
 pub encoded_frame : (m : List ℕ) → (f : List ℕ) × IsEncodedFrame f m
 encoded_frame m =

@@ -64,7 +64,7 @@ parts-block block rest h = grind (arith, take_at, drop_at, parts_after-drop)
 
 pub parts-append : (blocks : List (List ℕ)) (rest : List ℕ) → All IsBlock blocks → parts (concat blocks ++ rest) ≡ blocks ++ parts rest
 parts-append [] rest h = refl
-parts-append (block ∷ blocks) rest h = grind (arith, append_assoc, parts-block, All-head, (parts-append blocks rest (All-tail IsBlock block blocks h)))
+parts-append (block ∷ blocks) rest h = grind (arith, append_assoc, parts-block, All-head, parts-append blocks rest (All-tail IsBlock block blocks h))
 
 pub parts-frame : (f : List ℕ) (blocks : List (List ℕ)) → IsFrameOf f blocks → parts f ≡ blocks
 unfolding parts parts_after

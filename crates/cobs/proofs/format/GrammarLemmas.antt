@@ -21,7 +21,7 @@ abbrev pub IsShorter : List (List ℕ) → Type 0
 IsShorter blocks = (front : List (List ℕ)) (block : List ℕ) → IsFull block → blocks ≢ front ++ block ∷ lone_block ∷ []
 
 pub IsShorter-tail : (b : List ℕ) (bs : List (List ℕ)) → IsShorter (b ∷ bs) → IsShorter bs
-IsShorter-tail b bs h front block full e = h (b ∷ front) block full (ap (λ (l : List (List ℕ)). b ∷ l) e)
+IsShorter-tail b bs h front block full e = h (b ∷ front) block full (ap (λ l. b ∷ l) e)
 
 pub IsShorter-cons : (b : List ℕ) (bs : List (List ℕ)) → (IsFull b → bs ≢ lone_block ∷ []) → IsShorter bs → IsShorter (b ∷ bs)
 IsShorter-cons b bs apart s [] block full e = grind arith

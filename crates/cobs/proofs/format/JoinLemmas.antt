@@ -16,7 +16,7 @@ pub message_of-append : (bs cs : List (List ℕ)) → bs ≢ [] → cs ≢ [] �
 message_of-append [] cs some some' = absurd (some refl)
 message_of-append (b ∷ []) [] some some' = absurd (some' refl)
 message_of-append (b ∷ []) (c ∷ cs) some some' = refl
-message_of-append (b ∷ d ∷ bs) cs some some' = grind (arith, append_assoc, (message_of-append (d ∷ bs) cs (λ e. cc) some'))
+message_of-append (b ∷ d ∷ bs) cs some some' = grind (arith, append_assoc, message_of-append (d ∷ bs) cs)
 
 pub Reads-append : (f m g k : List ℕ) (r : Reads f m) → Reads g k → Reads (f ++ g) (m ++ joint (last_of r.blocks) ++ k)
 Reads-append f m g k r s = record {

@@ -54,8 +54,8 @@ one-more f (suc n ∷ bytes) full blocks more =
     let is : IsBlock block = (omega arith, All-head (λ b. b < 256) (suc n) bytes blocks.below, All-take (λ b. b ≢ 0) n bytes none) in
     let other : after ≢ [] = λ e. omega (arith, ap length e) in
     let all = take-append-drop n bytes in
-    let same_frame = subst (λ (x : List ℕ). IsFrame (suc n ∷ x) ↔ IsFrame after) all (front-frame block after is other) in
-    let same_kind = subst (λ (x : List ℕ). IsCanonical (suc n ∷ x) ↔ (IsCanonical after × (IsFull block → after ≢ lone_block))) all (front-canonical block after is other) in
+    let same_frame = subst (λ x. IsFrame (suc n ∷ x) ↔ IsFrame after) all (front-frame block after is other) in
+    let same_kind = subst (λ x. IsCanonical (suc n ∷ x) ↔ (IsCanonical after × (IsFull block → after ≢ lone_block))) all (front-canonical block after is other) in
     record {
       nonzero = All-drop (λ b. b ≢ 0) n bytes none;
       below = All-drop (λ b. b < 256) n bytes (All-tail (λ b. b < 256) (suc n) bytes blocks.below);

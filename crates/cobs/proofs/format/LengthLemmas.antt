@@ -56,7 +56,7 @@ full_blocks-le (p ∷ q ∷ ps) = grind (arith, length-append, full_blocks-le (q
 -- the bound. Messages without zeros reach it, so it is reached at each length.
 pub encoded_len-le : (m : List ℕ) → encoded_len m ≤ max_encoded_len (length m)
 encoded_len-le m =
-    let h = subst (λ (x : List ℕ). full_blocks (runs m) + 1 ≤ max_overhead (length x)) (join_with_byte-slice_split 0 m) (full_blocks-le (stretches m)) in
+    let h = subst (λ x. full_blocks (runs m) + 1 ≤ max_overhead (length x)) (join_with_byte-slice_split 0 m) (full_blocks-le (stretches m)) in
     omega arith
 
 pub encoded_len-nonzero : (m : List ℕ) → HasNoZero m → encoded_len m ≡ max_encoded_len (length m)

@@ -143,7 +143,7 @@ nonempty-unended_last p bytes h =
     let same : bytes ≡ take (length bytes - 1) bytes ++ get_or bytes (length bytes - 1) 0 ∷ []
     = sym (take_all (length bytes - 1 + 1) bytes (omega arith)) ∙ take_more bytes (length bytes - 1) 0 (omega arith) in
     nonempty-unended_push (p ++ take (length bytes - 1) bytes) (get_or bytes (length bytes - 1) 0)
-    ∙ ap (λ (x : List ℕ). is_nonempty (unended x)) (append_assoc p (take (length bytes - 1) bytes) _ ∙ ap (λ (x : List ℕ). p ++ x) (sym same))
+    ∙ ap (λ x. is_nonempty (unended x)) (append_assoc p (take (length bytes - 1) bytes) _ ∙ ap (λ x. p ++ x) (sym same))
 
 -- DAMAGE BETWEEN TWO SENTINELS
 
@@ -181,8 +181,8 @@ module _ (f u : List ℕ) (n k : ℕ) (some : f ≢ []) (h : HasNoZero f) where
   outcomes-behind past =
       let split : k ≡ length f + suc (k - length f - 1) = omega arith in
       let cut : take k (f ++ 0 ∷ u) ≡ f ++ 0 ∷ take (k - length f - 1) u
-      = ap (λ (k : ℕ). take k (f ++ 0 ∷ u)) split ∙ take-append-add f (0 ∷ u) (suc (k - length f - 1)) in
-      (_, ap (λ (x : List ℕ). stream_outcomes x n) cut ∙ stream_outcomes-front f (take (k - length f - 1) u) n some h)
+      = ap (λ k. take k (f ++ 0 ∷ u)) split ∙ take-append-add f (0 ∷ u) (suc (k - length f - 1)) in
+      (_, ap (λ x. stream_outcomes x n) cut ∙ stream_outcomes-front f (take (k - length f - 1) u) n some h)
 
   -- so the outcomes of the first k bytes say whether the zero is among them
   pub outcomes-none : stream_outcomes (take k (f ++ 0 ∷ u)) n ≡ [] → k ≤ length f

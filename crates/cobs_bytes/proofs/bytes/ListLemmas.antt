@@ -20,7 +20,7 @@ one-nonzero b other = All-cons (λ b. b ≢ 0) b [] other (All-nil (λ b. b ≢ 
 pub drop-later : (a b : ℕ) (xs ys : List ℕ) → a ≤ b → drop a xs ≡ drop a ys → drop b xs ≡ drop b ys
 drop-later a b xs ys le e =
     let sum : a + (b - a) ≡ b = omega arith in
-    subst (λ (n : ℕ). drop n xs ≡ drop n ys) sum (sym (drop-drop (b - a) a xs) ∙ ap (drop (b - a)) e ∙ drop-drop (b - a) a ys)
+    subst (λ n. drop n xs ≡ drop n ys) sum (sym (drop-drop (b - a) a xs) ∙ ap (drop (b - a)) e ∙ drop-drop (b - a) a ys)
 
 -- the n bytes from index i on have no zero if they are among the first m bytes, and these have no zero
 pub part-nonzero : (i n m : ℕ) (bytes : List ℕ) → HasNoZero (take m bytes) → i + n ≤ m → HasNoZero (take n (drop i bytes))

@@ -67,7 +67,7 @@ module _ (source dest : List ℕ) (s n : ℕ) (long : n ≤ length source) (shor
   pub parts-copied : put_chunk at (put_chunk 0 dest (part source s n 0)) (part source s n at) ≡ coded ++ drop (length source) dest
   parts-copied =
       let long' = coded-long in
-      ap (λ (x : List ℕ). put_chunk at (put_chunk 0 dest x) (part source s n at)) (part-is source s n 0 (omega arith))
+      ap (λ x. put_chunk at (put_chunk 0 dest x) (part source s n at)) (part-is source s n 0 (omega arith))
       ∙ ap (put_chunk at (put_chunk 0 dest (take n coded))) (part-is source s n at (omega arith))
       ∙ two-copied coded dest 0 0 (length source) n at at (length source) (omega arith) (omega arith) long short (omega arith) (omega arith) (omega arith)
-      ∙ ap (λ (x : List ℕ). x ++ drop (length source) dest) (take_all (length source) coded (omega arith))
+      ∙ ap (λ x. x ++ drop (length source) dest) (take_all (length source) coded (omega arith))

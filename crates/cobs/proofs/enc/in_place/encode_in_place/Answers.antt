@@ -74,5 +74,5 @@ returns c =
       frame = frame;
       no_sentinel = encoded_nonzero frame;
       len = c.close_block.ensures.end ∙ sym (end-is after);
-      rest = c.close_block.ensures.rest ∙ subst (λ (n : ℕ). drop n c.by_byte.buffer ≡ drop n c.args.buffer.now) (sym c.close_block.ensures.end) c.by_byte.invariant.rest;
+      rest = c.close_block.ensures.rest ∙ subst (λ n. drop n c.by_byte.buffer ≡ drop n c.args.buffer.now) (sym c.close_block.ensures.end) c.by_byte.invariant.rest;
     }
