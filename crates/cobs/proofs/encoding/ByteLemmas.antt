@@ -15,7 +15,8 @@ use Rattle.cobs_bytes.proofs.bytes.ListLemmas.{length-ones, ones-nonzero}
 use Rattle.cobs.specs.Internal.Reaches.{Reaches, start_with}
 
 -- the length of the frame of a longer message
-pub after-more : {slice m : List ℕ} {r : Reached} (a bytes : List ℕ) → CobsEncoderAfter slice r m → HasNoZero a → length a + 1 ≡ r.block.code → bytes ≢ [] → encoded_len (m ++ bytes) ≡ r.block.index + encoded_len (a ++ bytes)
+pub after-more : {slice m : List ℕ} {r : Reached} (a bytes : List ℕ) → CobsEncoderAfter slice r m → HasNoZero a → length a + 1 ≡ r.block.code
+    → bytes ≢ [] → encoded_len (m ++ bytes) ≡ r.block.index + encoded_len (a ++ bytes)
 after-more {r = r} a bytes h nonzero long some =
     let k = length-ones (r.block.code - 1) in
     after-len h bytes some ∙ ap (λ n. r.block.index + n) (same_start (replicate (r.block.code - 1) 1) a bytes (ones-nonzero (r.block.code - 1)) nonzero (omega arith))
@@ -37,13 +38,15 @@ module _ {source slice : List ℕ} {r : Reached} {next : ℕ} (place : IsPlaceIn
   more : get_or source 0 0 ≢ 0 → Reaches (start_with slice r source) (set slice next (get_or source 0 0)) 1 r.block.index (next + 1) IsNotFull
   more other = joined (get_or source 0 0) some start refl other (omega (arith, place.not_full)) fits
 
-  pub byte-joins : {r' : Reached} {code : ℕ} → get_or source 0 0 ≢ 0 → r.block.code ≢ 254 → code ≡ r.block.code + 1 → r' ≡ place_at r.block.index code false → TakesFront slice r source 1 (set slice next (get_or source 0 0)) r'
+  pub byte-joins : {r' : Reached} {code : ℕ} → get_or source 0 0 ≢ 0 → r.block.code ≢ 254 → code ≡ r.block.code + 1
+      → r' ≡ place_at r.block.index code false → TakesFront slice r source 1 (set slice next (get_or source 0 0)) r'
   byte-joins other open' coded is =
       let long = length-set slice next (get_or source 0 0) in
       front-open (omega arith) (more other) (omega (arith, place.not_full)) (omega arith) is
 
   -- the byte fills the open block if it is the block's 254th byte
-  pub byte-fills : {r' : Reached} → get_or source 0 0 ≢ 0 → r.block.code ≡ 254 → r' ≡ place_at (next + 1) 1 true → TakesFront slice r source 1 (set (set slice next (get_or source 0 0)) r.block.index 255) r'
+  pub byte-fills : {r' : Reached} → get_or source 0 0 ≢ 0 → r.block.code ≡ 254 → r' ≡ place_at (next + 1) 1 true
+      → TakesFront slice r source 1 (set (set slice next (get_or source 0 0)) r.block.index 255) r'
   byte-fills other last is = let long = length-set slice next (get_or source 0 0) in front-filled (omega arith) (omega arith) (more other) refl is
 
 -- there is room for a byte
@@ -58,7 +61,8 @@ module _ {slice m : List ℕ} {r : Reached} (h : CobsEncoderAfter slice r m) (ro
   pub after-byte : (byte : ℕ) → byte ≢ 0 → r.block.code < 254 → CobsEncoderAfter (set slice (next_of r) byte) (place_at r.block.index (r.block.code + 1) false) (m ++ byte ∷ [])
   after-byte byte other short = (byte-joins {source = byte ∷ []} (after-place h) (fits byte) (omega arith) refl other (omega arith) refl refl).after m h
 
-  pub after-filled : (byte : ℕ) → byte ≢ 0 → r.block.code ≡ 254 → CobsEncoderAfter (set (set slice (next_of r) byte) r.block.index 255) (place_at (r.block.index + 255) 1 true) (m ++ byte ∷ [])
+  pub after-filled : (byte : ℕ) → byte ≢ 0 → r.block.code ≡ 254
+      → CobsEncoderAfter (set (set slice (next_of r) byte) r.block.index 255) (place_at (r.block.index + 255) 1 true) (m ++ byte ∷ [])
   after-filled byte other last =
       let full : r.block.index + 255 ≡ next_of r + 1 = omega arith in
       (byte-fills {source = byte ∷ []} (after-place h) (fits byte) (omega arith) refl other last (ap (λ i. place_at i 1 true) full)).after m h

@@ -212,7 +212,8 @@ row-taken {s} {slice} {after} {read} {index} {next} {P} r short fits n some insi
     record { ordered = omega arith; open' = omega arith; room = grind (arith, length-append, length-drop); reaches = grind (arith, Reaches-at) }
 
 -- the first k bytes, which aren't zeros and are copied as one slice, join the open block
-pub slice-joined : {s : Start} {slice part : List ℕ} {index next k n m : ℕ} {P : Bool → Type 0} → Reaches s slice 0 index next P → HasNoZero (take k s.source) → k ≤ length s.source → whole_end s ≤ length slice
+pub slice-joined : {s : Start} {slice part : List ℕ} {index next k n m : ℕ} {P : Bool → Type 0} → Reaches s slice 0 index next P
+    → HasNoZero (take k s.source) → k ≤ length s.source → whole_end s ≤ length slice
     → 0 < k → next + k ≤ index + 255 → n ≡ k → m ≡ k → part ≡ take m s.source → Reaches s (put_mid next n slice part) k index (next + k) IsNotFull
 slice-joined {s} {slice} {part} {index} {next} {k} {n} r nonzero within fits some short n-is m-is part-is =
     let copied : Copied s slice (put_mid next n slice part) 0 k index next = record { inside = omega arith; room = fits; reaches = Reaches-weaker r (λ full p. tt); is = grind (arith, drop-drop) } in

@@ -42,7 +42,7 @@ open_len-zero code t some short = grind (arith, length-ones, encoded_len-zero, o
 pub open_len-least : (code : ℕ) (t : List ℕ) → 0 < code → code + length t ≤ open_len code t
 open_len-least code t some = grind (arith, length-append, length-ones)
 
--- the frame is at most as long as the longest one for so many bytes
+-- no frame is longer than `max_encoded_len` says
 pub open_len-most : (code : ℕ) (t : List ℕ) → 0 < code → open_len code t ≤ max_encoded_len (code - 1 + length t)
 open_len-most code t some = grind (arith, length-append, length-ones, encoded_len-le)
 
@@ -70,7 +70,8 @@ len-blocks (b ∷ c ∷ front) code bytes t each some =
     grind (arith, len-block, All-head, All-tail, len-blocks (c ∷ front) code bytes t, length-append b (concat (c ∷ front)))
 
 -- the frame of a message that continues
-pub Opened-len : {slice m : List ℕ} {index next : ℕ} {full : Bool} (t : List ℕ) → (full ≡ true → t ≢ []) → Opened slice m index next full → encoded_len (m ++ t) ≡ index + open_len (next - index) t
+pub Opened-len : {slice m : List ℕ} {index next : ℕ} {full : Bool} (t : List ℕ) → (full ≡ true → t ≢ []) → Opened slice m index next full
+    → encoded_len (m ++ t) ≡ index + open_len (next - index) t
 Opened-len {full = full} t more o = grind (arith, length-ones, len-blocks, same_start, ones-nonzero, ends_in_full)
 
 -- the length of the frame, byte by byte

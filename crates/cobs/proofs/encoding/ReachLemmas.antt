@@ -28,7 +28,8 @@ module _ {s : Start} {slice : List ℕ} {pos index next : ℕ} {P : Bool → Typ
   Reaches-weaker weaker = grind (arith, Reaches-at)
 
   -- if the open block has no bytes, the byte in its code's place doesn't matter
-  Reaches-same-empty : (slice' : List ℕ) → next ≡ index + 1 → take index slice' ≡ take index slice → drop (whole_end s) slice' ≡ drop (whole_end s) s.slice → Reaches s slice' pos index next P
+  Reaches-same-empty : (slice' : List ℕ) → next ≡ index + 1 → take index slice' ≡ take index slice
+      → drop (whole_end s) slice' ≡ drop (whole_end s) s.slice → Reaches s slice' pos index next P
   Reaches-same-empty slice' empty front back = grind (arith, Opened-same-empty)
 
   -- another byte in the place of the open block's code
@@ -57,7 +58,8 @@ module _ {s : Start} {slice : List ℕ} {pos index next : ℕ} {P : Bool → Typ
         long : length bytes ≡ k
         long = grind (arith, length-take-le, length-drop)
 
-        by_count : (k ≡ 0) ⊎ (k ≢ 0) → (m : List ℕ) → (full : Bool) × P full × Opened slice (m ++ take pos s.source) index next full → (full : Bool) × Q full × Opened slice (m ++ take (pos + k) s.source) index (next + k) full
+        by_count : (k ≡ 0) ⊎ (k ≢ 0) → (m : List ℕ) → (full : Bool) × P full × Opened slice (m ++ take pos s.source) index next full
+            → (full : Bool) × Q full × Opened slice (m ++ take (pos + k) s.source) index (next + k) full
         by_count (inl is) m t = grind arith
         by_count (inr other) m t =
             let l = long in
@@ -103,7 +105,8 @@ abbrev pub IsNotFull : Bool → Type 0
 IsNotFull full = full ≡ false
 
 -- n + 1 zeros are a zero and n zeros
-zero-first : (n pos : ℕ) (source : List ℕ) → pos + suc n ≤ length source → take (suc n) (drop pos source) ≡ replicate (suc n) 0 → (get_or source pos 0 ≡ 0) × (take n (drop (pos + 1) source) ≡ replicate n 0)
+zero-first : (n pos : ℕ) (source : List ℕ) → pos + suc n ≤ length source → take (suc n) (drop pos source) ≡ replicate (suc n) 0
+    → (get_or source pos 0 ≡ 0) × (take n (drop (pos + 1) source) ≡ replicate n 0)
 zero-first n pos source within zeros = let left = drop_more source pos 0 (omega arith) in (cc, cc)
 
 -- n + 1 zeros close the open block and the n blocks without bytes after it

@@ -28,7 +28,8 @@ pub ruleset short_room = (after-some, open_len-most, cases_Bool)
 pub next-least : (r : Reached) (source : List ℕ) → 0 < r.block.code → 0 < length source → next_of r + length source ≤ end_after r source
 next-least r source code some = grind (arith, after-some, open_len-least)
 
-pub reaches-start : {source old : List ℕ} {r : Reached} → 0 < length source → 0 < r.block.code → r.block.code < 255 → Reaches (start_with old r source) old 0 r.block.index (next_of r) (λ _. Unit {0})
+pub reaches-start : {source old : List ℕ} {r : Reached} → 0 < length source → 0 < r.block.code → r.block.code < 255
+    → Reaches (start_with old r source) old 0 r.block.index (next_of r) (λ _. Unit {0})
 unfolding HadTaken
 reaches-start {source} {old} {r} some code short = grind (arith, after-some, append-nil, from_after)
 
@@ -82,7 +83,8 @@ module _ {source old slice : List ℕ} {r r' : Reached} (fits : end_after r sour
       })
 
 -- a byte filled the open block
-pub front-filled : {source old slice : List ℕ} {r r' : Reached} {pos index next code : ℕ} {P : Bool → Type 0} → end_after r source ≤ length slice → next ≡ index + 255 → Reaches (start_with old r source) slice pos index next P
+pub front-filled : {source old slice : List ℕ} {r r' : Reached} {pos index next code : ℕ} {P : Bool → Type 0} → end_after r source ≤ length slice
+    → next ≡ index + 255 → Reaches (start_with old r source) slice pos index next P
     → code ≡ 1 → r' ≡ place_at next code true → TakesFront old r source pos (set slice index 255) r'
 front-filled {source} {old} {slice} {r} {r'} {pos} {index} {next} fits full s one is =
     let long = length-set slice index 255 in

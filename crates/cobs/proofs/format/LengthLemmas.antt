@@ -36,7 +36,8 @@ stretches-front [] m h = grind (arith, some_stretch)
 stretches-front (b ∷ bs) m h = grind (arith, slice_split-cons_no, ne_eqb, All-head, All-tail, stretches-front bs m (All-tail (λ b. b ≢ 0) b bs h))
 
 -- 254 bytes before the first part are one full block more, if a part is left
-full_more : (bytes : List ℕ) (parts : List (List ℕ)) → length bytes ≡ 254 → parts ≢ [] → join_with_byte 0 parts ≢ [] → full_blocks (map length (onto_parts bytes parts)) ≡ 1 + full_blocks (map length parts)
+full_more : (bytes : List ℕ) (parts : List (List ℕ)) → length bytes ≡ 254 → parts ≢ [] → join_with_byte 0 parts ≢ []
+    → full_blocks (map length (onto_parts bytes parts)) ≡ 1 + full_blocks (map length parts)
 full_more bytes [] l some more = grind arith
 full_more bytes ([] ∷ []) l some more = grind arith
 full_more bytes ((x ∷ p) ∷ []) l some more = grind (arith, length-append)

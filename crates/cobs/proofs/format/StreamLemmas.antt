@@ -42,7 +42,7 @@ pub ended_pieces-append : (t u : List ℕ) → ended_pieces (t ++ u) ≡ ended_p
 unfolding ended_pieces unended
 ended_pieces-append t u = grind (arith, stretches-append, but_last-append, length-stretches, filter-append)
 
--- what two parts of a stream leave unended
+-- the unended bytes of a stream in two parts
 pub unended-append : (t u : List ℕ) → unended (t ++ u) ≡ unended (unended t ++ u)
 unfolding unended
 unended-append t u = grind (arith, stretches-append, last_of-append, length-stretches)

@@ -21,7 +21,8 @@ module _ (source : List ℕ) (done start n : ℕ) (inside : start + n ≤ length
       grind (arith, places, All-get_or (λ b. b ≢ 0) (take done source) i 0, All-get_or (λ b. b ≢ 0) (take n (drop start source)) (i - start) 0))
 
 -- two parts of n bytes, which may overlap
-pub two-copied : (source dest : List ℕ) (read at len n from to end : ℕ) → read + len ≤ length source → at + len ≤ length dest → n ≤ len → len ≤ n + n → from + n ≡ read + len → to + n ≡ at + len → end ≡ at + len
+pub two-copied : (source dest : List ℕ) (read at len n from to end : ℕ) → read + len ≤ length source → at + len ≤ length dest → n ≤ len → len ≤ n + n
+    → from + n ≡ read + len → to + n ≡ at + len → end ≡ at + len
     → put_chunk to (put_chunk at dest (take n (drop read source))) (take n (drop from source)) ≡ take at dest ++ (take len (drop read source) ++ drop end dest)
 two-copied source dest read at len n from to end inside room some few from-is to-is end-is =
     let one : List ℕ = take n (drop read source) in

@@ -22,7 +22,7 @@ slice_bounds-copy_from_slice-end c =
     let least = next-least (place_at c.by_block.index (c.by_block.next - c.by_block.index) (not (c.by_block.full == 0))) (drop c.by_block.read c.args.source.now) t.place.some (omega arith) in
     omega arith
 
--- a stretch of the run joins the open block
+-- a part of the run joins the open block
 module _ (c : After-copy_from_slice) where
   abbrev reached : Reached
   reached = place_at c.by_block.index (c.by_block.next - c.by_block.index) (not (c.by_block.full == 0))
@@ -56,7 +56,7 @@ by_block-preserved c =
       taken = front-next c.by_block.read refl c.by_block.invariant.taken c.min-len.result (front-open (omega arith) s (omega arith) (omega arith) refl);
     }
 
--- and may fill it
+-- the part may fill the block
 pub by_block-preserved-then-next-index : goal.by_block-preserved-then-next-index
 by_block-preserved-then-next-index c =
     let s = joined (goal.at.by_block-preserved-then-next-index c).After-copy_from_slice in

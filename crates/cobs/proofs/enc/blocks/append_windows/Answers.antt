@@ -27,7 +27,7 @@ module _ (c : After-copy_at-window) where
   copied : CopiedWindow start c.by_window.dest c.copy_at-window.new.dest c.by_window.read 32 c.by_window.index c.by_window.next zeros
   copied = grind (arith, Reaches-weaker, zeros)
 
-  -- its first zero has given way to a code
+  -- the window with a code in the place of its first zero
   abbrev first : ℕ
   first = c.by_window.next + lowest zeros
 

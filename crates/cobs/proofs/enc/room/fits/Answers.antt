@@ -1,4 +1,4 @@
--- A run is counted once its end is known: `run-more` for its bytes, and `blocks-end` or `blocks-zero` for what ends it.
+-- A run is counted once its end is known: `run-more` for its bytes, and `blocks-end` or `blocks-zero` for its end.
 use Rattle.std.proofs.Common.{◌≡◌, ◌+◌, ◌-◌, ◌/◌, ℕ, List, drop, take, ap, subst, arith, length-drop, length-take-le}
 use Rattle.std.proofs.lemmas.Bool.{eqb-true}
 use Rattle.std.proofs.lemmas.List.{drop_all, get_or-take, get_or-drop, take_rest, drop_more}
