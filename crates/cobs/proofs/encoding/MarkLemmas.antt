@@ -59,9 +59,6 @@ pub record CopiedWindow (s : Start) (slice after : List ℕ) (read len index nex
   pub bits : zeros ≡ zero_mask (take len (drop read s.source))
 
 module _ {s : Start} {slice after : List ℕ} {read len index next zeros : ℕ} (w : CopiedWindow s slice after read len index next zeros) where
-  abbrev window : List ℕ
-  window = take len (drop read s.source)
-
   -- a zero is within the window
   pub first-within : zeros ≢ 0 → lowest zeros < len
   first-within some = grind (arith, common_steps, length-row, lowest-within)
@@ -78,7 +75,7 @@ module _ {s : Start} {slice after : List ℕ} {read len index next zeros : ℕ} 
       let sum : next + until_full ≡ index + 255 = omega arith in
       let long = length-row w.copied in
       let near = ap (λ n. min (lowest n) len) w.bits in
-      let nonzero = rw (take-take until_full len (drop read s.source) (omega arith)) at (clear_front window (omega arith) until_full (omega arith)) in
+      let nonzero = rw (take-take until_full len (drop read s.source) (omega arith)) at (clear_front (row w.copied) (omega arith) until_full (omega arith)) in
       let joined = copied-joins w.copied until_full (omega arith) (omega arith) (omega arith) nonzero in
       Reaches-full (rw sum at joined) more refl (length-after w.copied) refl
 

@@ -186,11 +186,8 @@ module _ (f u : List ℕ) (n k : ℕ) (some : f ≢ []) (h : HasNoZero f) where
 
   -- so the outcomes of the first k bytes say whether the zero is among them
   pub outcomes-none : stream_outcomes (take k (f ++ 0 ∷ u)) n ≡ [] → k ≤ length f
-  outcomes-none e = elim (cases_lt (length f) k) [ inl past ↦ absurd (cc ((outcomes-behind past).1)) | inr within ↦ within ]
+  outcomes-none e = grind (arith, cases_lt, outcomes-behind)
 
   pub outcomes-first : (x : Outcome) (rest : List Outcome) → stream_outcomes (take k (f ++ 0 ∷ u)) n ≡ x ∷ rest
       → (length f < k) × (x ≡ outcome_of f n)
-  outcomes-first x rest e = elim (cases_lt (length f) k) [
-    | inl past ↦ (past, cc ((outcomes-behind past).1))
-    | inr within ↦ absurd (cc (outcomes-before within))
-  ]
+  outcomes-first x rest e = grind (arith, cases_lt, outcomes-behind, outcomes-before)

@@ -14,13 +14,7 @@ use Rattle.cobs.proofs.enc.blocks.append_long_run.Goals as goal
 use Rattle.cobs_bytes.proofs.bytes.ListLemmas.{part-nonzero}
 
 pub slice_bounds-copy_from_slice-end : goal.slice_bounds-copy_from_slice-end
-slice_bounds-copy_from_slice-end c =
-    let t = c.by_block.invariant.taken in
-    let end = t.end in
-    let within = c.requires.run.within in
-    let long = length-drop c.by_block.read c.args.source.now in
-    let least = next-least (place_at c.by_block.index (c.by_block.next - c.by_block.index) (not (c.by_block.full == 0))) (drop c.by_block.read c.args.source.now) t.place.some (omega arith) in
-    omega arith
+slice_bounds-copy_from_slice-end c = grind (arith, length-drop, next-least)
 
 -- a part of the run joins the open block
 module _ (c : After-copy_from_slice) where
