@@ -4,7 +4,7 @@ use Rattle.std.proofs.Common.{◌≡◌, ◌≢◌, ℕ, ◌+◌, ◌-◌, ◌<�
 use Rattle.std.specs.List.{concat}
 use Rattle.std.proofs.lemmas.Bool.{cases_Bool, eqb-true, eqb-false}
 use Rattle.std.proofs.lemmas.List.{drop-drop, drop_all, drop_more, nil_from_length}
-use Rattle.std.proofs.lemmas.List.Elements.{All-append, All-cons, All-nil, All-head, All-tail}
+use Rattle.std.proofs.lemmas.List.Elements.{All-append, All-head, All-tail}
 use Rattle.cobs.specs.Grammar.{HasNoZero, IsBlock, is_full, bytes_of, joint, last_of, message_of}
 use Rattle.cobs.specs.Length.{encoded_len, max_encoded_len, open_len}
 use Rattle.cobs.proofs.format.LengthLemmas.{stretches-front, encoded_len-zero, encoded_len-full, encoded_len-last, encoded_len-le}
