@@ -93,7 +93,7 @@ to_after {slice} {m} {index} {next} {full} code is short fits o = by_end full fi
           noted = sym none.1;
           follows = (f, follows);
           fits = omega arith;
-          begins = (0, rw (← begins') (o.written ∙ sym (set_past (concat o.front) index 0 (omega arith))));
+          begins = grind (arith, set_past);
         }
 
 -- The encoded frame of a message, by the blocks of its open frame: a lone block after a full one is no part of it.
@@ -147,7 +147,7 @@ module _ {slice m : List ℕ} {r : Reached} (h : CobsEncoderAfter slice r m) whe
       let begins = o.begins in
       let byte : ℕ = h.begins.0 in
       let is : h.frame ≡ concat o.front ++ r.block.code ∷ o.bytes = whole-is open' in
-      let long : length h.frame ≡ next_of r = ap length is ∙ length-append (concat o.front) (r.block.code ∷ o.bytes) ∙ omega arith in
+      let long : length h.frame ≡ next_of r = grind (arith, length-append) in
       let front : take (next_of r) slice ≡ concat o.front ++ byte ∷ o.bytes = (rw (long, is) at h.begins.1) ∙ set_at (concat o.front) r.block.code o.bytes byte r.block.index (sym begins) in
       let one : length (concat o.front ++ byte ∷ []) ≡ r.block.index + 1 = length-append (concat o.front) (byte ∷ []) ∙ omega arith in (
         sym (take-take r.block.index (next_of r) slice (omega arith)) ∙ ap (take r.block.index) front ∙ take_at (concat o.front) (byte ∷ o.bytes) r.block.index (sym begins),

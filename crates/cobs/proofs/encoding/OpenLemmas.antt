@@ -1,6 +1,6 @@
 -- Lemmas on how a byte changes an open frame: a zero closes the last block, the 254th nonzero byte fills it, and any
 -- other byte joins it. By `message_of-close` and `message_of-more`.
-use Rattle.std.proofs.Common.{◌≡◌, ◌≢◌, ℕ, ◌+◌, ◌<◌, if◌then◌else◌, List, [], ◌∷◌, ◌++◌, length, set, All, refl, sym, ap, ◌∙◌, arith, append-nil, append_assoc, length-append}
+use Rattle.std.proofs.Common.{◌≡◌, ◌≢◌, ℕ, ◌+◌, ◌<◌, List, [], ◌∷◌, ◌++◌, length, set, All, refl, sym, ap, ◌∙◌, arith, append-nil, append_assoc, length-append}
 use Rattle.std.specs.List.{concat}
 use Rattle.std.proofs.lemmas.Bool.{ne_eqb}
 use Rattle.std.proofs.lemmas.List.{set_at, length_push}
@@ -87,7 +87,7 @@ module _ {m f g : List ℕ} {index code : ℕ} (o : IsOpenFrame f m index code) 
       let is = blocks-of o in
       let begins = o.begins in
       let long : length (concat o.front ++ code ∷ o.bytes) ≡ index + code = length-append (concat o.front) (code ∷ o.bytes) ∙ omega (arith, is.1.0) in
-      let zero : joint (code ∷ o.bytes) ≡ 0 ∷ [] = ap (λ t. if t then [] else 0 ∷ []) (ne_eqb code 255 (λ e. omega (arith, o.not_full))) in
+      let zero : joint (code ∷ o.bytes) ≡ 0 ∷ [] = grind (arith, ne_eqb) in
       closed o (code ∷ o.bytes) (index + code) x is.1 long (rw zero (ap (λ l. l ++ 0 ∷ []) (sym o.message))) (ap (λ l. l ++ x ∷ []) (set-g code))
 
   module _ (byte : ℕ) (nonzero : byte ≢ 0) where
@@ -115,7 +115,7 @@ module _ {m f g : List ℕ} {index code : ℕ} (o : IsOpenFrame f m index code) 
     open-full x last =
         let begins = o.begins in
         let more = longer 255 (omega arith) (omega arith) in
-        let long : length (concat o.front ++ 255 ∷ (o.bytes ++ byte ∷ [])) ≡ index + 255 = length-append (concat o.front) (255 ∷ (o.bytes ++ byte ∷ [])) ∙ omega (arith, more.0) in
+        let long : length (concat o.front ++ 255 ∷ (o.bytes ++ byte ∷ [])) ≡ index + 255 = grind (arith, length-append) in
         let message = append-nil _ ∙ message_of-more o.front 255 code o.bytes (byte ∷ []) ∙ ap (λ l. l ++ byte ∷ []) (sym o.message) in
         closed o (255 ∷ (o.bytes ++ byte ∷ [])) (index + 255) x more long message (rw (set-g 255) (grind (arith, append_assoc)))
 

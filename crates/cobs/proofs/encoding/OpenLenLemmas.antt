@@ -20,7 +20,6 @@ same_start a b t na nb e = grind (arith, stretches-front, length-append)
 pub open_len-join : (code : ℕ) (more t : List ℕ) → 0 < code → HasNoZero more → open_len code (more ++ t) ≡ open_len (code + length more) t
 open_len-join code more t some nonzero =
     let front : List ℕ = replicate (code - 1) 1 in
-    let longer : List ℕ = replicate (code + length more - 1) 1 in
     let both = All-append (λ byte. byte ≢ 0) front more (ones-nonzero (code - 1)) nonzero in
     grind (arith, append_assoc, same_start, ones-nonzero, length-append, length-ones)
 
@@ -65,7 +64,7 @@ len-blocks (b ∷ []) code bytes t each some = grind (arith, append-nil, len-blo
 len-blocks (b ∷ c ∷ front) code bytes t each some =
     let more = All-tail IsBlock b (c ∷ front) each in
     let m : List ℕ = message_of (c ∷ front ++ (code ∷ bytes) ∷ []) in
-    let is_some : m ≢ [] = some_message c (front ++ (code ∷ bytes) ∷ []) (All-head IsBlock c front more) (append-some front (code ∷ bytes) []) in
+    let is_some : m ≢ [] = grind (arith, some_message, All-head, append-some) in
     let not_none : m ++ t ≢ [] = λ e. is_some (nil_from_length m (omega (arith, length-append m t, ap length e))) in
     grind (arith, len-block, All-head, All-tail, len-blocks (c ∷ front) code bytes t, length-append b (concat (c ∷ front)))
 

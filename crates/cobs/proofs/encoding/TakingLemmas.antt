@@ -58,7 +58,7 @@ module _ {source old slice : List ℕ} {r r' : Reached} (fits : end_after r sour
       let place : Reached = place_at index code full in
       let code-is : next - index ≡ code = omega arith in
       let end : end_after place (drop pos source) ≡ end_after r source = elim (cases_lt pos (length source)) [
-        | inl more ↦ after-some place (drop pos source) (omega (arith, length-drop pos source)) ∙ (rw code-is at s.end)
+        | inl more ↦ grind (arith, after-some, length-drop)
         | inr none ↦ (let all : pos ≡ length source = omega arith in rw (drop_all pos source (omega arith), last all, ends s all) (omega arith))
       ] in
       grind (arith, to_after)

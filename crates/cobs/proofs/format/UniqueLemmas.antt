@@ -81,7 +81,7 @@ one_blocks (b ∷ []) (c ∷ d ∷ ds) some some' each each' shorter shorter' sa
 one_blocks (b ∷ d ∷ ds) (c ∷ []) some some' each each' shorter shorter' same = grind (arith, no_more, same_first b c (d ∷ ds) [] each each' same)
 one_blocks (b ∷ d ∷ ds) (c ∷ k ∷ ks) some some' each each' shorter shorter' same =
     let first = same_first b c (d ∷ ds) (k ∷ ks) each each' same in
-    let rest : message_of (d ∷ ds) ≡ message_of (k ∷ ks) = append_cancel_left (bytes_of c ++ joint c) _ _ (ap (λ l. message_of (l ∷ d ∷ ds)) (sym first) ∙ same) in
+    let rest : message_of (d ∷ ds) ≡ message_of (k ∷ ks) = grind (arith, append_cancel_left) in
     cc (one_blocks (d ∷ ds) (k ∷ ks) (λ z. cc) (λ z. cc) (All-tail IsBlock b (d ∷ ds) each) (All-tail IsBlock c (k ∷ ks) each') (IsShorter-tail b (d ∷ ds) shorter) (IsShorter-tail c (k ∷ ks) shorter') rest)
 
 pub IsEncodedFrame-shorter : (f m : List ℕ) (e : IsEncodedFrame f m) → IsShorter e.reads.blocks

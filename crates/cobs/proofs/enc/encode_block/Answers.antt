@@ -3,7 +3,6 @@
 use Rattle.std.proofs.Common.{◌≡◌, ◌≤◌, ◌<◌, ◌+◌, ◌++◌, ℕ, List, length, length-take-le, take, take_at, drop, ◌∙◌, arith}
 use Rattle.std.proofs.lemmas.List.{length-map}
 use Rattle.std.proofs.lemmas.Slice.{drop-append-drop}
-use Rattle.std.specs.Int.Bits.{bit_xor}
 use Rattle.cobs.specs.Grammar.{IsEncodedFrame}
 use Rattle.cobs.specs.Length.{encoded_len}
 use Rattle.cobs.specs.Sentinel.{IsEncodedFrameFor, xor_each}
@@ -37,6 +36,6 @@ returns-clause-rest c =
     let n : ℕ = length c.args.source.now + 1 in
     let long = c.encode-len.auto.dest in
     let within : n ≤ length coded = omega (arith, c.requires.room) in
-    let len : length c.xor_bytes.new.bytes ≡ n = rw c.xor_bytes.ensures.changed (length-map (take n coded) (λ b. bit_xor b c.args.sentinel) ∙ length-take-le n coded within) in
+    let len : length c.xor_bytes.new.bytes ≡ n = grind (arith, length-map, length-take-le) in
     drop-append-drop n coded c.xor_bytes.new.bytes n (omega arith) len
     ∙ (rw (len-is (goal.at.returns-clause-rest c).After-xor_bytes) at c.encode-len.ensures.rest)

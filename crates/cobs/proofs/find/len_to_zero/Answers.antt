@@ -23,7 +23,7 @@ shorter bytes rest after k s within nonzero is =
     let part : take k (drop n bytes) ≡ take k rest = ap (take k) (sym s.rest) in
     record {
       within = omega (arith, s.within, ap length after-is, length-drop k rest);
-      rest = after-is ∙ ap (drop k) s.rest ∙ drop-drop k n bytes ∙ ap (λ i. drop i bytes) sum;
+      rest = grind (arith, drop-drop);
       before = subst HasNoZero (ap (λ xs. take n bytes ++ xs) (sym part) ∙ sym (take-add n k bytes) ∙ ap (λ i. take i bytes) sum)
           (All-append (λ b. b ≢ 0) (take n bytes) (take k rest) s.before nonzero);
     }

@@ -70,7 +70,6 @@ returns-clause-taken c =
     let t = i.taken in
     let end = t.end in
     let within = c.requires.run.within in
-    let at_end : c.by_block.read ≡ c.args.run = omega arith in
     let stop = c.requires.run.stop (omega arith) in
     let zero : get_or left 0 0 ≡ 0 = grind (arith, drop_more) in
     let long = length-drop c.by_block.read c.args.source.now in

@@ -46,7 +46,6 @@ by_window-init c =
 pub by_window-preserved-then-next-index : goal.by_window-preserved-then-next-index
 by_window-preserved-then-next-index c =
     let w = copied (goal.at.by_window-preserved-then-next-index c).After-copy_at-window in
-    let ordered = c.by_window.invariant.reaches.ordered in
     let taken = masked-end (masked-start w (omega arith)) c.if-window-eq0.true in
     record { more = omega arith; open' = taken.open'; reaches = Reaches-weaker taken.reaches (λ full e le. e) }
 

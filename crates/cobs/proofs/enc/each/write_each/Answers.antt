@@ -1,6 +1,6 @@
 -- Each byte closes the open block or joins it. The open block has room for all bytes of the part, because a full one is
 -- closed before the part (`opened`).
-use Rattle.std.proofs.Common.{length, ◌≡◌, ◌<◌, ◌+◌, ◌-◌, ◌∙◌, false, ℕ, List, drop, get_or, take, refl, sym, arith, length-drop}
+use Rattle.std.proofs.Common.{length, ◌≡◌, ◌<◌, ◌+◌, ◌-◌, ◌∙◌, false, ℕ, List, drop, get_or, take, refl, arith, length-drop}
 use Rattle.std.proofs.lemmas.List.{get_or-drop, get_or-take}
 use Rattle.cobs.specs.Internal.Reaches.{Reaches}
 use Rattle.cobs.proofs.encoding.ReachLemmas.{IsNotFull, Reaches-at, Reaches-full, Reaches-weaker, Reaches-zero}
@@ -35,7 +35,7 @@ by_byte-preserved c =
     let count : ℕ = length source - c.by_part.read in
     let byte : ℕ = get_or (take count left) c.by_byte.i 0 in
     let rest = length-drop c.by_part.read source in
-    let is : get_or source (c.by_part.read + c.by_byte.i) 0 ≡ byte = sym (get_or-take count left c.by_byte.i 0 (omega arith) ∙ get_or-drop c.by_part.read source c.by_byte.i 0) in
+    let is : get_or source (c.by_part.read + c.by_byte.i) 0 ≡ byte = grind (arith, get_or-take, get_or-drop) in
     let fits = whole-fits c.args.dest.now source (omega arith) in
     let i = c.by_byte.invariant in
     let open' = i.open' in

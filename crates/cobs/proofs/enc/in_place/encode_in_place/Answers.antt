@@ -1,5 +1,5 @@
 -- The frame so far ends before the bytes that are still to be read (`encoded_len-le`), so each of these is as it was (`there`).
-use Rattle.std.proofs.Common.{◌≡◌, ◌<◌, ◌≤◌, ◌+◌, ◌-◌, ◌++◌, ℕ, List, [], ◌∷◌, drop, take, get_or, refl, sym, ◌∙◌, subst, arith, length, length-drop, length-take}
+use Rattle.std.proofs.Common.{◌≡◌, ◌<◌, ◌≤◌, ◌+◌, ◌-◌, ◌++◌, ℕ, List, [], ◌∷◌, drop, take, get_or, refl, sym, ◌∙◌, arith, length, length-drop, length-take}
 use Rattle.std.proofs.lemmas.Bool.{cases_Bool}
 use Rattle.std.proofs.lemmas.List.{get_or-drop, length_push, take_more}
 use Rattle.cobs.specs.Fields.Progress.{reached_by}
@@ -48,7 +48,6 @@ by_byte-preserved c =
     let before : ℕ = c.max_encoding_overhead-before.result in
     let at : ℕ = before + c.by_byte.taken in
     let r : Reached = reached_by c.by_byte.encoder in
-    let r' : Reached = reached_by c.append_byte.new.self in
     let i = c.by_byte.invariant in
     let taken = length-take c.by_byte.taken (drop before old) in
     let e = c.append_byte.ensures.taken [] (fits-one _ c.args.len i.after (omega arith) (omega arith)) in
@@ -74,5 +73,5 @@ returns c =
       frame = frame;
       no_sentinel = encoded_nonzero frame;
       len = c.close_block.ensures.end ∙ sym (end-is after);
-      rest = c.close_block.ensures.rest ∙ subst (λ n. drop n c.by_byte.buffer ≡ drop n c.args.buffer.now) (sym c.close_block.ensures.end) c.by_byte.invariant.rest;
+      rest = grind arith;
     }
