@@ -41,7 +41,7 @@ pub by_block-preserved : goal.by_block-preserved
 by_block-preserved c =
     let s = joined (goal.at.by_block-preserved c).After-copy_from_slice in
     let end = c.by_block.invariant.taken.end in
-    let o = s.ordered in
+    let ordered' = s.ordered in
     let short = s.short in
     record {
       within = omega arith;

@@ -18,7 +18,7 @@ next i before is byte = rw (sym is) (front-next i refl before 1 byte)
 pub by_byte-preserved : goal.by_byte-preserved
 by_byte-preserved c =
     let i = c.by_byte.invariant in
-    let o = i.ordered in
+    let ordered' = i.ordered in
     let short = i.short in
     let t = i.taken.2 in
     let end = t.end in
