@@ -17,16 +17,17 @@ use Rattle.cobs.proofs.encoding.OpenLemmas.{blocks-of, f-is, message_of-close, f
 use Rattle.cobs.proofs.format.FrameLemmas.{last_of-push}
 use Rattle.cobs.specs.Internal.Reaches.{Opened, ends_in_full}
 
+-- if the frame ends in a full block, the open block after it has no bytes
 no_bytes : (front : List (List ℕ)) (bytes : List ℕ) → true ≡ ends_in_full front bytes → (bytes ≡ []) × (is_full (last_of front) ≡ true)
 no_bytes front bytes h = grind (arith, true≢false)
 
 -- blocks are an encoded frame if the last one isn't the lone block after a full block
 encoded-open : {f m : List ℕ} (front : List (List ℕ)) (code : ℕ) (bytes : List ℕ) → let blocks = front ++ (code ∷ bytes) ∷ [] in
     IsFrameOf f blocks → m ≡ message_of blocks → false ≡ ends_in_full front bytes → IsEncodedFrame f m
-encoded-open front code bytes frame message noted = encoded-by (front ++ (code ∷ bytes) ∷ []) frame message lone_behind
+encoded-open front code bytes frame message noted = encoded-by (front ++ (code ∷ bytes) ∷ []) frame message not_lone
   where
-    lone_behind : (fr : List (List ℕ)) (c : List ℕ) → IsFull c → front ++ (code ∷ bytes) ∷ [] ≢ fr ++ c ∷ lone_block ∷ []
-    lone_behind fr c full e =
+    not_lone : (fr : List (List ℕ)) (c : List ℕ) → IsFull c → front ++ (code ∷ bytes) ∷ [] ≢ fr ++ c ∷ lone_block ∷ []
+    not_lone fr c full e =
         let same = same_from_push front (fr ++ c ∷ []) (code ∷ bytes) lone_block (e ∙ sym (append_assoc fr (c ∷ []) (lone_block ∷ []))) in
         grind (arith, true≢false, last_of-push)
 
@@ -38,12 +39,13 @@ module _ (front : List (List ℕ)) (full : is_full (last_of front) ≡ true) whe
   full-frame : All IsBlock front → IsFrameOf (concat front) front
   full-frame each = grind arith
 
-  ends_lone : (fr : List (List ℕ)) (c : List ℕ) → front ≢ fr ++ c ∷ lone_block ∷ []
-  ends_lone fr c e = let last = last_of-push (fr ++ c ∷ []) lone_block in grind (arith, true≢false, append_assoc)
+  front-not_lone : (fr : List (List ℕ)) (c : List ℕ) → front ≢ fr ++ c ∷ lone_block ∷ []
+  front-not_lone fr c e = grind (arith, true≢false, append_assoc, last_of-push (fr ++ c ∷ []) lone_block)
 
   encoded-full : {m : List ℕ} → All IsBlock front → m ≡ message_of (front ++ lone_block ∷ []) → IsEncodedFrame (concat front) m
-  encoded-full each message = grind (arith, encoded-by, full-frame, message_of-close, append-nil, ends_lone)
+  encoded-full each message = grind (arith, encoded-by, full-frame, message_of-close, append-nil, front-not_lone)
 
+-- a slice that has the blocks of m and the open block's bytes is the slice of an encoder that has taken m
 pub to_after : {slice m : List ℕ} {index next : ℕ} {full : Bool} (code : ℕ) → index + code ≡ next → code < 255 → (if full then index else next) ≤ length slice
     → Opened slice m index next full → CobsEncoderAfter slice (place_at index code full) m
 unfolding encoded-open encoded-full
@@ -66,9 +68,9 @@ to_after {slice} {m} {index} {next} {full} code is short fits o = by_end full fi
 
     by_end : (noted : Bool) → (if noted then index else next) ≤ length slice → noted ≡ ends_in_full o.front o.bytes → CobsEncoderAfter slice (place_at index code noted) m
     by_end false fits noted =
-        let b = o.begins in
-        let long : length f ≡ next = length-append (concat o.front) (code ∷ o.bytes) ∙ omega arith in
-        let l = length-take-le next slice fits in
+        let begins' = o.begins in
+        let long : length f ≡ next = grind (arith, length-append) in
+        let front_long = length-take-le next slice fits in
         let x : ℕ = get_or (take next slice) index 0 in
         let split = take-append-drop index (take next slice) in
         let front = take-take index next slice (omega arith) in
@@ -80,18 +82,17 @@ to_after {slice} {m} {index} {next} {full} code is short fits o = by_end full fi
           noted = sym (ap is_full (last_of-push o.front (code ∷ o.bytes)) ∙ ne_eqb code 255 (λ e. omega arith));
           follows = (f, follows);
           fits = omega arith;
-          begins = (x, rw long (begins ∙ sym (set_at (concat o.front) code o.bytes x index (sym b))));
+          begins = (x, rw long (begins ∙ sym (set_at (concat o.front) code o.bytes x index (sym begins'))));
         }
     by_end true fits noted =
-        let n = no_bytes o.front o.bytes noted in
-        let b = o.begins in
+        let none = no_bytes o.front o.bytes noted in
         record {
           frame = concat o.front;
-          encoded = encoded-full o.front n.1 o.each (rw n.0 at o.message);
-          noted = sym n.1;
+          encoded = encoded-full o.front none.1 o.each (rw none.0 at o.message);
+          noted = sym none.1;
           follows = (f, follows);
           fits = omega arith;
-          begins = (0, rw (← b) (o.written ∙ sym (set_past (concat o.front) index 0 (omega arith))));
+          begins = grind (arith, set_past);
         }
 
 -- The encoded frame of a message, by the blocks of its open frame: a lone block after a full one is no part of it.
@@ -101,16 +102,15 @@ frame-is {f} {m} {o} {index} {code} e r = elim (cases_Bool (ends_in_full r.front
   | inl full ↦
       let each = blocks-of r in
       let n = no_bytes r.front r.bytes (sym full) in
-      let one : code ≡ 1 = each.1.0 ∙ ap (λ (x : List ℕ). length x + 1) n.0 in
+      let one : code ≡ 1 = each.1.0 ∙ ap (λ x. length x + 1) n.0 in
       let same = one_encoded f (concat r.front) m e (encoded-full r.front n.1 each.0 (rw (n.0, one) at r.message)) in
       let parse = one_frame f e.reads.blocks r.front e.reads.frame (rw same (full-frame r.front n.1 each.0)) in
-      rw full (ap (λ (l : List (List ℕ)). is_full (last_of l)) parse ∙ n.1, same ∙ sym (append-nil (concat r.front)))
+      rw full (ap (λ l. is_full (last_of l)) parse ∙ n.1, same ∙ sym (append-nil (concat r.front)))
   | inr open' ↦
       let same = one_encoded f o m e (encoded-open r.front code r.bytes r.frame r.message (sym open')) in
       let parse = one_frame f e.reads.blocks (r.front ++ (code ∷ r.bytes) ∷ []) e.reads.frame (rw same r.frame) in
-      let short = r.not_full in
       rw open' (
-        ap (λ (l : List (List ℕ)). is_full (last_of l)) parse ∙ ap is_full (last_of-push r.front (code ∷ r.bytes)) ∙ ne_eqb code 255 (λ k. omega arith),
+        ap (λ l. is_full (last_of l)) parse ∙ ap is_full (last_of-push r.front (code ∷ r.bytes)) ∙ ne_eqb code 255 (λ k. omega arith),
         same ∙ f-is r,
       )
 ]
@@ -119,48 +119,50 @@ module _ {slice m : List ℕ} {r : Reached} (h : CobsEncoderAfter slice r m) whe
   abbrev o : IsOpenFrame h.follows.0 m r.block.index r.block.code
   o = h.follows.1
 
+  -- its blocks
   parts : All IsBlock o.front × IsBlock (r.block.code ∷ o.bytes)
   parts = blocks-of o
 
+  -- an encoder notes that the frame ends in a full block exactly if it does
   noted-is : r.full ≡ ends_in_full o.front o.bytes
   noted-is = h.noted ∙ (frame-is h.encoded o).0
 
+  -- the open block is part of the frame, unless it is only a placeholder after a full block
   pub whole-is : {full : Bool} → r.full ≡ full → h.frame ≡ concat o.front ++ (if full then [] else r.block.code ∷ o.bytes)
-  whole-is is = (frame-is h.encoded o).1 ∙ ap (λ (full : Bool). concat o.front ++ (if full then [] else r.block.code ∷ o.bytes)) (sym noted-is ∙ is)
+  whole-is is = (frame-is h.encoded o).1 ∙ ap (λ full. concat o.front ++ (if full then [] else r.block.code ∷ o.bytes)) (sym noted-is ∙ is)
 
-  -- the contents of an encoder's slice: the open block is a placeholder after the frame, or part of it
+  -- so an encoder's slice has the blocks before the open block, and the open block's bytes after the place of its code
   there : (r.full ≡ true) ⊎ (r.full ≡ false) → (take r.block.index slice ≡ concat o.front) × (drop (r.block.index + 1) (take (next_of r) slice) ≡ o.bytes)
   there (inl full) =
       let none = no_bytes o.front o.bytes (sym full ∙ noted-is) in
-      let z = ap length none.0 in
-      let c = parts.1.0 in
-      let b = o.begins in
+      let code-is = parts.1.0 in
+      let begins = o.begins in
       let is : h.frame ≡ concat o.front = whole-is full ∙ append-nil (concat o.front) in
-      let l = length-take (next_of r) slice in
-      grind (arith, drop_all, set_past)
+      grind (arith, drop_all, set_past, length-take (next_of r) slice)
   there (inr open') =
-      let c = parts.1.0 in
-      let b = o.begins in
-      let x : ℕ = h.begins.0 in
+      let code-is = parts.1.0 in
+      let begins = o.begins in
+      let byte : ℕ = h.begins.0 in
       let is : h.frame ≡ concat o.front ++ r.block.code ∷ o.bytes = whole-is open' in
-      let long : length h.frame ≡ next_of r = ap length is ∙ length-append (concat o.front) (r.block.code ∷ o.bytes) ∙ omega arith in
-      let front : take (next_of r) slice ≡ concat o.front ++ x ∷ o.bytes = (rw (long, is) at h.begins.1) ∙ set_at (concat o.front) r.block.code o.bytes x r.block.index (sym b) in
-      let one : length (concat o.front ++ x ∷ []) ≡ r.block.index + 1 = length-append (concat o.front) (x ∷ []) ∙ omega arith in (
-        sym (take-take r.block.index (next_of r) slice (omega arith)) ∙ ap (take r.block.index) front ∙ take_at (concat o.front) (x ∷ o.bytes) r.block.index (sym b),
-        ap (drop (r.block.index + 1)) (front ∙ sym (append_assoc (concat o.front) (x ∷ []) o.bytes)) ∙ drop_at (concat o.front ++ x ∷ []) o.bytes (r.block.index + 1) one,
+      let long : length h.frame ≡ next_of r = grind (arith, length-append) in
+      let front : take (next_of r) slice ≡ concat o.front ++ byte ∷ o.bytes = (rw (long, is) at h.begins.1) ∙ set_at (concat o.front) r.block.code o.bytes byte r.block.index (sym begins) in
+      let one : length (concat o.front ++ byte ∷ []) ≡ r.block.index + 1 = length-append (concat o.front) (byte ∷ []) ∙ omega arith in (
+        sym (take-take r.block.index (next_of r) slice (omega arith)) ∙ ap (take r.block.index) front ∙ take_at (concat o.front) (byte ∷ o.bytes) r.block.index (sym begins),
+        ap (drop (r.block.index + 1)) (front ∙ sym (append_assoc (concat o.front) (byte ∷ []) o.bytes)) ∙ drop_at (concat o.front ++ byte ∷ []) o.bytes (r.block.index + 1) one,
       )
 
+  -- the converse of `to_after`
   pub from_after : Opened slice m r.block.index (next_of r) r.full
   from_after =
       let bytes = there (cases_Bool r.full) in
-      let c = parts.1.0 in
+      let code-is = parts.1.0 in
       record {
         front = o.front;
         bytes = o.bytes;
         each = parts.0;
         nonzero = parts.1.2;
-        few = let n = o.not_full in omega arith;
-        message = rw (← c) o.message;
+        few = omega (arith, o.not_full);
+        message = rw (← code-is) o.message;
         begins = o.begins;
         place = omega arith;
         written = bytes.0;
@@ -171,9 +173,7 @@ module _ {slice m : List ℕ} {r : Reached} (h : CobsEncoderAfter slice r m) whe
   -- the end of the frame
   pub end-is : encoded_len m ≡ end_of r
   end-is =
-      let l = sym (length-encoded h.frame m h.encoded) in
-      let c = parts.1.0 in
-      grind (arith, cases_Bool, whole-is refl, length-append, append-nil, o.begins)
+      grind (arith, cases_Bool, whole-is refl, length-append, append-nil, o.begins, sym (length-encoded h.frame m h.encoded), parts.1.0)
 
   length-frame : length h.frame ≡ end_of r
   length-frame = length-encoded h.frame m h.encoded ∙ end-is
@@ -191,6 +191,7 @@ module _ {slice m : List ℕ} {r : Reached} (h : CobsEncoderAfter slice r m) whe
       let code : next_of r - r.block.index ≡ r.block.code = omega arith in
       rw code at (Opened-len bytes (λ full. some) from_after)
 
+  -- the same, also if there are no such bytes
   pub after-end : (bytes : List ℕ) → encoded_len (m ++ bytes) ≡ end_after r bytes
   after-end [] = grind (arith, append-nil, end-is)
   after-end (b ∷ bytes) = grind (arith, after-len)

@@ -15,10 +15,11 @@ use Rattle.cobs_bytes.proofs.bytes.ListLemmas.{length-ones, ones-nonzero}
 use Rattle.cobs.specs.Internal.Reaches.{Reaches, start_with}
 
 -- the length of the frame of a longer message
-pub after-more : {slice m : List ℕ} {r : Reached} (a bytes : List ℕ) → CobsEncoderAfter slice r m → HasNoZero a → length a + 1 ≡ r.block.code → bytes ≢ [] → encoded_len (m ++ bytes) ≡ r.block.index + encoded_len (a ++ bytes)
+pub after-more : {slice m : List ℕ} {r : Reached} (a bytes : List ℕ) → CobsEncoderAfter slice r m → HasNoZero a → length a + 1 ≡ r.block.code
+    → bytes ≢ [] → encoded_len (m ++ bytes) ≡ r.block.index + encoded_len (a ++ bytes)
 after-more {r = r} a bytes h nonzero long some =
     let k = length-ones (r.block.code - 1) in
-    after-len h bytes some ∙ ap (λ (n : ℕ). r.block.index + n) (same_start (replicate (r.block.code - 1) 1) a bytes (ones-nonzero (r.block.code - 1)) nonzero (omega arith))
+    after-len h bytes some ∙ ap (λ n. r.block.index + n) (same_start (replicate (r.block.code - 1) 1) a bytes (ones-nonzero (r.block.code - 1)) nonzero (omega arith))
 
 -- the first byte of a source is taken
 module _ {source slice : List ℕ} {r : Reached} {next : ℕ} (place : IsPlaceIn (length slice) r) (fits : end_after r source ≤ length slice) (some : 0 < length source) (at : next ≡ next_of r) where
@@ -30,21 +31,23 @@ module _ {source slice : List ℕ} {r : Reached} {next : ℕ} (place : IsPlaceIn
   byte-zero {code = code} zero coded is =
       let closed = Reaches-zero start {Q = IsNotFull} fits some zero (omega (arith, place.not_full)) refl in
       let code-is : next - r.block.index ≡ code = omega arith in
-      let n = length-set slice r.block.index code in
+      let long = length-set slice r.block.index code in
       front-open (omega arith) (rw code-is at closed) (omega arith) refl is
 
   -- any other byte joins the open block
   more : get_or source 0 0 ≢ 0 → Reaches (start_with slice r source) (set slice next (get_or source 0 0)) 1 r.block.index (next + 1) IsNotFull
   more other = joined (get_or source 0 0) some start refl other (omega (arith, place.not_full)) fits
 
-  pub byte-joins : {r' : Reached} {code : ℕ} → get_or source 0 0 ≢ 0 → r.block.code ≢ 254 → code ≡ r.block.code + 1 → r' ≡ place_at r.block.index code false → TakesFront slice r source 1 (set slice next (get_or source 0 0)) r'
+  pub byte-joins : {r' : Reached} {code : ℕ} → get_or source 0 0 ≢ 0 → r.block.code ≢ 254 → code ≡ r.block.code + 1
+      → r' ≡ place_at r.block.index code false → TakesFront slice r source 1 (set slice next (get_or source 0 0)) r'
   byte-joins other open' coded is =
-      let n = length-set slice next (get_or source 0 0) in
+      let long = length-set slice next (get_or source 0 0) in
       front-open (omega arith) (more other) (omega (arith, place.not_full)) (omega arith) is
 
   -- the byte fills the open block if it is the block's 254th byte
-  pub byte-fills : {r' : Reached} → get_or source 0 0 ≢ 0 → r.block.code ≡ 254 → r' ≡ place_at (next + 1) 1 true → TakesFront slice r source 1 (set (set slice next (get_or source 0 0)) r.block.index 255) r'
-  byte-fills other last is = let n = length-set slice next (get_or source 0 0) in front-filled (omega arith) (omega arith) (more other) refl is
+  pub byte-fills : {r' : Reached} → get_or source 0 0 ≢ 0 → r.block.code ≡ 254 → r' ≡ place_at (next + 1) 1 true
+      → TakesFront slice r source 1 (set (set slice next (get_or source 0 0)) r.block.index 255) r'
+  byte-fills other last is = let long = length-set slice next (get_or source 0 0) in front-filled (omega arith) (omega arith) (more other) refl is
 
 -- there is room for a byte
 pub fits-byte : (slice : List ℕ) (r : Reached) (byte : ℕ) → 0 < r.block.code → r.block.code < 255 → next_of r < length slice → end_after r (byte ∷ []) ≤ length slice
@@ -58,10 +61,11 @@ module _ {slice m : List ℕ} {r : Reached} (h : CobsEncoderAfter slice r m) (ro
   pub after-byte : (byte : ℕ) → byte ≢ 0 → r.block.code < 254 → CobsEncoderAfter (set slice (next_of r) byte) (place_at r.block.index (r.block.code + 1) false) (m ++ byte ∷ [])
   after-byte byte other short = (byte-joins {source = byte ∷ []} (after-place h) (fits byte) (omega arith) refl other (omega arith) refl refl).after m h
 
-  pub after-filled : (byte : ℕ) → byte ≢ 0 → r.block.code ≡ 254 → CobsEncoderAfter (set (set slice (next_of r) byte) r.block.index 255) (place_at (r.block.index + 255) 1 true) (m ++ byte ∷ [])
+  pub after-filled : (byte : ℕ) → byte ≢ 0 → r.block.code ≡ 254
+      → CobsEncoderAfter (set (set slice (next_of r) byte) r.block.index 255) (place_at (r.block.index + 255) 1 true) (m ++ byte ∷ [])
   after-filled byte other last =
       let full : r.block.index + 255 ≡ next_of r + 1 = omega arith in
-      (byte-fills {source = byte ∷ []} (after-place h) (fits byte) (omega arith) refl other last (ap (λ (i : ℕ). place_at i 1 true) full)).after m h
+      (byte-fills {source = byte ∷ []} (after-place h) (fits byte) (omega arith) refl other last (ap (λ i. place_at i 1 true) full)).after m h
 
   pub after-zero : CobsEncoderAfter (set slice r.block.index r.block.code) (place_at (next_of r) 1 false) (m ++ 0 ∷ [])
   after-zero = (byte-zero {source = 0 ∷ []} (after-place h) (fits 0) (omega arith) refl refl refl refl).after m h

@@ -17,7 +17,7 @@ use Rattle.cobs.specs.Internal.Reaches.{Reaches, Start, start_with, whole_end}
 use Rattle.cobs.specs.Internal.Taking.{TakesFront}
 use Rattle.cobs_bytes.specs.Mask.{lowest, without_lowest, zero_mask}
 use Rattle.cobs_bytes.proofs.bytes.ListLemmas.{behind-three, front-three, mid-three}
-use Rattle.cobs_bytes.proofs.bytes.MaskLemmas.{mask_behind, mask_behind-none, mask_behind-and, some_left, lowest_bit, lowest_left, nonzero_len, nonzero_len-lt, nonzero_len-before, nonzero_len-at, clear_front}
+use Rattle.cobs_bytes.proofs.bytes.MaskLemmas.{mask_behind, mask_behind-none, mask_behind-and, mask_behind-some, lowest-within, lowest_left, nonzero_len, nonzero_len-lt, nonzero_len-before, nonzero_len-at, clear_front}
 use Rattle.cobs.proofs.encoding.ReachLemmas.{Reaches-at, Reaches-weaker, Reaches-full, Reaches-join, Reaches-zero, Reaches-zeros, IsNotFull, least}
 use Rattle.cobs.proofs.encoding.TakingLemmas.{front-open, reaches-start}
 
@@ -36,7 +36,7 @@ module _ {s : Start} {slice after : List ℕ} {read len index next : ℕ} (c : C
   length-row = grind (arith, length-take-le, length-drop)
 
   pub length-after : whole_end s ≤ length after
-  length-after = let l = least c.reaches in grind (arith, length-row, length-append, length-take-le, length-drop)
+  length-after = grind (arith, length-row, length-append, length-take-le, length-drop, least c.reaches)
 
   pub copied-reaches : Reaches s after read index next (λ _. Unit {0})
   copied-reaches = grind (arith, common_steps, least, Opened-same, front-three, length-row, behind-three)
@@ -48,7 +48,7 @@ module _ {s : Start} {slice after : List ℕ} {read len index next : ℕ} (c : C
   copied-joins : (k : ℕ) → 0 < k → k ≤ len → next + k ≤ index + 255 → HasNoZero (take k (drop read s.source)) → Reaches s after (read + k) index (next + k) IsNotFull
   copied-joins k some le short nonzero =
       let here = sym (take-take k len (drop next after) le) ∙ ap (take k) copied-here ∙ take-take k len (drop read s.source) le in
-      Reaches-join copied-reaches length-after k (let i = c.inside in omega arith) short nonzero here (λ full z p. absurd (omega arith)) (λ z. refl)
+      Reaches-join copied-reaches length-after k (omega (arith, c.inside)) short nonzero here (λ full z p. absurd (omega arith)) (λ z. refl)
 
 -- the copied bytes are a window, whose bits say which of them are zeros
 pub record CopiedWindow (s : Start) (slice after : List ℕ) (read len index next zeros : ℕ) : Type 0 where
@@ -59,20 +59,13 @@ pub record CopiedWindow (s : Start) (slice after : List ℕ) (read len index nex
   pub bits : zeros ≡ zero_mask (take len (drop read s.source))
 
 module _ {s : Start} {slice after : List ℕ} {read len index next zeros : ℕ} (w : CopiedWindow s slice after read len index next zeros) where
-  abbrev window : List ℕ
-  window = take len (drop read s.source)
-
   -- a zero is within the window
   pub first-within : zeros ≢ 0 → lowest zeros < len
-  first-within some = grind (arith, common_steps, length-row, lowest_bit, nonzero_len-lt)
+  first-within some = grind (arith, common_steps, length-row, lowest-within)
 
   pub masked-start : min (lowest zeros) len < index + 255 - next → IsMasked s read len next zeros index after
   masked-start near =
-      let l = least w.copied.reaches in
-      let room = length-after w.copied in
-      let here = copied-here w.copied in
-      let reaches = copied-reaches w.copied in
-      grind (arith, mask_behind, Reaches-at)
+      grind (arith, mask_behind, Reaches-at, least w.copied.reaches, length-after w.copied, copied-here w.copied, copied-reaches w.copied)
 
   -- no zero is near enough to keep the block from being full
   pub filled : index + 255 - next ≤ min (lowest zeros) len → read + (index + 255 - next) < length s.source
@@ -80,9 +73,9 @@ module _ {s : Start} {slice after : List ℕ} {read len index next zeros : ℕ} 
   filled none more =
       let until_full : ℕ = index + 255 - next in
       let sum : next + until_full ≡ index + 255 = omega arith in
-      let l = length-row w.copied in
-      let near = ap (λ (n : ℕ). min (lowest n) len) w.bits in
-      let nonzero = rw (take-take until_full len (drop read s.source) (omega arith)) at (clear_front window until_full (omega arith) (omega arith)) in
+      let long = length-row w.copied in
+      let near = ap (λ n. min (lowest n) len) w.bits in
+      let nonzero = rw (take-take until_full len (drop read s.source) (omega arith)) at (clear_front (row w.copied) (omega arith) until_full (omega arith)) in
       let joined = copied-joins w.copied until_full (omega arith) (omega arith) (omega arith) nonzero in
       Reaches-full (rw sum at joined) more refl (length-after w.copied) refl
 
@@ -127,7 +120,7 @@ module _ {s : Start} {slice : List ℕ} {read len index next zeros d : ℕ} (m :
     first-is = grind (arith, lowest_left, small, some_bits)
 
     first-lt : nonzero_len left < len - d
-    first-lt = grind (arith, nonzero_len-lt, some_left, small, some_bits, length-take-le, length-drop)
+    first-lt = grind (arith, nonzero_len-lt, mask_behind-some, small, some_bits, length-take-le, length-drop)
 
     pub masked-step : IsMasked s read len next (without_lowest zeros) (next + lowest zeros) (set slice index (next + lowest zeros - index))
     masked-step =
@@ -135,13 +128,13 @@ module _ {s : Start} {slice : List ℕ} {read len index next zeros d : ℕ} (m :
         let j : ℕ = nonzero_len left in
         let e = first-is in
         let lt = first-lt in
-        let n = m.seen in
+        let seen = m.seen in
         let sum : len - d ≡ j + 1 + (len - (k + 1)) = omega arith in
         let cut : (xs : List ℕ) (a : ℕ) → drop (j + 1) (take (len - d) (drop (a + d) xs)) ≡ take (len - (k + 1)) (drop (a + (k + 1)) xs) =
-        λ xs a. ap (λ (m : ℕ). drop (j + 1) (take m (drop (a + d) xs))) sum ∙ drop-take (j + 1) (len - (k + 1)) (drop (a + d) xs)
-        ∙ ap (take (len - (k + 1))) (drop-drop (j + 1) (a + d) xs ∙ ap (λ (m : ℕ). drop m xs) (omega arith)) in
+        λ xs a. ap (λ m. drop (j + 1) (take m (drop (a + d) xs))) sum ∙ drop-take (j + 1) (len - (k + 1)) (drop (a + d) xs)
+        ∙ ap (take (len - (k + 1))) (drop-drop (j + 1) (a + d) xs ∙ ap (λ m. drop m xs) (omega arith)) in
         let front = take-take j (len - d) (drop (read + d) s.source) (omega arith) in
-        let there = some_left d left small some_bits in
+        let there = mask_behind-some d left some_bits in
         let nonzero = subst HasNoZero front (nonzero_len-before left there) in
         let here = sym (take-take j (len - d) (drop (next + d) slice) (omega arith)) ∙ ap (take j) m.here ∙ front in
         let zero_at : get_or s.source (read + d + j) 0 ≡ 0 =
@@ -150,8 +143,7 @@ module _ {s : Start} {slice : List ℕ} {read len index next zeros d : ℕ} (m :
         let closed = Reaches-zero joined {Q = λ full. 0 < k + 1 → full ≡ false} m.room (omega arith) zero_at (omega arith) (λ lt. refl) in
         let code : next + d + j - index ≡ next + k - index = omega arith in
         let long = length-set slice index (next + k - index) in
-        let others = ap without_lowest m.bits ∙ mask_behind-and d left small some_bits in
-        grind (arith, mask_behind, left, Reaches-at, set, drop-set-lt)
+        grind (arith, mask_behind, left, Reaches-at, set, drop-set-lt, ap without_lowest m.bits ∙ mask_behind-and d left small some_bits)
 
   -- the place of the next code is no later than the next zero
   pub masked-ordered : index ≤ next + lowest zeros
@@ -166,7 +158,7 @@ masked-first {s} {slice} {read} {len} {index} {next} {zeros} m after r is none s
       let same : IsMasked s read len next zeros index (set slice index byte) = masked-code m byte in
       rw (is, none e, ← e) same)
   | inr other ↦ (let byte : ℕ = next + lowest zeros - index in
-      let o = m.reaches.ordered in
+      let ordered = m.reaches.ordered in
       let first = first-is m other in
       let lt = first-lt m other in
       let short = m.short in
@@ -193,7 +185,7 @@ short-copied {source} {old} {slice} {r} {mask} code some few short fits is bits 
 pub window-front : {source old slice : List ℕ} {r r' : Reached} {read len index next : ℕ} → WindowTaken (start_with old r source) slice read len index next
     → read + len ≡ length source → r' ≡ place_at index (next + len - index) false → TakesFront old r source (length source) slice r'
 window-front {source} {old} {slice} {r} {r'} w last is =
-    subst (λ (n : ℕ). TakesFront old r source n slice r') last (front-open w.room w.reaches w.open' (omega (arith, w.ordered)) is)
+    subst (λ n. TakesFront old r source n slice r') last (front-open w.room w.reaches w.open' (omega (arith, w.ordered)) is)
 
 -- BYTES THAT ARE TAKEN WITHOUT A MASK
 
@@ -217,7 +209,8 @@ row-taken {s} {slice} {after} {read} {index} {next} {P} r short fits n some insi
     record { ordered = omega arith; open' = omega arith; room = grind (arith, length-append, length-drop); reaches = grind (arith, Reaches-at) }
 
 -- the first k bytes, which aren't zeros and are copied as one slice, join the open block
-pub slice-joined : {s : Start} {slice part : List ℕ} {index next k n m : ℕ} {P : Bool → Type 0} → Reaches s slice 0 index next P → HasNoZero (take k s.source) → k ≤ length s.source → whole_end s ≤ length slice
+pub slice-joined : {s : Start} {slice part : List ℕ} {index next k n m : ℕ} {P : Bool → Type 0} → Reaches s slice 0 index next P
+    → HasNoZero (take k s.source) → k ≤ length s.source → whole_end s ≤ length slice
     → 0 < k → next + k ≤ index + 255 → n ≡ k → m ≡ k → part ≡ take m s.source → Reaches s (put_mid next n slice part) k index (next + k) IsNotFull
 slice-joined {s} {slice} {part} {index} {next} {k} {n} r nonzero within fits some short n-is m-is part-is =
     let copied : Copied s slice (put_mid next n slice part) 0 k index next = record { inside = omega arith; room = fits; reaches = Reaches-weaker r (λ full p. tt); is = grind (arith, drop-drop) } in

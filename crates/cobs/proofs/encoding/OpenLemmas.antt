@@ -1,6 +1,6 @@
 -- Lemmas on how a byte changes an open frame: a zero closes the last block, the 254th nonzero byte fills it, and any
 -- other byte joins it. By `message_of-close` and `message_of-more`.
-use Rattle.std.proofs.Common.{◌≡◌, ◌≢◌, ℕ, ◌+◌, ◌<◌, Bool, if◌then◌else◌, List, [], ◌∷◌, ◌++◌, length, set, All, refl, sym, ap, ◌∙◌, arith, append-nil, append_assoc, length-append}
+use Rattle.std.proofs.Common.{◌≡◌, ◌≢◌, ℕ, ◌+◌, ◌<◌, List, [], ◌∷◌, ◌++◌, length, set, All, refl, sym, ap, ◌∙◌, arith, append-nil, append_assoc, length-append}
 use Rattle.std.specs.List.{concat}
 use Rattle.std.proofs.lemmas.Bool.{ne_eqb}
 use Rattle.std.proofs.lemmas.List.{set_at, length_push}
@@ -85,10 +85,9 @@ module _ {m f g : List ℕ} {index code : ℕ} (o : IsOpenFrame f m index code) 
   pub open-zero : (x : ℕ) → IsOpenOutput (set g index code ++ x ∷ []) (record { index = index + code; code = 1 }) (m ++ 0 ∷ [])
   open-zero x =
       let is = blocks-of o in
-      let b = o.begins in
       let long : length (concat o.front ++ code ∷ o.bytes) ≡ index + code = length-append (concat o.front) (code ∷ o.bytes) ∙ omega (arith, is.1.0) in
-      let zero : joint (code ∷ o.bytes) ≡ 0 ∷ [] = ap (λ (t : Bool). if t then [] else 0 ∷ []) (ne_eqb code 255 (λ e. let n = o.not_full in omega arith)) in
-      closed o (code ∷ o.bytes) (index + code) x is.1 long (rw zero (ap (λ (l : List ℕ). l ++ 0 ∷ []) (sym o.message))) (ap (λ (l : List ℕ). l ++ x ∷ []) (set-g code))
+      let zero : joint (code ∷ o.bytes) ≡ 0 ∷ [] = grind (arith, ne_eqb) in
+      closed o (code ∷ o.bytes) (index + code) x is.1 long (rw zero (ap (λ l. l ++ 0 ∷ []) (sym o.message))) (ap (λ l. l ++ x ∷ []) (set-g code))
 
   module _ (byte : ℕ) (nonzero : byte ≢ 0) where
     -- the open block's bytes and this byte are a block
@@ -102,10 +101,10 @@ module _ {m f g : List ℕ} {index code : ℕ} (o : IsOpenFrame f m index code) 
       record {
         front = o.front;
         bytes = o.bytes ++ byte ∷ [];
-        frame = frame_push o.front ((code + 1) ∷ (o.bytes ++ byte ∷ [])) (blocks-of o).0 (longer (code + 1) refl (let c = o.not_full in omega arith));
-        message = rw (message_of-more o.front (code + 1) code o.bytes (byte ∷ [])) (ap (λ (l : List ℕ). l ++ byte ∷ []) o.message);
+        frame = frame_push o.front ((code + 1) ∷ (o.bytes ++ byte ∷ [])) (blocks-of o).0 (longer (code + 1) refl (omega (arith, o.not_full)));
+        message = rw (message_of-more o.front (code + 1) code o.bytes (byte ∷ [])) (ap (λ l. l ++ byte ∷ []) o.message);
         begins = o.begins;
-        not_full = let c = o.not_full in omega arith;
+        not_full = omega (arith, o.not_full);
       },
       (same.0, rw (set_at (concat o.front) (code + 1) (o.bytes ++ byte ∷ []) same.0 index (sym o.begins), g-is) (append_assoc (concat o.front) (same.0 ∷ o.bytes) (byte ∷ []))),
     )
@@ -113,19 +112,16 @@ module _ {m f g : List ℕ} {index code : ℕ} (o : IsOpenFrame f m index code) 
     -- the 254th byte fills the block
     pub open-full : (x : ℕ) → code ≡ 254 → IsOpenOutput (set g index 255 ++ byte ∷ x ∷ []) (record { index = index + 255; code = 1 }) (m ++ byte ∷ [])
     open-full x last =
-        let b = o.begins in
         let more = longer 255 (omega arith) (omega arith) in
-        let long : length (concat o.front ++ 255 ∷ (o.bytes ++ byte ∷ [])) ≡ index + 255 = length-append (concat o.front) (255 ∷ (o.bytes ++ byte ∷ [])) ∙ omega (arith, more.0) in
-        let message = append-nil _ ∙ message_of-more o.front 255 code o.bytes (byte ∷ []) ∙ ap (λ (l : List ℕ). l ++ byte ∷ []) (sym o.message) in
+        let long : length (concat o.front ++ 255 ∷ (o.bytes ++ byte ∷ [])) ≡ index + 255 = grind (arith, length-append) in
+        let message = append-nil _ ∙ message_of-more o.front 255 code o.bytes (byte ∷ []) ∙ ap (λ l. l ++ byte ∷ []) (sym o.message) in
         closed o (255 ∷ (o.bytes ++ byte ∷ [])) (index + 255) x more long message (rw (set-g 255) (grind (arith, append_assoc)))
 
 -- the output of a caller that carried out the results ends with the open block
 module _ (g : List ℕ) (state : OpenBlock) (m : List ℕ) (o : IsOpenOutput g state m) where
   pub length-IsOpenOutput : length g ≡ state.index + state.code
   length-IsOpenOutput =
-      let is = (blocks-of o.1).1 in
-      let all = ap length (g-is o.1 o.2) ∙ length-append (concat o.1.front) (o.2.0 ∷ o.1.bytes) in
-      omega arith
+      omega (arith, (blocks-of o.1).1, ap length (g-is o.1 o.2) ∙ length-append (concat o.1.front) (o.2.0 ∷ o.1.bytes))
 
   pub index-IsOpenOutput : state.index < length g
   index-IsOpenOutput = grind (arith, common_steps, blocks-of, length-IsOpenOutput)

@@ -1,15 +1,15 @@
 -- Lemmas on the length of the encoded frame, counted from its open block. The values of that block's nonzero bytes
 -- don't matter (`same_start`), so ones stand for them.
-use Rattle.std.proofs.Common.{◌≡◌, ◌≢◌, ℕ, ◌+◌, ◌-◌, ◌<◌, ◌≤◌, Bool, true, List, [], ◌∷◌, ◌++◌, length, drop, get_or, length-drop, replicate, All, refl, ap, arith, append-nil, append_assoc, length-append}
+use Rattle.std.proofs.Common.{◌≡◌, ◌≢◌, ℕ, ◌+◌, ◌-◌, ◌<◌, ◌≤◌, Bool, true, List, [], ◌∷◌, ◌++◌, length, drop, take, get_or, length-drop, length-take-le, take-append-drop, replicate, All, refl, ap, arith, append-nil, append_assoc, length-append}
 use Rattle.std.specs.List.{concat}
 use Rattle.std.proofs.lemmas.Bool.{cases_Bool, eqb-true, eqb-false}
-use Rattle.std.proofs.lemmas.List.{drop_all, drop_more, nil_from_length}
-use Rattle.std.proofs.lemmas.List.Elements.{All-append, All-cons, All-nil, All-head, All-tail}
+use Rattle.std.proofs.lemmas.List.{drop-drop, drop_all, drop_more, nil_from_length}
+use Rattle.std.proofs.lemmas.List.Elements.{All-append, All-head, All-tail}
 use Rattle.cobs.specs.Grammar.{HasNoZero, IsBlock, is_full, bytes_of, joint, last_of, message_of}
 use Rattle.cobs.specs.Length.{encoded_len, max_encoded_len, open_len}
 use Rattle.cobs.proofs.format.LengthLemmas.{stretches-front, encoded_len-zero, encoded_len-full, encoded_len-last, encoded_len-le}
 use Rattle.cobs.proofs.encoding.OpenLemmas.{append-some}
-use Rattle.cobs_bytes.proofs.bytes.ListLemmas.{length-ones, ones-nonzero}
+use Rattle.cobs_bytes.proofs.bytes.ListLemmas.{length-ones, one-nonzero, ones-nonzero}
 use Rattle.cobs.specs.Internal.Reaches.{Opened, ends_in_full}
 
 -- the values of the nonzero bytes at the start of a message don't matter
@@ -20,9 +20,14 @@ same_start a b t na nb e = grind (arith, stretches-front, length-append)
 pub open_len-join : (code : ℕ) (more t : List ℕ) → 0 < code → HasNoZero more → open_len code (more ++ t) ≡ open_len (code + length more) t
 open_len-join code more t some nonzero =
     let front : List ℕ = replicate (code - 1) 1 in
-    let longer : List ℕ = replicate (code + length more - 1) 1 in
     let both = All-append (λ byte. byte ≢ 0) front more (ones-nonzero (code - 1)) nonzero in
     grind (arith, append_assoc, same_start, ones-nonzero, length-append, length-ones)
+
+-- so do the next k bytes of a source, if none of them is a zero
+pub open_len-run : (source : List ℕ) (read k code : ℕ) → 0 < code → read + k ≤ length source → HasNoZero (take k (drop read source))
+    → open_len code (drop read source) ≡ open_len (code + k) (drop (read + k) source)
+open_len-run source read k code some within nonzero =
+    grind (arith, drop-drop, length-take-le, length-drop, open_len-join, take-append-drop k (drop read source))
 
 -- a full block is closed if more bytes follow
 pub open_len-full : (t : List ℕ) → t ≢ [] → open_len 255 t ≡ 255 + open_len 1 t
@@ -36,6 +41,7 @@ open_len-zero code t some short = grind (arith, length-ones, encoded_len-zero, o
 pub open_len-least : (code : ℕ) (t : List ℕ) → 0 < code → code + length t ≤ open_len code t
 open_len-least code t some = grind (arith, length-append, length-ones)
 
+-- no frame is longer than `max_encoded_len` says
 pub open_len-most : (code : ℕ) (t : List ℕ) → 0 < code → open_len code t ≤ max_encoded_len (code - 1 + length t)
 open_len-most code t some = grind (arith, length-append, length-ones, encoded_len-le)
 
@@ -48,7 +54,7 @@ len-block (code ∷ bytes) m t is some = grind (arith, eqb-true, append-nil, app
 some_message : (block : List ℕ) (blocks : List (List ℕ)) → IsBlock block → blocks ≢ [] → message_of (block ∷ blocks) ≢ []
 some_message [] blocks is more e = absurd is
 some_message (code ∷ bytes) [] is more e = more refl
-some_message (code ∷ bytes) (next ∷ blocks) is more e = let z = ap length e in grind (arith, cases_Bool, eqb-true, length-append)
+some_message (code ∷ bytes) (next ∷ blocks) is more e = grind (arith, cases_Bool, eqb-true, length-append, ap length e)
 
 -- the frame of the bytes that follow some blocks
 pub len-blocks : (front : List (List ℕ)) (code : ℕ) (bytes t : List ℕ) → All IsBlock front → (is_full (last_of front) ≡ true → bytes ++ t ≢ [])
@@ -58,14 +64,13 @@ len-blocks (b ∷ []) code bytes t each some = grind (arith, append-nil, len-blo
 len-blocks (b ∷ c ∷ front) code bytes t each some =
     let more = All-tail IsBlock b (c ∷ front) each in
     let m : List ℕ = message_of (c ∷ front ++ (code ∷ bytes) ∷ []) in
-    let is_some : m ≢ [] = some_message c (front ++ (code ∷ bytes) ∷ []) (All-head IsBlock c front more) (append-some front (code ∷ bytes) []) in
-    let not_none : m ++ t ≢ [] = λ e. is_some (nil_from_length m (let l = length-append m t in let z = ap length e in omega arith)) in
-    let ih = len-blocks (c ∷ front) code bytes t more some in
-    let l = length-append b (concat (c ∷ front)) in
-    grind (arith, len-block, All-head)
+    let is_some : m ≢ [] = grind (arith, some_message, All-head, append-some) in
+    let not_none : m ++ t ≢ [] = λ e. is_some (nil_from_length m (omega (arith, length-append m t, ap length e))) in
+    grind (arith, len-block, All-head, All-tail, len-blocks (c ∷ front) code bytes t, length-append b (concat (c ∷ front)))
 
 -- the frame of a message that continues
-pub Opened-len : {slice m : List ℕ} {index next : ℕ} {full : Bool} (t : List ℕ) → (full ≡ true → t ≢ []) → Opened slice m index next full → encoded_len (m ++ t) ≡ index + open_len (next - index) t
+pub Opened-len : {slice m : List ℕ} {index next : ℕ} {full : Bool} (t : List ℕ) → (full ≡ true → t ≢ []) → Opened slice m index next full
+    → encoded_len (m ++ t) ≡ index + open_len (next - index) t
 Opened-len {full = full} t more o = grind (arith, length-ones, len-blocks, same_start, ones-nonzero, ends_in_full)
 
 -- the length of the frame, byte by byte
@@ -82,8 +87,7 @@ module _ (bytes : List ℕ) (i : ℕ) where
     -- a byte joins the block
     pub len-byte : (code : ℕ) → 0 < code → get_or bytes i 0 ≢ 0 → open_len code (drop i bytes) ≡ open_len (code + 1) (drop (i + 1) bytes)
     len-byte code some other =
-        let nonzero = All-cons (λ byte. byte ≢ 0) (get_or bytes i 0) [] other (All-nil (λ byte. byte ≢ 0)) in
-        rw (drop_more bytes i 0 more) (open_len-join code (get_or bytes i 0 ∷ []) (drop (i + 1) bytes) some nonzero)
+        rw (drop_more bytes i 0 more) (open_len-join code (get_or bytes i 0 ∷ []) (drop (i + 1) bytes) some (one-nonzero _ other))
 
     -- a zero closes the open block
     pub len-zero : (code : ℕ) → 0 < code → code < 255 → get_or bytes i 0 ≡ 0 → open_len code (drop i bytes) ≡ code + open_len 1 (drop (i + 1) bytes)

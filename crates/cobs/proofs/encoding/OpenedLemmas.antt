@@ -11,6 +11,7 @@ use Rattle.cobs.proofs.encoding.OpenLemmas.{append-some, concat-push, message_of
 use Rattle.cobs.proofs.format.FrameLemmas.{last_of-push}
 use Rattle.cobs.specs.Internal.Reaches.{Opened, ends_in_full}
 
+-- an open block with bytes is no placeholder
 not_full-more : (front : List (List ℕ)) (bytes more : List ℕ) → more ≢ [] → ends_in_full front (bytes ++ more) ≡ false
 not_full-more front [] [] some = grind arith
 not_full-more front [] (x ∷ more) some = refl
@@ -48,7 +49,7 @@ module _ {slice m : List ℕ} {index next : ℕ} {full : Bool} (o : Opened slice
         each = o.each;
         nonzero = All-append (λ byte. byte ≢ 0) o.bytes more o.nonzero nonzero;
         few = omega arith;
-        message = rw (message_of-more o.front (length (o.bytes ++ more) + 1) (length o.bytes + 1) o.bytes more) (ap (λ (x : List ℕ). x ++ more) o.message);
+        message = rw (message_of-more o.front (length (o.bytes ++ more) + 1) (length o.bytes + 1) o.bytes more) (ap (λ x. x ++ more) o.message);
         begins = o.begins;
         place = omega arith;
         written = o.written;
@@ -63,7 +64,6 @@ module _ {slice m : List ℕ} {index next : ℕ} {full : Bool} (o : Opened slice
       let block : List ℕ = code ∷ o.bytes in
       let front' : List (List ℕ) = o.front ++ block ∷ [] in
       let few = o.few in
-      let b = o.begins in
       let one : suc index ≡ index + 1 = omega arith in
       let long : length (take next slice) ≡ next = length-take-le next slice fits in
       let wrote : take next (set slice index code) ≡ concat o.front ++ block =
@@ -75,10 +75,10 @@ module _ {slice m : List ℕ} {index next : ℕ} {full : Bool} (o : Opened slice
         each = All-push IsBlock o.front block o.each (sym code-is, omega arith, o.nonzero);
         nonzero = All-nil (λ byte. byte ≢ 0);
         few = omega arith;
-        message = rw (message_of-close front' (append-some o.front block []), last_of-push o.front block, ← code-is) (ap (λ (x : List ℕ). x ++ joint ((length o.bytes + 1) ∷ [])) o.message);
+        message = rw (message_of-close front' (append-some o.front block []), last_of-push o.front block, ← code-is) (ap (λ x. x ++ joint ((length o.bytes + 1) ∷ [])) o.message);
         begins = rw (concat-push o.front block) (omega (arith, length-append (concat o.front) block));
         place = refl;
         written = wrote ∙ sym (concat-push o.front block);
-        bytes_there = drop_all (next + 1) (take (next + 1) (set slice index code)) (let l = length-take (next + 1) (set slice index code) in omega arith);
+        bytes_there = drop_all (next + 1) (take (next + 1) (set slice index code)) (omega (arith, length-take (next + 1) (set slice index code)));
         noted = ap is_full (sym (last_of-push o.front block));
       }

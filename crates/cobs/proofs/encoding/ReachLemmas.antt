@@ -1,17 +1,16 @@
 -- Lemmas on how many bytes of a source the core of the encoder has taken, and on how it continues: nonzero bytes join
 -- the open block, and a zero or the 254th byte closes it. By `OpenedLemmas` for the slice, and by `OpenLenLemmas` for
 -- the end of the frame.
-use Rattle.std.proofs.Common.{◌≡◌, ◌≢◌, ℕ, ◌+◌, ◌-◌, ◌<◌, ◌≤◌, ◌==◌, Bool, true, false, List, ◌∷◌, ◌++◌, length, drop, take, get_or, replicate, zero, suc, refl, sym, ap, ◌∙◌, arith, inl, inr, ◌⊎◌, append-nil, append_assoc, length-take-le, length-drop, take-append-drop}
+use Rattle.std.proofs.Common.{◌≡◌, ◌≢◌, ℕ, ◌+◌, ◌-◌, ◌<◌, ◌≤◌, ◌==◌, Bool, true, false, List, ◌∷◌, ◌++◌, length, drop, take, get_or, replicate, zero, suc, refl, sym, ap, ◌∙◌, arith, inl, inr, ◌⊎◌, append-nil, append_assoc, length-take-le, length-drop}
 use Rattle.std.proofs.Math.ListN.{set}
 use Rattle.std.proofs.Math.Seq.{take-add}
 use Rattle.std.proofs.lemmas.Bool.{cases_eq, ne_eqb}
-use Rattle.std.proofs.lemmas.List.{drop-drop, drop_more, drop_all, drop-set-lt, take_more, take_more_set, length-set}
+use Rattle.std.proofs.lemmas.List.{drop_more, drop_all, drop-set-lt, take_more, take_more_set, length-set}
 use Rattle.cobs.proofs.format.LengthLemmas.{encoded_len-last}
 use Rattle.cobs_bytes.proofs.bytes.ListLemmas.{length-ones, ones-nonzero}
 use Rattle.cobs.specs.Grammar.{HasNoZero}
-use Rattle.cobs.specs.Length.{open_len}
 use Rattle.cobs.proofs.encoding.OpenedLemmas.{Opened-code, Opened-same-empty, Opened-join, Opened-close}
-use Rattle.cobs.proofs.encoding.OpenLenLemmas.{open_len-full, open_len-join, open_len-zero, open_len-least}
+use Rattle.cobs.proofs.encoding.OpenLenLemmas.{open_len-full, open_len-run, open_len-zero, open_len-least}
 use Rattle.cobs.specs.Internal.Reaches.{HadTaken, Opened, Reaches, Start, whole_end}
 
 -- the same places, by other names
@@ -28,7 +27,9 @@ module _ {s : Start} {slice : List ℕ} {pos index next : ℕ} {P : Bool → Typ
   pub Reaches-weaker : {Q : Bool → Type 0} → ((full : Bool) → P full → Q full) → Reaches s slice pos index next Q
   Reaches-weaker weaker = grind (arith, Reaches-at)
 
-  Reaches-same-empty : (slice' : List ℕ) → next ≡ index + 1 → take index slice' ≡ take index slice → drop (whole_end s) slice' ≡ drop (whole_end s) s.slice → Reaches s slice' pos index next P
+  -- if the open block has no bytes, the byte in its code's place doesn't matter
+  Reaches-same-empty : (slice' : List ℕ) → next ≡ index + 1 → take index slice' ≡ take index slice
+      → drop (whole_end s) slice' ≡ drop (whole_end s) s.slice → Reaches s slice' pos index next P
   Reaches-same-empty slice' empty front back = grind (arith, Opened-same-empty)
 
   -- another byte in the place of the open block's code
@@ -43,7 +44,10 @@ module _ {s : Start} {slice : List ℕ} {pos index next : ℕ} {P : Bool → Typ
       ordered = omega arith;
       short = short;
       within = within;
-      end = ap (λ (n : ℕ). index + n) goes-on ∙ r.end;
+      end =
+          let sum : next - index + k ≡ next + k - index = omega arith in
+          let joined = rw sum at (open_len-run s.source pos k (next - index) (omega arith) within nonzero) in
+          omega arith;
       rest = r.rest;
       taken = λ m h. by_count (cases_eq k 0) m (r.taken m h);
     }
@@ -54,13 +58,8 @@ module _ {s : Start} {slice : List ℕ} {pos index next : ℕ} {P : Bool → Typ
         long : length bytes ≡ k
         long = grind (arith, length-take-le, length-drop)
 
-        goes-on : open_len (next + k - index) (drop (pos + k) s.source) ≡ open_len (next - index) (drop pos s.source)
-        goes-on =
-            let l = long in
-            let split : drop pos s.source ≡ bytes ++ drop (pos + k) s.source = sym (take-append-drop k (drop pos s.source)) ∙ ap (λ (x : List ℕ). bytes ++ x) (drop-drop k pos s.source) in
-            grind (arith, open_len-join)
-
-        by_count : (k ≡ 0) ⊎ (k ≢ 0) → (m : List ℕ) → (full : Bool) × P full × Opened slice (m ++ take pos s.source) index next full → (full : Bool) × Q full × Opened slice (m ++ take (pos + k) s.source) index (next + k) full
+        by_count : (k ≡ 0) ⊎ (k ≢ 0) → (m : List ℕ) → (full : Bool) × P full × Opened slice (m ++ take pos s.source) index next full
+            → (full : Bool) × Q full × Opened slice (m ++ take (pos + k) s.source) index (next + k) full
         by_count (inl is) m t = grind arith
         by_count (inr other) m t =
             let l = long in
@@ -91,13 +90,11 @@ module _ {s : Start} {slice : List ℕ} {pos index next : ℕ} {P : Bool → Typ
   pub full-taken : next ≡ index + 255 → next ≤ length slice → (m : List ℕ) → HadTaken s m → Opened (set slice index 255) (m ++ take pos s.source) next (next + 1) true
   full-taken full fits m h =
       let t = r.taken m h in
-      let closed = Opened-close t.2 255 fits (sym full) in
-      grind (arith, append-nil)
+      grind (arith, append-nil, Opened-close t.2 255 fits (sym full))
 
   pub Reaches-full : {Q : Bool → Type 0} → pos < length s.source → next ≡ index + 255 → whole_end s ≤ length slice → Q true → Reaches s (set slice index 255) pos next (next + 1) Q
   Reaches-full more full fits is_full =
-      let left = open_len-full (drop pos s.source) (λ e. omega (arith, length-drop pos s.source, ap length e)) in
-      grind (arith, drop-set-lt, full-taken)
+      grind (arith, drop-set-lt, full-taken, open_len-full (drop pos s.source) (λ e. omega (arith, length-drop pos s.source, ap length e)))
 
   -- if all bytes are taken, the frame ends with the open block
   pub ends : pos ≡ length s.source → whole_end s ≡ next
@@ -107,7 +104,9 @@ module _ {s : Start} {slice : List ℕ} {pos index next : ℕ} {P : Bool → Typ
 abbrev pub IsNotFull : Bool → Type 0
 IsNotFull full = full ≡ false
 
-zero-first : (n pos : ℕ) (source : List ℕ) → pos + suc n ≤ length source → take (suc n) (drop pos source) ≡ replicate (suc n) 0 → (get_or source pos 0 ≡ 0) × (take n (drop (pos + 1) source) ≡ replicate n 0)
+-- n + 1 zeros are a zero and n zeros
+zero-first : (n pos : ℕ) (source : List ℕ) → pos + suc n ≤ length source → take (suc n) (drop pos source) ≡ replicate (suc n) 0
+    → (get_or source pos 0 ≡ 0) × (take n (drop (pos + 1) source) ≡ replicate n 0)
 zero-first n pos source within zeros = let left = drop_more source pos 0 (omega arith) in (cc, cc)
 
 -- n + 1 zeros close the open block and the n blocks without bytes after it
@@ -120,9 +119,8 @@ Reaches-zeros zero {s} {slice} {pos} {index} {next} after r within zeros fits sh
     let same : take next after ≡ take next (set slice index (next - index)) = grind (arith, append-nil) in
     Reaches-at refl (omega arith) (omega arith) (omega arith) (λ full p. p) (Reaches-same-empty closed after refl same back)
 Reaches-zeros (suc n) {s} {slice} {pos} {index} {next} after r within zeros fits short front back =
-    let room = least r in
     let coded : List ℕ = set slice index (next - index) in
-    let l = length-set slice index (next - index) in
+    let long = length-set slice index (next - index) in
     let zero = zero-first (suc n) pos s.source within zeros in
     let closed = Reaches-zero r {Q = IsNotFull} fits (omega arith) zero.0 short refl in
     let one : next + 1 - next ≡ 1 = omega arith in

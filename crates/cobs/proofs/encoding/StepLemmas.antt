@@ -18,6 +18,7 @@ is-place e n short room = grind (arith, cases_Bool)
 pub has-room : (e : UnbufferedEncoder) (slice : List ℕ) (byte : ℕ) → e.taken ≤ 253 → e.index + e.taken + 1 < length slice → HasRoomFor (length slice) (reached_by e) (byte ∷ [])
 has-room e slice byte short room = record { place = is-place e (length slice) short room; fits = fits-byte slice (reached_by e) byte (omega arith) (omega arith) (omega arith) }
 
+-- the converses: the open block of a possible state isn't full, and if there is room for a byte, its index is within
 pub place-short : (e : UnbufferedEncoder) (n : ℕ) → IsPlaceIn n (reached_by e) → e.taken ≤ 253
 place-short e n p = grind arith
 

@@ -5,10 +5,10 @@ use Rattle.std.proofs.Math.ListN.{set}
 use Rattle.std.proofs.Math.Seq.{take-add}
 use Rattle.std.proofs.lemmas.Bool.{cases_Bool, cases_lt}
 use Rattle.std.proofs.lemmas.List.{drop-drop, drop-set, drop-set-lt, drop_all, drop_more, length-set, take-set-le, take_rest}
-use Rattle.std.proofs.lemmas.List.Elements.{All-cons, All-nil}
 use Rattle.std.proofs.lemmas.Grind.{common_steps}
 use Rattle.cobs.proofs.encoding.OpenedLemmas.{Opened-same}
 use Rattle.cobs.specs.Grammar.{HasNoZero}
+use Rattle.cobs_bytes.proofs.bytes.ListLemmas.{one-nonzero}
 use Rattle.cobs.specs.Length.{encoded_len, open_len}
 use Rattle.cobs.specs.OpenBlock.{Reached, CobsEncoderAfter, IsPlaceIn, end_after, end_of, next_of, place_at}
 use Rattle.cobs.specs.Internal.Taking.{TakesFront}
@@ -27,7 +27,8 @@ pub ruleset short_room = (after-some, open_len-most, cases_Bool)
 pub next-least : (r : Reached) (source : List ℕ) → 0 < r.block.code → 0 < length source → next_of r + length source ≤ end_after r source
 next-least r source code some = grind (arith, after-some, open_len-least)
 
-pub reaches-start : {source old : List ℕ} {r : Reached} → 0 < length source → 0 < r.block.code → r.block.code < 255 → Reaches (start_with old r source) old 0 r.block.index (next_of r) (λ _. Unit {0})
+pub reaches-start : {source old : List ℕ} {r : Reached} → 0 < length source → 0 < r.block.code → r.block.code < 255
+    → Reaches (start_with old r source) old 0 r.block.index (next_of r) (λ _. Unit {0})
 unfolding HadTaken
 reaches-start {source} {old} {r} some code short = grind (arith, after-some, append-nil, from_after)
 
@@ -39,11 +40,11 @@ module _ {s : Start} {slice : List ℕ} {read index next : ℕ} {P : Bool → Ty
   -- a byte that isn't a zero joins the open block
   pub joined : get_or s.source read 0 ≡ byte → byte ≢ 0 → next < index + 255 → whole_end s ≤ length slice → Reaches s (set slice next byte) (read + 1) index (next + 1) IsNotFull
   joined is other short fits =
-      let l = least r in
-      let k = length-set slice next byte in
+      let room = least r in
+      let long = length-set slice next byte in
       let one : take 1 (drop read s.source) ≡ byte ∷ [] = grind (arith, drop_more) in
       let here : take 1 (drop next (set slice next byte)) ≡ take 1 (drop read s.source) = grind (arith, drop-set) in
-      let nonzero : HasNoZero (take 1 (drop read s.source)) = rw one (All-cons (λ byte. byte ≢ 0) byte [] other (All-nil (λ byte. byte ≢ 0))) in
+      let nonzero : HasNoZero (take 1 (drop read s.source)) = rw one (one-nonzero byte other) in
       Reaches-join written (omega arith) 1 (omega arith) (omega arith) nonzero here (λ full z p. absurd (omega arith)) (λ z. refl)
 
 -- the end of a step
@@ -53,11 +54,11 @@ module _ {source old slice : List ℕ} {r r' : Reached} (fits : end_after r sour
       → (pos ≡ length source → full ≡ false) → index + code ≡ next → r' ≡ place_at index code full → TakesFront old r source pos slice r'
   unfolding HadTaken
   front-taken {pos} {index} {next} {code} {full} s short last coded is =
-      let l = least s in
+      let room = least s in
       let place : Reached = place_at index code full in
       let code-is : next - index ≡ code = omega arith in
       let end : end_after place (drop pos source) ≡ end_after r source = elim (cases_lt pos (length source)) [
-        | inl more ↦ after-some place (drop pos source) (omega (arith, length-drop pos source)) ∙ (rw code-is at s.end)
+        | inl more ↦ grind (arith, after-some, length-drop)
         | inr none ↦ (let all : pos ≡ length source = omega arith in rw (drop_all pos source (omega arith), last all, ends s all) (omega arith))
       ] in
       grind (arith, to_after)
@@ -71,7 +72,7 @@ module _ {source old slice : List ℕ} {r r' : Reached} (fits : end_after r sour
       → r' ≡ place_at (index + 255) 1 true → TakesFront old r source pos (set slice index 255) r'
   unfolding HadTaken
   front-full {pos} {index} s last is =
-      let l = length-set slice index 255 in
+      let long = length-set slice index 255 in
       let e = ends s last in
       rw is (record {
         place = record { some = omega arith; not_full = omega arith; fits = omega arith };
@@ -81,13 +82,14 @@ module _ {source old slice : List ℕ} {r r' : Reached} (fits : end_after r sour
       })
 
 -- a byte filled the open block
-pub front-filled : {source old slice : List ℕ} {r r' : Reached} {pos index next code : ℕ} {P : Bool → Type 0} → end_after r source ≤ length slice → next ≡ index + 255 → Reaches (start_with old r source) slice pos index next P
+pub front-filled : {source old slice : List ℕ} {r r' : Reached} {pos index next code : ℕ} {P : Bool → Type 0} → end_after r source ≤ length slice
+    → next ≡ index + 255 → Reaches (start_with old r source) slice pos index next P
     → code ≡ 1 → r' ≡ place_at next code true → TakesFront old r source pos (set slice index 255) r'
 front-filled {source} {old} {slice} {r} {r'} {pos} {index} {next} fits full s one is =
-    let n = length-set slice index 255 in
+    let long = length-set slice index 255 in
     elim (cases_lt pos (length source)) [
       | inl more ↦ front-taken (omega arith) (Reaches-full s {Q = λ noted. noted ≡ true} more full fits refl) (omega arith) (λ all. absurd (omega arith)) (omega arith) is
-      | inr none ↦ (let w = s.within in front-full fits (Reaches-at refl refl refl full (λ full p. p) s) (omega arith) (rw (full, one) at is))
+      | inr none ↦ (let within = s.within in front-full fits (Reaches-at refl refl refl full (λ full p. p) s) (omega arith) (rw (full, one) at is))
     ]
 
 -- a step that takes no byte

@@ -25,7 +25,7 @@ whole-start {old} {source} some = record {
   ordered = omega arith;
   short = omega arith;
   within = omega arith;
-  end = let e = whole-fits old source some in omega arith;
+  end = omega (arith, whole-fits old source some);
   rest = refl;
   taken = λ m h. (false, refl, rw append-nil (from_after h));
 }
@@ -36,13 +36,12 @@ module _ {old source slice : List ℕ} {pos index next : ℕ} (some : 0 < length
   whole-len = sym (ends r last) ∙ whole-fits old source some
 
   pub whole-rest : drop next (set slice index (next - index)) ≡ drop next old
-  whole-rest = let o = r.ordered in drop-set-lt next slice index (next - index) (omega arith) ∙ (rw (ends r last) at r.rest)
+  whole-rest = let ordered = r.ordered in drop-set-lt next slice index (next - index) (omega arith) ∙ (rw (ends r last) at r.rest)
 
   pub whole-frame : IsEncodedFrame (take next (set slice index (next - index))) source
   whole-frame =
-      let o = r.ordered in
-      let s = r.short in
-      let w = whole-fits old source some in
+      let short = r.short in
+      let end = whole-fits old source some in
       let r' : Reaches (start old source) slice (length source) index next IsNotFull = rw (← last) r in
       elim (cases_lt next (index + 255)) [
         | inl open' ↦ (let sum : index + (next - index) ≡ next = omega arith in

@@ -28,10 +28,10 @@ last_number-cons x (p ∷ ps) some = refl
 last_run-all : (bytes : List ℕ) → HasNoZero bytes → last_run bytes ≡ length bytes
 last_run-all bytes h = grind (arith, slice_split_none, no_zero)
 
+-- bytes without a zero lengthen the last run if it is the only one
 last_run-append : (bytes m : List ℕ) → HasNoZero bytes → (last_run (bytes ++ m) ≡ last_run m) ⊎ ((last_run (bytes ++ m) ≡ length bytes + last_run m) × (length m ≡ last_run m))
 last_run-append bytes m h =
-    let j = join_with_byte-slice_split 0 m in
-    grind (arith, stretches-front, length-append, some_stretch)
+    grind (arith, stretches-front, length-append, some_stretch, join_with_byte-slice_split 0 m)
 
 -- the message after a full block ends in a full run exactly if the whole message does
 full_run-append : (bytes k : List ℕ) → length bytes ≡ 254 → HasNoZero bytes → k ≢ [] → EndsInFullRun (bytes ++ k) ↔ EndsInFullRun k
@@ -43,7 +43,7 @@ full_run-append bytes (x ∷ k) l h some = grind (arith, last_run-append)
 ends_full : (bs : List (List ℕ)) → bs ≢ [] → All IsBlock bs → IsShorter bs → IsFull (last_of bs) ↔ EndsInFullRun (message_of bs)
 ends_full [] some h s = grind arith
 ends_full ([] ∷ bs) some h s = grind (arith, All-head)
-ends_full ((c ∷ bytes) ∷ []) some h s = let is = All-head IsBlock (c ∷ bytes) [] h in grind (arith, eqb-true, eqb-false, last_run-all)
+ends_full ((c ∷ bytes) ∷ []) some h s = grind (arith, eqb-true, eqb-false, last_run-all, All-head IsBlock (c ∷ bytes) [] h)
 ends_full ((c ∷ bytes) ∷ d ∷ ds) some h s =
     let nonzero = (All-head IsBlock (c ∷ bytes) (d ∷ ds) h).2 in
     let k : List ℕ = message_of (d ∷ ds) in
@@ -54,18 +54,19 @@ ends_full ((c ∷ bytes) ∷ d ∷ ds) some h s =
 pub ends_in_full : (g m : List ℕ) (e : IsEncodedFrame g m) → IsFull (last_of e.reads.blocks) ↔ EndsInFullRun m
 ends_in_full g m e =
     let r = e.reads in
-    subst (λ (l : List ℕ). IsFull (last_of r.blocks) ↔ EndsInFullRun l) (sym r.message) (ends_full _ r.frame.some r.frame.each (IsEncodedFrame-shorter g m e))
+    subst (λ l. IsFull (last_of r.blocks) ↔ EndsInFullRun l) (sym r.message) (ends_full _ r.frame.some r.frame.each (IsEncodedFrame-shorter g m e))
 
 -- BLOCKS ARE CANONICAL, OR CANONICAL BLOCKS THAT END IN A FULL ONE AND THE LONE BLOCK
 
 abbrev EndsInLone : List (List ℕ) → Type 0
 EndsInLone bs = (cs : List (List ℕ)) × (bs ≡ cs ++ lone_block ∷ []) × (cs ≢ []) × IsShorter cs × IsFull (last_of cs)
 
+-- two blocks are canonical unless the second one is the lone block and the first one is full
 two : (b c : List ℕ) → IsBlock c → IsShorter (b ∷ c ∷ []) ⊎ EndsInLone (b ∷ c ∷ [])
 two b [] h = absurd h
 two b (k ∷ x ∷ bytes) h = inl (IsShorter-cons b ((k ∷ x ∷ bytes) ∷ []) (λ full e. cc) (IsShorter-single (k ∷ x ∷ bytes)))
 two b (k ∷ []) h = ⊎_elim
-    (λ (full : is_full b ≡ true). inr (b ∷ [], ap (λ (n : ℕ). b ∷ (n ∷ []) ∷ []) h.0, λ e. cc, IsShorter-single b, full))
+    (λ (full : is_full b ≡ true). inr (b ∷ [], ap (λ n. b ∷ (n ∷ []) ∷ []) h.0, λ e. cc, IsShorter-single b, full))
     (λ (open' : is_full b ≡ false). inl (IsShorter-cons b ((k ∷ []) ∷ []) (λ full. cc) (IsShorter-single (k ∷ []))))
     (cases_Bool (is_full b))
 
@@ -77,9 +78,9 @@ either_blocks (b ∷ c ∷ d ∷ ds) some h = ⊎_elim
     (λ s. inl (IsShorter-cons b (c ∷ d ∷ ds) (λ full e. cc) s))
     (λ (w : EndsInLone (c ∷ d ∷ ds)). inr (
       b ∷ w.0,
-      ap (λ (l : List (List ℕ)). b ∷ l) w.1,
+      ap (λ l. b ∷ l) w.1,
       λ e. cc,
-      IsShorter-cons b w.0 (λ full e. true≢false (sym w.4 ∙ ap (λ (l : List (List ℕ)). is_full (last_of l)) e)) w.3,
+      IsShorter-cons b w.0 (λ full e. true≢false (sym w.4 ∙ ap (λ l. is_full (last_of l)) e)) w.3,
       ap is_full (last_of-cons b w.0 w.2) ∙ w.4,
     ))
     (either_blocks (c ∷ d ∷ ds) (λ e. cc) (All-tail IsBlock b (c ∷ d ∷ ds) h))
@@ -94,7 +95,7 @@ frames_of f m r = ⊎_elim
     let each = (All-apart IsBlock cs (lone_block ∷ []) (rw w.1 at r.frame.each)).0 in
     let message : m ≡ message_of cs = grind (arith, message_of-append, append-nil) in
     let encoded : IsEncodedFrame (concat cs) m = encoded-by cs (record { some = w.2; each = each; whole = refl }) message w.3 in
-    let whole : f ≡ concat cs ++ lone_block = r.frame.whole ∙ ap concat w.1 ∙ concat-append cs (lone_block ∷ []) in
+    let whole : f ≡ concat cs ++ lone_block = grind (arith, concat-append) in
     inr ((ends_in_full (concat cs) m encoded).0 w.4, (concat cs, encoded, whole)))
     (either_blocks r.blocks r.frame.some r.frame.each)
 
@@ -110,7 +111,7 @@ all_frames f m = (frames_of f m, frames_from f m)
 
 -- the second frame is one byte longer than the encoded frame
 pub length-second : (f m : List ℕ) → IsEncodedFrame f m → EndsInFullRun m → length (f ++ lone_block) ≡ encoded_len m + 1
-length-second f m e x = length_push f 1 ∙ ap (λ (n : ℕ). n + 1) (length-encoded f m e)
+length-second f m e x = length_push f 1 ∙ ap (λ n. n + 1) (length-encoded f m e)
 
 -- AN OPEN FRAME
 
@@ -123,7 +124,7 @@ open_shorter f m index code o other = ⊎_elim (λ e. e) (λ w. absurd (other w.
 pub open_longer : (f m : List ℕ) (index code : ℕ) → IsOpenFrame f m index code → EndsInFullRun m → (g : List ℕ) × IsEncodedFrame g m × (f ≡ g ++ lone_block)
 open_longer f m index code o x = ⊎_elim
     -- the encoded frame of such a message ends in a full block
-    (λ e. let full = (ends_in_full f m (record { reads = open_reads f m index code o; canonical = e.canonical })).1 x in grind (arith, eqb-true, last_of-push))
+    (λ e. grind (arith, eqb-true, last_of-push, (ends_in_full f m (record { reads = open_reads f m index code o; canonical = e.canonical })).1 x))
     (λ w. w.1)
     (frames_of f m (open_reads f m index code o))
 
@@ -133,13 +134,13 @@ open_longer f m index code o x = ⊎_elim
 pub EncoderAfter-push : (state : OpenBlock) (m : List ℕ) (b : ℕ) → EncoderAfter state m → EncoderAfter (next_open state b) (m ++ b ∷ [])
 EncoderAfter-push state m zero (f, o) = let r = open-zero o (0, refl) 0 in (r.0, r.1)
 EncoderAfter-push state m (suc b) (f, o) = ⊎_elim
-    (λ (full : state.code ≡ 254). let r = open-full o (0, refl) (suc b) (λ e. omega arith) 0 full in grind arith)
-    (λ (room : state.code ≢ 254). let r = open-more o (0, refl) (suc b) (λ e. omega arith) room in grind arith)
+    (λ (full : state.code ≡ 254). grind (arith, open-full o (0, refl) (suc b) (λ e. omega arith) 0 full))
+    (λ (room : state.code ≢ 254). grind (arith, open-more o (0, refl) (suc b) (λ e. omega arith) room))
     (cases_eq state.code 254)
 
 after_all : (more m : List ℕ) (state : OpenBlock) → EncoderAfter state m → (next : OpenBlock) × EncoderAfter next (m ++ more)
 after_all [] m state h = grind (arith, append-nil)
-after_all (b ∷ more) m state h = grind (arith, EncoderAfter-push, append_assoc, after_all more (m ++ b ∷ []) (next_open state b) (EncoderAfter-push state m b h))
+after_all (b ∷ more) m state h = grind (arith, EncoderAfter-push, append_assoc, after_all more (m ++ b ∷ []) (next_open state b))
 
 pub encoded_frame : (m : List ℕ) → (f : List ℕ) × IsEncodedFrame f m
 encoded_frame m =

@@ -1,5 +1,5 @@
 -- A frame reads as its output, since the parts of a frame are its blocks: by induction on the blocks.
-use Rattle.std.proofs.Common.{◌≡◌, ◌≢◌, ℕ, zero, suc, ◌-◌, ◌<◌, ◌≤◌, List, [], ◌∷◌, ◌++◌, length, drop, All, refl, sym, ap, ◌∙◌, subst, arith, append-nil, append_assoc, length-take, length-take-le, take-append-drop, take_at, drop_at}
+use Rattle.std.proofs.Common.{◌≡◌, ◌≢◌, ℕ, zero, suc, ◌-◌, ◌<◌, ◌≤◌, List, [], ◌∷◌, ◌++◌, length, drop, All, refl, subst, arith, append-nil, append_assoc, length-append, length-take, length-take-le, take-append-drop, take_at, drop_at}
 use Rattle.std.specs.List.{concat}
 use Rattle.std.proofs.lemmas.Bool.{eq-eqb, eqb-true}
 use Rattle.std.proofs.lemmas.List.{drop_all}
@@ -47,10 +47,13 @@ parts-some (c ∷ p) some = grind (arith, parts_after-some)
 pub last_of-cons : (xs : List ℕ) (more : List (List ℕ)) → more ≢ [] → last_of (xs ∷ more) ≡ last_of more
 last_of-cons xs more h = grind arith
 
+-- the last element of two lists end to end is the last one of the second
+pub last_of-append : (xs ys : List (List ℕ)) → 0 < length ys → last_of (xs ++ ys) ≡ last_of ys
+last_of-append [] ys some = refl
+last_of-append (x ∷ xs) ys some = grind (arith, length-append xs ys, last_of-append xs ys some)
+
 pub last_of-push : (xs : List (List ℕ)) (x : List ℕ) → last_of (xs ++ x ∷ []) ≡ x
-last_of-push [] x = refl
-last_of-push (y ∷ []) x = refl
-last_of-push (y ∷ z ∷ xs) x = last_of-push (z ∷ xs) x
+last_of-push xs x = last_of-append xs (x ∷ []) (omega arith)
 
 -- THE PARTS OF BLOCKS ARE THE BLOCKS
 
@@ -61,14 +64,11 @@ parts-block block rest h = grind (arith, take_at, drop_at, parts_after-drop)
 
 pub parts-append : (blocks : List (List ℕ)) (rest : List ℕ) → All IsBlock blocks → parts (concat blocks ++ rest) ≡ blocks ++ parts rest
 parts-append [] rest h = refl
-parts-append (block ∷ blocks) rest h = grind (arith, append_assoc, parts-block, All-head, (parts-append blocks rest (All-tail IsBlock block blocks h)))
-
-pub parts-blocks : (blocks : List (List ℕ)) → All IsBlock blocks → parts (concat blocks) ≡ blocks
-unfolding parts parts_after
-parts-blocks blocks h = ap parts (sym (append-nil (concat blocks))) ∙ parts-append blocks [] h ∙ append-nil blocks
+parts-append (block ∷ blocks) rest h = grind (arith, append_assoc, parts-block, All-head, parts-append blocks rest (All-tail IsBlock block blocks h))
 
 pub parts-frame : (f : List ℕ) (blocks : List (List ℕ)) → IsFrameOf f blocks → parts f ≡ blocks
-parts-frame f blocks frame = grind (arith, parts-blocks)
+unfolding parts parts_after
+parts-frame f blocks frame = grind (arith, append-nil, parts-append blocks [] frame.each)
 
 -- no byte of the last block is missing
 missing-last : (blocks : List (List ℕ)) → All IsBlock blocks → missing (last_of blocks) ≡ 0
@@ -141,6 +141,7 @@ All-apart P xs ys h = (
   subst (All P) (drop_at xs ys (length xs) refl) (All-drop P (length xs) (xs ++ ys) h),
 )
 
+-- the code of a block is below 256, so if its bytes are, the whole block is
 block_bytes : (block : List ℕ) → IsBlock block → All (λ b. b < 256) (bytes_of block) → All (λ b. b < 256) block
 block_bytes block h e = grind (arith, All-cons)
 

@@ -21,14 +21,14 @@ abbrev pub IsShorter : List (List ℕ) → Type 0
 IsShorter blocks = (front : List (List ℕ)) (block : List ℕ) → IsFull block → blocks ≢ front ++ block ∷ lone_block ∷ []
 
 pub IsShorter-tail : (b : List ℕ) (bs : List (List ℕ)) → IsShorter (b ∷ bs) → IsShorter bs
-IsShorter-tail b bs h front block full e = h (b ∷ front) block full (ap (λ (l : List (List ℕ)). b ∷ l) e)
+IsShorter-tail b bs h front block full e = h (b ∷ front) block full (ap (λ l. b ∷ l) e)
 
 pub IsShorter-cons : (b : List ℕ) (bs : List (List ℕ)) → (IsFull b → bs ≢ lone_block ∷ []) → IsShorter bs → IsShorter (b ∷ bs)
 IsShorter-cons b bs apart s [] block full e = grind arith
 IsShorter-cons b bs apart s (x ∷ front) block full e = grind arith
 
 pub IsShorter-single : (b : List ℕ) → IsShorter (b ∷ [])
-IsShorter-single b front block full e = (let n = ap length e in let l = length-append front (block ∷ lone_block ∷ []) in omega arith)
+IsShorter-single b front block full e = (omega (arith, ap length e, length-append front (block ∷ lone_block ∷ [])))
 
 -- an encoded frame, given its blocks
 abbrev pub encoded-by : {f m : List ℕ} (blocks : List (List ℕ)) → IsFrameOf f blocks → m ≡ message_of blocks → IsShorter blocks → IsEncodedFrame f m
@@ -73,15 +73,16 @@ module _ (block f : List ℕ) (is : IsBlock block) where
   blocks-are : (blocks : List (List ℕ)) → IsFrameOf (block ++ f) blocks → blocks ≡ block ∷ parts f
   blocks-are blocks h = sym (parts-frame (block ++ f) blocks h) ∙ parts-block block f is
 
-  behind : f ≢ [] → (blocks : List (List ℕ)) → IsFrameOf (block ++ f) blocks → IsFrameOf f (parts f)
-  behind some blocks h =
+  -- so the other bytes are a frame of their parts
+  rest-frame : f ≢ [] → (blocks : List (List ℕ)) → IsFrameOf (block ++ f) blocks → IsFrameOf f (parts f)
+  rest-frame some blocks h =
       let g : IsFrameOf (block ++ f) (block ∷ parts f) = subst (IsFrameOf (block ++ f)) (blocks-are blocks h) h in
       let whole : f ≡ concat (parts f) = append_cancel_left block f (concat (parts f)) g.whole in
       record { some = λ e. some (whole ∙ ap concat e); each = All-tail IsBlock block (parts f) g.each; whole = whole }
 
   pub front-frame : f ≢ [] → IsFrame (block ++ f) ↔ IsFrame f
   front-frame some = (
-    λ frame. (message_of (parts f), record { blocks = parts f; frame = behind some frame.1.blocks frame.1.frame; message = refl }),
+    λ frame. (message_of (parts f), record { blocks = parts f; frame = rest-frame some frame.1.blocks frame.1.frame; message = refl }),
     λ frame. (_, Reads-cons block f frame.0 is frame.1),
   )
 
@@ -90,7 +91,7 @@ module _ (block f : List ℕ) (is : IsBlock block) where
     λ c. (
       record {
         blocks = parts f;
-        frame = behind some c.blocks c.frame;
+        frame = rest-frame some c.blocks c.frame;
         shorter = IsShorter-tail block (parts f) (subst IsShorter (blocks-are c.blocks c.frame) c.shorter);
       },
       λ full lone. c.shorter [] block full (cc (blocks-are c.blocks c.frame, lone-parts)),

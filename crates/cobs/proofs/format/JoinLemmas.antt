@@ -13,10 +13,10 @@ use Rattle.cobs.proofs.format.FrameLemmas.{All-apart, parts-append, parts-frame}
 
 -- the message of joined lists of blocks
 pub message_of-append : (bs cs : List (List ℕ)) → bs ≢ [] → cs ≢ [] → message_of (bs ++ cs) ≡ message_of bs ++ joint (last_of bs) ++ message_of cs
-message_of-append [] cs p q = absurd (p refl)
-message_of-append (b ∷ []) [] p q = absurd (q refl)
-message_of-append (b ∷ []) (c ∷ cs) p q = refl
-message_of-append (b ∷ d ∷ bs) cs p q = grind (arith, append_assoc, (message_of-append (d ∷ bs) cs (λ e. cc) q))
+message_of-append [] cs some some' = absurd (some refl)
+message_of-append (b ∷ []) [] some some' = absurd (some' refl)
+message_of-append (b ∷ []) (c ∷ cs) some some' = refl
+message_of-append (b ∷ d ∷ bs) cs some some' = grind (arith, append_assoc, message_of-append (d ∷ bs) cs)
 
 pub Reads-append : (f m g k : List ℕ) (r : Reads f m) → Reads g k → Reads (f ++ g) (m ++ joint (last_of r.blocks) ++ k)
 Reads-append f m g k r s = record {
@@ -55,4 +55,4 @@ front_frame p q m r some = (
 )
 
 pub front_message : (p q k m : List ℕ) → Reads (p ++ q) m → Reads p k → IsFront k m
-front_message p q k m r s = let more = message_of-front s.blocks (parts q) s.frame.some in grind (arith, first_blocks)
+front_message p q k m r s = grind (arith, first_blocks, message_of-front s.blocks (parts q) s.frame.some)

@@ -37,30 +37,30 @@ pub record BlocksBehind (f rest : List ℕ) (after_full : Bool) : Type 0 where
   pub canonical : IsCanonical f ↔ (IsCanonical rest × (after_full ≡ true → rest ≢ lone_block))
 
 -- no byte follows the whole blocks, or a broken block does
-pub broken-kind : (f rest : List ℕ) (t : Bool) → BlocksBehind f rest t → (0 < length rest → length rest < get_or rest 0 0) → IsKindOf NotAFrame f
-broken-kind f [] t i broken = λ frame. (let h = i.frame.0 frame in frame_some [] h.0 h.1 refl)
-broken-kind f (code ∷ bytes) t i broken = λ frame. short-frame code bytes (let b = broken (omega arith) in omega arith) (i.frame.0 frame)
+pub broken-kind : (f rest : List ℕ) (full : Bool) → BlocksBehind f rest full → (0 < length rest → length rest < get_or rest 0 0) → IsKindOf NotAFrame f
+broken-kind f [] full blocks broken = λ frame. (let h = blocks.frame.0 frame in frame_some [] h.0 h.1 refl)
+broken-kind f (code ∷ bytes) full blocks broken = λ frame. short-frame code bytes (omega (arith, broken (omega arith))) (blocks.frame.0 frame)
 
 -- one more whole block
-pub one-more : (f rest : List ℕ) (t : Bool) → BlocksBehind f rest t → get_or rest 0 0 < length rest → BlocksBehind f (drop (get_or rest 0 0) rest) (eqb (get_or rest 0 0) 255)
-one-more f [] t i more = grind arith
-one-more f (zero ∷ bytes) t i more = grind (arith, All-head)
-one-more f (suc n ∷ bytes) t i more =
-    let b : List ℕ = suc n ∷ take n bytes in
-    let q : List ℕ = drop n bytes in
-    let l = length-drop n bytes in
+pub one-more : (f rest : List ℕ) (full : Bool) → BlocksBehind f rest full → get_or rest 0 0 < length rest → BlocksBehind f (drop (get_or rest 0 0) rest) (eqb (get_or rest 0 0) 255)
+one-more f [] full blocks more = grind arith
+one-more f (zero ∷ bytes) full blocks more = grind (arith, All-head)
+one-more f (suc n ∷ bytes) full blocks more =
+    let block : List ℕ = suc n ∷ take n bytes in
+    let after : List ℕ = drop n bytes in
+    let long = length-drop n bytes in
     let m = length-take-le n bytes (omega arith) in
-    let none = All-tail (λ b. b ≢ 0) (suc n) bytes i.nonzero in
-    let is : IsBlock b = (omega arith, All-head (λ b. b < 256) (suc n) bytes i.below, All-take (λ b. b ≢ 0) n bytes none) in
-    let other : q ≢ [] = λ e. omega (arith, ap length e) in
+    let none = All-tail (λ b. b ≢ 0) (suc n) bytes blocks.nonzero in
+    let is : IsBlock block = (omega arith, All-head (λ b. b < 256) (suc n) bytes blocks.below, All-take (λ b. b ≢ 0) n bytes none) in
+    let other : after ≢ [] = λ e. omega (arith, ap length e) in
     let all = take-append-drop n bytes in
-    let g = subst (λ (x : List ℕ). IsFrame (suc n ∷ x) ↔ IsFrame q) all (front-frame b q is other) in
-    let k = subst (λ (x : List ℕ). IsCanonical (suc n ∷ x) ↔ (IsCanonical q × (IsFull b → q ≢ lone_block))) all (front-canonical b q is other) in
+    let same_frame = subst (λ x. IsFrame (suc n ∷ x) ↔ IsFrame after) all (front-frame block after is other) in
+    let same_kind = subst (λ x. IsCanonical (suc n ∷ x) ↔ (IsCanonical after × (IsFull block → after ≢ lone_block))) all (front-canonical block after is other) in
     record {
       nonzero = All-drop (λ b. b ≢ 0) n bytes none;
-      below = All-drop (λ b. b < 256) n bytes (All-tail (λ b. b < 256) (suc n) bytes i.below);
-      frame = (λ h. g.0 (i.frame.0 h), λ h. i.frame.1 (g.1 h));
-      canonical = (λ h. k.0 (i.canonical.0 h).0, λ h. i.canonical.1 (k.1 h, λ _ e. omega (arith, ap length e)));
+      below = All-drop (λ b. b < 256) n bytes (All-tail (λ b. b < 256) (suc n) bytes blocks.below);
+      frame = (λ h. same_frame.0 (blocks.frame.0 h), λ h. blocks.frame.1 (same_frame.1 h));
+      canonical = (λ h. same_kind.0 (blocks.canonical.0 h).0, λ h. blocks.canonical.1 (same_kind.1 h, λ _ e. omega (arith, ap length e)));
     }
 
 -- the last block follows the whole blocks
@@ -68,19 +68,20 @@ last-block : (rest : List ℕ) → HasNoZero rest → All (λ b. b < 256) rest �
 last-block [] nonzero below some last = grind arith
 last-block (code ∷ bytes) nonzero below some last = (omega arith, All-head (λ b. b < 256) code bytes below, All-tail (λ b. b ≢ 0) code bytes nonzero)
 
+-- a block of one byte is the lone block
 lone-is : (rest : List ℕ) → length rest ≡ get_or rest 0 0 → length rest ≡ 1 → rest ≡ lone_block
 lone-is [] last one = grind arith
 lone-is (code ∷ []) last one = grind arith
 lone-is (code ∷ x ∷ bytes) last one = grind arith
 
-module _ (f rest : List ℕ) (t : Bool) (i : BlocksBehind f rest t) (some : 0 < length rest) (last : length rest ≡ get_or rest 0 0) where
+module _ (f rest : List ℕ) (full : Bool) (blocks : BlocksBehind f rest full) (some : 0 < length rest) (last : length rest ≡ get_or rest 0 0) where
   canonical : IsCanonical rest
   canonical = grind (arith, IsCanonical-block, last-block)
 
   -- the lone block after a full one
-  pub longer-kind : t ≡ true → length rest ≡ 1 → IsKindOf Longer f
-  longer-kind full one = grind (arith, frame_of, canonical, lone-is)
+  pub longer-kind : full ≡ true → length rest ≡ 1 → IsKindOf Longer f
+  longer-kind is_full one = grind (arith, frame_of, canonical, lone-is)
 
   -- another block, or the lone block after a block that isn't full
-  pub canonical-kind : (t ≡ true → length rest ≢ 1) → IsKindOf Canonical f
+  pub canonical-kind : (full ≡ true → length rest ≢ 1) → IsKindOf Canonical f
   canonical-kind other = grind (arith, canonical)

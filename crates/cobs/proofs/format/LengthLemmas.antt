@@ -15,7 +15,7 @@ pub no_zero : (bytes : List ℕ) → HasNoZero bytes → All (λ b. (b == 0) ≡
 no_zero bytes h = grind (arith, All-weaker, ne_eqb)
 
 pub some_stretch : (m : List ℕ) → stretches m ≢ []
-some_stretch m e = let n = length-slice_split (λ b. b == 0) m in let l = ap length e in omega arith
+some_stretch m e = omega (arith, length-slice_split (λ b. b == 0) m, ap length e)
 
 -- a last run of at most 254 bytes is one block
 pub encoded_len-last : (bytes : List ℕ) → length bytes < 255 → HasNoZero bytes → encoded_len bytes ≡ length bytes + 1
@@ -35,7 +35,9 @@ pub stretches-front : (bytes m : List ℕ) → HasNoZero bytes → stretches (by
 stretches-front [] m h = grind (arith, some_stretch)
 stretches-front (b ∷ bs) m h = grind (arith, slice_split-cons_no, ne_eqb, All-head, All-tail, stretches-front bs m (All-tail (λ b. b ≢ 0) b bs h))
 
-full_more : (bytes : List ℕ) (parts : List (List ℕ)) → length bytes ≡ 254 → parts ≢ [] → join_with_byte 0 parts ≢ [] → full_blocks (map length (onto_parts bytes parts)) ≡ 1 + full_blocks (map length parts)
+-- 254 bytes before the first part are one full block more, if a part is left
+full_more : (bytes : List ℕ) (parts : List (List ℕ)) → length bytes ≡ 254 → parts ≢ [] → join_with_byte 0 parts ≢ []
+    → full_blocks (map length (onto_parts bytes parts)) ≡ 1 + full_blocks (map length parts)
 full_more bytes [] l some more = grind arith
 full_more bytes ([] ∷ []) l some more = grind arith
 full_more bytes ((x ∷ p) ∷ []) l some more = grind (arith, length-append)
@@ -44,9 +46,9 @@ full_more bytes (p ∷ q ∷ ps) l some more = grind (arith, length-append)
 -- 254 bytes of a run that continues are one block
 pub encoded_len-full : (bytes m : List ℕ) → length bytes ≡ 254 → HasNoZero bytes → m ≢ [] → encoded_len (bytes ++ m) ≡ 255 + encoded_len m
 encoded_len-full bytes m l h more =
-    let joined = join_with_byte-slice_split 0 m in
-    grind (arith, stretches-front, full_more, some_stretch, length-append)
+    grind (arith, stretches-front, full_more, some_stretch, length-append, join_with_byte-slice_split 0 m)
 
+-- no message of the same length has more full blocks than one without zeros
 full_blocks-le : (parts : List (List ℕ)) → full_blocks (map length parts) + 1 ≤ max_overhead (length (join_with_byte 0 parts))
 full_blocks-le [] = omega arith
 full_blocks-le (p ∷ []) = omega arith
@@ -55,7 +57,7 @@ full_blocks-le (p ∷ q ∷ ps) = grind (arith, length-append, full_blocks-le (q
 -- the bound. Messages without zeros reach it, so it is reached at each length.
 pub encoded_len-le : (m : List ℕ) → encoded_len m ≤ max_encoded_len (length m)
 encoded_len-le m =
-    let h = subst (λ (x : List ℕ). full_blocks (runs m) + 1 ≤ max_overhead (length x)) (join_with_byte-slice_split 0 m) (full_blocks-le (stretches m)) in
+    let h = subst (λ x. full_blocks (runs m) + 1 ≤ max_overhead (length x)) (join_with_byte-slice_split 0 m) (full_blocks-le (stretches m)) in
     omega arith
 
 pub encoded_len-nonzero : (m : List ℕ) → HasNoZero m → encoded_len m ≡ max_encoded_len (length m)

@@ -20,15 +20,17 @@ use Rattle.cobs.proofs.format.StreamLemmas.{stream_outcomes-front, stream_outcom
 -- ONE MORE MESSAGE
 
 -- one more message's frame and its zero
-pub AreFrames-push : (messages : List (List ℕ)) (bytes frame message : List ℕ) → AreFrames messages bytes → IsEncodedFrame frame message → AreFrames (messages ++ message ∷ []) (bytes ++ frame ++ 0 ∷ [])
+pub AreFrames-push : (messages : List (List ℕ)) (bytes frame message : List ℕ) → AreFrames messages bytes → IsEncodedFrame frame message
+    → AreFrames (messages ++ message ∷ []) (bytes ++ frame ++ 0 ∷ [])
 AreFrames-push messages bytes frame message h encoded = record {
   frames = h.frames ++ frame ∷ [];
-  each = AllZip-push IsEncodedFrame h.frames messages frame message h.each encoded;
+  each = grind (arith, AllZip-push);
   joined = cc (append_assoc bytes frame (0 ∷ []), flat_map_more (λ f. f ++ 0 ∷ []) [] h.frames frame);
 }
 
 -- the messages up to one of the vectors, and that one
-pub messages_in-more : (vectors : List (Vec ℕ)) (i : ℕ) (d : Vec ℕ) → i < length vectors → messages_in (take (i + 1) vectors) ≡ messages_in (take i vectors) ++ (get_or vectors i d).items ∷ []
+pub messages_in-more : (vectors : List (Vec ℕ)) (i : ℕ) (d : Vec ℕ) → i < length vectors
+    → messages_in (take (i + 1) vectors) ≡ messages_in (take i vectors) ++ (get_or vectors i d).items ∷ []
 messages_in-more vectors i d within = rw (take_more vectors i d within) (map_push (λ v. v.items) (take i vectors) (get_or vectors i d))
 
 -- THE ROOM
@@ -50,7 +52,7 @@ pub written : (dest new behind : List ℕ) (end len : ℕ) → end ≤ length de
 written dest new behind end len within room =
     grind (arith, common_steps, take_more_set, length-append, take-append-add, take-append-le)
 
--- such a list is as long as what was written
+-- such a list has at least the bytes that were written
 pub length-written : (dest new : List ℕ) (end part : ℕ) → end ≤ length dest → end + length new ≤ length (put_mid end part dest new)
 length-written dest new end part within = grind (arith, length-append, length-take)
 

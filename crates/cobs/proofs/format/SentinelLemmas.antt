@@ -41,14 +41,14 @@ first_xored (b ∷ bytes) s some = refl
 pub behind_sentinels : (dest part : List ℕ) (k n : ℕ) → n ≤ k → length part ≡ k → k < length dest → drop n part ≡ drop n (take k (drop 1 dest))
     → drop (n + 2) (set (set (put_mid 1 k dest part) 0 0) (n + 1) 0) ≡ drop (n + 2) dest
 behind_sentinels dest part k n short len within behind =
-    same_lists _ _ (search (rules, places)) (λ i d h. let same = ap (λ (x : List ℕ). get_or x (1 + i) d) behind in grind (arith, places))
+    same_lists _ _ (search (rules, places)) (λ i d h. grind (arith, places, ap (λ x. get_or x (1 + i) d) behind))
 
 -- FREE OF THE SENTINEL
 
 -- bytes without s have no zero after the XOR with s
 pub coded_nonzero : (f : List ℕ) (s : ℕ) → IsFreeOf s f → HasNoZero (xor_each s f)
 coded_nonzero f s free =
-    All-map (λ b. b ≢ 0) (λ b. bit_xor b s) f (All-weaker (λ b. b ≢ s) (λ b. bit_xor b s ≢ 0) (λ b other e. other (sym (xor_twice b s) ∙ ap (λ (x : ℕ). bit_xor x s) e)) f free)
+    All-map (λ b. b ≢ 0) (λ b. bit_xor b s) f (All-weaker (λ b. b ≢ s) (λ b. bit_xor b s ≢ 0) (λ b other e. other (sym (xor_twice b s) ∙ ap (λ x. bit_xor x s) e)) f free)
 
 pub encoded_nonzero : {f m : List ℕ} → IsEncodedFrame f m → HasNoZero f
 encoded_nonzero {f} {m} e = frame_nonzero f m e.reads
@@ -56,7 +56,7 @@ encoded_nonzero {f} {m} e = frame_nonzero f m e.reads
 -- no frame for a sentinel contains it
 pub no_sentinel : (f : List ℕ) (s : ℕ) → IsFrame f → IsFreeOf s (xor_each s f)
 no_sentinel f s (m, r) = All-map (λ b. b ≢ s) (λ b. bit_xor b s) f
-    (All-weaker (λ b. b ≢ 0) (λ b. bit_xor b s ≢ s) (λ b some is. some (sym (xor_twice b s) ∙ ap (λ (x : ℕ). bit_xor x s) is ∙ xor_self s)) f (frame_nonzero f m r))
+    (All-weaker (λ b. b ≢ 0) (λ b. bit_xor b s ≢ s) (λ b some is. some (sym (xor_twice b s) ∙ ap (λ x. bit_xor x s) is ∙ xor_self s)) f (frame_nonzero f m r))
 
 pub no_sentinel_for : (s : ℕ) (f : List ℕ) → IsFrame (xor_each s f) → IsFreeOf s f
 no_sentinel_for s f frame = subst (IsFreeOf s) (xor_each-twice s f) (no_sentinel (xor_each s f) s frame)
@@ -66,4 +66,4 @@ encoded_free s f {m} e = no_sentinel_for s f (m, e.reads)
 
 -- a frame between two sentinels
 pub delimited_nonzero : {bytes m : List ℕ} → IsDelimitedFrame bytes m → HasNoZero (between_ends bytes)
-delimited_nonzero {bytes} {m} (f, e, is) = let n = encoded_nonzero e in grind (arith, take_at, length-append)
+delimited_nonzero {bytes} {m} (f, e, is) = grind (arith, take_at, length-append, encoded_nonzero e)

@@ -10,6 +10,7 @@ use Rattle.cobs.specs.Grammar.{HasNoZero, last_of}
 use Rattle.cobs.specs.Stream.{stretches, is_nonempty, but_last, ended_pieces, unended, Outcome, outcome_of, stream_outcomes}
 use Rattle.cobs.specs.Feed.{fed}
 use Rattle.cobs.specs.Laws.{IsAtSentinel}
+use Rattle.cobs.proofs.format.FrameLemmas.{last_of-append}
 use Rattle.cobs.proofs.format.LengthLemmas.{no_zero}
 
 -- A FRONT OF A PIECE AND ONE MORE BYTE
@@ -28,24 +29,20 @@ length-stretches t = grind (arith, length-slice_split)
 pub stretches-append : (t u : List ℕ) → stretches (t ++ u) ≡ but_last (stretches t) ++ stretches (last_of (stretches t) ++ u)
 unfolding but_last
 stretches-append [] u = refl
-stretches-append (zero ∷ t) u = let some = length-stretches t in grind (arith, (stretches-append t u))
+stretches-append (zero ∷ t) u = grind (arith, (stretches-append t u), length-stretches t)
 stretches-append (suc b ∷ t) u = grind (arith, slice_split-cons_no, ne_eqb, length-stretches, (stretches-append t u))
 
 but_last-append : (xs ys : List (List ℕ)) → 0 < length ys → but_last (xs ++ ys) ≡ xs ++ but_last ys
 unfolding but_last
 but_last-append [] ys h = refl
-but_last-append (x ∷ xs) ys h = let len = length-append xs ys in grind (arith, (but_last-append xs ys h))
-
-last_of-append : (xs ys : List (List ℕ)) → 0 < length ys → last_of (xs ++ ys) ≡ last_of ys
-last_of-append [] ys h = refl
-last_of-append (x ∷ xs) ys h = let len = length-append xs ys in grind (arith, (last_of-append xs ys h))
+but_last-append (x ∷ xs) ys h = grind (arith, (but_last-append xs ys h), length-append xs ys)
 
 -- the pieces of a stream in two parts
 pub ended_pieces-append : (t u : List ℕ) → ended_pieces (t ++ u) ≡ ended_pieces t ++ ended_pieces (unended t ++ u)
 unfolding ended_pieces unended
 ended_pieces-append t u = grind (arith, stretches-append, but_last-append, length-stretches, filter-append)
 
--- what two parts of a stream leave unended
+-- the unended bytes of a stream in two parts
 pub unended-append : (t u : List ℕ) → unended (t ++ u) ≡ unended (unended t ++ u)
 unfolding unended
 unended-append t u = grind (arith, stretches-append, last_of-append, length-stretches)
@@ -99,15 +96,13 @@ outcomes_at-nonzero p b n h = grind (arith, ne_eqb)
 pub stream_outcomes-push_piece : (p : List ℕ) (b n : ℕ) → HasNoZero p → stream_outcomes (p ++ b ∷ []) n ≡ outcomes_at p b n
 stream_outcomes-push_piece p zero n h = stream_outcomes-piece p n h
 stream_outcomes-push_piece p (suc b) n h =
-    let nonzero = All-push (λ x. x ≢ 0) p (suc b) h (λ e. omega arith) in
-    grind (arith, stream_outcomes-no_zero, outcomes_at-nonzero)
+    grind (arith, stream_outcomes-no_zero, outcomes_at-nonzero, All-push (λ x. x ≢ 0) p (suc b) h (λ e. omega arith))
 
 pub unended-push_piece : (p : List ℕ) (b : ℕ) → HasNoZero p → unended (p ++ b ∷ []) ≡ fed p b
 unfolding unended
 unended-push_piece p zero h = grind (arith, stretches-piece)
 unended-push_piece p (suc b) h =
-    let nonzero = All-push (λ x. x ≢ 0) p (suc b) h (λ e. omega arith) in
-    grind (arith, unended-no_zero, fed-nonzero)
+    grind (arith, unended-no_zero, fed-nonzero, All-push (λ x. x ≢ 0) p (suc b) h (λ e. omega arith))
 
 -- WHAT IS UNENDED HAS NO ZERO
 
@@ -148,7 +143,7 @@ nonempty-unended_last p bytes h =
     let same : bytes ≡ take (length bytes - 1) bytes ++ get_or bytes (length bytes - 1) 0 ∷ []
     = sym (take_all (length bytes - 1 + 1) bytes (omega arith)) ∙ take_more bytes (length bytes - 1) 0 (omega arith) in
     nonempty-unended_push (p ++ take (length bytes - 1) bytes) (get_or bytes (length bytes - 1) 0)
-    ∙ ap (λ (x : List ℕ). is_nonempty (unended x)) (append_assoc p (take (length bytes - 1) bytes) _ ∙ ap (λ (x : List ℕ). p ++ x) (sym same))
+    ∙ ap (λ x. is_nonempty (unended x)) (append_assoc p (take (length bytes - 1) bytes) _ ∙ ap (λ x. p ++ x) (sym same))
 
 -- DAMAGE BETWEEN TWO SENTINELS
 
@@ -160,8 +155,7 @@ unended-at_sentinel t (inr (front, ends)) = ap unended ends ∙ unended-zero fro
 -- the bytes before a sentinel, up to the next one, and after that one have their own outcomes
 pub stream_outcomes-apart : (a d z : List ℕ) (n : ℕ) → IsAtSentinel a → stream_outcomes (a ++ d ++ 0 ∷ z) n ≡ stream_outcomes a n ++ stream_outcomes (d ++ 0 ∷ []) n ++ stream_outcomes z n
 stream_outcomes-apart a d z n h =
-    let cut = stream_outcomes-append (a ++ d ++ 0 ∷ []) z n in
-    grind (arith, append_assoc, unended-at_sentinel, unended-zero, stream_outcomes-append)
+    grind (arith, append_assoc, unended-at_sentinel, unended-zero, stream_outcomes-append, stream_outcomes-append (a ++ d ++ 0 ∷ []) z n)
 
 -- one piece between two sentinels has one outcome
 pub stream_outcomes-one : (d : List ℕ) (n : ℕ) → d ≢ [] → HasNoZero d → stream_outcomes (d ++ 0 ∷ []) n ≡ outcome_of d n ∷ []
@@ -187,16 +181,13 @@ module _ (f u : List ℕ) (n k : ℕ) (some : f ≢ []) (h : HasNoZero f) where
   outcomes-behind past =
       let split : k ≡ length f + suc (k - length f - 1) = omega arith in
       let cut : take k (f ++ 0 ∷ u) ≡ f ++ 0 ∷ take (k - length f - 1) u
-      = ap (λ (k : ℕ). take k (f ++ 0 ∷ u)) split ∙ take-append-add f (0 ∷ u) (suc (k - length f - 1)) in
-      (_, ap (λ (x : List ℕ). stream_outcomes x n) cut ∙ stream_outcomes-front f (take (k - length f - 1) u) n some h)
+      = ap (λ k. take k (f ++ 0 ∷ u)) split ∙ take-append-add f (0 ∷ u) (suc (k - length f - 1)) in
+      (_, ap (λ x. stream_outcomes x n) cut ∙ stream_outcomes-front f (take (k - length f - 1) u) n some h)
 
   -- so the outcomes of the first k bytes say whether the zero is among them
   pub outcomes-none : stream_outcomes (take k (f ++ 0 ∷ u)) n ≡ [] → k ≤ length f
-  outcomes-none e = elim (cases_lt (length f) k) [ inl past ↦ absurd (let b = outcomes-behind past in cc) | inr within ↦ within ]
+  outcomes-none e = grind (arith, cases_lt, outcomes-behind)
 
   pub outcomes-first : (x : Outcome) (rest : List Outcome) → stream_outcomes (take k (f ++ 0 ∷ u)) n ≡ x ∷ rest
       → (length f < k) × (x ≡ outcome_of f n)
-  outcomes-first x rest e = elim (cases_lt (length f) k) [
-    | inl past ↦ (past, let b = outcomes-behind past in cc)
-    | inr within ↦ absurd (let b = outcomes-before within in cc)
-  ]
+  outcomes-first x rest e = grind (arith, cases_lt, outcomes-behind, outcomes-before)

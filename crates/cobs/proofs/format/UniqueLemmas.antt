@@ -28,7 +28,7 @@ message-rest b d ds t e = grind (arith, append_assoc)
 
 -- after a full block of canonical blocks something is left
 pub full-more : (b d : List ℕ) (ds : List (List ℕ)) → All IsBlock (b ∷ d ∷ ds) → IsShorter (b ∷ d ∷ ds) → is_full b ≡ true → message_of (d ∷ ds) ≢ []
-full-more b d ds h s full none = s [] b full (ap (λ (l : List (List ℕ)). b ∷ l) (empty_message d ds (All-tail IsBlock b (d ∷ ds) h) none))
+full-more b d ds h s full none = s [] b full (ap (λ l. b ∷ l) (empty_message d ds (All-tail IsBlock b (d ∷ ds) h) none))
 
 -- between a block and canonical ones after it is a zero, or the block is full and something is left
 pub first-block : (c : ℕ) (a d : List ℕ) (ds : List (List ℕ)) → All IsBlock ((c ∷ a) ∷ d ∷ ds) → IsShorter ((c ∷ a) ∷ d ∷ ds) → let k = message_of (d ∷ ds) in
@@ -42,10 +42,10 @@ first-block c a d ds h s =
 
 -- how long canonical blocks are
 length-blocks : (bs : List (List ℕ)) → bs ≢ [] → All IsBlock bs → IsShorter bs → length (concat bs) ≡ encoded_len (message_of bs)
-length-blocks [] p h s = absurd (p refl)
-length-blocks ([] ∷ bs) p h s = grind (arith, All-head)
-length-blocks ((c ∷ a) ∷ []) p h s = let is = All-head IsBlock (c ∷ a) [] h in omega (arith, encoded_len-last a (omega arith) is.2, ap length (append-nil a))
-length-blocks ((c ∷ a) ∷ d ∷ ds) p h s = grind (arith, All-head, All-tail, IsShorter-tail, length-append, encoded_len-zero, encoded_len-full, first-block, length-blocks (d ∷ ds) (λ e. cc) (All-tail IsBlock (c ∷ a) (d ∷ ds) h) (IsShorter-tail (c ∷ a) (d ∷ ds) s))
+length-blocks [] some each short = absurd (some refl)
+length-blocks ([] ∷ bs) some each short = grind (arith, All-head)
+length-blocks ((c ∷ a) ∷ []) some each short = let is = All-head IsBlock (c ∷ a) [] each in omega (arith, encoded_len-last a (omega arith) is.2, ap length (append-nil a))
+length-blocks ((c ∷ a) ∷ d ∷ ds) some each short = grind (arith, All-head, All-tail, IsShorter-tail, length-append, encoded_len-zero, encoded_len-full, first-block, length-blocks (d ∷ ds) (λ e. cc) (All-tail IsBlock (c ∷ a) (d ∷ ds) each) (IsShorter-tail (c ∷ a) (d ∷ ds) short))
 
 -- THERE IS ONE ENCODED FRAME
 
@@ -63,7 +63,7 @@ same_first : (b c : List ℕ) (bs cs : List (List ℕ)) → All IsBlock (b ∷ b
 same_first [] c bs cs h i e = grind (arith, All-head)
 same_first (x ∷ b) [] bs cs h i e = grind (arith, All-head)
 same_first (x ∷ b) (y ∷ c) bs cs h i e =
-    let bytes : b ≡ c = first_bytes x b bs 254 h refl ∙ ap (λ (m : List ℕ). take 254 (head m)) e ∙ sym (first_bytes y c cs 254 i refl) in
+    let bytes : b ≡ c = first_bytes x b bs 254 h refl ∙ ap (λ m. take 254 (head m)) e ∙ sym (first_bytes y c cs 254 i refl) in
     grind (arith, All-head)
 
 -- if the first block is the last, there are no more canonical blocks
@@ -72,17 +72,17 @@ no_more b d ds h short e =
     let rest : [] ≡ joint b ++ message_of (d ∷ ds) = append_cancel_left (bytes_of b) [] _ (append-nil (bytes_of b) ∙ e ∙ append_assoc (bytes_of b) (joint b) (message_of (d ∷ ds))) in
     grind (arith, full-more)
 
+-- two lists of canonical blocks with one message are equal, block by block
 one_blocks : (bs cs : List (List ℕ)) → bs ≢ [] → cs ≢ [] → All IsBlock bs → All IsBlock cs → IsShorter bs → IsShorter cs → message_of bs ≡ message_of cs → bs ≡ cs
-one_blocks [] cs p q h i s t e = absurd (p refl)
-one_blocks (b ∷ bs) [] p q h i s t e = absurd (q refl)
-one_blocks (b ∷ []) (c ∷ []) p q h i s t e = ap (λ (l : List ℕ). l ∷ []) (same_first b c [] [] h i e)
-one_blocks (b ∷ []) (c ∷ d ∷ ds) p q h i s t e = let first = same_first b c [] (d ∷ ds) h i e in grind (arith, no_more)
-one_blocks (b ∷ d ∷ ds) (c ∷ []) p q h i s t e = let first = same_first b c (d ∷ ds) [] h i e in grind (arith, no_more)
-one_blocks (b ∷ d ∷ ds) (c ∷ k ∷ ks) p q h i s t e =
-    let first = same_first b c (d ∷ ds) (k ∷ ks) h i e in
-    let rest : message_of (d ∷ ds) ≡ message_of (k ∷ ks) = append_cancel_left (bytes_of c ++ joint c) _ _ (ap (λ (l : List ℕ). message_of (l ∷ d ∷ ds)) (sym first) ∙ e) in
-    let more = one_blocks (d ∷ ds) (k ∷ ks) (λ z. cc) (λ z. cc) (All-tail IsBlock b (d ∷ ds) h) (All-tail IsBlock c (k ∷ ks) i) (IsShorter-tail b (d ∷ ds) s) (IsShorter-tail c (k ∷ ks) t) rest in
-    cc
+one_blocks [] cs some some' each each' shorter shorter' same = absurd (some refl)
+one_blocks (b ∷ bs) [] some some' each each' shorter shorter' same = absurd (some' refl)
+one_blocks (b ∷ []) (c ∷ []) some some' each each' shorter shorter' same = ap (λ l. l ∷ []) (same_first b c [] [] each each' same)
+one_blocks (b ∷ []) (c ∷ d ∷ ds) some some' each each' shorter shorter' same = grind (arith, no_more, same_first b c [] (d ∷ ds) each each' same)
+one_blocks (b ∷ d ∷ ds) (c ∷ []) some some' each each' shorter shorter' same = grind (arith, no_more, same_first b c (d ∷ ds) [] each each' same)
+one_blocks (b ∷ d ∷ ds) (c ∷ k ∷ ks) some some' each each' shorter shorter' same =
+    let first = same_first b c (d ∷ ds) (k ∷ ks) each each' same in
+    let rest : message_of (d ∷ ds) ≡ message_of (k ∷ ks) = grind (arith, append_cancel_left) in
+    cc (one_blocks (d ∷ ds) (k ∷ ks) (λ z. cc) (λ z. cc) (All-tail IsBlock b (d ∷ ds) each) (All-tail IsBlock c (k ∷ ks) each') (IsShorter-tail b (d ∷ ds) shorter) (IsShorter-tail c (k ∷ ks) shorter') rest)
 
 pub IsEncodedFrame-shorter : (f m : List ℕ) (e : IsEncodedFrame f m) → IsShorter e.reads.blocks
 IsEncodedFrame-shorter f m e = grind (arith, IsShorter, one_frame)
@@ -102,4 +102,4 @@ length-encoded f m e =
 
 -- equal frames have equal messages
 pub same_message : (f g m k : List ℕ) → IsEncodedFrame f m → IsEncodedFrame g k → f ≡ g → m ≡ k
-same_message f g m k e d same = one_message f m k e.reads (subst (λ (x : List ℕ). Reads x k) (sym same) d.reads)
+same_message f g m k e d same = one_message f m k e.reads (subst (λ x. Reads x k) (sym same) d.reads)

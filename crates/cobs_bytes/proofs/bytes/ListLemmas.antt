@@ -1,9 +1,9 @@
 -- Facts about bytes and lists, for all crates that use this one: lists of ones, lists that are equal from an index on,
 -- parts without a zero, and the three parts of a list that was overwritten in its middle. Each follows from std's
 -- lemmas on `take`, `drop` and `++`.
-use Rattle.std.proofs.Common.{◌≡◌, ◌≢◌, ℕ, ◌+◌, ◌-◌, ◌≤◌, List, ◌++◌, length, drop, take, replicate, sym, ap, ◌∙◌, subst, arith, append_assoc, take_at, drop_at, length-append, length-take-le}
+use Rattle.std.proofs.Common.{◌≡◌, ◌≢◌, ℕ, ◌+◌, ◌-◌, ◌≤◌, List, [], ◌∷◌, ◌++◌, length, drop, take, replicate, sym, ap, ◌∙◌, subst, arith, append_assoc, take_at, drop_at, length-append, length-take-le}
 use Rattle.std.proofs.lemmas.List.{drop-drop, drop-take, take-take, length-replicate}
-use Rattle.std.proofs.lemmas.List.Elements.{All-drop, All-replicate, All-take}
+use Rattle.std.proofs.lemmas.List.Elements.{All-cons, All-drop, All-nil, All-replicate, All-take}
 use Rattle.std.proofs.lemmas.Slice.{drop-append-drop}
 use Rattle.cobs_bytes.specs.Bytes.{HasNoZero}
 
@@ -13,11 +13,14 @@ length-ones n = length-replicate n 1
 pub ones-nonzero : (n : ℕ) → HasNoZero (replicate n 1)
 ones-nonzero n = All-replicate (λ byte. byte ≢ 0) n 1 (λ e. omega arith)
 
+pub one-nonzero : (b : ℕ) → b ≢ 0 → HasNoZero (b ∷ [])
+one-nonzero b other = All-cons (λ b. b ≢ 0) b [] other (All-nil (λ b. b ≢ 0))
+
 -- lists that are equal from an index on are equal from each later index on
 pub drop-later : (a b : ℕ) (xs ys : List ℕ) → a ≤ b → drop a xs ≡ drop a ys → drop b xs ≡ drop b ys
 drop-later a b xs ys le e =
     let sum : a + (b - a) ≡ b = omega arith in
-    subst (λ (n : ℕ). drop n xs ≡ drop n ys) sum (sym (drop-drop (b - a) a xs) ∙ ap (drop (b - a)) e ∙ drop-drop (b - a) a ys)
+    subst (λ n. drop n xs ≡ drop n ys) sum (sym (drop-drop (b - a) a xs) ∙ ap (drop (b - a)) e ∙ drop-drop (b - a) a ys)
 
 -- the n bytes from index i on have no zero if they are among the first m bytes, and these have no zero
 pub part-nonzero : (i n m : ℕ) (bytes : List ℕ) → HasNoZero (take m bytes) → i + n ≤ m → HasNoZero (take n (drop i bytes))
@@ -35,7 +38,7 @@ module _ (dest part : List ℕ) (at n : ℕ) (long : length part ≡ n) (fits : 
 
   pub behind-three : (r : ℕ) → at + n ≤ r → drop r (take at dest ++ (part ++ drop (at + n) dest)) ≡ drop r dest
   behind-three r le =
-      let l = length-take-le at dest fits in
+      let front_long = length-take-le at dest fits in
       ap (drop r) (sym (append_assoc (take at dest) part (drop (at + n) dest)))
       ∙ drop-append-drop (at + n) dest (take at dest ++ part) r le (length-append (take at dest) part ∙ omega arith)
 
@@ -43,6 +46,6 @@ module _ (dest part : List ℕ) (at n : ℕ) (long : length part ≡ n) (fits : 
   pub three-next : (more : List ℕ) (k : ℕ) → let three = take at dest ++ (part ++ drop (at + n) dest) in take (at + n) three ++ (more ++ drop (at + n + k) three) ≡ take at dest ++ ((part ++ more) ++ drop (at + (n + k)) dest)
   three-next more k =
       let b = behind-three (at + n + k) (omega arith) in
-      let l = length-take-le at dest fits in
+      let front_long = length-take-le at dest fits in
       let front : take (at + n) (take at dest ++ (part ++ drop (at + n) dest)) ≡ take at dest ++ part = grind (arith, append_assoc, take_at, length-append) in
       grind (arith, append_assoc)

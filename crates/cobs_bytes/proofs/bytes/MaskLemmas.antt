@@ -9,13 +9,14 @@ use Rattle.std.proofs.lemmas.List.Elements.{All-cons, All-from_get_or, All-head,
 use Rattle.std.proofs.lemmas.List.Sums.{prefix_len_passes, prefix_len_stops}
 use Rattle.std.proofs.lemmas.Simd.{bitmask_splat, mask_l-lt, trailing_mask_l, put_chunk_is, length-chunk}
 use Rattle.std.specs.List.{prefix_len}
+use Rattle.std.specs.Int.Count.{trailing_of_zero}
 use lib.Lanes.{mask_l, put_chunk, zip2, top}
 use lib.Count.{count_trailing_zeros}
 use Rattle.std.specs.Int.Bits.{bit_and, and_self}
 use Rattle.std.specs.Int.{bit_at}
 use Rattle.std.proofs.lemmas.Nat.Bits.{same_from_bits, bit_at_lowest, bit_at-suc, bit_at_and}
 use Rattle.cobs_bytes.specs.Bytes.{HasNoZero}
-use Rattle.cobs_bytes.specs.Mask.{zero_mask}
+use Rattle.cobs_bytes.specs.Mask.{lowest, zero_mask}
 use Rattle.cobs_bytes.proofs.bytes.ListLemmas.{length-ones}
 
 pub zero_mask-lanes : (bytes : List ℕ) → mask_l (map (λ b. eqb b 0) bytes) ≡ zero_mask bytes
@@ -68,13 +69,13 @@ nonzero_len-at bytes some = grind (arith, eqb-true, not-false, prefix_len_stops,
 -- the lowest bit that is set says which byte is the first zero
 pub lowest_bit : (bytes : List ℕ) → length bytes ≤ 64 → zero_mask bytes ≢ 0 → count_trailing_zeros 64 (zero_mask bytes) ≡ nonzero_len bytes
 lowest_bit bytes few some =
-    let e = zero_mask-lanes bytes in
-    grind (arith, trailing_mask_l)
+    grind (arith, trailing_mask_l, zero_mask-lanes bytes)
 
 -- the mask of bytes that follow d other bytes, which aren't zeros
 abbrev pub mask_behind : ℕ → List ℕ → ℕ
 mask_behind d bytes = zero_mask (replicate d 1 ++ bytes)
 
+-- one more byte before the others doubles the mask
 mask_behind-more : (d : ℕ) (bytes : List ℕ) → mask_behind (suc d) bytes ≡ 2 * mask_behind d bytes
 mask_behind-more d bytes = grind (arith, mask_behind)
 
@@ -82,7 +83,7 @@ pub mask_behind-none : (d : ℕ) (bytes : List ℕ) → mask_behind d bytes ≡ 
 mask_behind-none zero bytes e = zero_mask-none bytes e
 mask_behind-none (suc d) bytes e = let m = mask_behind-more d bytes in mask_behind-none d bytes (omega arith)
 
-mask_behind-some : (d : ℕ) (bytes : List ℕ) → mask_behind d bytes ≢ 0 → zero_mask bytes ≢ 0
+pub mask_behind-some : (d : ℕ) (bytes : List ℕ) → mask_behind d bytes ≢ 0 → zero_mask bytes ≢ 0
 mask_behind-some zero bytes some = some
 mask_behind-some (suc d) bytes some = let m = mask_behind-more d bytes in mask_behind-some d bytes (λ e. some (omega arith))
 
@@ -134,9 +135,6 @@ mask-and (b ∷ bytes) some =
 
 -- a mask from which the bits of some zeros have been removed
 module _ (d : ℕ) (bytes : List ℕ) (few : d + length bytes ≤ 64) (some : mask_behind d bytes ≢ 0) where
-  pub some_left : zero_mask bytes ≢ 0
-  some_left = mask_behind-some d bytes some
-
   pub lowest_left : count_trailing_zeros 64 (mask_behind d bytes) ≡ d + nonzero_len bytes
   lowest_left = grind (arith, length-append, length-ones, lowest_bit, nonzero_len-behind)
 
@@ -146,23 +144,32 @@ module _ (d : ℕ) (bytes : List ℕ) (few : d + length bytes ≤ 64) (some : ma
   pub mask_behind-and : bit_and (mask_behind d bytes) (mask_behind d bytes - 1) ≡ mask_behind (d + nonzero_len bytes + 1) (drop (nonzero_len bytes + 1) bytes)
   mask_behind-and = grind (arith, nonzero_len-behind, left, mask-and)
 
--- if the lowest bit is no lower than k, the first k bytes aren't zeros
-pub clear_front : (bytes : List ℕ) (k : ℕ) → length bytes ≤ 64 → k ≤ count_trailing_zeros 64 (zero_mask bytes) → HasNoZero (take k bytes)
-clear_front bytes k few le =
-    elim (cases_eq (zero_mask bytes) 0) [
-      | inl none ↦ All-take (λ b. b ≢ 0) k bytes (zero_mask-none bytes none)
-      | inr some ↦ (let front = All-take (λ b. b ≢ 0) k (take (nonzero_len bytes) bytes) (nonzero_len-before bytes some) in
-          subst HasNoZero (take-take k (nonzero_len bytes) bytes (omega (arith, lowest_bit bytes few some))) front)
-    ]
+-- the first zero is at the lowest bit that is set
+module _ (bytes : List ℕ) (few : length bytes ≤ 64) where
+  pub lowest-within : zero_mask bytes ≢ 0 → lowest (zero_mask bytes) < length bytes
+  lowest-within some = grind (arith, lowest_bit, nonzero_len-lt)
+
+  -- if the lowest bit is no lower than k, the first k bytes aren't zeros
+  pub clear_front : (k : ℕ) → k ≤ lowest (zero_mask bytes) → HasNoZero (take k bytes)
+  clear_front k le =
+      elim (cases_eq (zero_mask bytes) 0) [
+        | inl none ↦ All-take (λ b. b ≢ 0) k bytes (zero_mask-none bytes none)
+        | inr some ↦ (let front = All-take (λ b. b ≢ 0) k (take (nonzero_len bytes) bytes) (nonzero_len-before bytes some) in
+            subst HasNoZero (take-take k (nonzero_len bytes) bytes (omega (arith, lowest_bit bytes few some))) front)
+      ]
+
+  pub lowest-zero : lowest (zero_mask bytes) < length bytes → get_or bytes (lowest (zero_mask bytes)) 0 ≡ 0
+  lowest-zero within = grind (arith, cases_eq, trailing_of_zero, lowest_bit, nonzero_len-at)
 
 pub zero_mask-lt : (bytes : List ℕ) → zero_mask bytes < 2 ^ length bytes
-zero_mask-lt bytes = rw (← zero_mask-lanes bytes) (subst (λ (n : ℕ). mask_l (map (λ b. eqb b 0) bytes) < 2 ^ n) (length-map bytes (λ b. eqb b 0)) (mask_l-lt (map (λ b. eqb b 0) bytes)))
+zero_mask-lt bytes = rw (← zero_mask-lanes bytes) (subst (λ n. mask_l (map (λ b. eqb b 0) bytes) < 2 ^ n) (length-map bytes (λ b. eqb b 0)) (mask_l-lt (map (λ b. eqb b 0) bytes)))
 
 -- if every bit is set, each byte is 0
 pub zero_mask-all : (bytes : List ℕ) → zero_mask bytes + 1 ≡ 2 ^ length bytes → bytes ≡ replicate (length bytes) 0
 zero_mask-all [] e = refl
 zero_mask-all (b ∷ bytes) e = grind (arith, pow-suc, cases_eq, set_if, clear_if, zero_mask-all bytes)
 
+-- if 32 bytes have the mask of 32 zeros, they are 32 zeros
 pub window_all : (bytes : List ℕ) → length bytes ≤ 32 → zero_mask bytes ≡ 4294967295 → (length bytes ≡ 32) × (bytes ≡ replicate 32 0)
 window_all bytes few e =
     let most = zero_mask-lt bytes in

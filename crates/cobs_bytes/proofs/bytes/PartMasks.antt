@@ -18,6 +18,7 @@ bit_of b = cond (eqb b 0) 1 0
 bit-le : (b : ℕ) → bit_of b ≤ 1
 bit-le b = grind (arith, cases_eq, set_if, clear_if)
 
+-- bit i of the mask; no bit is set past the bytes, as if a 1 followed them
 bit_at-zero_mask : (bytes : List ℕ) (i : ℕ) → bit_at (zero_mask bytes) i ≡ bit_of (get_or bytes i 1)
 bit_at-zero_mask [] i = bit_at-zero i
 bit_at-zero_mask (b ∷ bytes) zero = grind (arith, bit_at-first, bit-le)

@@ -39,35 +39,35 @@ xor_twice b s = grind (arith, xor_assoc, xor_self, xor_zero_r)
 
 -- two parts of n bytes, which may overlap
 module _ (source dest : List ℕ) (s n : ℕ) (long : n ≤ length source) (short : length source ≤ n + n) (room : length source ≤ length dest) (small : n ≤ 64) where
-  abbrev h : List ℕ
-  h = xor_each s source
+  abbrev coded : List ℕ
+  coded = xor_each s source
 
   abbrev at : ℕ
   at = length source - n
 
-  h-long : length h ≡ length source
-  h-long = grind (arith, length-map)
+  coded-long : length coded ≡ length source
+  coded-long = grind (arith, length-map)
 
-  whole : take (at + n) h ≡ h
-  whole = grind (arith, take_all, at, h, h-long)
+  whole : take (at + n) coded ≡ coded
+  whole = grind (arith, take_all, at, coded, coded-long)
 
-  pub parts-nonzero : bit_or (mask source s n 0) (mask source s n at) ≡ 0 → HasNoZero h
+  pub parts-nonzero : bit_or (mask source s n 0) (mask source s n at) ≡ 0 → HasNoZero coded
   parts-nonzero none =
-      let l = h-long in
+      let long' = coded-long in
       let clear = or-none _ _ _ _ (mask-is source s n 0 small (omega arith)) (mask-is source s n at small (omega arith)) none in
       subst HasNoZero whole
-      (more-nonzero h n at n (omega arith) (omega arith) (omega arith) (zero_mask-none (take n h) clear.0) (zero_mask-none (take n (drop at h)) clear.1))
+      (more-nonzero coded n at n (omega arith) (omega arith) (omega arith) (zero_mask-none (take n coded) clear.0) (zero_mask-none (take n (drop at coded)) clear.1))
 
-  pub parts-clear : HasNoZero h → bit_or (mask source s n 0) (mask source s n at) ≡ 0
+  pub parts-clear : HasNoZero coded → bit_or (mask source s n 0) (mask source s n at) ≡ 0
   parts-clear nz =
-      let l = h-long in
-      let none : (i : ℕ) → i + n ≤ length source → mask source s n i ≡ 0 = λ i inside. mask-is source s n i small inside ∙ zero_mask-clear (take n (drop i h)) (All-take (λ b. b ≢ 0) n (drop i h) (All-drop (λ b. b ≢ 0) i h nz)) in
+      let long' = coded-long in
+      let none : (i : ℕ) → i + n ≤ length source → mask source s n i ≡ 0 = λ i inside. mask-is source s n i small inside ∙ zero_mask-clear (take n (drop i coded)) (All-take (λ b. b ≢ 0) n (drop i coded) (All-drop (λ b. b ≢ 0) i coded nz)) in
       grind (arith, mask, at)
 
-  pub parts-copied : put_chunk at (put_chunk 0 dest (part source s n 0)) (part source s n at) ≡ h ++ drop (length source) dest
+  pub parts-copied : put_chunk at (put_chunk 0 dest (part source s n 0)) (part source s n at) ≡ coded ++ drop (length source) dest
   parts-copied =
-      let l = h-long in
-      ap (λ (x : List ℕ). put_chunk at (put_chunk 0 dest x) (part source s n at)) (part-is source s n 0 (omega arith))
-      ∙ ap (put_chunk at (put_chunk 0 dest (take n h))) (part-is source s n at (omega arith))
-      ∙ two-copied h dest 0 0 (length source) n at at (length source) (omega arith) (omega arith) long short (omega arith) (omega arith) (omega arith)
-      ∙ ap (λ (x : List ℕ). x ++ drop (length source) dest) (take_all (length source) h (omega arith))
+      let long' = coded-long in
+      ap (λ x. put_chunk at (put_chunk 0 dest x) (part source s n at)) (part-is source s n 0 (omega arith))
+      ∙ ap (put_chunk at (put_chunk 0 dest (take n coded))) (part-is source s n at (omega arith))
+      ∙ two-copied coded dest 0 0 (length source) n at at (length source) (omega arith) (omega arith) long short (omega arith) (omega arith) (omega arith)
+      ∙ ap (λ x. x ++ drop (length source) dest) (take_all (length source) coded (omega arith))

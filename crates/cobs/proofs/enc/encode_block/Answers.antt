@@ -1,21 +1,23 @@
--- A message of fewer than 255 bytes has one code (`len-short`), and XORing its frame twice changes nothing (`xor_each-twice`).
+-- A message of fewer than 255 bytes has one code (`len-short`), and its frame, with each byte XORed with the sentinel, is
+-- a frame for that sentinel (`frame_for`). The bytes after the frame are those that `encode` left (`drop-append-drop`).
 use Rattle.std.proofs.Common.{◌≡◌, ◌≤◌, ◌<◌, ◌+◌, ◌++◌, ℕ, List, length, length-take-le, take, take_at, drop, ◌∙◌, arith}
 use Rattle.std.proofs.lemmas.List.{length-map}
 use Rattle.std.proofs.lemmas.Slice.{drop-append-drop}
-use Rattle.std.specs.Int.Bits.{bit_xor}
 use Rattle.cobs.specs.Grammar.{IsEncodedFrame}
 use Rattle.cobs.specs.Length.{encoded_len}
-use Rattle.cobs.specs.Sentinel.{xor_each}
-use Rattle.cobs.proofs.encoding.RoomLemmas.{blocks-none}
+use Rattle.cobs.specs.Sentinel.{IsEncodedFrameFor, xor_each}
+use Rattle.cobs.proofs.encoding.RoomLemmas.{blocks-most}
 use Rattle.cobs.proofs.format.SentinelLemmas.{xor_each-twice}
 use Rattle.cobs.proofs.enc.encode_block.Goals as goal
 use Rattle.cobs.proofs.enc.encode_block.Goals.{After-xor_bytes}
 
 len-short : (m : List ℕ) → length m < 255 → encoded_len m ≡ length m + 1
-len-short m short = let none = blocks-none 0 m (omega arith) in omega arith
+len-short m short = omega (arith, blocks-most 0 m)
 
-changed-back : (s n : ℕ) (coded changed m : List ℕ) → n ≤ length coded → changed ≡ xor_each s (take n coded) → IsEncodedFrame (take n coded) m → IsEncodedFrame (xor_each s (take n (changed ++ drop n coded))) m
-changed-back s n coded changed m le is frame = grind (arith, length-map, length-take-le, take_at, xor_each-twice)
+-- a frame of which each byte is XORed with s is a frame for s
+frame_for : (s n : ℕ) (coded changed m : List ℕ) → n ≤ length coded → changed ≡ xor_each s (take n coded) → IsEncodedFrame (take n coded) m
+    → IsEncodedFrameFor s (take n (changed ++ drop n coded)) m
+frame_for s n coded changed m within is frame = grind (arith, length-map, length-take-le, take_at, xor_each-twice)
 
 len-is : (c : After-xor_bytes) → c.encode-len.result ≡ length c.args.source.now + 1
 len-is c = grind (arith, len-short)
@@ -24,16 +26,14 @@ pub returns-clause-frame : goal.returns-clause-frame
 returns-clause-frame c =
     let coded : List ℕ = c.encode-len.new.dest in
     let m : List ℕ = c.args.source.now in
-    let long = c.encode-len.auto.dest in
-    changed-back c.args.sentinel (length m + 1) coded c.xor_bytes.new.bytes m (omega (arith, c.requires.room)) c.xor_bytes.ensures.changed
+    frame_for c.args.sentinel (length m + 1) coded c.xor_bytes.new.bytes m (omega (arith, c.requires.room)) c.xor_bytes.ensures.changed
     (rw (len-is (goal.at.returns-clause-frame c).After-xor_bytes) at c.encode-len.ensures.frame)
 
 pub returns-clause-rest : goal.returns-clause-rest
 returns-clause-rest c =
     let coded : List ℕ = c.encode-len.new.dest in
     let n : ℕ = length c.args.source.now + 1 in
-    let long = c.encode-len.auto.dest in
     let within : n ≤ length coded = omega (arith, c.requires.room) in
-    let len : length c.xor_bytes.new.bytes ≡ n = rw c.xor_bytes.ensures.changed (length-map (take n coded) (λ b. bit_xor b c.args.sentinel) ∙ length-take-le n coded within) in
+    let len : length c.xor_bytes.new.bytes ≡ n = grind (arith, length-map, length-take-le) in
     drop-append-drop n coded c.xor_bytes.new.bytes n (omega arith) len
     ∙ (rw (len-is (goal.at.returns-clause-rest c).After-xor_bytes) at c.encode-len.ensures.rest)

@@ -6,8 +6,8 @@ use Rattle.std.proofs.lemmas.List.{get_or-take, get_or-drop, take-take}
 use Rattle.std.proofs.lemmas.List.Elements.{All-append, All-more, All-take}
 use lib.Count.{count_trailing_zeros}
 use Rattle.cobs_bytes.specs.Bytes.{HasNoZero}
-use Rattle.cobs_bytes.specs.Mask.{zero_mask}
-use Rattle.cobs_bytes.proofs.bytes.MaskLemmas.{lowest_bit, nonzero_len, nonzero_len-at, nonzero_len-before, nonzero_len-lt, zero_mask-none}
+use Rattle.cobs_bytes.specs.Mask.{lowest, zero_mask}
+use Rattle.cobs_bytes.proofs.bytes.MaskLemmas.{clear_front, lowest-within, lowest-zero, zero_mask-none}
 use Rattle.cobs.proofs.find.front_len.Goals as goal
 use Rattle.cobs.proofs.find.front_len.Goals.{After-zeros_at-zeros, After-zeros_at-later, else-source-gt-WIDE_WINDOW-via-then-source-gt-WIDE_WINDOW+else-source-eq0, else-source-gt-WIDE_WINDOW-via-else-source-gt-WIDE_WINDOW}
 
@@ -24,20 +24,20 @@ module _ {bytes : List ℕ} {zeros : ℕ} (w : Window bytes zeros) (some : zeros
   abbrev first : ℕ
   first = count_trailing_zeros 64 zeros
 
-  window_some : zero_mask window ≢ 0
-  window_some none = some (w.is ∙ none)
+  long : length window ≡ 32
+  long = length-take-le 32 bytes w.long
 
-  place : first ≡ nonzero_len window
-  place = ap (count_trailing_zeros 64) w.is ∙ lowest_bit window (omega (arith, length-take-le 32 bytes w.long)) window_some
+  place : first ≡ lowest (zero_mask window)
+  place = ap lowest w.is
 
   within : first < 32
-  within = omega (arith, place, nonzero_len-lt window window_some, length-take-le 32 bytes w.long)
+  within = omega (arith, long, place, lowest-within window (omega (arith, long)) (λ none. some (w.is ∙ none)))
 
   before : HasNoZero (take first bytes)
-  before = rw (← take-take first 32 bytes (omega (arith, within)), place) (nonzero_len-before window window_some)
+  before = rw (← take-take first 32 bytes (omega (arith, within))) (clear_front window (omega (arith, long)) first (omega (arith, place)))
 
   stop : get_or bytes first 0 ≡ 0
-  stop = sym (get_or-take 32 bytes first 0 within) ∙ ap (λ (k : ℕ). get_or window k 0) place ∙ nonzero_len-at window window_some
+  stop = sym (get_or-take 32 bytes first 0 within) ∙ rw place (lowest-zero window (omega (arith, long)) (omega (arith, long, place, within)))
 
 -- the first window has no zero
 module _ (c : After-zeros_at-later) where
@@ -84,14 +84,11 @@ returns-then-zeros-ne0-clause-stop c _ = grind (arith, stop, at, After-zeros_at-
 pub returns-then-later-ne0-clause-within : goal.returns-then-later-ne0-clause-within
 returns-then-later-ne0-clause-within c =
     let after = (goal.at.returns-then-later-ne0-clause-within c).After-zeros_at-later in
-    let few = within (later after) c.if-later-ne0.true in
-    let i = inside after in
-    omega arith
+    omega (arith, within (later after) c.if-later-ne0.true, inside after)
 
 pub returns-then-later-ne0-clause-near : goal.returns-then-later-ne0-clause-near
 returns-then-later-ne0-clause-near c _ =
-    let few = within (later (goal.at.returns-then-later-ne0-clause-near c).After-zeros_at-later) c.if-later-ne0.true in
-    omega (arith, c.min-at.ensures)
+    omega (arith, c.min-at.ensures, within (later (goal.at.returns-then-later-ne0-clause-near c).After-zeros_at-later) c.if-later-ne0.true)
 
 pub returns-then-later-ne0-clause-before : goal.returns-then-later-ne0-clause-before
 returns-then-later-ne0-clause-before c _ =
@@ -116,7 +113,6 @@ returns-then-source-eq0-2-clause-before c _ =
 pub returns-clause-before : goal.returns-clause-before
 returns-clause-before c short =
     let after = (goal.at.returns-clause-before c).After-zeros_at-later in
-    let i = inside after in
     elim c.else-source-gt-WIDE_WINDOW.branch [
       | else-source-gt-WIDE_WINDOW-via-then-source-gt-WIDE_WINDOW+else-source-eq0 w ↦
           let last : 65 ≡ length c.args.source.now = omega (arith, w.if-source-gt-WIDE_WINDOW.true, short) in

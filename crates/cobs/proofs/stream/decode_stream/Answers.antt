@@ -24,7 +24,7 @@ returns-in_err-push-clause-out_of_memory g c = grind (arith, DecoderAfter-idle)
 
 pub by_piece-preserved : goal.by_piece-preserved
 by_piece-preserved g c = record {
-  within = (piece_count _ _ _ _ c.by_piece.invariant.within c.in-Some.ensures.takes).1;
+  within = grind (arith, piece_count);
   so_far = rw (c.in_ok-push.ensures.items, map_push outcome_in c.by_piece.outcomes.items c.in_ok-frame_outcome.field-0, c.in_ok-frame_outcome.ensures, c.buffer.ensures.value)
       (SoFar-piece _ _ _ _ c.by_piece.invariant.so_far c.in-Some.ensures.takes);
   same_loan = c.feed_piece.ensures.same_loan ∙ c.by_piece.invariant.same_loan;
@@ -44,8 +44,7 @@ returns-clause-alike g c = (SoFar-all _ _ c.by_piece.invariant.so_far c.in_defau
 
 pub returns-clause-phase_after : goal.returns-clause-phase_after
 returns-clause-phase_after g c =
-    let s = SoFar-all _ _ c.by_piece.invariant.so_far c.in_default.ensures.takes in
-    grind arith
+    grind (arith, SoFar-all _ _ c.by_piece.invariant.so_far c.in_default.ensures.takes)
 
 pub returns-clause-after_zero : goal.returns-clause-after_zero
 returns-clause-after_zero g c = (SoFar-all _ _ c.by_piece.invariant.so_far c.in_default.ensures.takes).after_zero

@@ -1,4 +1,5 @@
--- The outcomes of the pieces among the first `at` bytes are in the list (`SoFar`).
+-- The outcomes of the pieces among the first `at` bytes are in the list (`SoFar`), and the decoder still uses the buffer
+-- that it was lent before the call (`same_loan`).
 use Rattle.std.proofs.Common.{◌≡◌, ◌≤◌, ◌-◌, length, take}
 use Rattle.cobs.specs.Messages.{outcomes_in}
 use Rattle.cobs.proofs.streaming.SoFar.{SoFar}

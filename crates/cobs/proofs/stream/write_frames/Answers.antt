@@ -1,6 +1,6 @@
 -- Each message's frame has room in the rest of the slice (`room`, `fits`), and follows the frames that are written
 -- (`AreFrames-push`).
-use Rattle.std.proofs.Common.{◌≡◌, ℕ, ◌+◌, ◌-◌, ◌<◌, ◌≤◌, List, length, take, ap, subst, arith, length-take, length-drop}
+use Rattle.std.proofs.Common.{◌≡◌, ◌+◌, ◌-◌, ◌<◌, ◌≤◌, length, take, ap, subst, arith, length-take, length-drop}
 use Rattle.std.proofs.lemmas.List.{length-set}
 use Rattle.cobs.specs.Grammar.{IsEncodedFrame}
 use Rattle.cobs.specs.Length.{encoded_len}
@@ -39,8 +39,8 @@ by_message-preserved c =
     let len : c.encode-len.result < length c.encode-len.new.dest = omega arith in
     record {
       frames = rw (messages_in-more _ _ c.message-item.result c.by_message-test.true, ← c.message-item.is, written c.by_message.dest c.encode-len.new.dest _ c.by_message.end c.encode-len.result c.by_message.invariant.in_dest len)
-          (AreFrames-push _ _ _ _ c.by_message.invariant.frames (subst (λ (m : List ℕ). IsEncodedFrame (take c.encode-len.result c.encode-len.new.dest) m) e c.encode-len.ensures.frame));
+          (AreFrames-push _ _ _ _ c.by_message.invariant.frames (subst (λ m. IsEncodedFrame (take c.encode-len.result c.encode-len.new.dest) m) e c.encode-len.ensures.frame));
       within = rw (room-step _ _ c.message-item.result c.by_message-test.true c.message-item.is)
-          (let most = encoded_len-le c.message-item.result.items in let message : encoded_len c.deref.result.now ≡ encoded_len c.message-item.result.items = ap encoded_len e in omega (arith, c.by_message.invariant.within, c.encode-len.ensures.len));
+          (omega (arith, encoded_len-le c.message-item.result.items, ap encoded_len e, c.by_message.invariant.within, c.encode-len.ensures.len));
       in_dest = simp length-set (omega (arith, length-written c.by_message.dest c.encode-len.new.dest c.by_message.end (length c.by_message.dest - c.by_message.end) c.by_message.invariant.in_dest));
     }

@@ -9,7 +9,7 @@ pub returns-clause-copied : goal.returns-clause-copied
 returns-clause-copied g c =
     let source : List ℕ = c.args.source.now in
     two-copied source c.args.dest.now 0 c.args.at (length source) g.row.N _ _ (c.args.at + length source) (omega arith) c.requires.room c.requires.some c.requires.few (omega arith) (omega arith) refl
-    ∙ ap (λ (x : List ℕ). take c.args.at c.args.dest.now ++ (x ++ drop (c.args.at + length source) c.args.dest.now)) (take_all (length source) source (omega arith))
+    ∙ ap (λ x. take c.args.at c.args.dest.now ++ (x ++ drop (c.args.at + length source) c.args.dest.now)) (take_all (length source) source (omega arith))
 
 pub returns-clause-zeros : goal.returns-clause-zeros
 returns-clause-zeros g c = grind (arith, length-drop, or-window, take_all)

@@ -9,6 +9,6 @@ returns-then-source-eq-WINDOW c =
     let dest : List ℕ = c.args.dest.now in
     let all = take_all 32 source (omega arith) in
     record {
-      copied = c.copy_at.ensures.copied ∙ ap (λ (x : List ℕ). take c.args.at dest ++ (x ++ drop (c.args.at + 32) dest)) all ∙ ap (λ (n : ℕ). take c.args.at dest ++ (source ++ drop (c.args.at + n) dest)) (sym c.if-source-eq-WINDOW.true);
+      copied = c.copy_at.ensures.copied ∙ ap (λ x. take c.args.at dest ++ (x ++ drop (c.args.at + 32) dest)) all ∙ ap (λ n. take c.args.at dest ++ (source ++ drop (c.args.at + n) dest)) (sym c.if-source-eq-WINDOW.true);
       zeros = c.copy_at.ensures.zeros ∙ ap zero_mask all;
     }

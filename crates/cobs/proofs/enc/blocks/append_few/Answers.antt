@@ -1,4 +1,4 @@
--- Each byte is written behind the open block's bytes (`written`), and then joins them or, if it is a zero, closes the block.
+-- Each byte is written after the open block's bytes (`written`), and then joins them or, if it is a zero, closes the block.
 use Rattle.std.proofs.Common.{◌≡◌, ℕ, get_or, refl, arith}
 use Rattle.std.proofs.lemmas.List.{length-set}
 use Rattle.cobs.proofs.encoding.ReachLemmas.{Reaches-code, Reaches-weaker, Reaches-zero}
@@ -13,8 +13,7 @@ pub by_byte-preserved : goal.by_byte-preserved
 by_byte-preserved c =
     let byte : ℕ = get_or c.args.source.now c.by_byte.read 0 in
     let r = c.by_byte.invariant.reaches in
-    let o = r.ordered in
-    let k = length-set c.by_byte.dest c.by_byte.next byte in
+    let long = length-set c.by_byte.dest c.by_byte.next byte in
     elim c.if-byte-eq0.branch [
       | then-byte-eq0 b ↦ rw b.index-is (record { open' = omega arith; reaches = Reaches-zero (written byte (omega arith) r) (omega arith) (omega arith) b.if-byte-eq0.true (omega arith) (λ lt. refl) })
       | else-byte-eq0 b ↦ rw b.index-is (record { open' = omega arith; reaches = Reaches-code (Reaches-weaker (joined byte (omega arith) r refl b.if-byte-eq0.false (omega arith) (omega arith)) (λ full p lt. p)) _ })

@@ -14,15 +14,9 @@ use Rattle.cobs.proofs.enc.blocks.append_long_run.Goals as goal
 use Rattle.cobs_bytes.proofs.bytes.ListLemmas.{part-nonzero}
 
 pub slice_bounds-copy_from_slice-end : goal.slice_bounds-copy_from_slice-end
-slice_bounds-copy_from_slice-end c =
-    let t = c.by_block.invariant.taken in
-    let end = t.end in
-    let within = c.requires.run.within in
-    let long = length-drop c.by_block.read c.args.source.now in
-    let least = next-least (place_at c.by_block.index (c.by_block.next - c.by_block.index) (not (c.by_block.full == 0))) (drop c.by_block.read c.args.source.now) t.place.some (omega arith) in
-    omega arith
+slice_bounds-copy_from_slice-end c = grind (arith, length-drop, next-least)
 
--- a stretch of the run joins the open block
+-- a part of the run joins the open block
 module _ (c : After-copy_from_slice) where
   abbrev reached : Reached
   reached = place_at c.by_block.index (c.by_block.next - c.by_block.index) (not (c.by_block.full == 0))
@@ -36,7 +30,7 @@ module _ (c : After-copy_from_slice) where
       let i = c.by_block.invariant in
       let ordered = i.ordered in
       let place = i.taken.place in
-      let e = i.taken.end in
+      let end = i.taken.end in
       let within = c.requires.run.within in
       let long = length-drop c.by_block.read c.args.source.now in
       let at : c.by_block.index + (c.by_block.next - c.by_block.index) ≡ c.by_block.next = omega arith in
@@ -46,8 +40,8 @@ module _ (c : After-copy_from_slice) where
 pub by_block-preserved : goal.by_block-preserved
 by_block-preserved c =
     let s = joined (goal.at.by_block-preserved c).After-copy_from_slice in
-    let e = c.by_block.invariant.taken.end in
-    let o = s.ordered in
+    let end = c.by_block.invariant.taken.end in
+    let ordered' = s.ordered in
     let short = s.short in
     record {
       within = omega arith;
@@ -56,11 +50,11 @@ by_block-preserved c =
       taken = front-next c.by_block.read refl c.by_block.invariant.taken c.min-len.result (front-open (omega arith) s (omega arith) (omega arith) refl);
     }
 
--- and may fill it
+-- the part may fill the block
 pub by_block-preserved-then-next-index : goal.by_block-preserved-then-next-index
 by_block-preserved-then-next-index c =
     let s = joined (goal.at.by_block-preserved-then-next-index c).After-copy_from_slice in
-    let e = c.by_block.invariant.taken.end in
+    let end = c.by_block.invariant.taken.end in
     record {
       within = omega arith;
       ordered = omega arith;
@@ -76,7 +70,6 @@ returns-clause-taken c =
     let t = i.taken in
     let end = t.end in
     let within = c.requires.run.within in
-    let at_end : c.by_block.read ≡ c.args.run = omega arith in
     let stop = c.requires.run.stop (omega arith) in
     let zero : get_or left 0 0 ≡ 0 = grind (arith, drop_more) in
     let long = length-drop c.by_block.read c.args.source.now in

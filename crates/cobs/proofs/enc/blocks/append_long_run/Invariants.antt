@@ -1,4 +1,5 @@
--- The first `read` bytes of the source are taken (`TakesFront`), none of them after the run.
+-- The first `read` bytes of the source are taken (`TakesFront`), none of them after the run. The open block has room for a
+-- byte (`short`).
 use Rattle.std.proofs.Common.{◌<◌, ◌≤◌, ◌+◌, ◌-◌, ◌==◌}
 use Rattle.std.specs.Prelude.{not}
 use Rattle.cobs.specs.OpenBlock.{place_at}

@@ -27,13 +27,13 @@ module _ (c : After-copy_at-window) where
   copied : CopiedWindow start c.by_window.dest c.copy_at-window.new.dest c.by_window.read 32 c.by_window.index c.by_window.next zeros
   copied = grind (arith, Reaches-weaker, zeros)
 
-  -- its first zero has given way to a code
+  -- the window with a code in the place of its first zero
   abbrev first : ℕ
   first = c.by_window.next + lowest zeros
 
   coded : zeros ≢ 0 → first - c.by_window.index < 255
       → IsMasked start c.by_window.read 32 c.by_window.next (without_lowest zeros) first (set c.copy_at-window.new.dest c.by_window.index (first - c.by_window.index))
-  coded some near = let o = c.by_window.invariant.reaches.ordered in masked-step (masked-start copied (omega arith)) some
+  coded some near = let ordered = c.by_window.invariant.reaches.ordered in masked-step (masked-start copied (omega arith)) some
 
 pub returns-then-source-le-WINDOW-clause-taken : goal.returns-then-source-le-WINDOW-clause-taken
 returns-then-source-le-WINDOW-clause-taken c = grind (arith, common_steps, front-none)
@@ -46,7 +46,6 @@ by_window-init c =
 pub by_window-preserved-then-next-index : goal.by_window-preserved-then-next-index
 by_window-preserved-then-next-index c =
     let w = copied (goal.at.by_window-preserved-then-next-index c).After-copy_at-window in
-    let o = c.by_window.invariant.reaches.ordered in
     let taken = masked-end (masked-start w (omega arith)) c.if-window-eq0.true in
     record { more = omega arith; open' = taken.open'; reaches = Reaches-weaker taken.reaches (λ full e le. e) }
 
@@ -60,7 +59,7 @@ row : (c : After-write_codes_of_zeros-zeros) → let s = start_with c.args.dest.
 unfolding count_trailing_zeros
 row c w =
     let fits = length-after w.copied in
-    let l = length-drop c.by_window.read c.args.source.now in
+    let long = length-drop c.by_window.read c.args.source.now in
     let n = length-row w.copied in
     let zeros = (window_all (take 32 (drop c.by_window.read c.args.source.now)) (omega arith) (sym w.bits ∙ c.if-window-eq-ALL_ZEROS.true)).1 in
     let first : lowest c.copy_at-window.result ≡ 0 = ap lowest c.if-window-eq-ALL_ZEROS.true in
@@ -79,8 +78,7 @@ by_window-preserved-then-window-eq-ALL_ZEROS c =
 pub by_window-smaller-then-window-eq-ALL_ZEROS : goal.by_window-smaller-then-window-eq-ALL_ZEROS
 by_window-smaller-then-window-eq-ALL_ZEROS c =
     let at = goal.at.by_window-smaller-then-window-eq-ALL_ZEROS c in
-    let t = row at.After-write_codes_of_zeros-zeros (copied at.After-copy_at-window) in
-    omega arith
+    omega (arith, row at.After-write_codes_of_zeros-zeros (copied at.After-copy_at-window))
 
 pub by_window-preserved : goal.by_window-preserved
 by_window-preserved c =
@@ -101,13 +99,11 @@ returns-in-by_window-clause-within c =
 pub returns-in-by_window-clause-taken : goal.returns-in-by_window-clause-taken
 returns-in-by_window-clause-taken c =
     let w = copied (goal.at.returns-in-by_window-clause-taken c).After-copy_at-window in
-    let fits = length-after w.copied in
     let none = none-near (goal.at.returns-in-by_window-clause-taken c).Joined-window-eq0 (first-within w) in
-    let l = length-set c.copy_at-window.new.dest c.by_window.index 255 in
+    let long = length-set c.copy_at-window.new.dest c.by_window.index 255 in
     front-taken (omega arith) (filled w none (omega arith)) (omega arith) (λ all. absurd (omega arith)) (omega arith) c.encoder_at.ensures
 
 pub returns-clause-taken : goal.returns-clause-taken
 returns-clause-taken c =
     let i = c.by_window.invariant in
-    let o = i.reaches.ordered in
     front-open (omega arith) (Reaches-weaker i.reaches (λ full p. p (omega arith))) i.open' (omega arith) c.encoder_at-2.ensures

@@ -9,7 +9,7 @@ pub returns-then-encoder-ne0-2-clause-frame : goal.returns-then-encoder-ne0-2-cl
 returns-then-encoder-ne0-2-clause-frame c = λ m h.
     let frame = closed-full h (grind arith) in
     elim c.if-index-dest.branch [
-      | then-index-dest w ↦ rw w.dest-is (rw (take-set c.args.dest.now c.args.encoder.now.index w.if-encoder-ne0.dest) frame)
+      | then-index-dest w ↦ grind (arith, take-set)
       | else-index-dest w ↦ rw w.dest-is frame
     ]
 

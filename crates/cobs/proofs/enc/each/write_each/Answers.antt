@@ -1,5 +1,6 @@
--- Each byte closes the open block or joins it, which has room for all bytes of the part (`opened`).
-use Rattle.std.proofs.Common.{length, ◌≡◌, ◌<◌, ◌+◌, ◌-◌, ◌∙◌, false, ℕ, List, drop, get_or, take, refl, sym, arith, length-drop}
+-- Each byte closes the open block or joins it. The open block has room for all bytes of the part, because a full one is
+-- closed before the part (`opened`).
+use Rattle.std.proofs.Common.{length, ◌≡◌, ◌<◌, ◌+◌, ◌-◌, ◌∙◌, false, ℕ, List, drop, get_or, take, refl, arith, length-drop}
 use Rattle.std.proofs.lemmas.List.{get_or-drop, get_or-take}
 use Rattle.cobs.specs.Internal.Reaches.{Reaches}
 use Rattle.cobs.proofs.encoding.ReachLemmas.{IsNotFull, Reaches-at, Reaches-full, Reaches-weaker, Reaches-zero}
@@ -11,17 +12,16 @@ use Rattle.cobs.proofs.enc.each.write_each.Goals as goal
 pub by_part-init : goal.by_part-init
 by_part-init c = whole-start (omega arith)
 
--- a full block is closed
+-- after a full block is closed, the open block has room for a byte; `0 < 0` is the `0 < i` of the inner loop's start
 opened : (c : After-min-len) → (c.if-next-index-eq-FULL_CODE.next < c.if-next-index-eq-FULL_CODE.index + 255)
     × Reaches (start c.args.dest.now c.args.source.now) c.if-next-index-eq-FULL_CODE.dest c.by_part.read c.if-next-index-eq-FULL_CODE.index c.if-next-index-eq-FULL_CODE.next (λ full. 0 < 0 → full ≡ false)
 opened c =
     let r = c.by_part.invariant in
-    let short = r.short in
     let fits = whole-fits c.args.dest.now c.args.source.now (omega arith) in
     elim c.if-next-index-eq-FULL_CODE.branch [
       | then-next-index-eq-FULL_CODE w ↦ rw (w.dest-is, w.index-is, w.next-is)
           (omega arith, Reaches-full r (omega arith) (omega arith) (omega arith) (λ none. absurd (omega arith)))
-      | else-next-index-eq-FULL_CODE w ↦ rw (w.dest-is, w.index-is, w.next-is) (let open' = w.if-next-index-eq-FULL_CODE.false in omega arith, Reaches-weaker r (λ full p none. p))
+      | else-next-index-eq-FULL_CODE w ↦ rw (w.dest-is, w.index-is, w.next-is) (omega (arith, w.if-next-index-eq-FULL_CODE.false), Reaches-weaker r (λ full p none. p))
     ]
 
 pub by_byte-init : goal.by_byte-init
@@ -33,12 +33,11 @@ by_byte-preserved c =
     let left : List ℕ = drop c.by_part.read source in
     let count : ℕ = length source - c.by_part.read in
     let byte : ℕ = get_or (take count left) c.by_byte.i 0 in
-    let rest = length-drop c.by_part.read source in
-    let is : get_or source (c.by_part.read + c.by_byte.i) 0 ≡ byte = sym (get_or-take count left c.by_byte.i 0 (omega arith) ∙ get_or-drop c.by_part.read source c.by_byte.i 0) in
+    let is : get_or source (c.by_part.read + c.by_byte.i) 0 ≡ byte = grind (arith, get_or-take, get_or-drop) in
     let fits = whole-fits c.args.dest.now source (omega arith) in
     let i = c.by_byte.invariant in
     let open' = i.open' in
-    let o = i.reaches.ordered in
+    let ordered = i.reaches.ordered in
     elim c.if-byte-eq0.branch [
       | then-byte-eq0 w ↦ rw (w.dest-is, w.index-is) (record {
         open' = omega arith;
@@ -51,7 +50,7 @@ by_byte-preserved c =
     ]
 
 pub returns-clause-frame : goal.returns-clause-frame
-returns-clause-frame c = let w = c.by_part.invariant.within in whole-frame (omega arith) (omega arith) (omega arith) c.by_part.invariant
+returns-clause-frame c = let within = c.by_part.invariant.within in whole-frame (omega arith) (omega arith) (omega arith) c.by_part.invariant
 
 pub returns-clause-len : goal.returns-clause-len
 returns-clause-len c = grind (arith, whole-len)

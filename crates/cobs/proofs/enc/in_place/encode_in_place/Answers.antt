@@ -1,5 +1,5 @@
 -- The frame so far ends before the bytes that are still to be read (`encoded_len-le`), so each of these is as it was (`there`).
-use Rattle.std.proofs.Common.{◌≡◌, ◌<◌, ◌≤◌, ◌+◌, ◌-◌, ◌++◌, ℕ, List, [], ◌∷◌, drop, take, get_or, refl, sym, ◌∙◌, subst, arith, length, length-drop, length-take}
+use Rattle.std.proofs.Common.{◌≡◌, ◌<◌, ◌≤◌, ◌+◌, ◌-◌, ◌++◌, ℕ, List, [], ◌∷◌, drop, take, get_or, refl, sym, ◌∙◌, arith, length, length-drop, length-take}
 use Rattle.std.proofs.lemmas.Bool.{cases_Bool}
 use Rattle.std.proofs.lemmas.List.{get_or-drop, length_push, take_more}
 use Rattle.cobs.specs.Fields.Progress.{reached_by}
@@ -14,9 +14,11 @@ use Rattle.cobs.proofs.encoding.TakingLemmas.{all-end, all-rest, next-least}
 use Rattle.cobs.proofs.enc.in_place.encode_in_place.Goals as goal
 use Rattle.cobs_bytes.proofs.bytes.ListLemmas.{drop-later}
 
+-- the frame ends at the place of the next byte at the latest
 end-le : (r : Reached) → end_of r ≤ next_of r
 end-le r = grind (arith, cases_Bool)
 
+-- lists that are equal from index a on have the same element at each index from a on
 there : (a k : ℕ) (x y : List ℕ) → a ≤ k → drop a x ≡ drop a y → get_or x k 0 ≡ get_or y k 0
 there a k x y le e =
     let s : k ≡ a + (k - a) = omega arith in
@@ -25,10 +27,7 @@ there a k x y le e =
 -- the frame with one byte more is within the slice
 fits-one : {slice m : List ℕ} {r : Reached} (byte n : ℕ) → CobsEncoderAfter slice r m → length m < n → max_encoded_len n ≤ length slice → end_after r (byte ∷ []) ≤ length slice
 fits-one {m = m} byte n h more fits =
-    let longer = encoded_len-le (m ++ byte ∷ []) in
-    let long = length_push m byte in
-    let end = after-end h (byte ∷ []) in
-    omega arith
+    omega (arith, encoded_len-le (m ++ byte ∷ []), length_push m byte, after-end h (byte ∷ []))
 
 pub by_byte-init : goal.by_byte-init
 by_byte-init c = grind arith
@@ -49,9 +48,8 @@ by_byte-preserved c =
     let before : ℕ = c.max_encoding_overhead-before.result in
     let at : ℕ = before + c.by_byte.taken in
     let r : Reached = reached_by c.by_byte.encoder in
-    let r' : Reached = reached_by c.append_byte.new.self in
     let i = c.by_byte.invariant in
-    let taken = length-take c.by_byte.taken (drop before old) in
+    let taken_long = length-take c.by_byte.taken (drop before old) in
     let e = c.append_byte.ensures.taken [] (fits-one _ c.args.len i.after (omega arith) (omega arith)) in
     let long = length-drop before old in
     let end = end-is i.after in
@@ -59,9 +57,7 @@ by_byte-preserved c =
     let byte : get_or c.by_byte.buffer at 0 ≡ get_or (drop before old) c.by_byte.taken 0 =
     there (end_of r) at c.by_byte.buffer old (omega arith) i.rest ∙ sym (get_or-drop before old c.by_byte.taken 0) in
     let more : take (c.by_byte.taken + 1) (drop before old) ≡ take c.by_byte.taken (drop before old) ++ get_or c.by_byte.buffer at 0 ∷ [] = grind (arith, take_more) in
-    let le = end-le r in
-    let least = next-least r (get_or c.by_byte.buffer at 0 ∷ []) (after-place i.after).some (omega arith) in
-    grind (arith, all-rest, drop-later, all-end)
+    grind (arith, all-rest, drop-later, all-end, end-le r, next-least r (get_or c.by_byte.buffer at 0 ∷ []) (after-place i.after).some (omega arith))
 
 pub close_block-requires : goal.close_block-requires
 close_block-requires c = after-place c.by_byte.invariant.after
@@ -77,5 +73,5 @@ returns c =
       frame = frame;
       no_sentinel = encoded_nonzero frame;
       len = c.close_block.ensures.end ∙ sym (end-is after);
-      rest = c.close_block.ensures.rest ∙ subst (λ (n : ℕ). drop n c.by_byte.buffer ≡ drop n c.args.buffer.now) (sym c.close_block.ensures.end) c.by_byte.invariant.rest;
+      rest = grind arith;
     }

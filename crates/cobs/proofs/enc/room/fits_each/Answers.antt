@@ -1,5 +1,5 @@
--- The invariant compares the bytes that the frame still needs (`open_len`) with those that are left. `len-full` and `len-byte`
--- say how a full block and a byte change the first number, and `len-end` what it is at the end.
+-- The invariant compares the bytes that the frame still needs (`open_len`) with those that are left. `len-full`,
+-- `len-byte` and `len-zero` say how a full block and a byte change the first number, and `len-end` is its value at the end.
 use Rattle.std.proofs.Common.{◌≡◌, ◌<◌, ◌+◌, arith, drop, length-drop}
 use Rattle.cobs.specs.Length.{open_len}
 use Rattle.cobs.proofs.encoding.OpenLenLemmas.{len-full, len-end, len-byte, len-zero, open_len-least}
@@ -18,6 +18,7 @@ by_byte-preserved c =
     let more = c.by_byte.invariant.more in
     let short = c.by_byte.invariant.short in
     let next = c.by_byte-test.true in
+    -- after a full block is closed, the invariant holds for an open block that has room for the byte
     let ready : (c.if-taken-eq-FULL_BLOCK_BYTES.taken < 254) × (0 < c.if-taken-eq-FULL_BLOCK_BYTES.left)
     × (open_len (c.if-taken-eq-FULL_BLOCK_BYTES.taken + 1) (drop c.by_byte.i c.args.bytes.now) + c.args.taken + c.args.spare + c.by_byte.i ≡ open_len (c.args.taken + 1) c.args.bytes.now + c.if-taken-eq-FULL_BLOCK_BYTES.taken + c.if-taken-eq-FULL_BLOCK_BYTES.left) =
     elim c.if-taken-eq-FULL_BLOCK_BYTES.branch [

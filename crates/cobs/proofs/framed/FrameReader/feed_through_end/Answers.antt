@@ -13,6 +13,7 @@ use Rattle.cobs.proofs.streaming.FeedLemmas.{DecoderAfter-idle}
 use Rattle.cobs.proofs.streaming.ReadingLemmas.{HasTaken-any, EndsFirstIn-taken, HasDecoded-taken}
 use Rattle.cobs.proofs.framed.FrameReader.feed_through_end.Goals as goal
 
+-- the reported length is within the buffer, because the decoder had taken some bytes, whichever these are
 next_within : {X : Type 0} (next : Next) (buffer : List ℕ) → ∥ X ∥₁ → (X → (outcome : Outcome) × IsOutcome next buffer outcome) → IsNextWithin (length buffer) next
 next_within (nexts.Message n) buffer some h = ∥∥₁_elim some le_prop (λ x. (h x).1.1)
 next_within (nexts.Broken count) buffer some h = ∥∥₁_elim some le_prop (λ x. (h x).1.1)

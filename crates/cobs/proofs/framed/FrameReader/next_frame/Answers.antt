@@ -1,6 +1,6 @@
 -- A call begins without a read (`Going-start`), and each read that ends no piece adds one read (`Going-push`). For each
 -- way in which the call can end, `ReadingLemmas` has a lemma whose name begins with `ReadsNext`: kept bytes, a failure,
--- the end of the source, a piece, too many reads.
+-- the end of the source, a piece, too many reads. No step changes which buffer the decoder was lent (`same_loan`).
 use Rattle.std.proofs.Common.{◌≡◌, ◌≤◌, [], ◌∙◌, sym, subst, take, length-take, Some, arith}
 use Rattle.cobs.proofs.streaming.ReadingLemmas.{Going-start, Going-push, ReadsNext-kept, ReadsNext-failed, ReadsNext-end, ReadsNext-piece, ReadsNext-too_many, front_nonempty, front_rest, empty_range, left_of_range}
 use Rattle.cobs.proofs.framed.FrameReader.next_frame.Goals as goal

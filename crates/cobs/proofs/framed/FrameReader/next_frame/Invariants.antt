@@ -1,4 +1,5 @@
--- The reads of this call returned bytes in which no piece ends (`Going`), and no byte is kept between two reads.
+-- The reads of this call returned bytes in which no piece ends (`Going`), and no byte is kept between two reads. The
+-- decoder still uses the buffer that it was lent before the call (`same_loan`).
 use Rattle.std.proofs.Common.{◌≡◌}
 use Rattle.cobs.specs.Fields.Reader.{decoder_of, reader_state}
 use Rattle.cobs.proofs.streaming.ReadingLemmas.{Going}

@@ -1,4 +1,5 @@
--- The three steps of `OpenLemmas`, said of what an `EncoderState` shows of itself (`view_is`).
+-- The three steps of `OpenLemmas` for the open block that an `EncoderState` stands for (`view_is`). A frame with a
+-- placeholder is an output, so `after` follows from `carried`.
 use Rattle.std.proofs.Common.{set, refl, arith}
 use Rattle.cobs.proofs.encoding.OpenLemmas.{open-zero, open-more, open-full}
 use Rattle.cobs.proofs.enc.state.EncoderState.push.Goals as goal

@@ -10,20 +10,21 @@ use Rattle.cobs.proofs.encoding.TakingLemmas.{front-next}
 use Rattle.cobs.proofs.enc.unbuffered.UnbufferedEncoder.append_each.Goals.{then-byte-ne0, else-byte-ne0, then-byte-eq0, then-byte-eq0-via-then-byte-eq0, then-byte-eq0-via-else-byte-eq0+then-left-eq0, else-byte-eq0+else-left-eq0}
 use Rattle.cobs.proofs.enc.unbuffered.UnbufferedEncoder.append_each.Goals as goal
 
--- the same slice, by another name
-named : {old source slice slice' : List ℕ} {r r' : Reached} {n : ℕ} → slice ≡ slice' → TakesFront old r source n slice r' → TakesFront old r source n slice' r'
-named is t = rw (sym is) t
+-- the byte after the first i is taken too; the slice after it has two names
+next : {old slice after named source : List ℕ} {r r' r'' : Reached} (i : ℕ) → TakesFront old r source i slice r' → after ≡ named
+    → TakesFront slice r' (drop i source) 1 after r'' → TakesFront old r source (i + 1) named r''
+next i before is byte = rw (sym is) (front-next i refl before 1 byte)
 
 pub by_byte-preserved : goal.by_byte-preserved
 by_byte-preserved c =
     let i = c.by_byte.invariant in
-    let o = i.ordered in
+    let ordered' = i.ordered in
     let short = i.short in
     let t = i.taken.2 in
     let end = t.end in
     let source : List ℕ = c.args.bytes.now in
     let left : List ℕ = drop c.by_byte.i source in
-    let is : get_or left 0 0 ≡ get_or source c.by_byte.i 0 = get_or-drop c.by_byte.i source 0 0 ∙ ap (λ (n : ℕ). get_or source n 0) (omega arith) in
+    let is : get_or left 0 0 ≡ get_or source c.by_byte.i 0 = get_or-drop c.by_byte.i source 0 0 ∙ ap (λ n. get_or source n 0) (omega arith) in
     let some : 0 < length left = omega (arith, length-drop c.by_byte.i source) in
     let fits : end_after (place_at c.by_byte.index (c.by_byte.next - c.by_byte.index) i.taken.0) left ≤ length c.by_byte.dest = omega arith in
     let least = open_len-least (c.by_byte.next - c.by_byte.index) left (omega arith) in
@@ -37,14 +38,14 @@ by_byte-preserved c =
             ordered = omega arith;
             short = omega arith;
             left = omega arith;
-            taken = (true, λ lt. grind arith, front-next c.by_byte.i refl t 1 (named (grind arith) (byte-fills {source = left} t.place fits some at (λ e. a.if-byte-ne0.true (sym is ∙ e)) (omega arith) (grind arith))));
+            taken = (true, λ lt. grind arith, next c.by_byte.i t (grind arith) (byte-fills {source = left} t.place fits some at (λ e. a.if-byte-ne0.true (sym is ∙ e)) (omega arith) (grind arith)));
           }
         ]
         | else-byte-eq0+else-left-eq0 w ↦ record {
           ordered = omega arith;
           short = omega arith;
           left = omega arith;
-          taken = (false, λ lt. grind arith, front-next c.by_byte.i refl t 1 (named (grind arith) (byte-joins {source = left} t.place fits some at {code = c.if-byte-eq0.next - c.if-byte-eq0.index} (λ e. a.if-byte-ne0.true (sym is ∙ e)) (omega arith) (omega arith) (grind arith))));
+          taken = (false, λ lt. grind arith, next c.by_byte.i t (grind arith) (byte-joins {source = left} t.place fits some at {code = c.if-byte-eq0.next - c.if-byte-eq0.index} (λ e. a.if-byte-ne0.true (sym is ∙ e)) (omega arith) (omega arith) (grind arith)));
         }
       ]
       | else-byte-ne0 a ↦ elim c.if-byte-eq0.branch [
@@ -52,7 +53,7 @@ by_byte-preserved c =
           ordered = omega arith;
           short = omega arith;
           left = omega arith;
-          taken = (false, λ lt. grind arith, front-next c.by_byte.i refl t 1 (named (grind arith) (byte-zero {source = left} t.place fits some at (is ∙ a.if-byte-ne0.false) refl (grind arith))));
+          taken = (false, λ lt. grind arith, next c.by_byte.i t (grind arith) (byte-zero {source = left} t.place fits some at (is ∙ a.if-byte-ne0.false) refl (grind arith)));
         }
         | else-byte-eq0+else-left-eq0 w ↦ absurd (w.if-byte-eq0.false a.if-byte-ne0.false)
       ]

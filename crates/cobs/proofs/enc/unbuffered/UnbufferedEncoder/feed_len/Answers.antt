@@ -9,17 +9,17 @@ use Rattle.cobs.proofs.encoding.AfterLemmas.{after-end, after-place}
 use Rattle.cobs.proofs.enc.unbuffered.UnbufferedEncoder.feed_len.Goals.{Joined-then-code-gt-FULL_BLOCK_BYTES, After-append_byte, then-code-gt-FULL_BLOCK_BYTES-via-then-code-gt-FULL_BLOCK_BYTES}
 use Rattle.cobs.proofs.enc.unbuffered.UnbufferedEncoder.feed_len.Goals as goal
 
+-- after one of the tests failed there is no room
 none : (c : Joined-then-code-gt-FULL_BLOCK_BYTES) → HasRoomFor (length c.args.dest.now) (reached_by c.args.self.now) (c.args.byte ∷ []) → ⊥
 none c h =
-    let room = room-only c.args.self.now (length c.args.dest.now) c.args.byte h in
-    grind (arith, then-code-gt-FULL_BLOCK_BYTES-via-then-code-gt-FULL_BLOCK_BYTES)
+    grind (arith, then-code-gt-FULL_BLOCK_BYTES-via-then-code-gt-FULL_BLOCK_BYTES, room-only c.args.self.now (length c.args.dest.now) c.args.byte h)
 
 pub returns-then-code-gt-FULL_BLOCK_BYTES-clause-room : goal.returns-then-code-gt-FULL_BLOCK_BYTES-clause-room
 returns-then-code-gt-FULL_BLOCK_BYTES-clause-room c = (λ t. cc, λ h. absurd (none c h))
 
 pub returns-then-code-gt-FULL_BLOCK_BYTES-clause-fits : goal.returns-then-code-gt-FULL_BLOCK_BYTES-clause-fits
 returns-then-code-gt-FULL_BLOCK_BYTES-clause-fits c = λ m h.
-    let e = after-end h (c.args.byte ∷ []) in
+    let end = after-end h (c.args.byte ∷ []) in
     (λ t. cc, λ le. absurd (none c (record { place = after-place h; fits = omega arith })))
 
 room : (c : After-append_byte) → HasRoomFor (length c.args.dest.now) (reached_by c.args.self.now) (c.args.byte ∷ [])
@@ -33,7 +33,7 @@ returns-clause-room c = (λ t. room (goal.at.returns-clause-room c).After-append
 
 pub returns-clause-fits : goal.returns-clause-fits
 returns-clause-fits c = λ m h.
-    let e = after-end h (c.args.byte ∷ []) in
+    let end = after-end h (c.args.byte ∷ []) in
     let fits = (room (goal.at.returns-clause-fits c).After-append_byte).fits in
     (λ t. omega arith, λ le. refl)
 

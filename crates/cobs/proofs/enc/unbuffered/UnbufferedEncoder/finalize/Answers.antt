@@ -7,11 +7,11 @@ use Rattle.cobs.proofs.enc.unbuffered.UnbufferedEncoder.finalize.Goals.{then-sel
 use Rattle.cobs.proofs.enc.unbuffered.UnbufferedEncoder.finalize.Goals as goal
 
 pub returns-then-not-is_within-clause-fits : goal.returns-then-not-is_within-clause-fits
-returns-then-not-is_within-clause-fits c = λ m h. let yes = c.is_within.ensures.1 (after-place h) in cc
+returns-then-not-is_within-clause-fits c = λ m h. cc (c.is_within.ensures.1 (after-place h))
 
 pub returns-clause-len : goal.returns-clause-len
 returns-clause-len c = λ m h.
-    let e = end-is h in
+    let end = end-is h in
     elim c.if-self-eq0.branch [
       | then-self-eq0 w ↦ grind arith
       | else-self-eq0 w ↦ grind arith

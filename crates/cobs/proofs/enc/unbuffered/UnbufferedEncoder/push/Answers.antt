@@ -27,8 +27,8 @@ returns-then-self-bytes-clause-fits c = λ m h.
 
 pub returns-then-not-try_append-clause-fits : goal.returns-then-not-try_append-clause-fits
 returns-then-not-try_append-clause-fits c = λ m h.
-    let e = after-end h c.args.bytes.now in
-    (λ t. cc, λ le. let yes = c.try_append.ensures.fits.1 (omega arith) in cc)
+    let end = after-end h c.args.bytes.now in
+    (λ t. cc, λ le. cc (c.try_append.ensures.fits.1 (omega arith)))
 
 pub returns-clause-fits : goal.returns-clause-fits
 returns-clause-fits c = grind (arith, after-end)

@@ -13,8 +13,7 @@ use Rattle.cobs.proofs.enc.unbuffered.UnbufferedEncoder.push_each.Goals.{then-se
 pub returns-then-self-gt253-clause-fits : goal.returns-then-self-gt253-clause-fits
 returns-then-self-gt253-clause-fits c = λ m h.
     let place = after-place h in
-    let short = place-short c.args.self.now _ place in
-    grind (arith, then-self-gt253-via-then-self-gt253)
+    grind (arith, then-self-gt253-via-then-self-gt253, place-short c.args.self.now _ place)
 
 pub returns-then-self-ne0-clause-fits : goal.returns-then-self-ne0-clause-fits
 returns-then-self-ne0-clause-fits c = λ m h.
@@ -22,14 +21,14 @@ returns-then-self-ne0-clause-fits c = λ m h.
     rw (none, append-nil) (λ t. after-fits h, λ le. refl)
 
 pub returns-then-is_empty-clause-fits : goal.returns-then-is_empty-clause-fits
-returns-then-is_empty-clause-fits c = λ m h. let place = after-place h in grind arith
+returns-then-is_empty-clause-fits c = λ m h. grind (arith, after-place h)
 
 pub returns-then-not-has_room-clause-fits : goal.returns-then-not-has_room-clause-fits
 returns-then-not-has_room-clause-fits c = λ m h.
     let e = after-end h c.args.bytes.now in
     let some : length c.args.bytes.now ≢ 0 = eqb-false _ 0 (sym c.is_empty.ensures ∙ c.if-is_empty.false) in
     let end = end-with c.args.self.now c.args.bytes.now (place-short c.args.self.now _ (after-place h)) (omega arith) in
-    (λ t. cc, λ le. let yes = c.has_room.ensures.fits.1 (omega arith) in cc)
+    (λ t. cc, λ le. cc (c.has_room.ensures.fits.1 (omega arith)))
 
 pub returns-clause-fits : goal.returns-clause-fits
 returns-clause-fits c = λ m h.
