@@ -69,7 +69,7 @@ to_after {slice} {m} {index} {next} {full} code is short fits o = by_end full fi
     by_end : (noted : Bool) → (if noted then index else next) ≤ length slice → noted ≡ ends_in_full o.front o.bytes → CobsEncoderAfter slice (place_at index code noted) m
     by_end false fits noted =
         let begins' = o.begins in
-        let long : length f ≡ next = length-append (concat o.front) (code ∷ o.bytes) ∙ omega arith in
+        let long : length f ≡ next = grind (arith, length-append) in
         let front_long = length-take-le next slice fits in
         let x : ℕ = get_or (take next slice) index 0 in
         let split = take-append-drop index (take next slice) in
@@ -86,7 +86,6 @@ to_after {slice} {m} {index} {next} {full} code is short fits o = by_end full fi
         }
     by_end true fits noted =
         let none = no_bytes o.front o.bytes noted in
-        let begins' = o.begins in
         record {
           frame = concat o.front;
           encoded = encoded-full o.front none.1 o.each (rw none.0 at o.message);
@@ -110,7 +109,6 @@ frame-is {f} {m} {o} {index} {code} e r = elim (cases_Bool (ends_in_full r.front
   | inr open' ↦
       let same = one_encoded f o m e (encoded-open r.front code r.bytes r.frame r.message (sym open')) in
       let parse = one_frame f e.reads.blocks (r.front ++ (code ∷ r.bytes) ∷ []) e.reads.frame (rw same r.frame) in
-      let short = r.not_full in
       rw open' (
         ap (λ l. is_full (last_of l)) parse ∙ ap is_full (last_of-push r.front (code ∷ r.bytes)) ∙ ne_eqb code 255 (λ k. omega arith),
         same ∙ f-is r,
@@ -137,7 +135,6 @@ module _ {slice m : List ℕ} {r : Reached} (h : CobsEncoderAfter slice r m) whe
   there : (r.full ≡ true) ⊎ (r.full ≡ false) → (take r.block.index slice ≡ concat o.front) × (drop (r.block.index + 1) (take (next_of r) slice) ≡ o.bytes)
   there (inl full) =
       let none = no_bytes o.front o.bytes (sym full ∙ noted-is) in
-      let long = ap length none.0 in
       let code-is = parts.1.0 in
       let begins = o.begins in
       let is : h.frame ≡ concat o.front = whole-is full ∙ append-nil (concat o.front) in

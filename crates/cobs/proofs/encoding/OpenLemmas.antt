@@ -85,7 +85,6 @@ module _ {m f g : List ℕ} {index code : ℕ} (o : IsOpenFrame f m index code) 
   pub open-zero : (x : ℕ) → IsOpenOutput (set g index code ++ x ∷ []) (record { index = index + code; code = 1 }) (m ++ 0 ∷ [])
   open-zero x =
       let is = blocks-of o in
-      let begins = o.begins in
       let long : length (concat o.front ++ code ∷ o.bytes) ≡ index + code = length-append (concat o.front) (code ∷ o.bytes) ∙ omega (arith, is.1.0) in
       let zero : joint (code ∷ o.bytes) ≡ 0 ∷ [] = grind (arith, ne_eqb) in
       closed o (code ∷ o.bytes) (index + code) x is.1 long (rw zero (ap (λ l. l ++ 0 ∷ []) (sym o.message))) (ap (λ l. l ++ x ∷ []) (set-g code))
@@ -113,7 +112,6 @@ module _ {m f g : List ℕ} {index code : ℕ} (o : IsOpenFrame f m index code) 
     -- the 254th byte fills the block
     pub open-full : (x : ℕ) → code ≡ 254 → IsOpenOutput (set g index 255 ++ byte ∷ x ∷ []) (record { index = index + 255; code = 1 }) (m ++ byte ∷ [])
     open-full x last =
-        let begins = o.begins in
         let more = longer 255 (omega arith) (omega arith) in
         let long : length (concat o.front ++ 255 ∷ (o.bytes ++ byte ∷ [])) ≡ index + 255 = grind (arith, length-append) in
         let message = append-nil _ ∙ message_of-more o.front 255 code o.bytes (byte ∷ []) ∙ ap (λ l. l ++ byte ∷ []) (sym o.message) in

@@ -64,7 +64,6 @@ module _ {slice m : List ℕ} {index next : ℕ} {full : Bool} (o : Opened slice
       let block : List ℕ = code ∷ o.bytes in
       let front' : List (List ℕ) = o.front ++ block ∷ [] in
       let few = o.few in
-      let b = o.begins in
       let one : suc index ≡ index + 1 = omega arith in
       let long : length (take next slice) ≡ next = length-take-le next slice fits in
       let wrote : take next (set slice index code) ≡ concat o.front ++ block =

@@ -119,7 +119,6 @@ Reaches-zeros zero {s} {slice} {pos} {index} {next} after r within zeros fits sh
     let same : take next after ≡ take next (set slice index (next - index)) = grind (arith, append-nil) in
     Reaches-at refl (omega arith) (omega arith) (omega arith) (λ full p. p) (Reaches-same-empty closed after refl same back)
 Reaches-zeros (suc n) {s} {slice} {pos} {index} {next} after r within zeros fits short front back =
-    let room = least r in
     let coded : List ℕ = set slice index (next - index) in
     let long = length-set slice index (next - index) in
     let zero = zero-first (suc n) pos s.source within zeros in

@@ -95,7 +95,7 @@ frames_of f m r = ⊎_elim
     let each = (All-apart IsBlock cs (lone_block ∷ []) (rw w.1 at r.frame.each)).0 in
     let message : m ≡ message_of cs = grind (arith, message_of-append, append-nil) in
     let encoded : IsEncodedFrame (concat cs) m = encoded-by cs (record { some = w.2; each = each; whole = refl }) message w.3 in
-    let whole : f ≡ concat cs ++ lone_block = r.frame.whole ∙ ap concat w.1 ∙ concat-append cs (lone_block ∷ []) in
+    let whole : f ≡ concat cs ++ lone_block = grind (arith, concat-append) in
     inr ((ends_in_full (concat cs) m encoded).0 w.4, (concat cs, encoded, whole)))
     (either_blocks r.blocks r.frame.some r.frame.each)
 

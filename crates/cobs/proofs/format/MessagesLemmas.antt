@@ -24,7 +24,7 @@ pub AreFrames-push : (messages : List (List ℕ)) (bytes frame message : List �
     → AreFrames (messages ++ message ∷ []) (bytes ++ frame ++ 0 ∷ [])
 AreFrames-push messages bytes frame message h encoded = record {
   frames = h.frames ++ frame ∷ [];
-  each = AllZip-push IsEncodedFrame h.frames messages frame message h.each encoded;
+  each = grind (arith, AllZip-push);
   joined = cc (append_assoc bytes frame (0 ∷ []), flat_map_more (λ f. f ++ 0 ∷ []) [] h.frames frame);
 }
 

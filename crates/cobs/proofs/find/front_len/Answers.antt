@@ -113,7 +113,6 @@ returns-then-source-eq0-2-clause-before c _ =
 pub returns-clause-before : goal.returns-clause-before
 returns-clause-before c short =
     let after = (goal.at.returns-clause-before c).After-zeros_at-later in
-    let i = inside after in
     elim c.else-source-gt-WIDE_WINDOW.branch [
       | else-source-gt-WIDE_WINDOW-via-then-source-gt-WIDE_WINDOW+else-source-eq0 w ↦
           let last : 65 ≡ length c.args.source.now = omega (arith, w.if-source-gt-WIDE_WINDOW.true, short) in

@@ -18,7 +18,7 @@ next xs n here other front = grind (arith, common_steps, take_more, All-push)
 shorter : (bytes rest after : List ℕ) (k : ℕ) → Searched bytes rest → k ≤ length rest → HasNoZero (take k rest) → after ≡ take (length rest - k) (drop k rest) → Searched bytes after
 shorter bytes rest after k s within nonzero is =
     let n : ℕ = length bytes - length rest in
-    let after-is : after ≡ drop k rest = is ∙ take_all (length rest - k) (drop k rest) (omega (arith, length-drop k rest)) in
+    let after-is : after ≡ drop k rest = grind (arith, take_all, length-drop) in
     let sum : n + k ≡ length bytes - length after = omega (arith, s.within, ap length after-is, length-drop k rest) in
     let part : take k (drop n bytes) ≡ take k rest = ap (take k) (sym s.rest) in
     record {
@@ -42,5 +42,5 @@ pub by_byte-preserved : goal.by_byte-preserved
 by_byte-preserved c =
     let rest : List ℕ = c.by_byte.rest.now in
     let none : HasNoZero (take 0 rest) = All-nil (λ b. b ≢ 0) in
-    let some : length rest ≢ 0 = eqb-false _ 0 (sym c.is_empty.ensures ∙ c.by_byte-test.true) in
+    let some : length rest ≢ 0 = grind (arith, eqb-false) in
     shorter c.args.bytes.now rest _ 1 c.by_byte.invariant (omega (arith, some)) (next rest 0 (omega (arith, some)) c.if-rest-ne0.true none) refl

@@ -13,7 +13,6 @@ pub by_byte-preserved : goal.by_byte-preserved
 by_byte-preserved c =
     let byte : ℕ = get_or c.args.source.now c.by_byte.read 0 in
     let r = c.by_byte.invariant.reaches in
-    let ordered = r.ordered in
     let long = length-set c.by_byte.dest c.by_byte.next byte in
     elim c.if-byte-eq0.branch [
       | then-byte-eq0 b ↦ rw b.index-is (record { open' = omega arith; reaches = Reaches-zero (written byte (omega arith) r) (omega arith) (omega arith) b.if-byte-eq0.true (omega arith) (λ lt. refl) })

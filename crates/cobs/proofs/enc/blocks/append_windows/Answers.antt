@@ -99,7 +99,6 @@ returns-in-by_window-clause-within c =
 pub returns-in-by_window-clause-taken : goal.returns-in-by_window-clause-taken
 returns-in-by_window-clause-taken c =
     let w = copied (goal.at.returns-in-by_window-clause-taken c).After-copy_at-window in
-    let fits = length-after w.copied in
     let none = none-near (goal.at.returns-in-by_window-clause-taken c).Joined-window-eq0 (first-within w) in
     let long = length-set c.copy_at-window.new.dest c.by_window.index 255 in
     front-taken (omega arith) (filled w none (omega arith)) (omega arith) (λ all. absurd (omega arith)) (omega arith) c.encoder_at.ensures
@@ -107,5 +106,4 @@ returns-in-by_window-clause-taken c =
 pub returns-clause-taken : goal.returns-clause-taken
 returns-clause-taken c =
     let i = c.by_window.invariant in
-    let ordered = i.reaches.ordered in
     front-open (omega arith) (Reaches-weaker i.reaches (λ full p. p (omega arith))) i.open' (omega arith) c.encoder_at-2.ensures

@@ -1,6 +1,6 @@
 -- Each byte closes the open block or joins it. The open block has room for all bytes of the part, because a full one is
 -- closed before the part (`opened`).
-use Rattle.std.proofs.Common.{length, ◌≡◌, ◌<◌, ◌+◌, ◌-◌, ◌∙◌, false, ℕ, List, drop, get_or, take, refl, arith, length-drop}
+use Rattle.std.proofs.Common.{length, ◌≡◌, ◌<◌, ◌+◌, ◌-◌, ◌∙◌, false, ℕ, List, drop, get_or, take, refl, arith}
 use Rattle.std.proofs.lemmas.List.{get_or-drop, get_or-take}
 use Rattle.cobs.specs.Internal.Reaches.{Reaches}
 use Rattle.cobs.proofs.encoding.ReachLemmas.{IsNotFull, Reaches-at, Reaches-full, Reaches-weaker, Reaches-zero}
@@ -17,7 +17,6 @@ opened : (c : After-min-len) → (c.if-next-index-eq-FULL_CODE.next < c.if-next-
     × Reaches (start c.args.dest.now c.args.source.now) c.if-next-index-eq-FULL_CODE.dest c.by_part.read c.if-next-index-eq-FULL_CODE.index c.if-next-index-eq-FULL_CODE.next (λ full. 0 < 0 → full ≡ false)
 opened c =
     let r = c.by_part.invariant in
-    let short = r.short in
     let fits = whole-fits c.args.dest.now c.args.source.now (omega arith) in
     elim c.if-next-index-eq-FULL_CODE.branch [
       | then-next-index-eq-FULL_CODE w ↦ rw (w.dest-is, w.index-is, w.next-is)
@@ -34,7 +33,6 @@ by_byte-preserved c =
     let left : List ℕ = drop c.by_part.read source in
     let count : ℕ = length source - c.by_part.read in
     let byte : ℕ = get_or (take count left) c.by_byte.i 0 in
-    let rest = length-drop c.by_part.read source in
     let is : get_or source (c.by_part.read + c.by_byte.i) 0 ≡ byte = grind (arith, get_or-take, get_or-drop) in
     let fits = whole-fits c.args.dest.now source (omega arith) in
     let i = c.by_byte.invariant in
