@@ -1,5 +1,6 @@
 -- All frames of a message: its encoded frame and, if the message ends in a full run, that frame followed by the lone
--- block. By induction on the blocks, and by `one_encoded`.
+-- block. The blocks of a frame are those that an encoder writes, or those and then the lone block (`either_blocks`, by
+-- induction on the blocks).
 use Rattle.std.proofs.Common.{◌≡◌, ◌≢◌, ℕ, zero, suc, ◌+◌, ◌↔◌, true, false, List, [], ◌∷◌, ◌++◌, length, map, All, refl, sym, ap, ◌∙◌, subst, arith, append-nil, append_assoc, length-append, inl, inr, ⊎_elim, ◌⊎◌}
 use Rattle.std.specs.List.{concat}
 use Rattle.std.proofs.lemmas.List.Folds.{concat-append}
@@ -87,6 +88,7 @@ either_blocks (b ∷ c ∷ d ∷ ds) some h = ⊎_elim
 
 -- ALL FRAMES OF A MESSAGE
 
+-- a frame of a message is one of the two, depending on its blocks
 frames_of : (f m : List ℕ) → Reads f m → IsFrameFor f m
 frames_of f m r = ⊎_elim
     (λ s. inl (encoded-by r.blocks r.frame r.message s))
@@ -99,6 +101,8 @@ frames_of f m r = ⊎_elim
     inr ((ends_in_full (concat cs) m encoded).0 w.4, (concat cs, encoded, whole)))
     (either_blocks r.blocks r.frame.some r.frame.each)
 
+-- each of the two is a frame of the message; the second is `inr`: the message ends in a full run, and the lone block adds
+-- no byte to it
 frames_from : (f m : List ℕ) → IsFrameFor f m → Reads f m
 frames_from f m (inl e) = e.reads
 frames_from f m (inr (x, (g, e, is))) =

@@ -1,4 +1,5 @@
--- Frames joined are a frame, and a front of a frame that is a frame ends at the end of a block: by `one_frame`.
+-- Frames joined are a frame. A front of a frame that is a frame ends at the end of a block, because the parts of a list
+-- are the blocks of its only frame (`parts-frame`).
 use Rattle.std.proofs.Common.{◌≡◌, ◌≢◌, ℕ, ◌↔◌, List, [], ◌∷◌, ◌++◌, All, refl, ap, ◌∙◌, length, subst, arith, append-nil, length-append, append_assoc}
 use Rattle.std.specs.List.{concat}
 use Rattle.std.proofs.lemmas.List.{nil_from_length}
