@@ -152,6 +152,7 @@ pub fn decode_short_in_place(buf: &mut [u8]) -> Option<DecodeReport> {
     if !decode_span_in_place(buf, len) {
         return None;
     }
+    // A frame of up to 65 bytes has no full block. So each of its codes became a zero of the message, except the first.
     Some(DecodeReport {
         parsed_size: len,
         frame_size: len - 1,

@@ -217,7 +217,9 @@ fn append_long_run(
 }
 
 /// Encodes all bytes of `source`, whose first run has `run` bytes. The function encodes this run first. Then it repeats
-/// two steps until no byte remains: it encodes windows up to the next long run, and then that run.
+/// two steps until no byte remains. First, `append_windows` encodes bytes until a run fills the open block, or until
+/// few bytes remain. Then `append_long_run` encodes the rest of this run,
+/// or the next of the last runs; both may be short.
 #[inline(never)]
 pub(crate) fn append_rest(
     source: &[u8],
