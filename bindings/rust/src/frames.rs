@@ -112,8 +112,8 @@ const fn most_frames(stream: &[u8]) -> (usize, Option<usize>) {
 ///
 /// # Errors
 ///
-/// An item is [`DecodeError::InvalidFrame`] if the frame breaks off inside a block. Its `decoded_bytes` is the same as
-/// in the error that [`decode_in_place`](crate::decode_in_place) returns for this frame.
+/// An item is [`DecodeError::InvalidFrame`] if the frame breaks off inside a block. This error is the one that
+/// [`decode_in_place`](crate::decode_in_place) returns for the frame.
 #[inline]
 pub const fn decode_stream_in_place(stream: &mut [u8]) -> DecodeStreamInPlace<'_> {
     DecodeStreamInPlace { rest: stream }
@@ -206,9 +206,9 @@ pub(crate) fn append_frame(stream: &mut Vec<u8>, message: &[u8]) -> Result<(), A
     memory::append(stream, room, |zeros| encode(message, zeros) + 1)
 }
 
-/// Returns a number of bytes that is enough for the stream of [`encode_frames`] for these messages. For each message,
-/// the number includes [`max_encoding_length`] of the message's length, plus 1 for the zero. Returns `None` if the
-/// number doesn't fit a `usize`.
+/// Returns how many bytes are always enough for the stream that [`encode_frames`] makes from these messages. For each
+/// message, the number includes [`max_encoding_length`] of the message's length, plus 1 for the zero. Returns `None` if
+/// the number doesn't fit a `usize`.
 ///
 /// ```
 /// assert_eq!(jcobs::encode_frames_room(["hi", ""]), Some(6));

@@ -88,7 +88,7 @@ impl<W: Write> MessageWriter<W> {
 }
 
 impl<W> MessageWriter<W> {
-    /// Returns the inner writer.
+    /// Returns a reference to the inner writer.
     #[must_use]
     pub const fn get_ref(&self) -> &W {
         &self.inner
