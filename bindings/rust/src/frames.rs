@@ -50,7 +50,7 @@ pub struct Frames<'a> {
 
 impl<'a> Frames<'a> {
     /// Returns the rest of the stream: the bytes after the frame that `next` returned last, and after the zero that
-    /// ends this frame. Once `next` has returned `None`, the result is the bytes after the last zero of the stream.
+    /// ends this frame. After `next` has returned `None`, the result is the bytes after the last zero of the stream.
     #[inline]
     #[must_use]
     pub const fn remainder(&self) -> &'a [u8] {
@@ -128,8 +128,8 @@ pub struct DecodeStreamInPlace<'a> {
 
 impl<'a> DecodeStreamInPlace<'a> {
     /// Returns the rest of the stream: the bytes after the frame that `next` decoded last, and after the zero that ends
-    /// this frame. These bytes are unchanged. Once `next` has returned `None`, the result is the bytes after the last
-    /// zero of the stream.
+    /// this frame. The rest is unchanged. After `next` has returned `None`, the result is the bytes after the last zero
+    /// of the stream.
     #[inline]
     #[must_use]
     pub fn into_remainder(self) -> &'a mut [u8] {
