@@ -19,7 +19,7 @@ pub struct ArrayVec<const N: usize> {
 }
 
 impl<const N: usize> ArrayVec<N> {
-    /// Makes a vector without bytes.
+    /// Makes an empty vector.
     #[inline]
     #[must_use]
     pub const fn new() -> Self {
@@ -48,14 +48,14 @@ impl<const N: usize> ArrayVec<N> {
         self.len += 1;
     }
 
-    /// Returns the bytes.
+    /// Returns the bytes of the vector as a slice.
     #[inline]
     #[must_use]
     pub fn as_slice(&self) -> &[u8] {
         &self.bytes[..self.len]
     }
 
-    /// Returns the bytes, for writing.
+    /// Returns the bytes of the vector as a mutable slice.
     #[inline]
     pub fn as_mut_slice(&mut self) -> &mut [u8] {
         &mut self.bytes[..self.len]
@@ -96,7 +96,7 @@ impl<const N: usize> DerefMut for ArrayVec<N> {
     }
 }
 
-/// Makes a full vector from the array.
+/// Makes a full vector with the bytes of the array.
 impl<const N: usize> From<[u8; N]> for ArrayVec<N> {
     fn from(bytes: [u8; N]) -> Self {
         Self { bytes, len: N }

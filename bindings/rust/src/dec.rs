@@ -89,8 +89,9 @@ pub type DecodingResult = DecodeReport;
 /// The report's [`parsed_size`](DecodeReport::parsed_size) counts the leading zeros, the frame, and the zero after the
 /// frame if there is one.
 ///
-/// A frame that was cut off between two blocks is decoded as a shorter frame. If your protocol ends each frame with a
-/// zero, you can detect such a frame: the byte of `source` at index `parsed_size - 1` isn't a zero.
+/// If a frame was cut off between two blocks, the bytes before the cut are a shorter frame, and are decoded without an
+/// error. If your protocol ends each frame with a zero, you can detect such a cut: the byte of `source` at index
+/// `parsed_size - 1` isn't a zero.
 ///
 /// ```
 /// let mut dest = [0; 8];
@@ -106,8 +107,8 @@ pub type DecodingResult = DecodeReport;
 /// - [`DecodeError::InvalidFrame`]: the frame breaks off inside a block. Then `dest` begins with the output of the
 ///   frame, and `decoded_bytes` is the length of this output. If `source` has only zeros, this error is returned with
 ///   `decoded_bytes` 0.
-/// - [`DecodeError::TargetBufTooSmall`]: the output of the frame is longer than `dest`, even if the frame is broken.
-///   Then `dest` holds the first bytes of the output.
+/// - [`DecodeError::TargetBufTooSmall`]: the output of the frame, whole or broken, is longer than `dest`. Then `dest`
+///   holds the first bytes of the output.
 #[inline]
 pub fn decode(source: &[u8], dest: &mut [u8]) -> Result<DecodeReport, DecodeError> {
     proved::decode(source, dest)
@@ -238,8 +239,8 @@ pub fn decode_vec_with_sentinel(
     Ok(decoded)
 }
 
-/// Returns whether the bytes are a frame, and if so, whether encoders write this frame for its message. The crate
-/// `cobs` doesn't have this call.
+/// Returns whether the bytes are a frame, and if so, whether it is the frame that encoders write for its message. The
+/// crate `cobs` doesn't have this call.
 ///
 /// ```
 /// use jcobs::{FrameKind, frame_kind};

@@ -50,7 +50,7 @@ pub struct Frames<'a> {
 
 impl<'a> Frames<'a> {
     /// Returns the rest of the stream: the bytes after the frame that `next` returned last, and after the zero that
-    /// ends this frame. Once `next` has returned `None`, the result is the bytes after the last zero of the stream.
+    /// ends this frame. After `next` has returned `None`, the result is the bytes after the last zero of the stream.
     #[inline]
     #[must_use]
     pub const fn remainder(&self) -> &'a [u8] {
@@ -112,8 +112,8 @@ const fn most_frames(stream: &[u8]) -> (usize, Option<usize>) {
 ///
 /// # Errors
 ///
-/// An item is [`DecodeError::InvalidFrame`] if the frame breaks off inside a block. Its `decoded_bytes` is the same as
-/// in the error that [`decode_in_place`](crate::decode_in_place) returns for this frame.
+/// An item is [`DecodeError::InvalidFrame`] if the frame breaks off inside a block. This error is the one that
+/// [`decode_in_place`](crate::decode_in_place) returns for the frame.
 #[inline]
 pub const fn decode_stream_in_place(stream: &mut [u8]) -> DecodeStreamInPlace<'_> {
     DecodeStreamInPlace { rest: stream }
@@ -128,8 +128,8 @@ pub struct DecodeStreamInPlace<'a> {
 
 impl<'a> DecodeStreamInPlace<'a> {
     /// Returns the rest of the stream: the bytes after the frame that `next` decoded last, and after the zero that ends
-    /// this frame. These bytes are unchanged. Once `next` has returned `None`, the result is the bytes after the last
-    /// zero of the stream.
+    /// this frame. The rest is unchanged. After `next` has returned `None`, the result is the bytes after the last zero
+    /// of the stream.
     #[inline]
     #[must_use]
     pub fn into_remainder(self) -> &'a mut [u8] {
@@ -206,9 +206,9 @@ pub(crate) fn append_frame(stream: &mut Vec<u8>, message: &[u8]) -> Result<(), A
     memory::append(stream, room, |zeros| encode(message, zeros) + 1)
 }
 
-/// Returns a number of bytes that is enough for the stream of [`encode_frames`] for these messages. For each message,
-/// the number includes [`max_encoding_length`] of the message's length, plus 1 for the zero. Returns `None` if the
-/// number doesn't fit a `usize`.
+/// Returns how many bytes are always enough for the stream that [`encode_frames`] makes from these messages. For each
+/// message, the number includes [`max_encoding_length`] of the message's length, plus 1 for the zero. Returns `None` if
+/// the number doesn't fit a `usize`.
 ///
 /// ```
 /// assert_eq!(jcobs::encode_frames_room(["hi", ""]), Some(6));

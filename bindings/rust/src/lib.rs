@@ -103,7 +103,7 @@
 //!
 //! # Targets
 //!
-//! If the target has SSE2, NEON or WebAssembly's SIMD, the calls search and copy many bytes at once. On every other
+//! If the target has SSE2, NEON or WebAssembly's SIMD, the calls search and copy many bytes in one step. On every other
 //! target, and with the feature `small`, the calls process one byte at a time, and each call needs only a few hundred
 //! bytes of flash.
 #![no_std]

@@ -3,7 +3,7 @@
 #[cfg(feature = "alloc")]
 use alloc::vec::Vec;
 
-/// The error of a call if memory for a vector runs out.
+/// The error that a call returns if memory for a vector runs out.
 #[derive(Debug, Clone, Copy, PartialEq, Eq, Hash)]
 #[cfg_attr(feature = "serde", derive(serde::Serialize, serde::Deserialize))]
 #[cfg_attr(feature = "defmt", derive(defmt::Format))]
@@ -17,7 +17,7 @@ impl core::fmt::Display for AllocError {
 
 impl core::error::Error for AllocError {}
 
-/// Returns a vector with a copy of these bytes.
+/// Returns a vector with a copy of `bytes`.
 #[cfg(feature = "alloc")]
 pub(crate) fn copied(bytes: &[u8]) -> Result<Vec<u8>, AllocError> {
     let mut copy = Vec::new();
@@ -27,8 +27,8 @@ pub(crate) fn copied(bytes: &[u8]) -> Result<Vec<u8>, AllocError> {
     Ok(copy)
 }
 
-/// Appends `room` zeros to `bytes`, and passes these zeros to `write`, which writes bytes over them. `write` returns a
-/// number; the vector keeps this number of the appended bytes, and drops the others.
+/// Appends `room` zeros to `bytes`, and passes these zeros to `write`, which writes bytes over them. `write` returns
+/// how many of the appended bytes to keep. The vector drops the appended bytes after them.
 #[cfg(feature = "alloc")]
 #[inline]
 pub(crate) fn append(

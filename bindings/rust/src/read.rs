@@ -141,7 +141,7 @@ impl<R: BufRead> MessageReader<R> {
 }
 
 impl<R> MessageReader<R> {
-    /// Returns the source.
+    /// Returns a reference to the source.
     #[must_use]
     pub const fn get_ref(&self) -> &R {
         &self.inner

@@ -38,9 +38,9 @@ use portable as way;
 ))]
 use sse2 as way;
 
-/// Whether the calls process many bytes at once, as vectors and slices. The calls do so if the target has SSE2, NEON or
-/// WebAssembly's SIMD, and the feature `small` is off. Otherwise they process one byte at a time. In the translated
-/// code, `has_vectors` returns this constant.
+/// Whether the calls process many bytes in one step, as vectors and slices. The calls do so if the target has SSE2,
+/// NEON or WebAssembly's SIMD, and the feature `small` is off. Otherwise the calls process one byte at a time. In the
+/// translated code, `has_vectors` returns this constant.
 pub const HAS_VECTORS: bool = !cfg!(feature = "small")
     && (way::HAS_VECTORS || cfg!(all(target_feature = "simd128", target_family = "wasm")));
 
@@ -125,8 +125,8 @@ impl<const N: usize> Mask<N> {
     }
 }
 
-/// Returns `bytes`, at most 16 bytes, followed by zeros up to 16 bytes. For fewer than 16 bytes rustc doesn't use
-/// vector instructions.
+/// Pads `bytes`, which has at most 16 bytes, with zeros to 16 bytes. For fewer than 16 bytes, rustc uses no vector
+/// instructions.
 #[inline(always)]
 fn widened(bytes: &[u8]) -> [u8; 16] {
     let mut wide = [0; 16];
@@ -200,9 +200,8 @@ mod sse2 {
 
     pub const HAS_VECTORS: bool = true;
 
-    /// Compares all 16 bytes with one vector instruction. If this were a loop, rustc would compile it to one comparison
-    /// per byte for bytes that come from an integer. With the vector instruction, a message of 8 bytes is encoded 1.9
-    /// times as fast.
+    /// Compares all 16 bytes with one vector instruction. If the bytes come from an integer, rustc would compile a loop
+    /// to one comparison per byte. With the vector instruction, a message of 8 bytes is encoded 1.9 times as fast.
     #[inline(always)]
     pub fn equal(bytes: [u8; 16], other: [u8; 16]) -> [u8; 16] {
         // SAFETY: the target has SSE2, and each vector has the 16 bytes of an array.

@@ -56,9 +56,9 @@ impl<W: Write> MessageWriter<W> {
 
     /// Writes the frame of `message` and a zero. The call doesn't flush.
     ///
-    /// If the last write failed, a part of its frame may have been written. Then this call first writes 256 bytes,
-    /// which end this part so that no decoder decodes the part to a message. The receiver gets one frame that is
-    /// broken, or too long for the receiver's buffer.
+    /// If the last write failed, a part of its frame may have been written. Then this call first writes 256 bytes, so
+    /// that no decoder decodes this part to a message. The receiver gets one frame that is broken, or too long for the
+    /// receiver's buffer.
     ///
     /// # Errors
     ///
@@ -88,7 +88,7 @@ impl<W: Write> MessageWriter<W> {
 }
 
 impl<W> MessageWriter<W> {
-    /// Returns the inner writer.
+    /// Returns a reference to the inner writer.
     #[must_use]
     pub const fn get_ref(&self) -> &W {
         &self.inner

@@ -83,8 +83,9 @@ macro_rules! decoder_methods {
             self.progress.feed(&mut self.dest[..], data)
         }
 
-        /// Decodes the next bytes of a stream of frames, up to and including the first zero that ends a frame. If no
-        /// frame ends in `data`, the call decodes all bytes. Bytes after that zero have no effect: push them next.
+        /// Decodes the next bytes of a stream of frames, up to and including the first zero that ends a frame. The
+        /// bytes after this zero have no effect: push them next. If no frame ends in `data`, the call decodes all bytes
+        /// of `data`.
         ///
         /// - `Ok(None)`: all bytes were decoded, and no frame has ended.
         /// - `Ok(Some(report))`: a frame has ended. The call has consumed [`parsed_size`](DecodeReport::parsed_size)
@@ -122,7 +123,7 @@ macro_rules! decoder_methods {
             &self.dest[..]
         }
 
-        /// Returns the buffer to which messages are decoded, for writing.
+        /// Returns the buffer to which messages are decoded, as a mutable slice.
         ///
         /// You may change the buffer between two frames. If you change the buffer after a frame has begun and before
         /// the zero that ends this frame, the result of the frame and the contents of the buffer are unspecified.
