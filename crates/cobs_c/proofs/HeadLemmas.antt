@@ -23,7 +23,7 @@ head-drop (suc k) [] within = absurd (omega (arith, within))
 head-drop (suc k) (zero ∷ t) within = absurd (omega (arith, within))
 head-drop (suc k) (suc b ∷ t) within = let e = ap length (head-cons b t) in omega (arith, e, head-drop k t (omega (arith, e, within)))
 
-head-within : (t : List ℕ) → length (head t) ≤ length t
+pub head-within : (t : List ℕ) → length (head t) ≤ length t
 unfolding head
 head-within [] = omega arith
 head-within (zero ∷ t) = omega arith

@@ -74,6 +74,7 @@ fn rejected(source: &[u8], room: usize, error: DecodeError, consumed: &mut usize
 /// Decodes the first frame of a source that [`decode_short`] doesn't decode. Returns the status and the length of the
 /// result, and stores the number of consumed bytes in `consumed`. This code is a separate function, so that
 /// [`jcobs_decode`] saves no registers before it decodes a short frame.
+#[cold]
 #[inline(never)]
 fn decode_long(source: &[u8], message: &mut [u8], consumed: &mut usize) -> (u32, usize)
     ensures decodes { Decodes source.now message.old
@@ -93,12 +94,17 @@ fn decode_long(source: &[u8], message: &mut [u8], consumed: &mut usize) -> (u32,
 pub extern "C" fn jcobs_decode(source: &[u8], message: &mut [u8]) -> Answer
     ensures decodes { Decodes source.now message.old result message.new }
 {
+    law_1(); // A frame reads as its output
+    law_12(); // A stream's first piece, and its last
+    let room = message.len();
+    // The source of a short frame consists of the frame and perhaps a zero, so all its bytes are consumed.
+    match decode_short(source, message) {
+        Some(Ok(report)) => return done(source.len(), report.frame_size()),
+        Some(Err(error)) => return result_by(source.len(), room, Err(error)),
+        None => {}
+    }
     let mut consumed = 0;
-    let (status, length) = match decode_short(source, message) {
-        Some(Ok(report)) => return done(report.parsed_size(), report.frame_size()),
-        Some(Err(error)) => rejected(source, message.len(), error, &mut consumed),
-        None => decode_long(source, message, &mut consumed),
-    };
+    let (status, length) = decode_long(source, message, &mut consumed);
     Answer {
         status,
         consumed,
@@ -135,6 +141,7 @@ fn with_zero(end: usize, len: usize) -> usize
 /// Decodes, in place, the frame at the front of a buffer that [`decode_short_in_place`] doesn't decode. Returns the
 /// status and the length of the result, and stores the number of consumed bytes in `consumed`. This code is a separate
 /// function for the same reason as [`decode_long`].
+#[cold]
 #[inline(never)]
 fn decode_long_in_place(buffer: &mut [u8], consumed: &mut usize) -> (u32, usize)
     ensures decodes { DecodesInPlace buffer.old

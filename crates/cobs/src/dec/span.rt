@@ -68,7 +68,8 @@ pub(crate) fn write_zeros_at_copied(
 pub(crate) fn decode_span(source: &[u8], dest: &mut [u8], sentinel: u8) -> Option<u8>
     ensures taken { (2 ≤ length source.now) × (length source.now ≤ 65) → length source.now ≤ length dest.old + 1
         → HasNoZero (xor_each sentinel source.now) → IsSome result }
-    ensures some { IfSome result (λ left. 0 < length source.now) }
+    ensures some { IfSome result (λ left. 2 ≤ length source.now) }
+    ensures few { IfSome result (λ left. length source.now ≤ 65) }
     ensures nonzero { IfSome result (λ left. HasNoZero (xor_each sentinel source.now)) }
     ensures len { IfSome result (λ left. length (output (xor_each sentinel source.now)) + 1 ≡ length source.now) }
     ensures room { IfSome result (λ left. length source.now ≤ length dest.old + 1) }

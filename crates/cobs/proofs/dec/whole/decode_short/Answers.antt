@@ -54,6 +54,15 @@ module _ (c : goal.After-map) where
   found : first_piece source ≡ Some (head source)
   found = grind (arith, first_piece_nonzero, source, long, first)
 
+  head-len : length (head source) ≡ len
+  head-len = ap length (sym is ∙ same) ∙ long
+
+pub returns-clause-short : goal.returns-clause-short
+returns-clause-short c =
+    let e = c.in_ok-left.ensures in
+    let end = c.len_without_end-len.ensures.last in
+    (omega (arith, e.some, long c, head-len c), omega (arith, e.few, long c, head-len c), omega (arith, end, head-len c))
+
 pub returns-clause-returned : goal.returns-clause-returned
 returns-clause-returned c =
     let e = c.in_ok-left.ensures in
