@@ -16,3 +16,4 @@ pub mod ByByteLemmas
 pub mod FrameTaken
 pub mod FrontFed
 pub mod ReadPiece
+pub mod OpenLemmas

@@ -347,6 +347,7 @@ impl UnbufferedDecoder {
     #[inline(always)]
     pub(crate) fn take_run(&mut self, dest: &mut [u8], bytes: &[u8]) -> usize
         ensures within { result ≤ length bytes.now }
+        ensures nonzero { HasNoZero (take result bytes.now) }
         ensures fed { FeedsQuietly dest.old (phase_of self.old) (take result bytes.now) dest.new (phase_of self.new) }
         ensures stop { result < length bytes.now → slice_index bytes.now result ≢ 0
             → next_phase (length dest.new) (phase_of self.new) (slice_index bytes.now result) ≡ Overlong }

@@ -1,15 +1,17 @@
 //! A streaming decoder whose caller passes the buffer to each call. The three other streaming decoders use this
 //! decoder.
 ghost use Rattle.std.specs.Prelude.{◌≡◌, ◌≢◌, ◌<◌, ◌≤◌, ◌↔◌, IsTrue, List, [], None, ℕ, length, slice_index, take};
-ghost use Rattle.cobs.specs.Feed.{DecoderAfter, Feeds, Idle};
+ghost use Rattle.cobs.specs.Feed.{DecoderAfter, Feeds, Idle, Overlong, Phase};
 ghost use Rattle.cobs.specs.Fields.Decoders.{phase_of};
 ghost use Rattle.cobs.specs.Push.{PushesBytes};
 ghost use Rattle.cobs.specs.FeedPiece.{TakesPiece};
+ghost use Rattle.cobs.specs.Internal.FeedsQuietly.{FeedsQuietly};
+ghost use Rattle.cobs.specs.Step.{next_phase};
 ghost use Rattle.cobs.specs.Table.{FeedsByTable};
 
 use crate::dec::frame_decoder::PieceEnd;
 use crate::error::{DecodeError, DecodeReport, PushError};
-use crate::find::{front_len, position_or_len};
+use crate::find::{front_len, leading_zeros, position_or_len};
 use cobs_bytes::window::{WINDOW, has_vectors};
 
 /// Decodes a stream of frames, each ended by a zero, into a buffer that the caller passes to each call.
@@ -222,41 +224,62 @@ impl UnbufferedDecoder {
         Some((last, taken + 1))
     }
 
-    /// Decodes the bytes before the first zero that ends a piece, and returns the index of this zero. If no piece ends
-    /// in `bytes`, decodes all bytes and returns their number.
+    /// Decodes the bytes before the first zero that ends a piece, and returns the index of this zero. If no piece ends in
+    /// `bytes`, decodes all bytes and returns their number. There is at least one byte.
     // Not inlined, so that `feed_piece` doesn't have to save registers if the piece is short. The result is only a
     // number, because a number is returned in a register.
     #[inline(never)]
     fn take_to_end(&mut self, dest: &mut [u8], bytes: &[u8]) -> usize
+        requires some { 0 < length bytes.now }
         ensures within { result ≤ length bytes.now }
         ensures none_ended { TakesPiece dest.old (phase_of self.old) (take result bytes.now) None
             dest.new (phase_of self.new) }
         ensures zero { result < length bytes.now → slice_index bytes.now result ≡ 0 }
         ensures begun { result < length bytes.now → phase_of self.new ≢ Idle }
     {
-        let mut taken = 0;
-        'by_run: while taken < bytes.len() {
-            if self.too_long != 0 {
-                // The piece is too long for the buffer, so the bytes before the zero that ends the piece are skipped.
-                let len = position_or_len(&bytes[taken..], 0);
-                return taken + len;
-            }
-            if bytes[taken] == 0 {
-                if !self.is_idle() {
-                    return taken;
-                }
-                // No piece has begun, so this zero ends no piece. Some serial lines carry many zeros while nothing is
-                // sent.
-                taken += 1;
-                continue;
-            }
-            taken += self.take_run(dest, &bytes[taken..]);
-            if taken < bytes.len() && bytes[taken] != 0 {
-                // The buffer has no room for the output of this byte, so the piece is too long.
-                self.take_byte(dest, bytes[taken]);
-                taken += 1;
-            }
+        let start = self.zeros_outside(bytes);
+        let taken = start + self.take_run(dest, &bytes[start..]);
+        if taken == bytes.len() || bytes[taken] == 0 {
+            return taken;
         }
-        taken
+        self.pass_to_end(dest, bytes, taken)
+    }
+
+    /// Returns how many zeros `bytes` begins with if no piece has begun, and 0 if a piece has begun. These zeros end no
+    /// piece. Some serial lines carry many zeros while nothing is sent. There is at least one byte.
+    #[inline(always)]
+    fn zeros_outside(&self, bytes: &[u8]) -> usize
+        requires some { 0 < length bytes.now }
+        ensures within { result ≤ length bytes.now }
+        ensures quiet { (buffer : List ℕ)
+            → FeedsQuietly buffer (phase_of self.now) (take result bytes.now) buffer (phase_of self.now) }
+        ensures next { phase_of self.now ≡ Idle → result < length bytes.now → slice_index bytes.now result ≢ 0 }
+    {
+        if bytes[0] == 0 && self.is_idle() {
+            leading_zeros(bytes)
+        } else {
+            0
+        }
+    }
+
+    /// Skips the rest of a piece that is too long for the buffer: returns the index of the first zero from index `start`
+    /// on, or the number of bytes if there is no zero. The caller ensures that the buffer has no room for the output of
+    /// the byte at index `start`.
+    #[inline(never)]
+    fn pass_to_end(&mut self, dest: &mut [u8], bytes: &[u8], start: usize) -> usize
+        requires start { start < length bytes.now }
+        requires nonzero { slice_index bytes.now start ≢ 0 }
+        requires full { next_phase (length dest.old) (phase_of self.old) (slice_index bytes.now start) ≡ Overlong }
+        ensures within { result ≤ length bytes.now }
+        // `buffer` and `phase` are the buffer and the phase before the first `start` bytes were decoded.
+        ensures none_ended { (buffer : List ℕ) (phase : Phase)
+            → TakesPiece buffer phase (take start bytes.now) None dest.old (phase_of self.old)
+            → TakesPiece buffer phase (take result bytes.now) None dest.new (phase_of self.new) }
+        ensures zero { result < length bytes.now → slice_index bytes.now result ≡ 0 }
+        ensures overlong { phase_of self.new ≡ Overlong }
+    {
+        self.take_byte(dest, bytes[start]);
+        let next = start + 1;
+        next + position_or_len(&bytes[next..], 0)
     }
 }

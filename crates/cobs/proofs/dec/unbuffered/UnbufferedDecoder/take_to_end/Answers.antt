@@ -1,62 +1,32 @@
--- Each iteration takes a zero outside a piece, or a run (`ran`) and the byte after it that has no room (`piece-more`). The
--- bytes of a piece that is too long are passed up to its zero (`passed`).
-use Rattle.std.proofs.Common.{◌≢◌, ◌+◌, ◌-◌, sym, subst, arith, None, Ok, refl, get_or, length, drop, take, length-drop, length-take}
-use Rattle.std.proofs.lemmas.List.{get_or-drop, take_all, take_rest}
-use Rattle.cobs.specs.Feed.{Feeds, Idle, Overlong}
-use Rattle.cobs.specs.FeedPiece.{TakesPiece}
+-- Zeros outside a piece and then a run are fed quietly (`fed`), so no piece ends in them (`piece-all`). After the run a
+-- piece is open (`open-after`).
+use Rattle.std.proofs.Common.{◌≡◌, ◌≢◌, get_or, ◌+◌, ◌-◌, ◌<◌, ℕ, List, None, arith, length, take, drop, length-drop, length-take}
+use Rattle.std.proofs.lemmas.List.{get_or-drop, take_rest}
 use Rattle.cobs.specs.Fields.Decoders.{phase_of}
-use Rattle.cobs.proofs.streaming.ByByteLemmas.{piece-nothing, piece-more}
-use Rattle.cobs.proofs.streaming.FeedLemmas.{Feeds-as, Feeds-zero, over_is}
-use Rattle.cobs.proofs.streaming.RunLemmas.{piece-run, piece-over}
+use Rattle.cobs.specs.Internal.FeedsQuietly.{FeedsQuietly}
+use Rattle.cobs.proofs.streaming.OpenLemmas.{open-after}
+use Rattle.cobs.proofs.streaming.RunLemmas.{piece-all}
+use Rattle.cobs.proofs.streaming.SpanLemmas.{FeedsQuietly-more}
+use Rattle.cobs.proofs.dec.unbuffered.UnbufferedDecoder.take_to_end.Goals.{After-take_run, then-taken-bytes-via-then-taken-bytes, then-taken-bytes-via-else-taken-bytes+then-bytes-taken-eq0}
 use Rattle.cobs.proofs.dec.unbuffered.UnbufferedDecoder.take_to_end.Goals as goal
-use Rattle.cobs.proofs.dec.unbuffered.UnbufferedDecoder.take_to_end.Goals.{After-position_or_len-len, After-take_run-taken}
 
--- through a piece that is too long
-passed : (c : After-position_or_len-len) → TakesPiece c.args.dest.now (phase_of c.args.self.now) (take (c.by_run.taken + c.position_or_len-len.result) c.args.bytes.now) None c.by_run.dest Overlong
-passed c =
-    let e = c.position_or_len-len.ensures in
-    piece-over c.args.bytes.now c.by_run.taken _ (omega (arith, e.within, length-take (length c.args.bytes.now - c.by_run.taken) (drop c.by_run.taken c.args.bytes.now), length-drop c.by_run.taken c.args.bytes.now))
-    (rw (take_rest c.args.bytes.now c.by_run.taken) at e.before) (rw (over_is c.by_run.self c.if-self-ne0.true) at c.by_run.invariant.none_ended)
+fed : (c : After-take_run) → FeedsQuietly c.args.dest.now (phase_of c.args.self.now) (take (c.zeros_outside-start.result + c.take_run.result) c.args.bytes.now) c.take_run.new.dest (phase_of c.take_run.new.self)
+fed c = FeedsQuietly-more _ _ _ _ _ _ _ _ _ (c.zeros_outside-start.ensures.quiet c.args.dest.now) (rw take_rest at c.take_run.ensures.fed)
 
-overlong_open : Overlong ≢ Idle
-overlong_open is = grind arith
+pub returns-then-taken-bytes-clause-none_ended : goal.returns-then-taken-bytes-clause-none_ended
+returns-then-taken-bytes-clause-none_ended c = piece-all _ _ _ _ _ (fed (goal.at.returns-then-taken-bytes-clause-none_ended c).After-take_run)
 
--- after the run
-ran : (c : After-take_run-taken)
-    → TakesPiece c.args.dest.now (phase_of c.args.self.now) (take (c.by_run.taken + c.take_run-taken.result) c.args.bytes.now) None c.take_run-taken.new.dest (phase_of c.take_run-taken.new.self)
-ran c = piece-run c.args.bytes.now _ _ (grind (arith, length-drop, length-take)) c.by_run.invariant.none_ended (rw take_rest at c.take_run-taken.ensures.fed)
+pub returns-then-taken-bytes-clause-begun : goal.returns-then-taken-bytes-clause-begun
+returns-then-taken-bytes-clause-begun c within =
+    let bytes : List ℕ = c.args.bytes.now in
+    let start : ℕ = c.zeros_outside-start.result in
+    let run : ℕ = c.take_run.result in
+    let e = c.take_run.ensures in
+    let zero : get_or bytes (start + run) 0 ≡ 0 = elim c.then-taken-bytes.branch [
+      | then-taken-bytes-via-then-taken-bytes w ↦ absurd (omega (arith, within, w.if-taken-bytes.true))
+      | then-taken-bytes-via-else-taken-bytes+then-bytes-taken-eq0 w ↦ w.if-bytes-taken-eq0.true
+    ] in
+    open-after (take run (drop start bytes)) _ _ _ _ (rw take_rest at e.nonzero) (rw take_rest at e.fed) (λ idle. grind (arith, c.zeros_outside-start.ensures.next, length-take, length-drop))
 
-pub by_run-init : goal.by_run-init
-by_run-init c = record { within = omega arith; none_ended = piece-nothing _ _ }
-
-pub returns-then-self-ne0 : goal.returns-then-self-ne0
-returns-then-self-ne0 c = grind (arith, length-take, take_rest, over_is, length-drop, passed, get_or-drop, overlong_open)
-
-pub returns-then-not-is_idle : goal.returns-then-not-is_idle
-returns-then-not-is_idle c = record {
-  within = omega arith;
-  none_ended = c.by_run.invariant.none_ended;
-  zero = λ inside. c.if-bytes-taken-eq0.true;
-  begun = λ inside idle. grind (arith, c.is_idle.ensures.idle.1 idle);
-}
-
-pub by_run-preserved-then-bytes-taken-eq0 : goal.by_run-preserved-then-bytes-taken-eq0
-by_run-preserved-then-bytes-taken-eq0 c =
-    let idle = c.is_idle.ensures.idle.0 c.if-not-is_idle.false in
-    let zero = c.if-bytes-taken-eq0.true in
-    let taken = rw idle at c.by_run.invariant.none_ended in
-    let feeds : Feeds c.by_run.dest Idle (get_or c.args.bytes.now c.by_run.taken 0) (Ok None) c.by_run.dest Idle = subst (λ b. Feeds c.by_run.dest Idle b (Ok None) c.by_run.dest Idle) (sym zero) (Feeds-zero c.by_run.dest Idle) in
-    record { within = omega arith; none_ended = rw idle (piece-more c.args.bytes.now _ c.by_run-test.true taken feeds (λ _. refl)) }
-
-pub by_run-preserved-then-bytes-taken-ne0 : goal.by_run-preserved-then-bytes-taken-ne0
-by_run-preserved-then-bytes-taken-ne0 c = record {
-  within = omega arith;
-  none_ended = piece-more _ _ c.if-taken-bytes.true (ran (goal.at.by_run-preserved-then-bytes-taken-ne0 c).After-take_run-taken)
-      (Feeds-as refl (c.take_byte.ensures.phase c.if-bytes-taken-ne0.true) (c.take_byte.ensures.buffer c.if-bytes-taken-ne0.true)) (λ z. absurd (c.if-bytes-taken-ne0.true z));
-}
-
-pub by_run-preserved : goal.by_run-preserved
-by_run-preserved c = record { within = grind (arith, length-drop, length-take); none_ended = ran (goal.at.by_run-preserved c).After-take_run-taken }
-
-pub returns : goal.returns
-returns c = grind (arith, take_all)
+pub returns-clause-none_ended : goal.returns-clause-none_ended
+returns-clause-none_ended c = c.pass_to_end.ensures.none_ended _ _ (piece-all _ _ _ _ _ (fed (goal.at.returns-clause-none_ended c).After-take_run))

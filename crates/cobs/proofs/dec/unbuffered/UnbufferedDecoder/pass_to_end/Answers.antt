@@ -1,0 +1,21 @@
+-- There is no room for the byte at index `start`, so no piece ends in it (`piece-more`), and the piece is too long. The
+-- bytes after it, up to a zero, don't end the piece (`piece-over`).
+use Rattle.std.proofs.Common.{◌≡◌, ◌∙◌, ◌+◌, ◌-◌, ℕ, List, None, refl, arith, length, take, drop, length-drop, length-take}
+use Rattle.std.proofs.lemmas.List.{take_rest}
+use Rattle.cobs.specs.Feed.{Overlong}
+use Rattle.cobs.specs.FeedPiece.{TakesPiece}
+use Rattle.cobs.specs.Fields.Decoders.{phase_of}
+use Rattle.cobs.proofs.streaming.ByByteLemmas.{piece-more}
+use Rattle.cobs.proofs.streaming.FeedLemmas.{Feeds-as}
+use Rattle.cobs.proofs.streaming.RunLemmas.{piece-over}
+use Rattle.cobs.proofs.dec.unbuffered.UnbufferedDecoder.pass_to_end.Goals as goal
+
+pub returns-clause-none_ended : goal.returns-clause-none_ended
+returns-clause-none_ended c buffer phase before =
+    let bytes : List ℕ = c.args.bytes.now in
+    let next : ℕ = c.args.start + 1 in
+    let e = c.position_or_len.ensures in
+    let nz = c.requires.nonzero in
+    let over : phase_of c.take_byte.new.self ≡ Overlong = c.take_byte.ensures.phase nz ∙ c.requires.full in
+    let one = piece-more bytes c.args.start c.requires.start before (Feeds-as refl (c.take_byte.ensures.phase nz) (c.take_byte.ensures.buffer nz)) (λ z. absurd (nz z)) in
+    rw over (piece-over bytes next _ (omega (arith, e.within, length-take (length bytes - next) (drop next bytes), length-drop next bytes)) (rw (take_rest bytes next) at e.before) (rw over at one))

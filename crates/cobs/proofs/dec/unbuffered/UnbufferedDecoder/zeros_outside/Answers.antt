@@ -1,0 +1,14 @@
+-- If no piece has begun, the zeros are fed quietly (`quiet-zeros`), and the byte after them isn't a zero
+-- (`leading_zeros-stop`).
+use Rattle.std.proofs.Common.{◌<◌, length, drop, refl, arith}
+use Rattle.std.proofs.lemmas.List.{get_or-drop}
+use Rattle.cobs.specs.Decode.{leading_zeros}
+use Rattle.cobs.proofs.decoding.HeadLemmas.{leading_zeros-stop}
+use Rattle.cobs.proofs.streaming.OpenLemmas.{quiet-zeros}
+use Rattle.cobs.proofs.dec.unbuffered.UnbufferedDecoder.zeros_outside.Goals as goal
+
+pub returns-then-is_idle-clause-quiet : goal.returns-then-is_idle-clause-quiet
+returns-then-is_idle-clause-quiet c buffer = rw (c.if-is_idle.ensures.idle.0 refl) (quiet-zeros buffer c.args.bytes.now _ (omega (arith, c.leading_zeros.ensures.count)))
+
+pub returns-then-is_idle-clause-next : goal.returns-then-is_idle-clause-next
+returns-then-is_idle-clause-next c idle within = grind (arith, leading_zeros-stop, get_or-drop, c.leading_zeros.ensures.count)
