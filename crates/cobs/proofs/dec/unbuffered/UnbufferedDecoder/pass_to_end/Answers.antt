@@ -1,9 +1,8 @@
 -- There is no room for the byte at index `start`, so no piece ends in it (`piece-more`), and the piece is too long. The
 -- bytes after it, up to a zero, don't end the piece (`piece-over`).
-use Rattle.std.proofs.Common.{◌≡◌, ◌∙◌, ◌+◌, ◌-◌, ℕ, List, None, refl, arith, length, take, drop, length-drop, length-take}
+use Rattle.std.proofs.Common.{◌≡◌, ◌∙◌, ◌+◌, ◌-◌, ℕ, List, refl, arith, length, drop, length-drop, length-take}
 use Rattle.std.proofs.lemmas.List.{take_rest}
 use Rattle.cobs.specs.Feed.{Overlong}
-use Rattle.cobs.specs.FeedPiece.{TakesPiece}
 use Rattle.cobs.specs.Fields.Decoders.{phase_of}
 use Rattle.cobs.proofs.streaming.ByByteLemmas.{piece-more}
 use Rattle.cobs.proofs.streaming.FeedLemmas.{Feeds-as}

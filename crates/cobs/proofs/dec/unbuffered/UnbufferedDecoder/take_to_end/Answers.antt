@@ -1,7 +1,7 @@
 -- Zeros outside a piece and then a run are fed quietly (`fed`), so no piece ends in them (`piece-all`). After the run a
 -- piece is open (`open-after`).
-use Rattle.std.proofs.Common.{◌≡◌, ◌≢◌, get_or, ◌+◌, ◌-◌, ◌<◌, ℕ, List, None, arith, length, take, drop, length-drop, length-take}
-use Rattle.std.proofs.lemmas.List.{get_or-drop, take_rest}
+use Rattle.std.proofs.Common.{◌≡◌, get_or, ◌+◌, ℕ, List, arith, take, drop, length-drop, length-take}
+use Rattle.std.proofs.lemmas.List.{take_rest}
 use Rattle.cobs.specs.Fields.Decoders.{phase_of}
 use Rattle.cobs.specs.Internal.FeedsQuietly.{FeedsQuietly}
 use Rattle.cobs.proofs.streaming.OpenLemmas.{open-after}

@@ -1,8 +1,7 @@
 -- If no piece has begun, the zeros are fed quietly (`quiet-zeros`), and the byte after them isn't a zero
 -- (`leading_zeros-stop`).
-use Rattle.std.proofs.Common.{◌<◌, length, drop, refl, arith}
+use Rattle.std.proofs.Common.{refl, arith}
 use Rattle.std.proofs.lemmas.List.{get_or-drop}
-use Rattle.cobs.specs.Decode.{leading_zeros}
 use Rattle.cobs.proofs.decoding.HeadLemmas.{leading_zeros-stop}
 use Rattle.cobs.proofs.streaming.OpenLemmas.{quiet-zeros}
 use Rattle.cobs.proofs.dec.unbuffered.UnbufferedDecoder.zeros_outside.Goals as goal
