@@ -1,13 +1,13 @@
 -- Lemmas on the length of the encoded frame, counted from its open block. The values of that block's nonzero bytes
 -- don't matter (`same_start`), so ones stand for them.
-use Rattle.std.proofs.Common.{◌≡◌, ◌≢◌, ℕ, ◌+◌, ◌-◌, ◌<◌, ◌≤◌, Bool, true, List, [], ◌∷◌, ◌++◌, length, drop, take, get_or, length-drop, length-take-le, take-append-drop, replicate, All, refl, ap, arith, append-nil, append_assoc, length-append}
+use Rattle.std.proofs.Common.{◌≡◌, ◌≢◌, ℕ, ◌+◌, ◌-◌, ◌/◌, ◌<◌, ◌≤◌, Bool, true, List, [], ◌∷◌, ◌++◌, length, drop, take, get_or, length-drop, length-take-le, take-append-drop, replicate, All, refl, ap, arith, append-nil, append_assoc, length-append}
 use Rattle.std.specs.List.{concat}
 use Rattle.std.proofs.lemmas.Bool.{cases_Bool, eqb-true, eqb-false}
 use Rattle.std.proofs.lemmas.List.{drop-drop, drop_all, drop_more, nil_from_length}
 use Rattle.std.proofs.lemmas.List.Elements.{All-append, All-head, All-tail}
 use Rattle.cobs.specs.Grammar.{HasNoZero, IsBlock, is_full, bytes_of, joint, last_of, message_of}
 use Rattle.cobs.specs.Length.{encoded_len, max_encoded_len, open_len}
-use Rattle.cobs.proofs.format.LengthLemmas.{stretches-front, encoded_len-zero, encoded_len-full, encoded_len-last, encoded_len-le}
+use Rattle.cobs.proofs.format.LengthLemmas.{stretches-front, encoded_len-zero, encoded_len-full, encoded_len-nonzero, encoded_len-run, encoded_len-le}
 use Rattle.cobs.proofs.encoding.OpenLemmas.{append-some}
 use Rattle.cobs_bytes.proofs.bytes.ListLemmas.{length-ones, one-nonzero, ones-nonzero}
 use Rattle.cobs.specs.Internal.Reaches.{Opened, ends_in_full}
@@ -33,9 +33,13 @@ open_len-run source read k code some within nonzero =
 pub open_len-full : (t : List ℕ) → t ≢ [] → open_len 255 t ≡ 255 + open_len 1 t
 open_len-full t more = encoded_len-full (replicate 254 1) t (length-ones 254) (ones-nonzero 254) more
 
--- a zero closes the open block
-pub open_len-zero : (code : ℕ) (t : List ℕ) → 0 < code → code < 255 → open_len code (0 ∷ t) ≡ code + open_len 1 t
-open_len-zero code t some short = grind (arith, length-ones, encoded_len-zero, ones-nonzero)
+-- a zero closes the open block. If `code` is greater than 255, the run before the zero fills other blocks first.
+pub open_len-zero : (code : ℕ) (t : List ℕ) → 0 < code → open_len code (0 ∷ t) ≡ code + (code - 1) / 254 + open_len 1 t
+open_len-zero code t some = grind (arith, length-ones, encoded_len-run, ones-nonzero)
+
+-- no byte follows
+pub open_len-end : (code : ℕ) → open_len code [] ≡ max_encoded_len (code - 1)
+open_len-end code = grind (arith, append-nil, length-ones, encoded_len-nonzero, ones-nonzero)
 
 -- each byte of the message adds at least one byte to the frame
 pub open_len-least : (code : ℕ) (t : List ℕ) → 0 < code → code + length t ≤ open_len code t
@@ -76,8 +80,8 @@ Opened-len {full = full} t more o = grind (arith, length-ones, len-blocks, same_
 -- the length of the frame, byte by byte
 module _ (bytes : List ℕ) (i : ℕ) where
   -- all bytes are taken
-  pub len-end : (code : ℕ) → 0 < code → code ≤ 255 → length bytes ≤ i → open_len code (drop i bytes) ≡ code
-  len-end code some short last = grind (arith, drop_all, append-nil, length-ones, encoded_len-last, ones-nonzero)
+  pub len-end : (code : ℕ) → length bytes ≤ i → open_len code (drop i bytes) ≡ max_encoded_len (code - 1)
+  len-end code last = grind (arith, drop_all, open_len-end)
 
   module _ (more : i < length bytes) where
     -- a full block is closed
@@ -90,5 +94,5 @@ module _ (bytes : List ℕ) (i : ℕ) where
         rw (drop_more bytes i 0 more) (open_len-join code (get_or bytes i 0 ∷ []) (drop (i + 1) bytes) some (one-nonzero _ other))
 
     -- a zero closes the open block
-    pub len-zero : (code : ℕ) → 0 < code → code < 255 → get_or bytes i 0 ≡ 0 → open_len code (drop i bytes) ≡ code + open_len 1 (drop (i + 1) bytes)
-    len-zero code some short is = grind (arith, drop_more, open_len-zero)
+    pub len-zero : (code : ℕ) → 0 < code → get_or bytes i 0 ≡ 0 → open_len code (drop i bytes) ≡ code + (code - 1) / 254 + open_len 1 (drop (i + 1) bytes)
+    len-zero code some is = grind (arith, drop_more, open_len-zero)

@@ -5,12 +5,10 @@ use Rattle.std.proofs.Common.{◌≡◌, ◌≢◌, ℕ, ◌+◌, ◌-◌, ◌<�
 use Rattle.std.proofs.Math.ListN.{set}
 use Rattle.std.proofs.Math.Seq.{take-add}
 use Rattle.std.proofs.lemmas.Bool.{cases_eq, ne_eqb}
-use Rattle.std.proofs.lemmas.List.{drop_more, drop_all, drop-set-lt, take_more, take_more_set, length-set}
-use Rattle.cobs.proofs.format.LengthLemmas.{encoded_len-last}
-use Rattle.cobs_bytes.proofs.bytes.ListLemmas.{length-ones, ones-nonzero}
+use Rattle.std.proofs.lemmas.List.{drop_more, drop-set-lt, take_more, take_more_set, length-set}
 use Rattle.cobs.specs.Grammar.{HasNoZero}
 use Rattle.cobs.proofs.encoding.OpenedLemmas.{Opened-code, Opened-same-empty, Opened-join, Opened-close}
-use Rattle.cobs.proofs.encoding.OpenLenLemmas.{open_len-full, open_len-run, open_len-zero, open_len-least}
+use Rattle.cobs.proofs.encoding.OpenLenLemmas.{len-end, open_len-full, open_len-run, open_len-zero, open_len-least}
 use Rattle.cobs.specs.Internal.Reaches.{HadTaken, Opened, Reaches, Start, whole_end}
 
 -- the same places, by other names
@@ -72,7 +70,7 @@ module _ {s : Start} {slice : List ℕ} {pos index next : ℕ} {P : Bool → Typ
     Reaches-zero more is open' not_full =
         let least' = least in
         let left : drop pos s.source ≡ 0 ∷ drop (pos + 1) s.source = grind (arith, drop_more) in
-        let zero_len = open_len-zero (next - index) (drop (pos + 1) s.source) (omega arith) (omega arith) in
+        let zero_len = open_len-zero (next - index) (drop (pos + 1) s.source) (omega arith) in
         let apart : (next - index == 255) ≡ false = ne_eqb (next - index) 255 (λ e. omega arith) in
         record {
           ordered = omega arith;
@@ -98,7 +96,7 @@ module _ {s : Start} {slice : List ℕ} {pos index next : ℕ} {P : Bool → Typ
 
   -- if all bytes are taken, the frame ends with the open block
   pub ends : pos ≡ length s.source → whole_end s ≡ next
-  ends last = grind (arith, drop_all, append-nil, length-ones, encoded_len-last, ones-nonzero)
+  ends last = grind (arith, len-end)
 
 -- after a step it is known that the last block isn't full
 abbrev pub IsNotFull : Bool → Type 0

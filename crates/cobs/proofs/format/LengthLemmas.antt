@@ -1,6 +1,6 @@
 -- The length of an encoded frame follows from the runs of its message: each run has one code for each 254 of its bytes,
 -- rounded up. Proved by cutting the message at its zeros.
-use Rattle.std.proofs.Common.{◌≡◌, ◌≢◌, ℕ, ◌+◌, ◌<◌, ◌≤◌, ◌==◌, false, List, [], ◌∷◌, ◌++◌, length, map, All, ap, ◌∙◌, subst, arith, length-append}
+use Rattle.std.proofs.Common.{◌≡◌, ◌≢◌, ℕ, ◌+◌, ◌/◌, ◌<◌, ◌≤◌, ◌==◌, false, List, [], ◌∷◌, ◌++◌, length, map, All, refl, ap, ◌∙◌, subst, arith, length-append}
 use Rattle.std.specs.List.{join_with_byte}
 use Rattle.std.proofs.lemmas.Bool.{ne_eqb}
 use Rattle.std.proofs.lemmas.List.{length-replicate}
@@ -21,9 +21,17 @@ some_stretch m e = omega (arith, length-slice_split (λ b. b == 0) m, ap length 
 pub encoded_len-last : (bytes : List ℕ) → length bytes < 255 → HasNoZero bytes → encoded_len bytes ≡ length bytes + 1
 encoded_len-last bytes l h = grind (arith, slice_split_none, no_zero)
 
--- a run of fewer than 254 bytes and the zero after it are one block
+-- a run that others follow has one full block for each 254 bytes
+blocks-cons : (run : ℕ) (parts : List (List ℕ)) → parts ≢ [] → full_blocks (run ∷ map length parts) ≡ run / 254 + full_blocks (map length parts)
+blocks-cons run [] some = grind arith
+blocks-cons run (p ∷ ps) some = refl
+
+-- a run and the zero after it are one block, and a full block for each 254 bytes of the run
+pub encoded_len-run : (bytes m : List ℕ) → HasNoZero bytes → encoded_len (bytes ++ 0 ∷ m) ≡ length bytes + 1 + length bytes / 254 + encoded_len m
+encoded_len-run bytes m h = grind (arith, slice_split_at, no_zero, some_stretch, length-append, blocks-cons)
+
 pub encoded_len-zero : (bytes m : List ℕ) → length bytes < 254 → HasNoZero bytes → encoded_len (bytes ++ 0 ∷ m) ≡ length bytes + 1 + encoded_len m
-encoded_len-zero bytes m l h = grind (arith, slice_split_at, no_zero, some_stretch, length-append)
+encoded_len-zero bytes m l h = omega (arith, encoded_len-run bytes m h)
 
 -- bytes put before the first part
 abbrev pub onto_parts : List ℕ → List (List ℕ) → List (List ℕ)

@@ -6,13 +6,13 @@ use Rattle.std.proofs.lemmas.Slice.{drop-append-drop}
 use Rattle.cobs.specs.Grammar.{IsEncodedFrame}
 use Rattle.cobs.specs.Length.{encoded_len}
 use Rattle.cobs.specs.Sentinel.{IsEncodedFrameFor, xor_each}
-use Rattle.cobs.proofs.encoding.RoomLemmas.{blocks-most}
+use Rattle.cobs.proofs.format.LengthLemmas.{encoded_len-le}
 use Rattle.cobs.proofs.format.SentinelLemmas.{xor_each-twice}
 use Rattle.cobs.proofs.enc.encode_block.Goals as goal
 use Rattle.cobs.proofs.enc.encode_block.Goals.{After-xor_bytes}
 
 len-short : (m : List ℕ) → length m < 255 → encoded_len m ≡ length m + 1
-len-short m short = omega (arith, blocks-most 0 m)
+len-short m short = omega (arith, encoded_len-le m)
 
 -- a frame of which each byte is XORed with s is a frame for s
 frame_for : (s n : ℕ) (coded changed m : List ℕ) → n ≤ length coded → changed ≡ xor_each s (take n coded) → IsEncodedFrame (take n coded) m

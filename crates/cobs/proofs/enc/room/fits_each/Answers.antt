@@ -36,6 +36,6 @@ by_byte-preserved c =
           let step = len-byte c.args.bytes.now c.by_byte.i next (c.if-taken-eq-FULL_BLOCK_BYTES.taken + 1) (omega arith) w.if-bytes-i-ne0.true in
           rw (w.taken-is) (record { short = omega arith; more = more'; total = omega arith })
       | else-bytes-i-ne0 w ↦
-          let step = len-zero c.args.bytes.now c.by_byte.i next (c.if-taken-eq-FULL_BLOCK_BYTES.taken + 1) (omega arith) (omega arith) w.if-bytes-i-ne0.false in
+          let step = len-zero c.args.bytes.now c.by_byte.i next (c.if-taken-eq-FULL_BLOCK_BYTES.taken + 1) (omega arith) w.if-bytes-i-ne0.false in
           rw (w.taken-is) (record { short = omega arith; more = more'; total = omega arith })
     ]
