@@ -1,16 +1,16 @@
 -- Lemmas on how a byte changes an open frame: a zero closes the last block, the 254th nonzero byte fills it, and any
 -- other byte joins it. By `message_of-close` and `message_of-more`.
-use Rattle.std.proofs.Common.{◌≡◌, ◌≢◌, ℕ, ◌+◌, ◌<◌, List, [], ◌∷◌, ◌++◌, length, set, All, refl, sym, ap, ◌∙◌, arith, append-nil, append_assoc, length-append}
+use Rattle.std.proofs.Common.{◌≡◌, ◌≢◌, ℕ, ◌+◌, ◌<◌, Bool, true, false, if◌then◌else◌, List, [], ◌∷◌, ◌++◌, length, set, All, refl, sym, ap, ◌∙◌, arith, append-nil, append_assoc, length-append}
 use Rattle.std.specs.List.{concat}
-use Rattle.std.proofs.lemmas.Bool.{ne_eqb}
-use Rattle.std.proofs.lemmas.List.{set_at, length_push}
+use Rattle.std.proofs.lemmas.Bool.{ne_eqb, true≢false}
+use Rattle.std.proofs.lemmas.List.{set_at, length_push, same_from_push}
 use Rattle.std.proofs.lemmas.List.Elements.{All-head, All-nil, All-push}
 use Rattle.std.proofs.lemmas.Grind.{common_steps}
-use Rattle.cobs.specs.Grammar.{IsBlock, joint, last_of, lone_block, message_of, IsFrameOf, IsOpenFrame}
+use Rattle.cobs.specs.Grammar.{IsBlock, is_full, joint, last_of, lone_block, message_of, IsFrameOf, IsEncodedFrame, IsOpenFrame}
+use Rattle.cobs.specs.Internal.Reaches.{ends_in_full}
 use Rattle.cobs.specs.OpenBlock.{OpenBlock, AgreeOutside, IsOpenOutput}
-use Rattle.cobs.proofs.format.GrammarLemmas.{lone_block-is_block}
-use Rattle.std.proofs.lemmas.List.Folds.{concat-append}
-use Rattle.cobs.proofs.format.FrameLemmas.{All-apart, last_of-push}
+use Rattle.cobs.proofs.format.GrammarLemmas.{encoded-by, IsShorter, lone_block-is_block}
+use Rattle.cobs.proofs.format.FrameLemmas.{All-apart, append-some, concat-push, last_of-push}
 use Rattle.cobs.proofs.format.JoinLemmas.{message_of-append}
 
 -- the message of blocks with a lone block after them
@@ -22,15 +22,6 @@ pub message_of-more : (bs : List (List ℕ)) (c d : ℕ) (bytes more : List ℕ)
 message_of-more [] c d bytes more = refl
 message_of-more (x ∷ []) c d bytes more = grind (arith, append_assoc)
 message_of-more (x ∷ y ∷ bs) c d bytes more = grind (arith, append_assoc, (message_of-more (y ∷ bs) c d bytes more))
-
--- a block after others
-pub concat-push : (front : List (List ℕ)) (block : List ℕ) → concat (front ++ block ∷ []) ≡ concat front ++ block
-concat-push front block = grind (arith, concat-append, append-nil)
-
--- blocks and one more block aren't an empty list
-pub append-some : (bs : List (List ℕ)) (b : List ℕ) (cs : List (List ℕ)) → bs ++ b ∷ cs ≢ []
-append-some [] b cs e = cc
-append-some (x ∷ bs) b cs e = cc
 
 -- a fact about all blocks holds for those before the last one, and for the last one
 pub All-front : (bs : List (List ℕ)) (b : List ℕ) → All IsBlock (bs ++ b ∷ []) → All IsBlock bs × IsBlock b
@@ -44,6 +35,10 @@ frame_push bs b h i = grind (arith, common_steps, append-some, All-push, concat-
 pub IsOpenFrame-start : IsOpenFrame lone_block [] 0 1
 IsOpenFrame-start = grind (arith, frame_push, All-nil, lone_block-is_block)
 
+-- if the frame ends in a full block, the open block after it has no bytes
+pub no_bytes : (front : List (List ℕ)) (bytes : List ℕ) → ends_in_full front bytes ≡ true → (bytes ≡ []) × (is_full (last_of front) ≡ true)
+no_bytes front bytes h = grind (arith, true≢false)
+
 -- an open frame
 module _ {m f : List ℕ} {index code : ℕ} (o : IsOpenFrame f m index code) where
   pub blocks-of : All IsBlock o.front × IsBlock (code ∷ o.bytes)
@@ -51,6 +46,39 @@ module _ {m f : List ℕ} {index code : ℕ} (o : IsOpenFrame f m index code) wh
 
   pub f-is : f ≡ concat o.front ++ code ∷ o.bytes
   f-is = grind (arith, concat-push)
+
+  -- the blocks of the encoded frame: the last one is left out if it has no bytes and follows a full block
+  abbrev pub closed_blocks : Bool → List (List ℕ)
+  closed_blocks full = if full then o.front else o.front ++ (code ∷ o.bytes) ∷ []
+
+  abbrev pub closed_frame : Bool → List ℕ
+  closed_frame full = concat o.front ++ (if full then [] else code ∷ o.bytes)
+
+  pub closed-frame : (full : Bool) → ends_in_full o.front o.bytes ≡ full → IsFrameOf (closed_frame full) (closed_blocks full)
+  closed-frame false noted = frame_push o.front (code ∷ o.bytes) blocks-of.0 blocks-of.1
+  closed-frame true noted = grind (arith, no_bytes, append-nil, blocks-of)
+
+  pub closed-is_full : (full : Bool) → ends_in_full o.front o.bytes ≡ full → is_full (last_of (closed_blocks full)) ≡ full
+  closed-is_full false noted = ap is_full (last_of-push o.front (code ∷ o.bytes)) ∙ ne_eqb code 255 (λ e. omega (arith, o.not_full))
+  closed-is_full true noted = (no_bytes o.front o.bytes noted).1
+
+  closed-shorter : (full : Bool) → ends_in_full o.front o.bytes ≡ full → IsShorter (closed_blocks full)
+  closed-shorter false noted fr c full e =
+      let same = same_from_push o.front (fr ++ c ∷ []) (code ∷ o.bytes) lone_block (e ∙ sym (append_assoc fr (c ∷ []) (lone_block ∷ []))) in
+      grind (arith, true≢false, last_of-push)
+  closed-shorter true noted fr c full e =
+      grind (arith, true≢false, no_bytes, append_assoc, last_of-push (fr ++ c ∷ []) lone_block)
+
+  closed-message : (full : Bool) → ends_in_full o.front o.bytes ≡ full → m ≡ message_of (closed_blocks full)
+  closed-message false noted = o.message
+  closed-message true noted =
+      let none = no_bytes o.front o.bytes noted in
+      let one : code ≡ 1 = blocks-of.1.0 ∙ ap (λ x. length x + 1) none.0 in
+      let message : m ≡ message_of (o.front ++ lone_block ∷ []) = rw (none.0, one) at o.message in
+      grind (arith, message_of-close, append-nil)
+
+  pub encoded-of : (full : Bool) → ends_in_full o.front o.bytes ≡ full → IsEncodedFrame (closed_frame full) m
+  encoded-of full noted = encoded-by (closed_blocks full) (closed-frame full noted) (closed-message full noted) (closed-shorter full noted)
 
   -- after a block that is closed a new one is open, whatever byte is in the place of its code
   closed : {k g : List ℕ} (block : List ℕ) (next x : ℕ) → IsBlock block → length (concat o.front ++ block) ≡ next → message_of (o.front ++ block ∷ []) ++ joint block ≡ k

@@ -7,8 +7,8 @@ use Rattle.std.proofs.Math.Seq.{take-set-lt, take-add}
 use Rattle.std.proofs.lemmas.List.{take-take, take-set-le, drop-set-lt, set_split, drop-append-le, drop_all}
 use Rattle.std.proofs.lemmas.List.Elements.{All-append, All-push, All-nil}
 use Rattle.cobs.specs.Grammar.{HasNoZero, IsBlock, is_full, joint}
-use Rattle.cobs.proofs.encoding.OpenLemmas.{append-some, concat-push, message_of-close, message_of-more}
-use Rattle.cobs.proofs.format.FrameLemmas.{last_of-push}
+use Rattle.cobs.proofs.encoding.OpenLemmas.{message_of-close, message_of-more}
+use Rattle.cobs.proofs.format.FrameLemmas.{append-some, concat-push, last_of-push}
 use Rattle.cobs.specs.Internal.Reaches.{Opened, ends_in_full}
 
 -- an open block with bytes is no placeholder

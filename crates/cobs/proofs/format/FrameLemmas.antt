@@ -3,6 +3,7 @@ use Rattle.std.proofs.Common.{◌≡◌, ◌≢◌, ℕ, zero, suc, ◌-◌, ◌
 use Rattle.std.specs.List.{concat}
 use Rattle.std.proofs.lemmas.Bool.{eq-eqb, eqb-true}
 use Rattle.std.proofs.lemmas.List.{drop_all}
+use Rattle.std.proofs.lemmas.List.Folds.{concat-append}
 use Rattle.std.proofs.lemmas.List.Elements.{All-head, All-tail, All-cons, All-nil, All-append, All-take, All-drop}
 use Rattle.cobs.specs.Grammar.{HasNoZero, IsBlock, bytes_of, joint, message_of, last_of, IsFrameOf, Reads}
 use Rattle.cobs.specs.Piece.{parts_after, parts, last_part, missing, is_whole, IsWhole, output}
@@ -51,6 +52,15 @@ last_of-cons xs more h = grind arith
 pub last_of-append : (xs ys : List (List ℕ)) → 0 < length ys → last_of (xs ++ ys) ≡ last_of ys
 last_of-append [] ys some = refl
 last_of-append (x ∷ xs) ys some = grind (arith, length-append xs ys, last_of-append xs ys some)
+
+-- blocks and one more block aren't an empty list
+pub append-some : (bs : List (List ℕ)) (b : List ℕ) (cs : List (List ℕ)) → bs ++ b ∷ cs ≢ []
+append-some [] b cs e = cc
+append-some (x ∷ bs) b cs e = cc
+
+-- a block after others
+pub concat-push : (front : List (List ℕ)) (block : List ℕ) → concat (front ++ block ∷ []) ≡ concat front ++ block
+concat-push front block = grind (arith, concat-append, append-nil)
 
 pub last_of-push : (xs : List (List ℕ)) (x : List ℕ) → last_of (xs ++ x ∷ []) ≡ x
 last_of-push xs x = last_of-append xs (x ∷ []) (omega arith)
