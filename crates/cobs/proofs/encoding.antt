@@ -1,6 +1,7 @@
 -- The encoders: the open block, windows, and the room that a frame takes.
 pub mod OpenLemmas
 pub mod OpenedLemmas
+pub mod OutputLemmas
 pub mod OpenLenLemmas
 pub mod ReachLemmas
 pub mod AfterLemmas

@@ -1,19 +1,21 @@
 -- The two facts about the slice of an encoder, `CobsEncoderAfter` and `Opened`, follow from each other, since a message
 -- has only one encoded frame (`one_encoded`). So the length of the frame and the room for it follow, and `close`
 -- completes the frame.
-use Rattle.std.proofs.Common.{◌≡◌, ◌≢◌, ℕ, ◌+◌, ◌-◌, ◌<◌, ◌≤◌, Bool, true, false, if◌then◌else◌, List, [], ◌∷◌, ◌++◌, length, set, drop, take, get_or, All, refl, sym, ap, ◌∙◌, arith, inl, inr, ◌⊎◌, append-nil, append_assoc, take_at, drop_at, length-append, length-take-le, length-take}
+use Rattle.std.proofs.Common.{◌≡◌, ◌≢◌, ℕ, ◌+◌, ◌-◌, ◌<◌, ◌≤◌, Bool, true, false, if◌then◌else◌, List, [], ◌∷◌, ◌++◌, length, set, take, All, refl, sym, ap, ◌∙◌, arith, inl, inr, ◌⊎◌, append-nil, length-append, length-take}
 use Rattle.std.specs.List.{concat}
 use Rattle.std.proofs.lemmas.Bool.{cases_Bool}
-use Rattle.std.proofs.lemmas.List.{take-take, take-append-drop, drop_more, drop_all, set_at, set_past, set-set}
+use Rattle.std.proofs.lemmas.List.{take-take, drop_all, set_at, set_past, set-set}
 use Rattle.std.proofs.lemmas.List.Elements.{All-nil}
 use Rattle.std.proofs.Math.Seq.{take-set-lt}
-use Rattle.cobs.specs.Grammar.{IsBlock, is_full, last_of, message_of, IsEncodedFrame, IsOpenFrame}
+use Rattle.cobs.specs.Grammar.{IsBlock, is_full, last_of, IsEncodedFrame, IsOpenFrame}
 use Rattle.cobs.specs.Length.{encoded_len, open_len}
-use Rattle.cobs.specs.OpenBlock.{Reached, end_after, end_of, next_of, place_at, AgreeOutside, CobsEncoderAfter, IsPlaceIn}
+use Rattle.cobs.specs.OpenBlock.{Reached, end_after, end_of, next_of, place_at, AgreeOutside, IsOpenOutput, CobsEncoderAfter, IsPlaceIn}
 use Rattle.cobs.proofs.format.GrammarLemmas.{one_frame}
 use Rattle.cobs.proofs.format.UniqueLemmas.{one_encoded, length-encoded}
 use Rattle.cobs.proofs.encoding.OpenLenLemmas.{Opened-len}
-use Rattle.cobs.proofs.encoding.OpenLemmas.{blocks-of, closed_blocks, closed_frame, closed-frame, closed-is_full, encoded-of, frame_push, no_bytes}
+use Rattle.cobs.proofs.encoding.OpenLemmas.{blocks-of, closed_blocks, closed_frame, closed-frame, closed-is_full, encoded-of, f-is, no_bytes}
+use Rattle.cobs.proofs.encoding.OpenedLemmas.{Opened-same}
+use Rattle.cobs.proofs.encoding.OutputLemmas.{code-is, open_frame, open_slice, opened-of, output-opened}
 use Rattle.cobs.specs.Internal.Reaches.{Opened, ends_in_full}
 
 -- The encoded frame of a message, by the blocks of its open frame: a lone block after a full one is no part of it.
@@ -29,40 +31,25 @@ frame-is {f} {m} e r =
 pub to_after : {slice m : List ℕ} {index next : ℕ} {full : Bool} (code : ℕ) → index + code ≡ next → code < 255 → (if full then index else next) ≤ length slice
     → Opened slice m index next full → CobsEncoderAfter slice (place_at index code full) m
 to_after {slice} {m} {index} {next} {full} code is short fits o =
+    let follows = open_frame o code is short in
     let encoded = encoded-of follows full (sym o.noted) in
     let b = by_end full fits in
     record {
       frame = closed_frame follows full;
       encoded = encoded;
       noted = o.noted ∙ sym (frame-is encoded follows).0;
-      follows = (f, follows);
+      follows = (_, follows);
       fits = b.0;
       begins = b.1;
     }
   where
-    code-is : length o.bytes + 1 ≡ code
-    code-is = omega arith
-
-    message : m ≡ message_of (o.front ++ (code ∷ o.bytes) ∷ [])
-    message = grind arith
-
-    f : List ℕ
-    f = concat o.front ++ code ∷ o.bytes
-
-    follows : IsOpenFrame f m index code
-    follows = record { front = o.front; bytes = o.bytes; frame = grind (arith, frame_push, code-is); message = message; begins = o.begins; not_full = short }
-
-    by_end : (full : Bool) → (if full then index else next) ≤ length slice → let frame = closed_frame follows full in (length frame ≤ length slice) × AgreeOutside index frame (take (length frame) slice)
+    by_end : (full : Bool) → (if full then index else next) ≤ length slice
+        → let frame = closed_frame (open_frame o code is short) full in (length frame ≤ length slice) × AgreeOutside index frame (take (length frame) slice)
     by_end false fits =
-        let begins' = o.begins in
-        let long : length f ≡ next = grind (arith, length-append) in
-        let front_long = length-take-le next slice fits in
-        let x : ℕ = get_or (take next slice) index 0 in
-        let split = take-append-drop index (take next slice) in
-        let front = take-take index next slice (omega arith) in
-        let rest = drop_more (take next slice) index 0 (omega arith) in
-        let begins : take next slice ≡ concat o.front ++ x ∷ o.bytes = cc (o.written, o.bytes_there) in
-        (omega arith, (x, rw long (begins ∙ sym (set_at (concat o.front) code o.bytes x index (sym begins')))))
+        let begins = o.begins in
+        let code-is' = code-is o code is in
+        let long : length (concat o.front ++ code ∷ o.bytes) ≡ next = length-append (concat o.front) (code ∷ o.bytes) ∙ omega arith in
+        (omega arith, rw long (open_slice o code is fits))
     by_end true fits = (grind (arith, append-nil), grind (arith, append-nil, set_past))
 
 module _ {slice m : List ℕ} {r : Reached} (h : CobsEncoderAfter slice r m) where
@@ -82,43 +69,22 @@ module _ {slice m : List ℕ} {r : Reached} (h : CobsEncoderAfter slice r m) whe
   whole-is is = (frame-is h.encoded o).1 ∙ ap (λ full. concat o.front ++ (if full then [] else r.block.code ∷ o.bytes)) (sym noted-is ∙ is)
 
   -- so an encoder's slice has the blocks before the open block, and the open block's bytes after the place of its code
-  there : (r.full ≡ true) ⊎ (r.full ≡ false) → (take r.block.index slice ≡ concat o.front) × (drop (r.block.index + 1) (take (next_of r) slice) ≡ o.bytes)
+  there : (r.full ≡ true) ⊎ (r.full ≡ false) → Opened slice m r.block.index (next_of r) (ends_in_full o.front o.bytes)
   there (inl full) =
       let none = no_bytes o.front o.bytes (sym noted-is ∙ full) in
       let code-is = parts.1.0 in
       let begins = o.begins in
       let is : h.frame ≡ concat o.front = whole-is full ∙ append-nil (concat o.front) in
-      grind (arith, drop_all, set_past, length-take (next_of r) slice)
+      opened-of o refl (grind (arith, set_past)) (grind (arith, drop_all, length-take (next_of r) slice))
   there (inr open') =
-      let code-is = parts.1.0 in
-      let begins = o.begins in
-      let byte : ℕ = h.begins.0 in
-      let is : h.frame ≡ concat o.front ++ r.block.code ∷ o.bytes = whole-is open' in
-      let long : length h.frame ≡ next_of r = grind (arith, length-append) in
-      let front : take (next_of r) slice ≡ concat o.front ++ byte ∷ o.bytes = (rw (long, is) at h.begins.1) ∙ set_at (concat o.front) r.block.code o.bytes byte r.block.index (sym begins) in
-      let one : length (concat o.front ++ byte ∷ []) ≡ r.block.index + 1 = length-append (concat o.front) (byte ∷ []) ∙ omega arith in (
-        sym (take-take r.block.index (next_of r) slice (omega arith)) ∙ ap (take r.block.index) front ∙ take_at (concat o.front) (byte ∷ o.bytes) r.block.index (sym begins),
-        ap (drop (r.block.index + 1)) (front ∙ sym (append_assoc (concat o.front) (byte ∷ []) o.bytes)) ∙ drop_at (concat o.front ++ byte ∷ []) o.bytes (r.block.index + 1) one,
-      )
+      let is : h.frame ≡ h.follows.0 = whole-is open' ∙ sym (f-is o) in
+      let out : IsOpenOutput (take (length h.follows.0) slice) r.block m = (h.follows.0, o, rw is at h.begins) in
+      let long : length h.follows.0 ≡ next_of r = ap length (f-is o) ∙ length-append (concat o.front) (r.block.code ∷ o.bytes) ∙ omega (arith, parts.1.0, o.begins) in
+      Opened-same (rw long at (output-opened out)) slice (sym (take-take (next_of r) (next_of r) slice (omega arith)))
 
   -- the converse of `to_after`
   pub from_after : Opened slice m r.block.index (next_of r) r.full
-  from_after =
-      let bytes = there (cases_Bool r.full) in
-      let code-is = parts.1.0 in
-      record {
-        front = o.front;
-        bytes = o.bytes;
-        each = parts.0;
-        nonzero = parts.1.2;
-        few = omega (arith, o.not_full);
-        message = rw (← code-is) o.message;
-        begins = o.begins;
-        place = omega arith;
-        written = bytes.0;
-        bytes_there = bytes.1;
-        noted = noted-is;
-      }
+  from_after = rw noted-is (there (cases_Bool r.full))
 
   -- the end of the frame
   pub end-is : encoded_len m ≡ end_of r

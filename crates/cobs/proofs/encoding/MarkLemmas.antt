@@ -4,9 +4,9 @@
 use Rattle.std.proofs.Common.{◌≡◌, ◌≢◌, ℕ, ◌+◌, ◌-◌, ◌%◌, ◌<◌, ◌≤◌, Bool, false, true, List, ◌++◌, length, drop, take, get_or, replicate, min, suc, refl, sym, ap, ◌∙◌, subst, inl, inr, arith, length-append, length-take-le, length-drop, take_all}
 use Rattle.std.proofs.Math.ListN.{set}
 use borrow.Rule.Slice.PartMut.{put_mid}
-use Rattle.std.proofs.Math.Seq.{take-append-add, take-set-lt}
+use Rattle.std.proofs.Math.Seq.{take-set-lt}
 use Rattle.std.proofs.lemmas.Bool.{cases_eq}
-use Rattle.std.proofs.lemmas.List.{drop-drop, drop-take, take-take, get_or-take, get_or-drop, drop-set-lt, length-set, length-replicate, take-append-le, take-replicate, take-set}
+use Rattle.std.proofs.lemmas.List.{drop-drop, drop-take, take-take, get_or-take, get_or-drop, drop-set-lt, length-set, length-replicate, take-set}
 use Rattle.std.specs.Int.Count.{trailing_of_zero}
 use Rattle.std.proofs.lemmas.Grind.{common_steps}
 use Rattle.cobs.proofs.encoding.OpenedLemmas.{Opened-same}
@@ -18,7 +18,7 @@ use Rattle.cobs.specs.Internal.Taking.{TakesFront}
 use Rattle.cobs_bytes.specs.Mask.{lowest, without_lowest, zero_mask}
 use Rattle.cobs_bytes.proofs.bytes.ListLemmas.{behind-three, front-three, mid-three}
 use Rattle.cobs_bytes.proofs.bytes.MaskLemmas.{mask_behind, mask_behind-none, mask_behind-and, mask_behind-some, lowest-within, lowest_left, nonzero_len, nonzero_len-lt, nonzero_len-before, nonzero_len-at, clear_front}
-use Rattle.cobs.proofs.encoding.ReachLemmas.{Reaches-at, Reaches-weaker, Reaches-full, Reaches-join, Reaches-zero, Reaches-zeros, IsNotFull, least}
+use Rattle.cobs.proofs.encoding.ReachLemmas.{Reaches-at, Reaches-weaker, Reaches-full, Reaches-join, Reaches-zero, Reaches-ones, Reaches-same-empty, IsNotFull, alike-first, least}
 use Rattle.cobs.proofs.encoding.TakingLemmas.{front-open, reaches-start}
 
 -- len bytes of a source at `read` were copied after the open block, and so `slice` became `after`
@@ -197,16 +197,20 @@ pub row-taken : {s : Start} {slice after : List ℕ} {read index next : ℕ} {P 
 row-taken {s} {slice} {after} {read} {index} {next} {P} r short fits n some inside zeros is =
     let room = least r in
     let m : ℕ = n - 1 in
+    let sum : suc m ≡ n = omega arith in
     let coded : List ℕ = set slice index (next - index) in
     let l = length-set slice index (next - index) in
     let ones : length {A = ℕ} (replicate n 1) ≡ n = length-replicate n 1 in
-    let long : length (take next coded) ≡ next = length-take-le next coded (omega arith) in
-    let front : take (next + m) after ≡ take next coded ++ replicate m 1 = grind (arith, take-append-add, take-append-le, take-replicate) in
+    let front_long = length-take-le next coded (omega arith) in
+    let long : whole_end s ≤ length after = grind (arith, length-append, length-drop) in
+    let zero = alike-first m read 0 s.source (omega arith) (grind arith) in
+    let closed = Reaches-zero r {Q = IsNotFull} fits (omega arith) zero.0 short refl in
+    let front = ap (take next) is ∙ front-three coded (replicate n 1) next n ones (omega arith) in
     let back : drop (whole_end s) after ≡ drop (whole_end s) s.slice = grind (arith, behind-three, drop-set-lt) in
-    let sum : suc m ≡ n = omega arith in
-    let w : take (suc m) (drop read s.source) ≡ replicate (suc m) 0 = grind arith in
-    let z = Reaches-zeros m after r (omega arith) w fits short front back in
-    record { ordered = omega arith; open' = omega arith; room = grind (arith, length-append, length-drop); reaches = grind (arith, Reaches-at) }
+    let first = Reaches-same-empty closed after refl front back in
+    let row = ap (λ l. take n (drop next l)) is ∙ mid-three coded (replicate n 1) next n ones (omega arith) in
+    let taken = Reaches-ones m first (omega arith) long zero.1 (grind arith) in
+    record { ordered = omega arith; open' = omega arith; room = long; reaches = grind (arith, Reaches-at) }
 
 -- the first k bytes, which aren't zeros and are copied as one slice, join the open block
 pub slice-joined : {s : Start} {slice part : List ℕ} {index next k n m : ℕ} {P : Bool → Type 0} → Reaches s slice 0 index next P

@@ -1,14 +1,13 @@
--- Lemmas on how a byte changes an open frame: a zero closes the last block, the 254th nonzero byte fills it, and any
--- other byte joins it. By `message_of-close` and `message_of-more`.
-use Rattle.std.proofs.Common.{◌≡◌, ◌≢◌, ℕ, ◌+◌, ◌<◌, Bool, true, false, if◌then◌else◌, List, [], ◌∷◌, ◌++◌, length, set, All, refl, sym, ap, ◌∙◌, arith, append-nil, append_assoc, length-append}
+-- Lemmas on the blocks of an open frame. Its message by `message_of-close` and `message_of-more`, and the encoded frame
+-- of this message: the open frame itself, or the blocks before a last block without bytes (`encoded-of`).
+use Rattle.std.proofs.Common.{◌≡◌, ◌≢◌, ℕ, ◌+◌, Bool, true, false, if◌then◌else◌, List, [], ◌∷◌, ◌++◌, length, All, refl, sym, ap, ◌∙◌, arith, append-nil, append_assoc}
 use Rattle.std.specs.List.{concat}
 use Rattle.std.proofs.lemmas.Bool.{ne_eqb, true≢false}
-use Rattle.std.proofs.lemmas.List.{set_at, length_push, same_from_push}
+use Rattle.std.proofs.lemmas.List.{same_from_push}
 use Rattle.std.proofs.lemmas.List.Elements.{All-head, All-nil, All-push}
 use Rattle.std.proofs.lemmas.Grind.{common_steps}
 use Rattle.cobs.specs.Grammar.{IsBlock, is_full, joint, last_of, lone_block, message_of, IsFrameOf, IsEncodedFrame, IsOpenFrame}
 use Rattle.cobs.specs.Internal.Reaches.{ends_in_full}
-use Rattle.cobs.specs.OpenBlock.{OpenBlock, AgreeOutside, IsOpenOutput}
 use Rattle.cobs.proofs.format.GrammarLemmas.{encoded-by, IsShorter, lone_block-is_block}
 use Rattle.cobs.proofs.format.FrameLemmas.{All-apart, append-some, concat-push, last_of-push}
 use Rattle.cobs.proofs.format.JoinLemmas.{message_of-append}
@@ -79,77 +78,3 @@ module _ {m f : List ℕ} {index code : ℕ} (o : IsOpenFrame f m index code) wh
 
   pub encoded-of : (full : Bool) → ends_in_full o.front o.bytes ≡ full → IsEncodedFrame (closed_frame full) m
   encoded-of full noted = encoded-by (closed_blocks full) (closed-frame full noted) (closed-message full noted) (closed-shorter full noted)
-
-  -- after a block that is closed a new one is open, whatever byte is in the place of its code
-  closed : {k g : List ℕ} (block : List ℕ) (next x : ℕ) → IsBlock block → length (concat o.front ++ block) ≡ next → message_of (o.front ++ block ∷ []) ++ joint block ≡ k
-      → g ≡ (concat o.front ++ block) ++ x ∷ [] → IsOpenOutput g (record { index = next; code = 1 }) k
-  closed block next x is long message out = (
-    _,
-    record {
-      front = o.front ++ block ∷ [];
-      bytes = [];
-      frame = rw (← concat-push o.front block) (frame_push (o.front ++ block ∷ []) lone_block (All-push IsBlock o.front block blocks-of.0 is) lone_block-is_block);
-      message = rw (message_of-close (o.front ++ block ∷ []) (append-some o.front block []), last_of-push o.front block) (sym message);
-      begins = rw concat-push (sym long);
-      not_full = omega arith;
-    },
-    (x, out ∙ sym (set_at (concat o.front ++ block) 1 [] x next long)),
-  )
-
--- how a byte changes the open frame f, and a list g that equals f except for the code of the open block
-module _ {m f g : List ℕ} {index code : ℕ} (o : IsOpenFrame f m index code) (same : AgreeOutside index f g) where
-  pub g-is : g ≡ concat o.front ++ same.0 ∷ o.bytes
-  g-is = (rw (f-is o) at same.1) ∙ set_at (concat o.front) code o.bytes same.0 index (sym o.begins)
-
-  -- g with another code
-  set-g : (y : ℕ) → set g index y ≡ concat o.front ++ y ∷ o.bytes
-  set-g y = grind (arith, g-is, set_at)
-
-  -- g with the right code is the frame f
-  pub completed : set g index code ≡ f
-  completed = set-g code ∙ sym (f-is o)
-
-  -- a zero closes the block
-  pub open-zero : (x : ℕ) → IsOpenOutput (set g index code ++ x ∷ []) (record { index = index + code; code = 1 }) (m ++ 0 ∷ [])
-  open-zero x =
-      let is = blocks-of o in
-      let long : length (concat o.front ++ code ∷ o.bytes) ≡ index + code = length-append (concat o.front) (code ∷ o.bytes) ∙ omega (arith, is.1.0) in
-      let zero : joint (code ∷ o.bytes) ≡ 0 ∷ [] = grind (arith, ne_eqb) in
-      closed o (code ∷ o.bytes) (index + code) x is.1 long (rw zero (ap (λ l. l ++ 0 ∷ []) (sym o.message))) (ap (λ l. l ++ x ∷ []) (set-g code))
-
-  module _ (byte : ℕ) (nonzero : byte ≢ 0) where
-    -- the open block's bytes and this byte are a block
-    longer : (next : ℕ) → next ≡ code + 1 → next < 256 → IsBlock (next ∷ (o.bytes ++ byte ∷ []))
-    longer next is fits = let b = (blocks-of o).1 in (omega (arith, b.0, length_push o.bytes byte), fits, All-push (λ byte. byte ≢ 0) o.bytes byte b.2 nonzero)
-
-    -- a nonzero byte joins the block
-    pub open-more : code ≢ 254 → IsOpenOutput (g ++ byte ∷ []) (record { index = index; code = code + 1 }) (m ++ byte ∷ [])
-    open-more room = (
-      _,
-      record {
-        front = o.front;
-        bytes = o.bytes ++ byte ∷ [];
-        frame = frame_push o.front ((code + 1) ∷ (o.bytes ++ byte ∷ [])) (blocks-of o).0 (longer (code + 1) refl (omega (arith, o.not_full)));
-        message = rw (message_of-more o.front (code + 1) code o.bytes (byte ∷ [])) (ap (λ l. l ++ byte ∷ []) o.message);
-        begins = o.begins;
-        not_full = omega (arith, o.not_full);
-      },
-      (same.0, rw (set_at (concat o.front) (code + 1) (o.bytes ++ byte ∷ []) same.0 index (sym o.begins), g-is) (append_assoc (concat o.front) (same.0 ∷ o.bytes) (byte ∷ []))),
-    )
-
-    -- the 254th byte fills the block
-    pub open-full : (x : ℕ) → code ≡ 254 → IsOpenOutput (set g index 255 ++ byte ∷ x ∷ []) (record { index = index + 255; code = 1 }) (m ++ byte ∷ [])
-    open-full x last =
-        let more = longer 255 (omega arith) (omega arith) in
-        let long : length (concat o.front ++ 255 ∷ (o.bytes ++ byte ∷ [])) ≡ index + 255 = grind (arith, length-append) in
-        let message = append-nil _ ∙ message_of-more o.front 255 code o.bytes (byte ∷ []) ∙ ap (λ l. l ++ byte ∷ []) (sym o.message) in
-        closed o (255 ∷ (o.bytes ++ byte ∷ [])) (index + 255) x more long message (rw (set-g 255) (grind (arith, append_assoc)))
-
--- the output of a caller that carried out the results ends with the open block
-module _ (g : List ℕ) (state : OpenBlock) (m : List ℕ) (o : IsOpenOutput g state m) where
-  pub length-IsOpenOutput : length g ≡ state.index + state.code
-  length-IsOpenOutput =
-      omega (arith, (blocks-of o.1).1, ap length (g-is o.1 o.2) ∙ length-append (concat o.1.front) (o.2.0 ∷ o.1.bytes))
-
-  pub index-IsOpenOutput : state.index < length g
-  index-IsOpenOutput = grind (arith, common_steps, blocks-of, length-IsOpenOutput)

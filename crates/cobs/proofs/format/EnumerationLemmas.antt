@@ -11,7 +11,8 @@ use Rattle.cobs.specs.Stream.{stretches}
 use Rattle.cobs.specs.Grammar.{is_full, IsFull, joint, lone_block, last_of, IsOpenFrame, Reads, IsEncodedFrame}
 use Rattle.cobs.specs.Length.{full_blocks, last_number, EndsInFullRun, encoded_len}
 use Rattle.cobs.specs.OpenBlock.{EncoderAfter, OpenBlock, next_open}
-use Rattle.cobs.proofs.encoding.OpenLemmas.{IsOpenFrame-start, encoded-of, message_of-more, open-full, open-more, open-zero}
+use Rattle.cobs.proofs.encoding.OpenLemmas.{IsOpenFrame-start, encoded-of, message_of-more}
+use Rattle.cobs.proofs.encoding.OutputLemmas.{open-full, open-more, open-zero}
 use Rattle.cobs.specs.Laws.{IsFrameFor}
 use Rattle.cobs.proofs.format.FrameLemmas.{last_of-push}
 use Rattle.cobs.proofs.format.GrammarLemmas.{lone_block-reads, shorter_end}
@@ -50,10 +51,10 @@ ends_in_full g m e =
 
 -- a byte after a message that an encoder has taken
 pub EncoderAfter-push : (state : OpenBlock) (m : List ℕ) (b : ℕ) → EncoderAfter state m → EncoderAfter (next_open state b) (m ++ b ∷ [])
-EncoderAfter-push state m zero (f, o) = let r = open-zero o (0, refl) 0 in (r.0, r.1)
+EncoderAfter-push state m zero (f, o) = let r = open-zero (f, o, (0, refl)) 0 in (r.0, r.1)
 EncoderAfter-push state m (suc b) (f, o) = ⊎_elim
-    (λ (full : state.code ≡ 254). grind (arith, open-full o (0, refl) (suc b) (λ e. omega arith) 0 full))
-    (λ (room : state.code ≢ 254). grind (arith, open-more o (0, refl) (suc b) (λ e. omega arith) room))
+    (λ (full : state.code ≡ 254). grind (arith, open-full (f, o, (0, refl)) (suc b) (λ e. omega arith) 0 full))
+    (λ (room : state.code ≢ 254). grind (arith, open-more (f, o, (0, refl)) (suc b) (λ e. omega arith) room))
     (cases_eq state.code 254)
 
 after_all : (more m : List ℕ) (state : OpenBlock) → EncoderAfter state m → (next : OpenBlock) × EncoderAfter next (m ++ more)

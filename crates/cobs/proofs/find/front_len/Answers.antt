@@ -72,32 +72,30 @@ module _ (c : After-zeros_at-later) where
     wide_more : 64 < length source → get_or source 64 0 ≢ 0 → HasNoZero (take 65 source)
     wide_more more other = All-more (λ b. b ≢ 0) source 64 0 more (wide (omega arith)) other
 
-pub returns-then-zeros-ne0-clause-within : goal.returns-then-zeros-ne0-clause-within
-returns-then-zeros-ne0-clause-within c = grind (arith, at, After-zeros_at-zeros, within)
+pub returns-then-zeros-ne0 : goal.returns-then-zeros-ne0
+returns-then-zeros-ne0 c =
+    let w : Window c.args.source.now c.zeros_at-zeros.result = record { long = omega arith; is = c.zeros_at-zeros.ensures } in
+    let some = c.if-zeros-ne0.true in
+    let lt = within w some in
+    record {
+      within = omega arith;
+      near = λ _. omega arith;
+      before = λ _. before w some;
+      stop = λ _. stop w some;
+    }
 
-pub returns-then-zeros-ne0-clause-before : goal.returns-then-zeros-ne0-clause-before
-returns-then-zeros-ne0-clause-before c _ = grind (arith, before, at, After-zeros_at-zeros)
-
-pub returns-then-zeros-ne0-clause-stop : goal.returns-then-zeros-ne0-clause-stop
-returns-then-zeros-ne0-clause-stop c _ = grind (arith, stop, at, After-zeros_at-zeros)
-
-pub returns-then-later-ne0-clause-within : goal.returns-then-later-ne0-clause-within
-returns-then-later-ne0-clause-within c =
-    let after = (goal.at.returns-then-later-ne0-clause-within c).After-zeros_at-later in
-    omega (arith, within (later after) c.if-later-ne0.true, inside after)
-
-pub returns-then-later-ne0-clause-near : goal.returns-then-later-ne0-clause-near
-returns-then-later-ne0-clause-near c _ =
-    omega (arith, c.min-at.ensures, within (later (goal.at.returns-then-later-ne0-clause-near c).After-zeros_at-later) c.if-later-ne0.true)
-
-pub returns-then-later-ne0-clause-before : goal.returns-then-later-ne0-clause-before
-returns-then-later-ne0-clause-before c _ =
-    let after = (goal.at.returns-then-later-ne0-clause-before c).After-zeros_at-later in
-    both after _ (before (later after) c.if-later-ne0.true)
-
-pub returns-then-later-ne0-clause-stop : goal.returns-then-later-ne0-clause-stop
-returns-then-later-ne0-clause-stop c _ =
-    sym (get_or-drop c.min-at.result c.args.source.now _ 0) ∙ stop (later (goal.at.returns-then-later-ne0-clause-stop c).After-zeros_at-later) c.if-later-ne0.true
+pub returns-then-later-ne0 : goal.returns-then-later-ne0
+returns-then-later-ne0 c =
+    let after = (goal.at.returns-then-later-ne0 c).After-zeros_at-later in
+    let w = later after in
+    let some = c.if-later-ne0.true in
+    let lt = within w some in
+    record {
+      within = omega (arith, inside after);
+      near = λ _. omega (arith, c.min-at.ensures);
+      before = λ _. both after _ (before w some);
+      stop = λ _. sym (get_or-drop c.min-at.result c.args.source.now _ 0) ∙ stop w some;
+    }
 
 pub returns-then-source-eq0-clause-before : goal.returns-then-source-eq0-clause-before
 returns-then-source-eq0-clause-before c _ = wide (goal.at.returns-then-source-eq0-clause-before c).After-zeros_at-later c.if-later-ne0.false (omega arith)

@@ -90,18 +90,16 @@ none-near : (c : Joined-window-eq0) → (c.copy_at-window.result ≢ 0 → lowes
     → c.by_window.index + 255 - c.by_window.next ≤ min (lowest c.copy_at-window.result) 32
 none-near c first = grind (arith, lowest-none)
 
-pub returns-in-by_window-clause-within : goal.returns-in-by_window-clause-within
-returns-in-by_window-clause-within c =
-    let w = copied (goal.at.returns-in-by_window-clause-within c).After-copy_at-window in
-    let none = none-near (goal.at.returns-in-by_window-clause-within c).Joined-window-eq0 (first-within w) in
-    omega arith
-
-pub returns-in-by_window-clause-taken : goal.returns-in-by_window-clause-taken
-returns-in-by_window-clause-taken c =
-    let w = copied (goal.at.returns-in-by_window-clause-taken c).After-copy_at-window in
-    let none = none-near (goal.at.returns-in-by_window-clause-taken c).Joined-window-eq0 (first-within w) in
+pub returns-in-by_window : goal.returns-in-by_window
+returns-in-by_window c =
+    let at = goal.at.returns-in-by_window c in
+    let w = copied at.After-copy_at-window in
+    let none = none-near at.Joined-window-eq0 (first-within w) in
     let long = length-set c.copy_at-window.new.dest c.by_window.index 255 in
-    front-taken (omega arith) (filled w none (omega arith)) (omega arith) (λ all. absurd (omega arith)) (omega arith) c.encoder_at.ensures
+    record {
+      within = omega arith;
+      taken = front-taken (omega arith) (filled w none (omega arith)) (omega arith) (λ all. absurd (omega arith)) (omega arith) c.encoder_at.ensures;
+    }
 
 pub returns-clause-taken : goal.returns-clause-taken
 returns-clause-taken c =

@@ -49,11 +49,12 @@ by_byte-preserved c =
       })
     ]
 
-pub returns-clause-frame : goal.returns-clause-frame
-returns-clause-frame c = let within = c.by_part.invariant.within in whole-frame (omega arith) (omega arith) (omega arith) c.by_part.invariant
-
-pub returns-clause-len : goal.returns-clause-len
-returns-clause-len c = grind (arith, whole-len)
-
-pub returns-clause-rest : goal.returns-clause-rest
-returns-clause-rest c = grind (arith, whole-rest)
+pub returns : goal.returns
+returns c =
+    let r = c.by_part.invariant in
+    let within = r.within in
+    record {
+      frame = whole-frame (omega arith) (omega arith) (omega arith) r;
+      len = grind (arith, whole-len);
+      rest = grind (arith, whole-rest);
+    }

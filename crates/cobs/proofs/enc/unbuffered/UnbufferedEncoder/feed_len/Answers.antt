@@ -1,5 +1,5 @@
 -- The three tests say exactly that the byte has room (`room-only`, `has-room`), and then `append_byte` takes it.
-use Rattle.std.proofs.Common.{[], ◌∷◌, length, refl, arith}
+use Rattle.std.proofs.Common.{[], ◌∷◌, length, refl, arith, rules}
 use Rattle.cobs.specs.Fields.Progress.{reached_by}
 use Rattle.cobs.specs.OpenBlock.{HasRoomFor}
 use Rattle.cobs.specs.Internal.Taking.{TakesFront}
@@ -28,20 +28,18 @@ room c = has-room c.args.self.now c.args.dest.now c.args.byte (omega arith) (ome
 taken : (c : After-append_byte) → TakesFront c.args.dest.now (reached_by c.args.self.now) (c.args.byte ∷ []) 1 c.append_byte.new.dest (reached_by c.append_byte.new.self)
 taken c = c.append_byte.ensures.taken [] (room c).fits
 
-pub returns-clause-room : goal.returns-clause-room
-returns-clause-room c = (λ t. room (goal.at.returns-clause-room c).After-append_byte, λ h. refl)
-
-pub returns-clause-fits : goal.returns-clause-fits
-returns-clause-fits c = λ m h.
-    let end = after-end h (c.args.byte ∷ []) in
-    let fits = (room (goal.at.returns-clause-fits c).After-append_byte).fits in
-    (λ t. omega arith, λ le. refl)
-
-pub returns-clause-taken : goal.returns-clause-taken
-returns-clause-taken c = all-after (taken (goal.at.returns-clause-taken c).After-append_byte)
-
-pub returns-clause-rest : goal.returns-clause-rest
-returns-clause-rest c = all-rest (taken (goal.at.returns-clause-rest c).After-append_byte)
-
-pub returns-clause-within : goal.returns-clause-within
-returns-clause-within c = (taken (goal.at.returns-clause-within c).After-append_byte).place
+pub returns : goal.returns
+returns c =
+    let after = (goal.at.returns c).After-append_byte in
+    let t = taken after in
+    let fits = (room after).fits in
+    record {
+      room = (λ t. room after, λ h. refl);
+      fits = λ m h. (let end = after-end h (c.args.byte ∷ []) in (λ t. omega arith, λ le. refl));
+      taken = all-after t;
+      rest = all-rest t;
+      within = t.place;
+      len = search rules;
+      refused = search rules;
+      end = search rules;
+    }
