@@ -13,9 +13,9 @@ use Rattle.cobs.specs.OpenBlock.{Reached, end_after, end_of, next_of, place_at, 
 use Rattle.cobs.proofs.format.GrammarLemmas.{one_frame}
 use Rattle.cobs.proofs.format.UniqueLemmas.{one_encoded, length-encoded}
 use Rattle.cobs.proofs.encoding.OpenLenLemmas.{Opened-len}
-use Rattle.cobs.proofs.encoding.OpenLemmas.{blocks-of, closed_blocks, closed_frame, closed-frame, closed-is_full, encoded-of, f-is, no_bytes}
+use Rattle.cobs.proofs.encoding.OpenLemmas.{blocks-of, closed_blocks, closed_frame, closed_frame-is_frame, closed_blocks-full, encoded-of, f-is, no_bytes}
 use Rattle.cobs.proofs.encoding.OpenedLemmas.{Opened-same}
-use Rattle.cobs.proofs.encoding.OutputLemmas.{code-is, open_frame, open_slice, opened-of, output-opened}
+use Rattle.cobs.proofs.encoding.OutputLemmas.{open_frame, open_slice, opened-of, output-opened}
 use Rattle.cobs.specs.Internal.Reaches.{Opened, ends_in_full}
 
 -- The encoded frame of a message, by the blocks of its open frame: a lone block after a full one is no part of it.
@@ -24,8 +24,8 @@ pub frame-is : {f m o : List ℕ} {index code : ℕ} (e : IsEncodedFrame f m) (r
 frame-is {f} {m} e r =
     let full : Bool = ends_in_full r.front r.bytes in
     let same = one_encoded f _ m e (encoded-of r full refl) in
-    let parse = one_frame f e.reads.blocks (closed_blocks r full) e.reads.frame (rw same (closed-frame r full refl)) in
-    (ap (λ l. is_full (last_of l)) parse ∙ closed-is_full r full refl, same)
+    let parse = one_frame f e.reads.blocks (closed_blocks r full) e.reads.frame (rw same (closed_frame-is_frame r full refl)) in
+    (ap (λ l. is_full (last_of l)) parse ∙ closed_blocks-full r full refl, same)
 
 -- a slice that has the blocks of m and the open block's bytes is the slice of an encoder that has taken m
 pub to_after : {slice m : List ℕ} {index next : ℕ} {full : Bool} (code : ℕ) → index + code ≡ next → code < 255 → (if full then index else next) ≤ length slice
@@ -47,7 +47,6 @@ to_after {slice} {m} {index} {next} {full} code is short fits o =
         → let frame = closed_frame (open_frame o code is short) full in (length frame ≤ length slice) × AgreeOutside index frame (take (length frame) slice)
     by_end false fits =
         let begins = o.begins in
-        let code-is' = code-is o code is in
         let long : length (concat o.front ++ code ∷ o.bytes) ≡ next = length-append (concat o.front) (code ∷ o.bytes) ∙ omega arith in
         (omega arith, rw long (open_slice o code is fits))
     by_end true fits = (grind (arith, append-nil), grind (arith, append-nil, set_past))
@@ -73,7 +72,6 @@ module _ {slice m : List ℕ} {r : Reached} (h : CobsEncoderAfter slice r m) whe
   there (inl full) =
       let none = no_bytes o.front o.bytes (sym noted-is ∙ full) in
       let code-is = parts.1.0 in
-      let begins = o.begins in
       let is : h.frame ≡ concat o.front = whole-is full ∙ append-nil (concat o.front) in
       opened-of o refl (grind (arith, set_past)) (grind (arith, drop_all, length-take (next_of r) slice))
   there (inr open') =

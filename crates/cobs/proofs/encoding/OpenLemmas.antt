@@ -53,28 +53,27 @@ module _ {m f : List ℕ} {index code : ℕ} (o : IsOpenFrame f m index code) wh
   abbrev pub closed_frame : Bool → List ℕ
   closed_frame full = concat o.front ++ (if full then [] else code ∷ o.bytes)
 
-  pub closed-frame : (full : Bool) → ends_in_full o.front o.bytes ≡ full → IsFrameOf (closed_frame full) (closed_blocks full)
-  closed-frame false noted = frame_push o.front (code ∷ o.bytes) blocks-of.0 blocks-of.1
-  closed-frame true noted = grind (arith, no_bytes, append-nil, blocks-of)
+  pub closed_frame-is_frame : (full : Bool) → ends_in_full o.front o.bytes ≡ full → IsFrameOf (closed_frame full) (closed_blocks full)
+  closed_frame-is_frame false noted = frame_push o.front (code ∷ o.bytes) blocks-of.0 blocks-of.1
+  closed_frame-is_frame true noted = grind (arith, no_bytes, append-nil, blocks-of)
 
-  pub closed-is_full : (full : Bool) → ends_in_full o.front o.bytes ≡ full → is_full (last_of (closed_blocks full)) ≡ full
-  closed-is_full false noted = ap is_full (last_of-push o.front (code ∷ o.bytes)) ∙ ne_eqb code 255 (λ e. omega (arith, o.not_full))
-  closed-is_full true noted = (no_bytes o.front o.bytes noted).1
+  pub closed_blocks-full : (full : Bool) → ends_in_full o.front o.bytes ≡ full → is_full (last_of (closed_blocks full)) ≡ full
+  closed_blocks-full false noted = ap is_full (last_of-push o.front (code ∷ o.bytes)) ∙ ne_eqb code 255 (λ e. omega (arith, o.not_full))
+  closed_blocks-full true noted = (no_bytes o.front o.bytes noted).1
 
-  closed-shorter : (full : Bool) → ends_in_full o.front o.bytes ≡ full → IsShorter (closed_blocks full)
-  closed-shorter false noted fr c full e =
+  closed_blocks-shorter : (full : Bool) → ends_in_full o.front o.bytes ≡ full → IsShorter (closed_blocks full)
+  closed_blocks-shorter false noted fr c full e =
       let same = same_from_push o.front (fr ++ c ∷ []) (code ∷ o.bytes) lone_block (e ∙ sym (append_assoc fr (c ∷ []) (lone_block ∷ []))) in
       grind (arith, true≢false, last_of-push)
-  closed-shorter true noted fr c full e =
+  closed_blocks-shorter true noted fr c full e =
       grind (arith, true≢false, no_bytes, append_assoc, last_of-push (fr ++ c ∷ []) lone_block)
 
-  closed-message : (full : Bool) → ends_in_full o.front o.bytes ≡ full → m ≡ message_of (closed_blocks full)
-  closed-message false noted = o.message
-  closed-message true noted =
+  closed_blocks-message : (full : Bool) → ends_in_full o.front o.bytes ≡ full → m ≡ message_of (closed_blocks full)
+  closed_blocks-message false noted = o.message
+  closed_blocks-message true noted =
       let none = no_bytes o.front o.bytes noted in
       let one : code ≡ 1 = blocks-of.1.0 ∙ ap (λ x. length x + 1) none.0 in
-      let message : m ≡ message_of (o.front ++ lone_block ∷ []) = rw (none.0, one) at o.message in
       grind (arith, message_of-close, append-nil)
 
   pub encoded-of : (full : Bool) → ends_in_full o.front o.bytes ≡ full → IsEncodedFrame (closed_frame full) m
-  encoded-of full noted = encoded-by (closed_blocks full) (closed-frame full noted) (closed-message full noted) (closed-shorter full noted)
+  encoded-of full noted = encoded-by (closed_blocks full) (closed_frame-is_frame full noted) (closed_blocks-message full noted) (closed_blocks-shorter full noted)

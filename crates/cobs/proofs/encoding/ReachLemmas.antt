@@ -1,10 +1,10 @@
 -- Lemmas on how many bytes of a source the core of the encoder has taken, and on how it continues: nonzero bytes join
 -- the open block, and a zero or the 254th byte closes it. By `OpenedLemmas` for the slice, and by `OpenLenLemmas` for
 -- the end of the frame.
-use Rattle.std.proofs.Common.{◌≡◌, ◌≢◌, ℕ, ◌+◌, ◌-◌, ◌<◌, ◌≤◌, ◌==◌, Bool, true, false, List, ◌∷◌, ◌++◌, length, drop, take, get_or, replicate, zero, suc, refl, sym, ap, ◌∙◌, arith, inl, inr, ◌⊎◌, append-nil, append_assoc, length-take-le, length-drop}
+use Rattle.std.proofs.Common.{◌≡◌, ◌≢◌, ℕ, ◌+◌, ◌-◌, ◌<◌, ◌≤◌, Bool, true, false, List, ◌∷◌, ◌++◌, length, drop, take, get_or, replicate, zero, suc, refl, sym, ap, ◌∙◌, arith, inl, inr, ◌⊎◌, append-nil, append_assoc, length-take-le, length-drop}
 use Rattle.std.proofs.Math.ListN.{set}
 use Rattle.std.proofs.Math.Seq.{take-add}
-use Rattle.std.proofs.lemmas.Bool.{cases_eq, ne_eqb}
+use Rattle.std.proofs.lemmas.Bool.{cases_eq}
 use Rattle.std.proofs.lemmas.List.{drop_more, drop-set-lt, take_more, set-get_or}
 use Rattle.cobs.specs.Grammar.{HasNoZero}
 use Rattle.cobs.proofs.encoding.OpenedLemmas.{Opened-code, Opened-same-empty, Opened-join, Opened-close}
@@ -71,7 +71,6 @@ module _ {s : Start} {slice : List ℕ} {pos index next : ℕ} {P : Bool → Typ
         let least' = least in
         let left : drop pos s.source ≡ 0 ∷ drop (pos + 1) s.source = grind (arith, drop_more) in
         let zero_len = open_len-zero (next - index) (drop (pos + 1) s.source) (omega arith) in
-        let apart : (next - index == 255) ≡ false = ne_eqb (next - index) 255 (λ e. omega arith) in
         record {
           ordered = omega arith;
           short = omega arith;

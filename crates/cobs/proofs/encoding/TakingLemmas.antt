@@ -1,6 +1,6 @@
 -- Lemmas on how the core of the encoder takes a source, step by step: `front-taken` derives `TakesFront` from
 -- `Reaches`, and `front-next` joins two steps.
-use Rattle.std.proofs.Common.{◌≡◌, ◌≢◌, get_or, ℕ, ◌+◌, ◌-◌, ◌<◌, ◌≤◌, Bool, true, false, List, [], ◌∷◌, ◌++◌, length, drop, take, refl, sym, ap, ◌∙◌, inl, inr, arith, append-nil, append_assoc, length-drop, take_all}
+use Rattle.std.proofs.Common.{◌≡◌, ◌≢◌, get_or, ℕ, ◌+◌, ◌<◌, ◌≤◌, Bool, true, false, List, [], ◌∷◌, ◌++◌, length, drop, take, refl, sym, ap, ◌∙◌, inl, inr, arith, append-nil, append_assoc, length-drop, take_all}
 use Rattle.std.proofs.Math.ListN.{set}
 use Rattle.std.proofs.Math.Seq.{take-add}
 use Rattle.std.proofs.lemmas.Bool.{cases_Bool, cases_lt}
@@ -56,7 +56,6 @@ module _ {source old slice : List ℕ} {r r' : Reached} (fits : end_after r sour
   front-taken {pos} {index} {next} {code} {full} s short last coded is =
       let room = least s in
       let place : Reached = place_at index code full in
-      let code-is : next - index ≡ code = omega arith in
       let end : end_after place (drop pos source) ≡ end_after r source = elim (cases_lt pos (length source)) [
         | inl more ↦ grind (arith, after-some, length-drop)
         | inr none ↦ (let all : pos ≡ length source = omega arith in rw (drop_all pos source (omega arith), last all, ends s all) (omega arith))

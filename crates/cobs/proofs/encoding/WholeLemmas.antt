@@ -40,7 +40,6 @@ module _ {old source slice : List ℕ} {pos index next : ℕ} (some : 0 < length
 
   pub whole-frame : IsEncodedFrame (take next (set slice index (next - index))) source
   whole-frame =
-      let short = r.short in
       let end = whole-fits old source some in
       let r' : Reaches (start old source) slice (length source) index next IsNotFull = rw (← last) r in
       elim (cases_lt next (index + 255)) [

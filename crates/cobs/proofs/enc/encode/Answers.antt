@@ -17,6 +17,3 @@ returns-then-source-le-WINDOW-clause-no_sentinel c = encoded_nonzero (returns-th
 
 pub returns-clause-no_sentinel : goal.returns-clause-no_sentinel
 returns-clause-no_sentinel c = encoded_nonzero c.encode_long.ensures.frame
-
-pub returns-then-not-has_vectors-clause-no_sentinel : goal.returns-then-not-has_vectors-clause-no_sentinel
-returns-then-not-has_vectors-clause-no_sentinel c = encoded_nonzero c.write_each.ensures.frame

@@ -33,7 +33,6 @@ pub returns-clause-rest : goal.returns-clause-rest
 returns-clause-rest c =
     let coded : List ℕ = c.encode-len.new.dest in
     let n : ℕ = length c.args.source.now + 1 in
-    let within : n ≤ length coded = omega (arith, c.requires.room) in
     let len : length c.xor_bytes.new.bytes ≡ n = grind (arith, length-map, length-take-le) in
     drop-append-drop n coded c.xor_bytes.new.bytes n (omega arith) len
     ∙ (rw (len-is (goal.at.returns-clause-rest c).After-xor_bytes) at c.encode-len.ensures.rest)

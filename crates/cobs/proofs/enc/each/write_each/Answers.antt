@@ -5,6 +5,7 @@ use Rattle.std.proofs.lemmas.List.{get_or-drop, get_or-take}
 use Rattle.cobs.specs.Internal.Reaches.{Reaches}
 use Rattle.cobs.proofs.encoding.ReachLemmas.{IsNotFull, Reaches-at, Reaches-full, Reaches-weaker, Reaches-zero}
 use Rattle.cobs.proofs.encoding.TakingLemmas.{joined}
+use Rattle.cobs.proofs.format.SentinelLemmas.{encoded_nonzero}
 use Rattle.cobs.proofs.encoding.WholeLemmas.{start, whole-fits, whole-frame, whole-len, whole-rest, whole-start}
 use Rattle.cobs.proofs.enc.each.write_each.Goals.{After-min-len, then-next-index-eq-FULL_CODE, else-next-index-eq-FULL_CODE, then-byte-eq0, else-byte-eq0}
 use Rattle.cobs.proofs.enc.each.write_each.Goals as goal
@@ -37,7 +38,6 @@ by_byte-preserved c =
     let fits = whole-fits c.args.dest.now source (omega arith) in
     let i = c.by_byte.invariant in
     let open' = i.open' in
-    let ordered = i.reaches.ordered in
     elim c.if-byte-eq0.branch [
       | then-byte-eq0 w ↦ rw (w.dest-is, w.index-is) (record {
         open' = omega arith;
@@ -52,9 +52,10 @@ by_byte-preserved c =
 pub returns : goal.returns
 returns c =
     let r = c.by_part.invariant in
-    let within = r.within in
+    let frame = whole-frame (omega arith) (omega arith) (omega arith) r in
     record {
-      frame = whole-frame (omega arith) (omega arith) (omega arith) r;
+      frame = frame;
+      no_sentinel = encoded_nonzero frame;
       len = grind (arith, whole-len);
       rest = grind (arith, whole-rest);
     }

@@ -35,7 +35,6 @@ by_byte-init c = grind arith
 pub append_byte-requires : goal.append_byte-requires
 append_byte-requires c =
     let i = c.by_byte.invariant in
-    let r : Reached = reached_by c.by_byte.encoder in
     let byte : ℕ = get_or c.by_byte.buffer (c.max_encoding_overhead-before.result + c.by_byte.taken) 0 in
     let long = length-take c.by_byte.taken (drop c.max_encoding_overhead-before.result c.args.buffer.now) in
     let room = room-only c.by_byte.encoder (length c.by_byte.buffer) byte

@@ -37,7 +37,6 @@ stopped c more =
 
 pub overflow_add-counted-in_default : goal.overflow_add-counted-in_default
 overflow_add-counted-in_default c =
-    let end = stopped (goal.at.overflow_add-counted-in_default c).After-position_or_len-more (grind (arith, take_rest, length-drop)) in
     grind (arith, open_len-least, open_len-most)
 
 pub by_run-preserved-in-Some : goal.by_run-preserved-in-Some

@@ -24,13 +24,10 @@ by_byte-preserved c =
     elim c.if-taken-eq-FULL_BLOCK_BYTES.branch [
       | then-taken-eq-FULL_BLOCK_BYTES+else-left-eq0 w ↦
           let full = len-full c.args.bytes.now c.by_byte.i next (c.by_byte.taken + 1) (omega arith) in
-          let left = w.if-left-eq0.false in
           rw (w.left-is, w.taken-is) (omega arith, omega arith, omega arith)
       | else-taken-eq-FULL_BLOCK_BYTES w ↦ let other = w.if-taken-eq-FULL_BLOCK_BYTES.false in rw (w.left-is, w.taken-is) (omega arith, more, total)
     ] in
-    let short' = ready.0 in
     let more' = ready.1 in
-    let total' = ready.2 in
     elim c.if-bytes-i-ne0.branch [
       | then-bytes-i-ne0 w ↦
           let step = len-byte c.args.bytes.now c.by_byte.i next (c.if-taken-eq-FULL_BLOCK_BYTES.taken + 1) (omega arith) w.if-bytes-i-ne0.true in

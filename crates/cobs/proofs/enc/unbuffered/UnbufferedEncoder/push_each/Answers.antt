@@ -34,6 +34,4 @@ pub returns-clause-fits : goal.returns-clause-fits
 returns-clause-fits c = λ m h.
     let e = after-end h c.args.bytes.now in
     let end = all-end c.append_each.ensures in
-    let fits = c.append_each.ensures.place.fits in
-    let long = c.append_each.auto.dest in
     (λ t. omega arith, λ le. refl)
