@@ -1,7 +1,6 @@
 -- The encoders: the open block, windows, and the room that a frame takes.
 pub mod OpenLemmas
 pub mod OpenedLemmas
-pub mod OutputLemmas
 pub mod OpenLenLemmas
 pub mod ReachLemmas
 pub mod AfterLemmas
@@ -9,5 +8,3 @@ pub mod RoomLemmas
 pub mod TakingLemmas
 pub mod MarkLemmas
 pub mod ByteLemmas
-pub mod StepLemmas
-pub mod WholeLemmas

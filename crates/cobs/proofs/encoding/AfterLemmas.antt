@@ -14,8 +14,7 @@ use Rattle.cobs.proofs.format.GrammarLemmas.{one_frame}
 use Rattle.cobs.proofs.format.UniqueLemmas.{one_encoded, length-encoded}
 use Rattle.cobs.proofs.encoding.OpenLenLemmas.{Opened-len}
 use Rattle.cobs.proofs.encoding.OpenLemmas.{blocks-of, closed_blocks, closed_frame, closed_frame-is_frame, closed_blocks-full, encoded-of, f-is, no_bytes}
-use Rattle.cobs.proofs.encoding.OpenedLemmas.{Opened-same}
-use Rattle.cobs.proofs.encoding.OutputLemmas.{open_frame, open_slice, opened-of, output-opened}
+use Rattle.cobs.proofs.encoding.OpenedLemmas.{Opened-same, open_frame, open_slice, opened-of, output-opened}
 use Rattle.cobs.specs.Internal.Reaches.{Opened, ends_in_full}
 
 -- The encoded frame of a message, by the blocks of its open frame: a lone block after a full one is no part of it.

@@ -12,7 +12,7 @@ use Rattle.cobs.specs.Grammar.{is_full, IsFull, joint, lone_block, last_of, IsOp
 use Rattle.cobs.specs.Length.{full_blocks, last_number, EndsInFullRun, encoded_len}
 use Rattle.cobs.specs.OpenBlock.{EncoderAfter, OpenBlock, next_open}
 use Rattle.cobs.proofs.encoding.OpenLemmas.{IsOpenFrame-start, encoded-of, message_of-more}
-use Rattle.cobs.proofs.encoding.OutputLemmas.{open-full, open-more, open-zero}
+use Rattle.cobs.proofs.encoding.OpenedLemmas.{open-full, open-more, open-zero}
 use Rattle.cobs.specs.Laws.{IsFrameFor}
 use Rattle.cobs.proofs.format.FrameLemmas.{last_of-push}
 use Rattle.cobs.proofs.format.GrammarLemmas.{lone_block-reads, shorter_end}

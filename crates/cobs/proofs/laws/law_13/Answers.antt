@@ -1,9 +1,9 @@
--- The open frame of a streaming encoder: its length follows by `OutputLemmas`, and how it differs from the encoded frame
+-- The open frame of a streaming encoder: its length follows by `OpenedLemmas`, and how it differs from the encoded frame
 -- by `EnumerationLemmas`.
 use Rattle.std.proofs.Common.{sym}
 use Rattle.cobs.proofs.encoding.AfterLemmas.{end-is}
 use Rattle.cobs.proofs.format.EnumerationLemmas.{open_longer, open_shorter}
-use Rattle.cobs.proofs.encoding.OutputLemmas.{length-IsOpenOutput, index-IsOpenOutput}
+use Rattle.cobs.proofs.encoding.OpenedLemmas.{length-IsOpenOutput, index-IsOpenOutput}
 use Rattle.cobs.proofs.laws.law_13.Goals as goal
 
 pub returns : goal.returns

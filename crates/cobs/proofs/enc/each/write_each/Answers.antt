@@ -1,14 +1,59 @@
 -- Each byte closes the open block or joins it. The open block has room for all bytes of the part, because a full one is
--- closed before the part (`opened`).
-use Rattle.std.proofs.Common.{length, ◌≡◌, ◌<◌, ◌+◌, ◌-◌, ◌∙◌, false, ℕ, List, drop, get_or, take, refl, arith}
-use Rattle.std.proofs.lemmas.List.{get_or-drop, get_or-take}
-use Rattle.cobs.specs.Internal.Reaches.{Reaches}
-use Rattle.cobs.proofs.encoding.ReachLemmas.{IsNotFull, Reaches-at, Reaches-full, Reaches-weaker, Reaches-zero}
-use Rattle.cobs.proofs.encoding.TakingLemmas.{joined}
+-- closed before the part (`opened`). The last block is closed at the end, whether it is full or not (`whole-frame`).
+use Rattle.std.proofs.Common.{length, ◌≡◌, ◌<◌, ◌+◌, ◌-◌, ◌∙◌, false, ℕ, List, drop, get_or, take, refl, arith, ◌≤◌, sym, inl, inr, append-nil}
+use Rattle.std.proofs.lemmas.List.{get_or-drop, get_or-take, drop-set-lt}
+use Rattle.cobs.specs.Internal.Reaches.{Reaches, HadTaken, Start, start_with, whole_end}
+use Rattle.cobs.proofs.encoding.ReachLemmas.{IsNotFull, Reaches-at, Reaches-full, Reaches-weaker, Reaches-zero, ends}
+use Rattle.cobs.proofs.encoding.TakingLemmas.{joined, front-filled, front-open, start-after, start-fits}
 use Rattle.cobs.proofs.format.SentinelLemmas.{encoded_nonzero}
-use Rattle.cobs.proofs.encoding.WholeLemmas.{start, whole-fits, whole-frame, whole-len, whole-rest, whole-start}
 use Rattle.cobs.proofs.enc.each.write_each.Goals.{After-min-len, then-next-index-eq-FULL_CODE, else-next-index-eq-FULL_CODE, then-byte-eq0, else-byte-eq0}
 use Rattle.cobs.proofs.enc.each.write_each.Goals as goal
+use Rattle.std.proofs.Math.ListN.{set}
+use Rattle.std.proofs.lemmas.Bool.{cases_lt}
+use Rattle.cobs.specs.Grammar.{IsEncodedFrame}
+use Rattle.cobs.specs.Length.{encoded_len}
+use Rattle.cobs.specs.OpenBlock.{place_at}
+use Rattle.cobs.proofs.encoding.AfterLemmas.{closed-full, closed-open, from_after}
+
+-- a new encoder, and the message
+abbrev start : List ℕ → List ℕ → Start
+start old source = start_with old (place_at 0 1 false) source
+
+-- the end of the message's frame
+whole-fits : (old source : List ℕ) → 0 < length old → whole_end (start old source) ≡ encoded_len source
+whole-fits old source some = grind (arith, start-fits)
+
+whole-start : {old source : List ℕ} → 0 < length old → Reaches (start old source) old 0 0 1 IsNotFull
+unfolding HadTaken
+whole-start {old} {source} some = record {
+  ordered = omega arith;
+  short = omega arith;
+  within = omega arith;
+  end = omega (arith, whole-fits old source some);
+  rest = refl;
+  taken = λ m h. (false, refl, rw append-nil (from_after h));
+}
+
+-- the last block of the message is closed
+module _ {old source slice : List ℕ} {pos index next : ℕ} (some : 0 < length old) (last : pos ≡ length source) (fits : encoded_len source ≤ length slice) (r : Reaches (start old source) slice pos index next IsNotFull) where
+  whole-len : next ≡ encoded_len source
+  whole-len = sym (ends r last) ∙ whole-fits old source some
+
+  whole-rest : drop next (set slice index (next - index)) ≡ drop next old
+  whole-rest = let ordered = r.ordered in drop-set-lt next slice index (next - index) (omega arith) ∙ (rw (ends r last) at r.rest)
+
+  whole-frame : IsEncodedFrame (take next (set slice index (next - index))) source
+  whole-frame =
+      let end = whole-fits old source some in
+      let r' : Reaches (start old source) slice (length source) index next IsNotFull = rw (← last) r in
+      elim (cases_lt next (index + 255)) [
+        | inl open' ↦ (let sum : index + (next - index) ≡ next = omega arith in
+            let after = start-after old (place_at 0 1 false) refl some (front-open (omega arith) r' open' sum refl) in
+            rw sum at (closed-open after refl))
+        | inr full ↦ (let code : next - index ≡ 255 = omega arith in
+            let after = start-after old (place_at 0 1 false) refl some (front-filled (omega arith) (omega arith) r' refl refl) in
+            rw code (closed-full after refl))
+      ]
 
 pub by_part-init : goal.by_part-init
 by_part-init c = whole-start (omega arith)

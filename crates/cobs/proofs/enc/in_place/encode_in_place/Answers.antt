@@ -9,7 +9,7 @@ use Rattle.cobs.specs.Overwritten.{message_in}
 use Rattle.cobs.proofs.format.LengthLemmas.{encoded_len-le}
 use Rattle.cobs.proofs.format.SentinelLemmas.{encoded_nonzero}
 use Rattle.cobs.proofs.encoding.AfterLemmas.{after-end, after-place, end-is}
-use Rattle.cobs.proofs.encoding.StepLemmas.{room-only}
+use Rattle.cobs.proofs.encoding.ByteLemmas.{room-only}
 use Rattle.cobs.proofs.encoding.TakingLemmas.{all-end, all-rest, next-least}
 use Rattle.cobs.proofs.enc.in_place.encode_in_place.Goals as goal
 use Rattle.cobs_bytes.proofs.bytes.ListLemmas.{drop-later}

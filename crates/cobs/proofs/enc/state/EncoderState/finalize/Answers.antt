@@ -1,5 +1,5 @@
 -- The last code completes the open frame, by `completed`.
-use Rattle.cobs.proofs.encoding.OutputLemmas.{completed}
+use Rattle.cobs.proofs.encoding.OpenedLemmas.{completed}
 use Rattle.cobs.proofs.enc.state.EncoderState.finalize.Goals as goal
 
 pub returns-clause-completed : goal.returns-clause-completed

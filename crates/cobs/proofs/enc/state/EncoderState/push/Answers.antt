@@ -1,7 +1,7 @@
--- The three steps of `OutputLemmas` for the open block that an `EncoderState` stands for (`view_is`). A frame with a
+-- The three steps of `OpenedLemmas` for the open block that an `EncoderState` stands for (`view_is`). A frame with a
 -- placeholder is an output, so `after` follows from `carried`.
 use Rattle.std.proofs.Common.{set, refl, arith}
-use Rattle.cobs.proofs.encoding.OutputLemmas.{open-zero, open-more, open-full}
+use Rattle.cobs.proofs.encoding.OpenedLemmas.{open-zero, open-more, open-full}
 use Rattle.cobs.proofs.enc.state.EncoderState.push.Goals as goal
 
 pub returns-then-self-clause-carried : goal.returns-then-self-clause-carried

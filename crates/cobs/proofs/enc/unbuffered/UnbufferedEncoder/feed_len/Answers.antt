@@ -3,7 +3,7 @@ use Rattle.std.proofs.Common.{[], ◌∷◌, length, refl, arith, rules}
 use Rattle.cobs.specs.Fields.Progress.{reached_by}
 use Rattle.cobs.specs.OpenBlock.{HasRoomFor}
 use Rattle.cobs.specs.Internal.Taking.{TakesFront}
-use Rattle.cobs.proofs.encoding.StepLemmas.{has-room, room-only}
+use Rattle.cobs.proofs.encoding.ByteLemmas.{has-room, room-only}
 use Rattle.cobs.proofs.encoding.TakingLemmas.{all-after, all-rest}
 use Rattle.cobs.proofs.encoding.AfterLemmas.{after-end, after-place}
 use Rattle.cobs.proofs.enc.unbuffered.UnbufferedEncoder.feed_len.Goals.{Joined-then-code-gt-FULL_BLOCK_BYTES, After-append_byte, then-code-gt-FULL_BLOCK_BYTES-via-then-code-gt-FULL_BLOCK_BYTES}
