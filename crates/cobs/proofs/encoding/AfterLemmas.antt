@@ -4,8 +4,7 @@
 use Rattle.std.proofs.Common.{◌≡◌, ◌≢◌, ℕ, ◌+◌, ◌-◌, ◌<◌, ◌≤◌, Bool, true, false, if◌then◌else◌, List, [], ◌∷◌, ◌++◌, length, set, take, All, refl, sym, ap, ◌∙◌, arith, inl, inr, ◌⊎◌, append-nil, length-append, length-take}
 use Rattle.std.specs.List.{concat}
 use Rattle.std.proofs.lemmas.Bool.{cases_Bool}
-use Rattle.std.proofs.lemmas.List.{take-take, drop_all, set_at, set_past, set-set}
-use Rattle.std.proofs.lemmas.List.Elements.{All-nil}
+use Rattle.std.proofs.lemmas.List.{take-take, drop_all, set_at, set_past}
 use Rattle.std.proofs.Math.Seq.{take-set-lt}
 use Rattle.cobs.specs.Grammar.{IsBlock, is_full, last_of, IsEncodedFrame, IsOpenFrame}
 use Rattle.cobs.specs.Length.{encoded_len, open_len}
@@ -86,7 +85,7 @@ module _ {slice m : List ℕ} {r : Reached} (h : CobsEncoderAfter slice r m) whe
   -- the end of the frame
   pub end-is : encoded_len m ≡ end_of r
   end-is =
-      grind (arith, cases_Bool, whole-is refl, length-append, append-nil, o.begins, sym (length-encoded h.frame m h.encoded), parts.1.0)
+      grind (arith, whole-is refl, length-append, o.begins, sym (length-encoded h.frame m h.encoded), parts.1.0)
 
   length-frame : length h.frame ≡ end_of r
   length-frame = length-encoded h.frame m h.encoded ∙ end-is
@@ -96,7 +95,7 @@ module _ {slice m : List ℕ} {r : Reached} (h : CobsEncoderAfter slice r m) whe
   after-fits = grind (arith, length-frame, end-is)
 
   pub after-place : IsPlaceIn (length slice) r
-  after-place = grind (arith, parts, o, end-is, after-fits)
+  after-place = grind (arith, parts, end-is, after-fits)
 
   -- the length of the frame after the encoder has taken these bytes too
   pub after-len : (bytes : List ℕ) → bytes ≢ [] → encoded_len (m ++ bytes) ≡ r.block.index + open_len r.block.code bytes
@@ -117,8 +116,8 @@ module _ {slice m : List ℕ} {r : Reached} (h : CobsEncoderAfter slice r m) whe
   closed-open open' =
       let some = after-place.some in
       let same : h.frame ≡ concat o.front ++ r.block.code ∷ o.bytes = whole-is open' in
-      grind (arith, set_at, take-set-lt, set-set, length-frame)
+      grind (arith, set_at, take-set-lt, length-frame)
 
 -- the encoder that has taken nothing
 pub after-nothing : (slice : List ℕ) → 0 < length slice → CobsEncoderAfter slice (place_at 0 1 false) []
-after-nothing slice some = grind (arith, to_after, All-nil, drop_all, length-take)
+after-nothing slice some = grind (arith, to_after)

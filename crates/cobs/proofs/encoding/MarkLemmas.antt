@@ -38,7 +38,7 @@ copied-by {s} {slice} {after} {read} {len} {index} {next} before inside fits is 
     record {
       inside = inside;
       room = grind (arith, length-append, length-take-le, length-drop);
-      reaches = grind (arith, common_steps, Opened-same, front-three, behind-three);
+      reaches = grind (arith, Opened-same, front-three, behind-three);
       here = grind (arith, common_steps, mid-three);
     }
 
@@ -47,7 +47,7 @@ copied-joins : {s : Start} {slice : List ℕ} {read len index next : ℕ} → Co
     → HasNoZero (take k (drop read s.source)) → Reaches s slice (read + k) index (next + k) IsNotFull
 copied-joins {s} {slice} {read} {len} {index} {next} c k some le short nonzero =
     let here = sym (take-take k len (drop next slice) le) ∙ ap (take k) c.here ∙ take-take k len (drop read s.source) le in
-    Reaches-join c.reaches c.room k (omega (arith, c.inside)) short nonzero here (λ full z p. absurd (omega arith)) (λ z. refl)
+    Reaches-join c.reaches c.room k (omega arith) short nonzero here (λ full z p. absurd (omega arith)) (λ z. refl)
 
 -- the copied bytes are a window, whose bits say which of them are zeros
 pub record CopiedWindow (s : Start) (slice : List ℕ) (read len index next zeros : ℕ) : Type 0 where
@@ -60,10 +60,10 @@ pub record CopiedWindow (s : Start) (slice : List ℕ) (read len index next zero
 module _ {s : Start} {slice : List ℕ} {read len index next zeros : ℕ} (w : CopiedWindow s slice read len index next zeros) where
   -- a zero is within the window
   pub first-within : zeros ≢ 0 → lowest zeros < len
-  first-within some = grind (arith, common_steps, length-chunk, lowest-within)
+  first-within some = grind (arith, length-chunk, lowest-within)
 
   pub masked-start : min (lowest zeros) len < index + 255 - next → IsMasked s read len next zeros index slice
-  masked-start near = grind (arith, mask_behind, Reaches-at, least w.copied.reaches)
+  masked-start near = grind (arith, least w.copied.reaches)
 
   -- no zero is near enough to keep the block from being full
   pub filled : index + 255 - next ≤ min (lowest zeros) len → read + (index + 255 - next) < length s.source
@@ -100,7 +100,7 @@ module _ {s : Start} {slice : List ℕ} {read len index next zeros d : ℕ} (m :
       let all = lowest-none zeros none in
       let nonzero = mask_behind-none d left (sym m.bits ∙ none) in
       let joined = Reaches-join m.reaches {Q = IsNotFull} m.room (len - d) (omega arith) (omega arith) nonzero m.here (λ full z p. p (omega arith)) (λ z. refl) in
-      grind (arith, Reaches-at, joined)
+      grind arith
 
   -- another byte is in the place of the open block's code
   masked-code : (byte : ℕ) → IsMaskedAt s read len next zeros index (set slice index byte) d
@@ -115,10 +115,10 @@ module _ {s : Start} {slice : List ℕ} {read len index next zeros d : ℕ} (m :
     some_bits e = grind arith
 
     first-is : lowest zeros ≡ d + nonzero_len left
-    first-is = grind (arith, lowest_left, small, some_bits)
+    first-is = grind (arith, lowest_left, small)
 
     first-lt : nonzero_len left < len - d
-    first-lt = grind (arith, nonzero_len-lt, mask_behind-some, small, some_bits, length-take-le, length-drop)
+    first-lt = grind (arith, nonzero_len-lt, mask_behind-some, length-take-le, length-drop)
 
     pub masked-step : IsMasked s read len next (without_lowest zeros) (next + lowest zeros) (set slice index (next + lowest zeros - index))
     masked-step =
@@ -139,11 +139,11 @@ module _ {s : Start} {slice : List ℕ} {read len index next zeros d : ℕ} (m :
         let joined = Reaches-join m.reaches {Q = λ _. Unit {0}} m.room j (omega arith) (omega arith) nonzero here (λ full z p. tt) (λ z. tt) in
         let closed = Reaches-zero joined {Q = λ full. 0 < k + 1 → full ≡ false} m.room (omega arith) zero_at (omega arith) (λ lt. refl) in
         let long = length-set slice index (next + k - index) in
-        grind (arith, mask_behind, left, Reaches-at, set, drop-set-lt, ap without_lowest m.bits ∙ mask_behind-and d left small some_bits)
+        grind (arith, drop-set-lt, ap without_lowest m.bits ∙ mask_behind-and d left small some_bits)
 
   -- the place of the next code is no later than the next zero
   pub masked-ordered : index ≤ next + lowest zeros
-  masked-ordered = grind (arith, cases_eq, lowest-none, first-is)
+  masked-ordered = grind (arith, lowest-none, first-is)
 
 -- the next zero is replaced, if there is one
 pub masked-first : {s : Start} {slice : List ℕ} {read len index next zeros : ℕ} → IsMasked s read len next zeros index slice → (after : List ℕ) (r : ℕ × ℕ)
@@ -179,7 +179,7 @@ short-copied {source} {old} {slice} {r} {mask} code some few short fits is bits 
 pub window-front : {source old slice : List ℕ} {r r' : Reached} {read len index next : ℕ} → WindowTaken (start_with old r source) slice read len index next
     → read + len ≡ length source → r' ≡ place_at index (next + len - index) false → TakesFront old r source (length source) slice r'
 window-front {source} {old} {slice} {r} {r'} w last is =
-    subst (λ n. TakesFront old r source n slice r') last (front-open w.room w.reaches w.open' (omega (arith, w.ordered)) is)
+    subst (λ n. TakesFront old r source n slice r') last (front-open w.room w.reaches w.open' (omega arith) is)
 
 -- BYTES THAT ARE TAKEN WITHOUT A MASK
 
@@ -200,7 +200,7 @@ row-taken {s} {slice} {after} {read} {index} {next} {P} r short fits n some insi
     let zero = alike-first m read 0 s.source (omega arith) (grind arith) in
     let closed = Reaches-zero r {Q = IsNotFull} fits (omega arith) zero.0 short refl in
     let front = ap (take next) is ∙ front-three coded (replicate n 1) next n ones (omega arith) in
-    let back : drop (whole_end s) after ≡ drop (whole_end s) s.slice = grind (arith, behind-three, drop-set-lt) in
+    let back : drop (whole_end s) after ≡ drop (whole_end s) s.slice = grind (arith, behind-three) in
     let first = Reaches-same-empty closed after refl front back in
     let row = ap (λ l. take n (drop next l)) is ∙ mid-three coded (replicate n 1) next n ones (omega arith) in
     let taken = Reaches-ones m first (omega arith) long zero.1 (grind arith) in

@@ -2,14 +2,13 @@
 -- of this message: the open frame itself, or the blocks before a last block without bytes (`encoded-of`).
 use Rattle.std.proofs.Common.{◌≡◌, ◌≢◌, ℕ, ◌+◌, Bool, true, false, if◌then◌else◌, List, [], ◌∷◌, ◌++◌, length, All, refl, sym, ap, ◌∙◌, arith, append-nil, append_assoc}
 use Rattle.std.specs.List.{concat}
-use Rattle.std.proofs.lemmas.Bool.{ne_eqb, true≢false}
+use Rattle.std.proofs.lemmas.Bool.{ne_eqb}
 use Rattle.std.proofs.lemmas.List.{same_from_push}
-use Rattle.std.proofs.lemmas.List.Elements.{All-head, All-nil, All-push}
 use Rattle.std.proofs.lemmas.Grind.{common_steps}
 use Rattle.cobs.specs.Grammar.{IsBlock, is_full, joint, last_of, lone_block, message_of, IsFrameOf, IsEncodedFrame, IsOpenFrame}
 use Rattle.cobs.specs.Internal.Reaches.{ends_in_full}
-use Rattle.cobs.proofs.format.GrammarLemmas.{encoded-by, IsShorter, lone_block-is_block}
-use Rattle.cobs.proofs.format.FrameLemmas.{All-apart, append-some, concat-push, last_of-push}
+use Rattle.cobs.proofs.format.GrammarLemmas.{encoded-by, IsShorter}
+use Rattle.cobs.proofs.format.FrameLemmas.{All-apart, concat-push, last_of-push}
 use Rattle.cobs.proofs.format.JoinLemmas.{message_of-append}
 
 -- the message of blocks with a lone block after them
@@ -24,19 +23,19 @@ message_of-more (x ∷ y ∷ bs) c d bytes more = grind (arith, append_assoc, (m
 
 -- a fact about all blocks holds for those before the last one, and for the last one
 pub All-front : (bs : List (List ℕ)) (b : List ℕ) → All IsBlock (bs ++ b ∷ []) → All IsBlock bs × IsBlock b
-All-front bs b h = grind (arith, All-apart, All-head)
+All-front bs b h = grind (arith, All-apart)
 
 -- the frame of blocks with one more
 pub frame_push : (bs : List (List ℕ)) (b : List ℕ) → All IsBlock bs → IsBlock b → IsFrameOf (concat bs ++ b) (bs ++ b ∷ [])
-frame_push bs b h i = grind (arith, common_steps, append-some, All-push, concat-push)
+frame_push bs b h i = grind (arith, common_steps, concat-push)
 
 -- the open frame of the empty message
 pub IsOpenFrame-start : IsOpenFrame lone_block [] 0 1
-IsOpenFrame-start = grind (arith, frame_push, All-nil, lone_block-is_block)
+IsOpenFrame-start = grind arith
 
 -- if the frame ends in a full block, the open block after it has no bytes
 pub no_bytes : (front : List (List ℕ)) (bytes : List ℕ) → ends_in_full front bytes ≡ true → (bytes ≡ []) × (is_full (last_of front) ≡ true)
-no_bytes front bytes h = grind (arith, true≢false)
+no_bytes front bytes h = grind arith
 
 -- an open frame
 module _ {m f : List ℕ} {index code : ℕ} (o : IsOpenFrame f m index code) where
@@ -55,18 +54,18 @@ module _ {m f : List ℕ} {index code : ℕ} (o : IsOpenFrame f m index code) wh
 
   pub closed_frame-is_frame : (full : Bool) → ends_in_full o.front o.bytes ≡ full → IsFrameOf (closed_frame full) (closed_blocks full)
   closed_frame-is_frame false noted = frame_push o.front (code ∷ o.bytes) blocks-of.0 blocks-of.1
-  closed_frame-is_frame true noted = grind (arith, no_bytes, append-nil, blocks-of)
+  closed_frame-is_frame true noted = grind (arith, append-nil, blocks-of)
 
   pub closed_blocks-full : (full : Bool) → ends_in_full o.front o.bytes ≡ full → is_full (last_of (closed_blocks full)) ≡ full
-  closed_blocks-full false noted = ap is_full (last_of-push o.front (code ∷ o.bytes)) ∙ ne_eqb code 255 (λ e. omega (arith, o.not_full))
+  closed_blocks-full false noted = ap is_full (last_of-push o.front (code ∷ o.bytes)) ∙ ne_eqb code 255 (λ e. omega arith)
   closed_blocks-full true noted = (no_bytes o.front o.bytes noted).1
 
   closed_blocks-shorter : (full : Bool) → ends_in_full o.front o.bytes ≡ full → IsShorter (closed_blocks full)
   closed_blocks-shorter false noted fr c full e =
       let same = same_from_push o.front (fr ++ c ∷ []) (code ∷ o.bytes) lone_block (e ∙ sym (append_assoc fr (c ∷ []) (lone_block ∷ []))) in
-      grind (arith, true≢false, last_of-push)
+      grind (arith, last_of-push)
   closed_blocks-shorter true noted fr c full e =
-      grind (arith, true≢false, no_bytes, append_assoc, last_of-push (fr ++ c ∷ []) lone_block)
+      grind (arith, append_assoc, last_of-push (fr ++ c ∷ []) lone_block)
 
   closed_blocks-message : (full : Bool) → ends_in_full o.front o.bytes ≡ full → m ≡ message_of (closed_blocks full)
   closed_blocks-message false noted = o.message

@@ -11,7 +11,6 @@ use Rattle.cobs.specs.Grammar.{HasNoZero, IsBlock, is_full, joint, message_of, I
 use Rattle.cobs.proofs.encoding.OpenLemmas.{message_of-close, message_of-more, blocks-of, f-is, frame_push}
 use Rattle.cobs.proofs.format.FrameLemmas.{append-some, concat-push, last_of-push}
 use Rattle.cobs.specs.Internal.Reaches.{Opened, ends_in_full}
-use Rattle.std.proofs.lemmas.Bool.{ne_eqb}
 use Rattle.std.proofs.lemmas.Grind.{common_steps}
 use Rattle.cobs.specs.OpenBlock.{OpenBlock, AgreeOutside, IsOpenOutput}
 use Rattle.cobs_bytes.proofs.bytes.ListLemmas.{one-nonzero}
@@ -35,11 +34,11 @@ module _ {slice m : List ℕ} {index next : ℕ} {full : Bool} (o : Opened slice
 
   -- if the open block has no bytes, the byte in its code's place doesn't matter either
   pub Opened-same-empty : (slice' : List ℕ) → next ≡ index + 1 → take index slice' ≡ take index slice → Opened slice' m index next full
-  Opened-same-empty slice' empty same = grind (arith, Opened-in, drop_all, length-take)
+  Opened-same-empty slice' empty same = grind (arith, drop_all, length-take)
 
   -- the byte at the place of the open block's code doesn't matter
   pub Opened-code : (x : ℕ) → Opened (set slice index x) m index next full
-  Opened-code x = grind (arith, Opened-in, set, take-set-le, take-set-lt, drop-set-lt)
+  Opened-code x = grind (arith, take-set-le, take-set-lt, drop-set-lt)
 
   -- nonzero bytes that are already in place join the open block
   pub Opened-join : (more : List ℕ) → more ≢ [] → HasNoZero more → next + length more ≤ index + 255 → next + length more ≤ length slice → take (length more) (drop next slice) ≡ more
@@ -101,7 +100,7 @@ opened-of o is front behind =
       bytes = o.bytes;
       each = each.0;
       nonzero = each.1.2;
-      few = omega (arith, o.not_full);
+      few = omega arith;
       message = rw (← code-is) o.message;
       begins = o.begins;
       place = omega arith;
@@ -124,14 +123,14 @@ module _ {g m : List ℕ} {state : OpenBlock} (o : IsOpenOutput g state m) where
   output-is = (rw (f-is o.1) at o.2.1) ∙ set_at front state.code o.1.bytes o.2.0 state.index begins
 
   pub length-IsOpenOutput : length g ≡ next
-  length-IsOpenOutput = omega (arith, (blocks-of o.1).1, begins, ap length output-is ∙ length-append front (o.2.0 ∷ o.1.bytes))
+  length-IsOpenOutput = omega (arith, (blocks-of o.1).1, ap length output-is ∙ length-append front (o.2.0 ∷ o.1.bytes))
 
   pub index-IsOpenOutput : state.index < length g
-  index-IsOpenOutput = grind (arith, common_steps, blocks-of, length-IsOpenOutput)
+  index-IsOpenOutput = grind (arith, common_steps, length-IsOpenOutput)
 
   pub output-opened : Opened g m state.index next (ends_in_full o.1.front o.1.bytes)
   output-opened =
-      let one : length (front ++ o.2.0 ∷ []) ≡ state.index + 1 = length_push front o.2.0 ∙ omega (arith, begins) in
+      let one : length (front ++ o.2.0 ∷ []) ≡ state.index + 1 = length_push front o.2.0 ∙ omega arith in
       let all = take_all next g (omega (arith, length-IsOpenOutput)) in
       opened-of o.1 refl
       (ap (take state.index) output-is ∙ take_at front (o.2.0 ∷ o.1.bytes) state.index begins)
@@ -144,10 +143,10 @@ module _ {slice m : List ℕ} {index next : ℕ} {full : Bool} (o : Opened slice
   code-is = omega arith
 
   pub blocks-are : code < 255 → IsFrameOf (concat o.front ++ code ∷ o.bytes) (o.front ++ (code ∷ o.bytes) ∷ [])
-  blocks-are short = grind (arith, frame_push, code-is)
+  blocks-are short = grind (arith, frame_push)
 
   pub message-is : m ≡ message_of (o.front ++ (code ∷ o.bytes) ∷ [])
-  message-is = grind (arith, code-is)
+  message-is = grind arith
 
   abbrev pub open_frame : code < 255 → IsOpenFrame (concat o.front ++ code ∷ o.bytes) m index code
   open_frame short = record {
@@ -166,7 +165,7 @@ module _ {slice m : List ℕ} {index next : ℕ} {full : Bool} (o : Opened slice
       let x : ℕ = get_or (take next slice) index 0 in
       let split = take-append-drop index (take next slice) in
       let front = take-take index next slice (omega arith) in
-      let rest = drop_more (take next slice) index 0 (omega (arith, code-is)) in
+      let rest = drop_more (take next slice) index 0 (omega arith) in
       let begins : take next slice ≡ concat o.front ++ x ∷ o.bytes = cc (o.written, o.bytes_there) in
       (x, begins ∙ sym (set_at (concat o.front) code o.bytes x index (sym begins')))
 
@@ -190,7 +189,7 @@ module _ {g m : List ℕ} {state : OpenBlock} (o : IsOpenOutput g state m) where
       let long = length-IsOpenOutput o in
       let code' = length-set g state.index state.code in
       let closed = Opened-close (output-opened o) state.code (omega arith) refl in
-      let zero : joint (state.code ∷ []) ≡ 0 ∷ [] = grind (arith, ne_eqb) in
+      let zero : joint (state.code ∷ []) ≡ 0 ∷ [] = grind arith in
       let out = Opened-same-empty closed (set g state.index state.code ++ x ∷ []) refl (take-append-le _ _ _ (omega arith)) in
       rw zero at (opened-output out 1 refl (omega arith) (length_push _ x ∙ omega arith))
 
@@ -200,11 +199,11 @@ module _ {g m : List ℕ} {state : OpenBlock} (o : IsOpenOutput g state m) where
         let long = length-IsOpenOutput o in
         let longer = length_push g byte in
         let same = Opened-same (output-opened o) (g ++ byte ∷ []) (take-append-le _ _ _ (omega arith)) in
-        Opened-join same (byte ∷ []) (λ e. cc) (one-nonzero byte nonzero) (omega (arith, o.1.not_full)) (omega arith) (ap (take 1) (drop_at g (byte ∷ []) _ long))
+        Opened-join same (byte ∷ []) (λ e. cc) (one-nonzero byte nonzero) (omega arith) (omega arith) (ap (take 1) (drop_at g (byte ∷ []) _ long))
 
     -- a nonzero byte joins the block
     pub open-more : state.code ≢ 254 → IsOpenOutput (g ++ byte ∷ []) (record { index = state.index; code = state.code + 1 }) (m ++ byte ∷ [])
-    open-more room = opened-output joins (state.code + 1) (omega arith) (omega (arith, o.1.not_full)) (length_push g byte ∙ omega (arith, length-IsOpenOutput o))
+    open-more room = opened-output joins (state.code + 1) (omega arith) (omega arith) (length_push g byte ∙ omega (arith, length-IsOpenOutput o))
 
     -- the 254th byte fills the block
     pub open-full : (x : ℕ) → state.code ≡ 254 → IsOpenOutput (set g state.index 255 ++ byte ∷ x ∷ []) (record { index = state.index + 255; code = 1 }) (m ++ byte ∷ [])

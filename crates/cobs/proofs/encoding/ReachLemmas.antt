@@ -23,7 +23,7 @@ module _ {s : Start} {slice : List ℕ} {pos index next : ℕ} {P : Bool → Typ
 
   -- a weaker fact about the last block
   pub Reaches-weaker : {Q : Bool → Type 0} → ((full : Bool) → P full → Q full) → Reaches s slice pos index next Q
-  Reaches-weaker weaker = grind (arith, Reaches-at)
+  Reaches-weaker weaker = grind arith
 
   -- if the open block has no bytes, the byte in its code's place doesn't matter
   pub Reaches-same-empty : (slice' : List ℕ) → next ≡ index + 1 → take index slice' ≡ take index slice
@@ -32,7 +32,7 @@ module _ {s : Start} {slice : List ℕ} {pos index next : ℕ} {P : Bool → Typ
 
   -- another byte in the place of the open block's code
   pub Reaches-code : (x : ℕ) → Reaches s (set slice index x) pos index next P
-  Reaches-code x = grind (arith, least, drop-set-lt, Opened-code)
+  Reaches-code x = grind (arith, drop-set-lt, Opened-code)
 
   module _ {Q : Bool → Type 0} (fits : whole_end s ≤ length slice) where
     -- k bytes that are in place join the open block
@@ -114,7 +114,7 @@ Reaches-ones (suc n) {s} {slice} {pos} {index} r within fits zeros ones =
     let room = least r in
     let zero = alike-first n pos 0 s.source within zeros in
     let one = alike-first (suc n) index 1 slice (omega arith) ones in
-    let code : index + 1 - index ≡ get_or slice index 0 = omega (arith, one.0) in
+    let code : index + 1 - index ≡ get_or slice index 0 = omega arith in
     let same : set slice index (index + 1 - index) ≡ slice = ap (set slice index) code ∙ set-get_or slice index 0 in
     let closed = rw same at (Reaches-zero r {Q = IsNotFull} fits (omega arith) zero.0 (omega arith) refl) in
     Reaches-at refl (omega arith) (omega arith) (omega arith) (λ full p. p) (Reaches-ones n closed (omega arith) fits zero.1 one.1)

@@ -5,8 +5,7 @@ use Rattle.std.proofs.Common.{◌≡◌, ◌≢◌, ℕ, zero, suc, ◌+◌, ◌
 use Rattle.std.specs.List.{concat}
 use Rattle.std.proofs.lemmas.List.Folds.{concat-append}
 use Rattle.std.proofs.lemmas.List.{length_push}
-use Rattle.std.proofs.lemmas.Bool.{cases_eq, eqb-true, eqb-false, ne_eqb}
-use Rattle.std.proofs.lemmas.List.Splits.{slice_split-cons_no}
+use Rattle.std.proofs.lemmas.Bool.{cases_eq, eqb-true, eqb-false}
 use Rattle.cobs.specs.Stream.{stretches}
 use Rattle.cobs.specs.Grammar.{is_full, IsFull, joint, lone_block, last_of, IsOpenFrame, Reads, IsEncodedFrame}
 use Rattle.cobs.specs.Length.{full_blocks, last_number, EndsInFullRun, encoded_len}
@@ -25,7 +24,7 @@ use Rattle.cobs.proofs.format.UniqueLemmas.{IsEncodedFrame-shorter, len-blocks, 
 stretches-zero : (m : List ℕ) → stretches (m ++ 0 ∷ []) ≡ stretches m ++ [] ∷ []
 stretches-zero [] = refl
 stretches-zero (zero ∷ m) = grind (arith, stretches-zero m)
-stretches-zero (suc b ∷ m) = grind (arith, slice_split-cons_no, ne_eqb, some_stretch, stretches-zero m)
+stretches-zero (suc b ∷ m) = grind (arith, some_stretch, stretches-zero m)
 
 -- one more empty run makes a full run at the end count one block more
 runs-zero : (parts : List (List ℕ)) → parts ≢ [] → (full_blocks (map length (parts ++ [] ∷ [])) ≡ full_blocks (map length parts) + 1)
@@ -36,7 +35,7 @@ runs-zero (p ∷ q ∷ ps) some = grind (arith, runs-zero (q ∷ ps))
 
 -- a zero after a message lengthens its frame by two bytes exactly if the message ends in a full run
 full_run-len : (m : List ℕ) → EndsInFullRun m ↔ (encoded_len (m ++ 0 ∷ []) ≡ encoded_len m + 2)
-full_run-len m = grind (arith, stretches-zero, runs-zero, some_stretch, length-append)
+full_run-len m = grind (arith, stretches-zero, runs-zero, length-append)
 
 -- an encoded frame ends in a full block exactly if its message ends in a full run
 pub ends_in_full : (g m : List ℕ) (e : IsEncodedFrame g m) → IsFull (last_of e.reads.blocks) ↔ EndsInFullRun m
@@ -77,7 +76,7 @@ frames_of f m r =
       | inl same ↦ inl (subst (λ x. IsEncodedFrame x m) (s.frame.whole ∙ sym (ap concat same) ∙ sym r.frame.whole) e)
       | inr (front, block, full, is, longer) ↦ inr (
         (ends_in_full g m e).0 (rw is (ap is_full (last_of-push front block) ∙ full)),
-        (g, e, grind (arith, concat-append, append_assoc, append-nil)),
+        (g, e, grind (arith, concat-append, append_assoc)),
       )
     ]
 
@@ -108,6 +107,6 @@ open_shorter f m index code o other = ⊎_elim (λ e. e) (λ w. absurd (other w.
 pub open_longer : (f m : List ℕ) (index code : ℕ) → IsOpenFrame f m index code → EndsInFullRun m → (g : List ℕ) × IsEncodedFrame g m × (f ≡ g ++ lone_block)
 open_longer f m index code o x = ⊎_elim
     -- the encoded frame of such a message ends in a full block
-    (λ e. grind (arith, eqb-true, last_of-push, (ends_in_full f m (record { reads = open_reads f m index code o; canonical = e.canonical })).1 x))
+    (λ e. grind (arith, last_of-push, (ends_in_full f m (record { reads = open_reads f m index code o; canonical = e.canonical })).1 x))
     (λ w. w.1)
     (frames_of f m (open_reads f m index code o))

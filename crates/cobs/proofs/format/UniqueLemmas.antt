@@ -3,7 +3,7 @@
 -- frame is counted block by block (`len-blocks`).
 use Rattle.std.proofs.Common.{◌⊎◌, inl, inr, ◌≡◌, ◌≢◌, ℕ, ◌+◌, true, List, [], ◌∷◌, ◌++◌, length, take, All, refl, sym, ap, ◌∙◌, subst, arith, append-nil, append_assoc, length-append, take_at, take_all}
 use Rattle.std.specs.List.{concat}
-use Rattle.std.proofs.lemmas.Bool.{cases_Bool, eqb-true, eqb-false}
+use Rattle.std.proofs.lemmas.Bool.{cases_Bool, eqb-false}
 use Rattle.std.proofs.lemmas.List.{append_cancel_left}
 use Rattle.std.proofs.lemmas.List.Elements.{All-head, All-tail}
 use Rattle.cobs.specs.Grammar.{IsBlock, IsFull, is_full, joint, last_of, lone_block, message_of, bytes_of, IsEncodedFrame, Reads}
@@ -20,7 +20,7 @@ use Rattle.cobs.proofs.format.LengthLemmas.{encoded_len-last, encoded_len-zero, 
 some_message : (block : List ℕ) (blocks : List (List ℕ)) → IsBlock block → blocks ≢ [] → message_of (block ∷ blocks) ≢ []
 some_message [] blocks is more e = absurd is
 some_message (code ∷ bytes) [] is more e = more refl
-some_message (code ∷ bytes) (next ∷ blocks) is more e = grind (arith, cases_Bool, eqb-true, length-append, ap length e)
+some_message (code ∷ bytes) (next ∷ blocks) is more e = grind (arith, length-append, ap length e)
 
 -- blocks without a byte or a zero between them are the lone block
 empty_message : (b : List ℕ) (bs : List (List ℕ)) → All IsBlock (b ∷ bs) → message_of (b ∷ bs) ≡ [] → b ∷ bs ≡ lone_block ∷ []
@@ -31,7 +31,7 @@ empty_message (c ∷ bytes) (d ∷ ds) h e = absurd (some_message (c ∷ bytes) 
 -- how long the frame of a block's bytes and more is
 len-block : (block m : List ℕ) → IsBlock block → (is_full block ≡ true → m ≢ []) → encoded_len (bytes_of block ++ joint block ++ m) ≡ length block + encoded_len m
 len-block [] m is some = absurd is
-len-block (code ∷ bytes) m is some = grind (arith, eqb-true, append-nil, append_assoc, encoded_len-full, eqb-false, encoded_len-zero, cases_Bool)
+len-block (code ∷ bytes) m is some = grind (arith, append_assoc, encoded_len-full, eqb-false, encoded_len-zero, cases_Bool)
 
 -- the blocks before the last one are part of the encoded frame, unless the last one is empty and follows a full block
 pub len-blocks : (front : List (List ℕ)) (code : ℕ) (bytes : List ℕ) → All IsBlock front → (is_full (last_of front) ≡ true → bytes ≢ [])
@@ -40,18 +40,18 @@ len-blocks [] code bytes each some = omega arith
 len-blocks (b ∷ []) code bytes each some = grind (arith, append-nil, len-block, All-head)
 len-blocks (b ∷ c ∷ front) code bytes each some =
     let more = All-tail IsBlock b (c ∷ front) each in
-    grind (arith, some_message, append-some, len-block, All-head, len-blocks (c ∷ front) code bytes more some, length-append b (concat (c ∷ front)))
+    grind (arith, append-some, len-block, All-head, len-blocks (c ∷ front) code bytes more some, length-append b (concat (c ∷ front)))
 
 -- THERE IS ONE ENCODED FRAME
 
 -- the bytes of the first block are the first 254 of the message, as far as its first zero
 first_bytes : (c : ℕ) (a : List ℕ) (bs : List (List ℕ)) (n : ℕ) → All IsBlock ((c ∷ a) ∷ bs) → n ≡ 254 → a ≡ take n (head (message_of ((c ∷ a) ∷ bs)))
-first_bytes c a [] n h e = let is = All-head IsBlock (c ∷ a) [] h in rw (head_alone a is.2) (sym (take_all n a (omega (arith, is.0, is.1))))
+first_bytes c a [] n h e = let is = All-head IsBlock (c ∷ a) [] h in rw (head_alone a is.2) (sym (take_all n a (omega arith)))
 first_bytes c a (d ∷ ds) n h e =
     let is = All-head IsBlock (c ∷ a) (d ∷ ds) h in
     let cut : head (message_of ((c ∷ a) ∷ d ∷ ds)) ≡ a ++ head (joint (c ∷ a) ++ message_of (d ∷ ds))
     = ap head (append_assoc a (joint (c ∷ a)) (message_of (d ∷ ds))) ∙ head-append a _ is.2 in
-    grind (arith, cases_Bool, eqb-true, eqb-false, head-zero, append-nil, take_all, take_at)
+    grind (arith, eqb-false, head-zero, append-nil, take_all, take_at)
 
 -- so the first blocks of one message are one
 same_first : (b c : List ℕ) (bs cs : List (List ℕ)) → All IsBlock (b ∷ bs) → All IsBlock (c ∷ cs) → message_of (b ∷ bs) ≡ message_of (c ∷ cs) → b ≡ c
@@ -95,7 +95,7 @@ same_blocks (b ∷ d ∷ ds) (c ∷ k ∷ ks) some some' each each' shorter same
     ]
 
 pub IsEncodedFrame-shorter : (f m : List ℕ) (e : IsEncodedFrame f m) → IsShorter e.reads.blocks
-IsEncodedFrame-shorter f m e = grind (arith, IsShorter, one_frame)
+IsEncodedFrame-shorter f m e = grind (arith, one_frame)
 
 -- a message has one encoded frame
 pub one_encoded : (f g m : List ℕ) → IsEncodedFrame f m → IsEncodedFrame g m → f ≡ g

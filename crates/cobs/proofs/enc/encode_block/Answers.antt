@@ -26,13 +26,13 @@ pub returns-clause-frame : goal.returns-clause-frame
 returns-clause-frame c =
     let coded : List ℕ = c.encode-len.new.dest in
     let m : List ℕ = c.args.source.now in
-    frame_for c.args.sentinel (length m + 1) coded c.xor_bytes.new.bytes m (omega (arith, c.requires.room)) c.xor_bytes.ensures.changed
+    frame_for c.args.sentinel (length m + 1) coded c.xor_bytes.new.bytes m (omega arith) c.xor_bytes.ensures.changed
     (rw (len-is (goal.at.returns-clause-frame c).After-xor_bytes) at c.encode-len.ensures.frame)
 
 pub returns-clause-rest : goal.returns-clause-rest
 returns-clause-rest c =
     let coded : List ℕ = c.encode-len.new.dest in
     let n : ℕ = length c.args.source.now + 1 in
-    let len : length c.xor_bytes.new.bytes ≡ n = grind (arith, length-map, length-take-le) in
+    let len : length c.xor_bytes.new.bytes ≡ n = grind (arith, length-take-le) in
     drop-append-drop n coded c.xor_bytes.new.bytes n (omega arith) len
     ∙ (rw (len-is (goal.at.returns-clause-rest c).After-xor_bytes) at c.encode-len.ensures.rest)

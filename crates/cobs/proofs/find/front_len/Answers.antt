@@ -51,22 +51,22 @@ module _ (c : After-zeros_at-later) where
   inside = grind arith
 
   later : Window (drop at source) c.zeros_at-later.result
-  later = grind (arith, inside, length-drop, at, source)
+  later = grind (arith, length-drop)
 
   both : (k : ℕ) → HasNoZero (take k (drop at source)) → HasNoZero (take (at + k) source)
   both k after =
       let none = zero_mask-none (take 32 source) (sym c.zeros_at-zeros.ensures ∙ c.if-zeros-ne0.false) in
-      let front = rw (take-take at 32 source (omega (arith, c.min-at.ensures))) at (All-take (λ b. b ≢ 0) at (take 32 source) none) in
+      let front = rw (take-take at 32 source (omega arith)) at (All-take (λ b. b ≢ 0) at (take 32 source) none) in
       rw (take-add at k source) (All-append (λ b. b ≢ 0) (take at source) (take k (drop at source)) front after)
 
   -- the second window has no zero either
   module _ (none : c.zeros_at-later.result ≡ 0) where
     windows : HasNoZero (take (at + 32) source)
-    windows = grind (arith, both, zero_mask-none, at, source, later)
+    windows = grind (arith, both, zero_mask-none, later)
 
     wide : 64 ≤ length source → HasNoZero (take 64 source)
     wide long =
-        let far : c.min-at.result + 32 ≡ 64 = omega (arith, c.min-at.ensures) in
+        let far : c.min-at.result + 32 ≡ 64 = omega arith in
         rw far at windows
 
     wide_more : 64 < length source → get_or source 64 0 ≢ 0 → HasNoZero (take 65 source)
@@ -91,8 +91,8 @@ returns-then-later-ne0 c =
     let some = c.if-later-ne0.true in
     let lt = within w some in
     record {
-      within = omega (arith, inside after);
-      near = λ _. omega (arith, c.min-at.ensures);
+      within = omega arith;
+      near = λ _. omega arith;
       before = λ _. both after _ (before w some);
       stop = λ _. sym (get_or-drop c.min-at.result c.args.source.now _ 0) ∙ stop w some;
     }
@@ -105,7 +105,7 @@ returns-then-source-eq0-2-clause-before c _ =
     let more = wide_more (goal.at.returns-then-source-eq0-2-clause-before c).After-zeros_at-later c.if-later-ne0.false in
     elim c.else-source-gt-WIDE_WINDOW.branch [
       | else-source-gt-WIDE_WINDOW-via-then-source-gt-WIDE_WINDOW+else-source-eq0 w ↦ more w.if-source-gt-WIDE_WINDOW.true w.if-source-eq0.false
-      | else-source-gt-WIDE_WINDOW-via-else-source-gt-WIDE_WINDOW w ↦ absurd (omega (arith, w.if-source-gt-WIDE_WINDOW, c.if-source.true))
+      | else-source-gt-WIDE_WINDOW-via-else-source-gt-WIDE_WINDOW w ↦ absurd (omega arith)
     ]
 
 pub returns-clause-before : goal.returns-clause-before
@@ -113,9 +113,9 @@ returns-clause-before c short =
     let after = (goal.at.returns-clause-before c).After-zeros_at-later in
     elim c.else-source-gt-WIDE_WINDOW.branch [
       | else-source-gt-WIDE_WINDOW-via-then-source-gt-WIDE_WINDOW+else-source-eq0 w ↦
-          let last : 65 ≡ length c.args.source.now = omega (arith, w.if-source-gt-WIDE_WINDOW.true, short) in
+          let last : 65 ≡ length c.args.source.now = omega arith in
           rw (← last) (wide_more after c.if-later-ne0.false w.if-source-gt-WIDE_WINDOW.true w.if-source-eq0.false)
       | else-source-gt-WIDE_WINDOW-via-else-source-gt-WIDE_WINDOW w ↦
-          let all : c.min-at.result + 32 ≡ length c.args.source.now = omega (arith, c.min-at.ensures, w.if-source-gt-WIDE_WINDOW.false) in
+          let all : c.min-at.result + 32 ≡ length c.args.source.now = omega arith in
           rw (← all) (windows after c.if-later-ne0.false)
     ]

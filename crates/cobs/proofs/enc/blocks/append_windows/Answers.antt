@@ -13,7 +13,7 @@ use Rattle.cobs.specs.Fields.Progress.{reached_by}
 use Rattle.cobs.proofs.encoding.ReachLemmas.{Reaches-weaker}
 use Rattle.cobs.proofs.encoding.MarkLemmas.{CopiedWindow, WindowTaken, copied-by, filled, first-within, lowest-none, masked-end, masked-start, masked-step, row-taken}
 use Rattle.cobs_bytes.proofs.bytes.MaskLemmas.{window_all}
-use Rattle.cobs.proofs.encoding.TakingLemmas.{front-none, front-open, front-taken, reaches-start}
+use Rattle.cobs.proofs.encoding.TakingLemmas.{front-open, front-taken, reaches-start}
 use Rattle.cobs.proofs.enc.blocks.append_windows.Goals.{After-copy_at-window, Joined-window-eq0, After-write_codes_of_zeros-zeros}
 use Rattle.cobs.proofs.enc.blocks.append_windows.Goals as goal
 
@@ -43,7 +43,7 @@ module _ (c : After-copy_at-window) where
   coded some near = let ordered = c.by_window.invariant.reaches.ordered in masked-step (masked-start copied (omega arith)) some
 
 pub returns-then-source-le-WINDOW-clause-taken : goal.returns-then-source-le-WINDOW-clause-taken
-returns-then-source-le-WINDOW-clause-taken c = grind (arith, common_steps, front-none)
+returns-then-source-le-WINDOW-clause-taken c = grind (arith, common_steps)
 
 pub by_window-init : goal.by_window-init
 by_window-init c =

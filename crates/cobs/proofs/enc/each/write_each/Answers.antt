@@ -4,7 +4,7 @@ use Rattle.std.proofs.Common.{length, ◌≡◌, ◌<◌, ◌+◌, ◌-◌, ◌�
 use Rattle.std.proofs.lemmas.List.{get_or-drop, get_or-take, drop-set-lt}
 use Rattle.cobs.specs.Internal.Reaches.{Reaches, HadTaken, Start, start_with, whole_end}
 use Rattle.cobs.proofs.encoding.ReachLemmas.{IsNotFull, Reaches-at, Reaches-full, Reaches-weaker, Reaches-zero, ends}
-use Rattle.cobs.proofs.encoding.TakingLemmas.{joined, front-filled, front-open, start-after, start-fits}
+use Rattle.cobs.proofs.encoding.TakingLemmas.{joined, front-filled, front-open, start-after}
 use Rattle.cobs.proofs.format.SentinelLemmas.{encoded_nonzero}
 use Rattle.cobs.proofs.enc.each.write_each.Goals.{After-min-len, then-next-index-eq-FULL_CODE, else-next-index-eq-FULL_CODE, then-byte-eq0, else-byte-eq0}
 use Rattle.cobs.proofs.enc.each.write_each.Goals as goal
@@ -21,7 +21,7 @@ start old source = start_with old (place_at 0 1 false) source
 
 -- the end of the message's frame
 whole-fits : (old source : List ℕ) → 0 < length old → whole_end (start old source) ≡ encoded_len source
-whole-fits old source some = grind (arith, start-fits)
+whole-fits old source some = grind arith
 
 whole-start : {old source : List ℕ} → 0 < length old → Reaches (start old source) old 0 0 1 IsNotFull
 unfolding HadTaken
@@ -67,11 +67,11 @@ opened c =
     elim c.if-next-index-eq-FULL_CODE.branch [
       | then-next-index-eq-FULL_CODE w ↦ rw (w.dest-is, w.index-is, w.next-is)
           (omega arith, Reaches-full r (omega arith) (omega arith) (omega arith) (λ none. absurd (omega arith)))
-      | else-next-index-eq-FULL_CODE w ↦ rw (w.dest-is, w.index-is, w.next-is) (omega (arith, w.if-next-index-eq-FULL_CODE.false), Reaches-weaker r (λ full p none. p))
+      | else-next-index-eq-FULL_CODE w ↦ rw (w.dest-is, w.index-is, w.next-is) (omega arith, Reaches-weaker r (λ full p none. p))
     ]
 
 pub by_byte-init : goal.by_byte-init
-by_byte-init c = grind (arith, opened, After-min-len, Reaches-at)
+by_byte-init c = grind (arith, opened)
 
 pub by_byte-preserved : goal.by_byte-preserved
 by_byte-preserved c =

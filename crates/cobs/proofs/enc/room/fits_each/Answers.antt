@@ -2,12 +2,12 @@
 -- `len-byte` and `len-zero` say how a full block and a byte change the first number, and `len-end` is its value at the end.
 use Rattle.std.proofs.Common.{◌≡◌, ◌<◌, ◌+◌, arith, drop, length-drop}
 use Rattle.cobs.specs.Length.{open_len}
-use Rattle.cobs.proofs.encoding.OpenLenLemmas.{len-full, len-end, len-byte, len-zero, open_len-least}
+use Rattle.cobs.proofs.encoding.OpenLenLemmas.{len-full, len-end, len-byte, len-zero}
 use Rattle.cobs.proofs.enc.room.fits_each.Goals as goal
 use Rattle.cobs.proofs.enc.room.fits_each.Goals.{then-taken-eq-FULL_BLOCK_BYTES+else-left-eq0, else-taken-eq-FULL_BLOCK_BYTES, then-bytes-i-ne0, else-bytes-i-ne0}
 
 pub returns-then-left-eq0 : goal.returns-then-left-eq0
-returns-then-left-eq0 c = grind (arith, len-full, open_len-least, length-drop)
+returns-then-left-eq0 c = grind (arith, len-full, length-drop)
 
 pub returns : goal.returns
 returns c = grind (arith, len-end)

@@ -13,7 +13,7 @@ use Rattle.cobs.proofs.enc.unbuffered.UnbufferedEncoder.push_each.Goals.{then-se
 pub returns-then-self-gt253-clause-fits : goal.returns-then-self-gt253-clause-fits
 returns-then-self-gt253-clause-fits c = λ m h.
     let place = after-place h in
-    grind (arith, then-self-gt253-via-then-self-gt253, place-short c.args.self.now _ place)
+    grind arith
 
 pub returns-then-self-ne0-clause-fits : goal.returns-then-self-ne0-clause-fits
 returns-then-self-ne0-clause-fits c = λ m h.
