@@ -8,5 +8,3 @@ pub mod RoomLemmas
 pub mod TakingLemmas
 pub mod MarkLemmas
 pub mod ByteLemmas
-pub mod StepLemmas
-pub mod WholeLemmas

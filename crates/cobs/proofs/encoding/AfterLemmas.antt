@@ -1,119 +1,53 @@
 -- The two facts about the slice of an encoder, `CobsEncoderAfter` and `Opened`, follow from each other, since a message
 -- has only one encoded frame (`one_encoded`). So the length of the frame and the room for it follow, and `close`
 -- completes the frame.
-use Rattle.std.proofs.Common.{◌≡◌, ◌≢◌, ℕ, ◌+◌, ◌-◌, ◌<◌, ◌≤◌, Bool, true, false, if◌then◌else◌, List, [], ◌∷◌, ◌++◌, length, set, drop, take, get_or, All, refl, sym, ap, ◌∙◌, arith, inl, inr, ◌⊎◌, append-nil, append_assoc, take_at, drop_at, length-append, length-take-le, length-take}
+use Rattle.std.proofs.Common.{◌≡◌, ◌≢◌, ℕ, ◌+◌, ◌-◌, ◌<◌, ◌≤◌, Bool, true, false, if◌then◌else◌, List, [], ◌∷◌, ◌++◌, length, set, take, All, refl, sym, ap, ◌∙◌, arith, inl, inr, ◌⊎◌, append-nil, length-append, length-take}
 use Rattle.std.specs.List.{concat}
-use Rattle.std.proofs.lemmas.Bool.{cases_Bool, true≢false, ne_eqb}
-use Rattle.std.proofs.lemmas.List.{take-take, take-append-drop, drop_more, drop_all, set_at, set_past, set-set, same_from_push}
-use Rattle.std.proofs.lemmas.List.Elements.{All-nil}
+use Rattle.std.proofs.lemmas.Bool.{cases_Bool}
+use Rattle.std.proofs.lemmas.List.{take-take, drop_all, set_at, set_past}
 use Rattle.std.proofs.Math.Seq.{take-set-lt}
-use Rattle.cobs.specs.Grammar.{IsBlock, IsFull, is_full, lone_block, last_of, message_of, IsFrameOf, IsEncodedFrame, IsOpenFrame}
+use Rattle.cobs.specs.Grammar.{IsBlock, is_full, last_of, IsEncodedFrame, IsOpenFrame}
 use Rattle.cobs.specs.Length.{encoded_len, open_len}
-use Rattle.cobs.specs.OpenBlock.{Reached, end_after, end_of, next_of, place_at, CobsEncoderAfter, IsPlaceIn}
-use Rattle.cobs.proofs.format.GrammarLemmas.{encoded-by, one_frame}
+use Rattle.cobs.specs.OpenBlock.{Reached, end_after, end_of, next_of, place_at, AgreeOutside, IsOpenOutput, CobsEncoderAfter, IsPlaceIn}
+use Rattle.cobs.proofs.format.GrammarLemmas.{one_frame}
 use Rattle.cobs.proofs.format.UniqueLemmas.{one_encoded, length-encoded}
 use Rattle.cobs.proofs.encoding.OpenLenLemmas.{Opened-len}
-use Rattle.cobs.proofs.encoding.OpenLemmas.{blocks-of, f-is, message_of-close, frame_push}
-use Rattle.cobs.proofs.format.FrameLemmas.{last_of-push}
+use Rattle.cobs.proofs.encoding.OpenLemmas.{blocks-of, closed_blocks, closed_frame, closed_frame-is_frame, closed_blocks-full, encoded-of, f-is, no_bytes}
+use Rattle.cobs.proofs.encoding.OpenedLemmas.{Opened-same, open_frame, open_slice, opened-of, output-opened}
 use Rattle.cobs.specs.Internal.Reaches.{Opened, ends_in_full}
 
--- if the frame ends in a full block, the open block after it has no bytes
-no_bytes : (front : List (List ℕ)) (bytes : List ℕ) → true ≡ ends_in_full front bytes → (bytes ≡ []) × (is_full (last_of front) ≡ true)
-no_bytes front bytes h = grind (arith, true≢false)
-
--- blocks are an encoded frame if the last one isn't the lone block after a full block
-encoded-open : {f m : List ℕ} (front : List (List ℕ)) (code : ℕ) (bytes : List ℕ) → let blocks = front ++ (code ∷ bytes) ∷ [] in
-    IsFrameOf f blocks → m ≡ message_of blocks → false ≡ ends_in_full front bytes → IsEncodedFrame f m
-encoded-open front code bytes frame message noted = encoded-by (front ++ (code ∷ bytes) ∷ []) frame message not_lone
-  where
-    not_lone : (fr : List (List ℕ)) (c : List ℕ) → IsFull c → front ++ (code ∷ bytes) ∷ [] ≢ fr ++ c ∷ lone_block ∷ []
-    not_lone fr c full e =
-        let same = same_from_push front (fr ++ c ∷ []) (code ∷ bytes) lone_block (e ∙ sym (append_assoc fr (c ∷ []) (lone_block ∷ []))) in
-        grind (arith, true≢false, last_of-push)
-
--- the blocks before a lone block that follows a full block are an encoded frame
-module _ (front : List (List ℕ)) (full : is_full (last_of front) ≡ true) where
-  some : front ≢ []
-  some none = grind arith
-
-  full-frame : All IsBlock front → IsFrameOf (concat front) front
-  full-frame each = grind arith
-
-  front-not_lone : (fr : List (List ℕ)) (c : List ℕ) → front ≢ fr ++ c ∷ lone_block ∷ []
-  front-not_lone fr c e = grind (arith, true≢false, append_assoc, last_of-push (fr ++ c ∷ []) lone_block)
-
-  encoded-full : {m : List ℕ} → All IsBlock front → m ≡ message_of (front ++ lone_block ∷ []) → IsEncodedFrame (concat front) m
-  encoded-full each message = grind (arith, encoded-by, full-frame, message_of-close, append-nil, front-not_lone)
+-- The encoded frame of a message, by the blocks of its open frame: a lone block after a full one is no part of it.
+pub frame-is : {f m o : List ℕ} {index code : ℕ} (e : IsEncodedFrame f m) (r : IsOpenFrame o m index code)
+    → let full = ends_in_full r.front r.bytes in (is_full (last_of e.reads.blocks) ≡ full) × (f ≡ closed_frame r full)
+frame-is {f} {m} e r =
+    let full : Bool = ends_in_full r.front r.bytes in
+    let same = one_encoded f _ m e (encoded-of r full refl) in
+    let parse = one_frame f e.reads.blocks (closed_blocks r full) e.reads.frame (rw same (closed_frame-is_frame r full refl)) in
+    (ap (λ l. is_full (last_of l)) parse ∙ closed_blocks-full r full refl, same)
 
 -- a slice that has the blocks of m and the open block's bytes is the slice of an encoder that has taken m
 pub to_after : {slice m : List ℕ} {index next : ℕ} {full : Bool} (code : ℕ) → index + code ≡ next → code < 255 → (if full then index else next) ≤ length slice
     → Opened slice m index next full → CobsEncoderAfter slice (place_at index code full) m
-unfolding encoded-open encoded-full
-to_after {slice} {m} {index} {next} {full} code is short fits o = by_end full fits o.noted
+to_after {slice} {m} {index} {next} {full} code is short fits o =
+    let follows = open_frame o code is short in
+    let encoded = encoded-of follows full (sym o.noted) in
+    let b = by_end full fits in
+    record {
+      frame = closed_frame follows full;
+      encoded = encoded;
+      noted = o.noted ∙ sym (frame-is encoded follows).0;
+      follows = (_, follows);
+      fits = b.0;
+      begins = b.1;
+    }
   where
-    code-is : length o.bytes + 1 ≡ code
-    code-is = omega arith
-
-    message : m ≡ message_of (o.front ++ (code ∷ o.bytes) ∷ [])
-    message = grind arith
-
-    f : List ℕ
-    f = concat o.front ++ code ∷ o.bytes
-
-    frame : IsFrameOf f (o.front ++ (code ∷ o.bytes) ∷ [])
-    frame = grind (arith, frame_push, code-is)
-
-    follows : IsOpenFrame f m index code
-    follows = grind (arith, frame, message)
-
-    by_end : (noted : Bool) → (if noted then index else next) ≤ length slice → noted ≡ ends_in_full o.front o.bytes → CobsEncoderAfter slice (place_at index code noted) m
-    by_end false fits noted =
-        let begins' = o.begins in
-        let long : length f ≡ next = grind (arith, length-append) in
-        let front_long = length-take-le next slice fits in
-        let x : ℕ = get_or (take next slice) index 0 in
-        let split = take-append-drop index (take next slice) in
-        let front = take-take index next slice (omega arith) in
-        let rest = drop_more (take next slice) index 0 (omega arith) in
-        let begins : take next slice ≡ concat o.front ++ x ∷ o.bytes = cc (o.written, o.bytes_there) in
-        record {
-          frame = f;
-          encoded = encoded-open o.front code o.bytes frame message noted;
-          noted = sym (ap is_full (last_of-push o.front (code ∷ o.bytes)) ∙ ne_eqb code 255 (λ e. omega arith));
-          follows = (f, follows);
-          fits = omega arith;
-          begins = (x, rw long (begins ∙ sym (set_at (concat o.front) code o.bytes x index (sym begins'))));
-        }
-    by_end true fits noted =
-        let none = no_bytes o.front o.bytes noted in
-        record {
-          frame = concat o.front;
-          encoded = encoded-full o.front none.1 o.each (rw none.0 at o.message);
-          noted = sym none.1;
-          follows = (f, follows);
-          fits = omega arith;
-          begins = grind (arith, set_past);
-        }
-
--- The encoded frame of a message, by the blocks of its open frame: a lone block after a full one is no part of it.
-pub frame-is : {f m o : List ℕ} {index code : ℕ} (e : IsEncodedFrame f m) (r : IsOpenFrame o m index code)
-    → (is_full (last_of e.reads.blocks) ≡ ends_in_full r.front r.bytes) × (f ≡ concat r.front ++ (if ends_in_full r.front r.bytes then [] else code ∷ r.bytes))
-frame-is {f} {m} {o} {index} {code} e r = elim (cases_Bool (ends_in_full r.front r.bytes)) [
-  | inl full ↦
-      let each = blocks-of r in
-      let n = no_bytes r.front r.bytes (sym full) in
-      let one : code ≡ 1 = each.1.0 ∙ ap (λ x. length x + 1) n.0 in
-      let same = one_encoded f (concat r.front) m e (encoded-full r.front n.1 each.0 (rw (n.0, one) at r.message)) in
-      let parse = one_frame f e.reads.blocks r.front e.reads.frame (rw same (full-frame r.front n.1 each.0)) in
-      rw full (ap (λ l. is_full (last_of l)) parse ∙ n.1, same ∙ sym (append-nil (concat r.front)))
-  | inr open' ↦
-      let same = one_encoded f o m e (encoded-open r.front code r.bytes r.frame r.message (sym open')) in
-      let parse = one_frame f e.reads.blocks (r.front ++ (code ∷ r.bytes) ∷ []) e.reads.frame (rw same r.frame) in
-      rw open' (
-        ap (λ l. is_full (last_of l)) parse ∙ ap is_full (last_of-push r.front (code ∷ r.bytes)) ∙ ne_eqb code 255 (λ k. omega arith),
-        same ∙ f-is r,
-      )
-]
+    by_end : (full : Bool) → (if full then index else next) ≤ length slice
+        → let frame = closed_frame (open_frame o code is short) full in (length frame ≤ length slice) × AgreeOutside index frame (take (length frame) slice)
+    by_end false fits =
+        let begins = o.begins in
+        let long : length (concat o.front ++ code ∷ o.bytes) ≡ next = length-append (concat o.front) (code ∷ o.bytes) ∙ omega arith in
+        (omega arith, rw long (open_slice o code is fits))
+    by_end true fits = (grind (arith, append-nil), grind (arith, append-nil, set_past))
 
 module _ {slice m : List ℕ} {r : Reached} (h : CobsEncoderAfter slice r m) where
   abbrev o : IsOpenFrame h.follows.0 m r.block.index r.block.code
@@ -132,48 +66,26 @@ module _ {slice m : List ℕ} {r : Reached} (h : CobsEncoderAfter slice r m) whe
   whole-is is = (frame-is h.encoded o).1 ∙ ap (λ full. concat o.front ++ (if full then [] else r.block.code ∷ o.bytes)) (sym noted-is ∙ is)
 
   -- so an encoder's slice has the blocks before the open block, and the open block's bytes after the place of its code
-  there : (r.full ≡ true) ⊎ (r.full ≡ false) → (take r.block.index slice ≡ concat o.front) × (drop (r.block.index + 1) (take (next_of r) slice) ≡ o.bytes)
+  there : (r.full ≡ true) ⊎ (r.full ≡ false) → Opened slice m r.block.index (next_of r) (ends_in_full o.front o.bytes)
   there (inl full) =
-      let none = no_bytes o.front o.bytes (sym full ∙ noted-is) in
+      let none = no_bytes o.front o.bytes (sym noted-is ∙ full) in
       let code-is = parts.1.0 in
-      let begins = o.begins in
       let is : h.frame ≡ concat o.front = whole-is full ∙ append-nil (concat o.front) in
-      grind (arith, drop_all, set_past, length-take (next_of r) slice)
+      opened-of o refl (grind (arith, set_past)) (grind (arith, drop_all, length-take (next_of r) slice))
   there (inr open') =
-      let code-is = parts.1.0 in
-      let begins = o.begins in
-      let byte : ℕ = h.begins.0 in
-      let is : h.frame ≡ concat o.front ++ r.block.code ∷ o.bytes = whole-is open' in
-      let long : length h.frame ≡ next_of r = grind (arith, length-append) in
-      let front : take (next_of r) slice ≡ concat o.front ++ byte ∷ o.bytes = (rw (long, is) at h.begins.1) ∙ set_at (concat o.front) r.block.code o.bytes byte r.block.index (sym begins) in
-      let one : length (concat o.front ++ byte ∷ []) ≡ r.block.index + 1 = length-append (concat o.front) (byte ∷ []) ∙ omega arith in (
-        sym (take-take r.block.index (next_of r) slice (omega arith)) ∙ ap (take r.block.index) front ∙ take_at (concat o.front) (byte ∷ o.bytes) r.block.index (sym begins),
-        ap (drop (r.block.index + 1)) (front ∙ sym (append_assoc (concat o.front) (byte ∷ []) o.bytes)) ∙ drop_at (concat o.front ++ byte ∷ []) o.bytes (r.block.index + 1) one,
-      )
+      let is : h.frame ≡ h.follows.0 = whole-is open' ∙ sym (f-is o) in
+      let out : IsOpenOutput (take (length h.follows.0) slice) r.block m = (h.follows.0, o, rw is at h.begins) in
+      let long : length h.follows.0 ≡ next_of r = ap length (f-is o) ∙ length-append (concat o.front) (r.block.code ∷ o.bytes) ∙ omega (arith, parts.1.0, o.begins) in
+      Opened-same (rw long at (output-opened out)) slice (sym (take-take (next_of r) (next_of r) slice (omega arith)))
 
   -- the converse of `to_after`
   pub from_after : Opened slice m r.block.index (next_of r) r.full
-  from_after =
-      let bytes = there (cases_Bool r.full) in
-      let code-is = parts.1.0 in
-      record {
-        front = o.front;
-        bytes = o.bytes;
-        each = parts.0;
-        nonzero = parts.1.2;
-        few = omega (arith, o.not_full);
-        message = rw (← code-is) o.message;
-        begins = o.begins;
-        place = omega arith;
-        written = bytes.0;
-        bytes_there = bytes.1;
-        noted = noted-is;
-      }
+  from_after = rw noted-is (there (cases_Bool r.full))
 
   -- the end of the frame
   pub end-is : encoded_len m ≡ end_of r
   end-is =
-      grind (arith, cases_Bool, whole-is refl, length-append, append-nil, o.begins, sym (length-encoded h.frame m h.encoded), parts.1.0)
+      grind (arith, whole-is refl, length-append, o.begins, sym (length-encoded h.frame m h.encoded), parts.1.0)
 
   length-frame : length h.frame ≡ end_of r
   length-frame = length-encoded h.frame m h.encoded ∙ end-is
@@ -183,7 +95,7 @@ module _ {slice m : List ℕ} {r : Reached} (h : CobsEncoderAfter slice r m) whe
   after-fits = grind (arith, length-frame, end-is)
 
   pub after-place : IsPlaceIn (length slice) r
-  after-place = grind (arith, parts, o, end-is, after-fits)
+  after-place = grind (arith, parts, end-is, after-fits)
 
   -- the length of the frame after the encoder has taken these bytes too
   pub after-len : (bytes : List ℕ) → bytes ≢ [] → encoded_len (m ++ bytes) ≡ r.block.index + open_len r.block.code bytes
@@ -204,8 +116,8 @@ module _ {slice m : List ℕ} {r : Reached} (h : CobsEncoderAfter slice r m) whe
   closed-open open' =
       let some = after-place.some in
       let same : h.frame ≡ concat o.front ++ r.block.code ∷ o.bytes = whole-is open' in
-      grind (arith, set_at, take-set-lt, set-set, length-frame)
+      grind (arith, set_at, take-set-lt, length-frame)
 
 -- the encoder that has taken nothing
 pub after-nothing : (slice : List ℕ) → 0 < length slice → CobsEncoderAfter slice (place_at 0 1 false) []
-after-nothing slice some = grind (arith, to_after, All-nil, drop_all, length-take)
+after-nothing slice some = grind (arith, to_after)

@@ -4,15 +4,17 @@ use Rattle.std.proofs.Common.{◌≡◌, ◌≢◌, ℕ, ◌+◌, ◌-◌, ◌<�
 use Rattle.std.proofs.Math.ListN.{set}
 use Rattle.std.proofs.lemmas.List.{length-set}
 use Rattle.cobs.specs.Grammar.{HasNoZero}
-use Rattle.cobs.specs.Length.{encoded_len}
-use Rattle.cobs.specs.OpenBlock.{CobsEncoderAfter, IsPlaceIn, Reached, end_after, next_of, place_at}
+use Rattle.cobs.specs.Length.{encoded_len, open_len}
+use Rattle.cobs.specs.OpenBlock.{CobsEncoderAfter, IsPlaceIn, Reached, end_after, next_of, place_at, HasRoomFor}
 use Rattle.cobs.specs.Internal.Taking.{TakesFront}
 use Rattle.cobs.proofs.encoding.AfterLemmas.{after-len, after-place}
-use Rattle.cobs.proofs.encoding.OpenLenLemmas.{same_start}
+use Rattle.cobs.proofs.encoding.OpenLenLemmas.{same_start, open_len-least}
 use Rattle.cobs.proofs.encoding.ReachLemmas.{IsNotFull, Reaches-zero}
 use Rattle.cobs.proofs.encoding.TakingLemmas.{front-filled, front-open, joined, reaches-start, short_room}
 use Rattle.cobs_bytes.proofs.bytes.ListLemmas.{length-ones, ones-nonzero}
 use Rattle.cobs.specs.Internal.Reaches.{Reaches, start_with}
+use Rattle.cobs.specs.Fields.Progress.{reached_by}
+use Rattle.cobs.specs.declared.enc.unbuffered.UnbufferedEncoder.{UnbufferedEncoder}
 
 -- the length of the frame of a longer message
 pub after-more : {slice m : List ℕ} {r : Reached} (a bytes : List ℕ) → CobsEncoderAfter slice r m → HasNoZero a → length a + 1 ≡ r.block.code
@@ -29,20 +31,20 @@ module _ {source slice : List ℕ} {r : Reached} {next : ℕ} (place : IsPlaceIn
   -- a zero closes the open block
   pub byte-zero : {r' : Reached} {code : ℕ} → get_or source 0 0 ≡ 0 → code ≡ r.block.code → r' ≡ place_at next 1 false → TakesFront slice r source 1 (set slice r.block.index code) r'
   byte-zero {code = code} zero coded is =
-      let closed = Reaches-zero start {Q = IsNotFull} fits some zero (omega (arith, place.not_full)) refl in
+      let closed = Reaches-zero start {Q = IsNotFull} fits some zero (omega arith) refl in
       let code-is : next - r.block.index ≡ code = omega arith in
       let long = length-set slice r.block.index code in
       front-open (omega arith) (rw code-is at closed) (omega arith) refl is
 
   -- any other byte joins the open block
   more : get_or source 0 0 ≢ 0 → Reaches (start_with slice r source) (set slice next (get_or source 0 0)) 1 r.block.index (next + 1) IsNotFull
-  more other = joined (get_or source 0 0) some start refl other (omega (arith, place.not_full)) fits
+  more other = joined (get_or source 0 0) some start refl other (omega arith) fits
 
   pub byte-joins : {r' : Reached} {code : ℕ} → get_or source 0 0 ≢ 0 → r.block.code ≢ 254 → code ≡ r.block.code + 1
       → r' ≡ place_at r.block.index code false → TakesFront slice r source 1 (set slice next (get_or source 0 0)) r'
   byte-joins other open' coded is =
       let long = length-set slice next (get_or source 0 0) in
-      front-open (omega arith) (more other) (omega (arith, place.not_full)) (omega arith) is
+      front-open (omega arith) (more other) (omega arith) (omega arith) is
 
   -- the byte fills the open block if it is the block's 254th byte
   pub byte-fills : {r' : Reached} → get_or source 0 0 ≢ 0 → r.block.code ≡ 254 → r' ≡ place_at (next + 1) 1 true
@@ -69,3 +71,24 @@ module _ {slice m : List ℕ} {r : Reached} (h : CobsEncoderAfter slice r m) (ro
 
   pub after-zero : CobsEncoderAfter (set slice r.block.index r.block.code) (place_at (next_of r) 1 false) (m ++ 0 ∷ [])
   after-zero = (byte-zero {source = 0 ∷ []} (after-place h) (fits 0) (omega arith) refl refl refl refl).after m h
+
+-- ROOM FOR A BYTE, GIVEN THE ENCODER'S PLAIN NUMBERS
+
+-- the state of an encoder whose open block isn't full
+pub is-place : (e : UnbufferedEncoder) (n : ℕ) → e.taken ≤ 253 → e.index + e.taken + 1 < n → IsPlaceIn n (reached_by e)
+is-place e n short room = grind arith
+
+-- there is room for a byte exactly if the byte's index is within the slice
+pub has-room : (e : UnbufferedEncoder) (slice : List ℕ) (byte : ℕ) → e.taken ≤ 253 → e.index + e.taken + 1 < length slice → HasRoomFor (length slice) (reached_by e) (byte ∷ [])
+has-room e slice byte short room = record { place = is-place e (length slice) short room; fits = fits-byte slice (reached_by e) byte (omega arith) (omega arith) (omega arith) }
+
+-- the converses: the open block of a possible state isn't full, and if there is room for a byte, its index is within
+pub place-short : (e : UnbufferedEncoder) (n : ℕ) → IsPlaceIn n (reached_by e) → e.taken ≤ 253
+place-short e n p = grind arith
+
+pub room-only : (e : UnbufferedEncoder) (n byte : ℕ) → HasRoomFor n (reached_by e) (byte ∷ []) → (e.taken ≤ 253) × (e.index + e.taken + 1 < n)
+room-only e n byte h = grind (arith, open_len-least)
+
+-- the end of the frame with some more bytes
+pub end-with : (e : UnbufferedEncoder) (bytes : List ℕ) → e.taken ≤ 253 → 0 < length bytes → end_after (reached_by e) bytes ≡ e.index + open_len (e.taken + 1) bytes
+end-with e bytes short some = grind arith

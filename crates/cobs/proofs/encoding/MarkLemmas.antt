@@ -4,9 +4,10 @@
 use Rattle.std.proofs.Common.{◌≡◌, ◌≢◌, ℕ, ◌+◌, ◌-◌, ◌%◌, ◌<◌, ◌≤◌, Bool, false, true, List, ◌++◌, length, drop, take, get_or, replicate, min, suc, refl, sym, ap, ◌∙◌, subst, inl, inr, arith, length-append, length-take-le, length-drop, take_all}
 use Rattle.std.proofs.Math.ListN.{set}
 use borrow.Rule.Slice.PartMut.{put_mid}
-use Rattle.std.proofs.Math.Seq.{take-append-add, take-set-lt}
+use Rattle.std.proofs.lemmas.Simd.{length-chunk}
+use Rattle.std.proofs.Math.Seq.{take-set-lt}
 use Rattle.std.proofs.lemmas.Bool.{cases_eq}
-use Rattle.std.proofs.lemmas.List.{drop-drop, drop-take, take-take, get_or-take, get_or-drop, drop-set-lt, length-set, length-replicate, take-append-le, take-replicate, take-set}
+use Rattle.std.proofs.lemmas.List.{drop-drop, drop-take, take-take, get_or-take, get_or-drop, drop-set-lt, length-set, length-replicate, take-set}
 use Rattle.std.specs.Int.Count.{trailing_of_zero}
 use Rattle.std.proofs.lemmas.Grind.{common_steps}
 use Rattle.cobs.proofs.encoding.OpenedLemmas.{Opened-same}
@@ -18,66 +19,63 @@ use Rattle.cobs.specs.Internal.Taking.{TakesFront}
 use Rattle.cobs_bytes.specs.Mask.{lowest, without_lowest, zero_mask}
 use Rattle.cobs_bytes.proofs.bytes.ListLemmas.{behind-three, front-three, mid-three}
 use Rattle.cobs_bytes.proofs.bytes.MaskLemmas.{mask_behind, mask_behind-none, mask_behind-and, mask_behind-some, lowest-within, lowest_left, nonzero_len, nonzero_len-lt, nonzero_len-before, nonzero_len-at, clear_front}
-use Rattle.cobs.proofs.encoding.ReachLemmas.{Reaches-at, Reaches-weaker, Reaches-full, Reaches-join, Reaches-zero, Reaches-zeros, IsNotFull, least}
+use Rattle.cobs.proofs.encoding.ReachLemmas.{Reaches-at, Reaches-weaker, Reaches-full, Reaches-join, Reaches-zero, Reaches-ones, Reaches-same-empty, IsNotFull, alike-first, least}
 use Rattle.cobs.proofs.encoding.TakingLemmas.{front-open, reaches-start}
 
--- len bytes of a source at `read` were copied after the open block, and so `slice` became `after`
-pub record Copied (s : Start) (slice after : List ℕ) (read len index next : ℕ) : Type 0 where
+-- the len bytes of a source at `read` were copied after the open block
+pub record Copied (s : Start) (slice : List ℕ) (read len index next : ℕ) : Type 0 where
   pub inside : read + len ≤ length s.source
   pub room : whole_end s ≤ length slice
   pub reaches : Reaches s slice read index next (λ _. Unit {0})
-  pub is : after ≡ take next slice ++ (take len (drop read s.source) ++ drop (next + len) slice)
+  pub here : take len (drop next slice) ≡ take len (drop read s.source)
 
-module _ {s : Start} {slice after : List ℕ} {read len index next : ℕ} (c : Copied s slice after read len index next) where
-  abbrev row : List ℕ
-  row = take len (drop read s.source)
+pub copied-by : {s : Start} {slice after : List ℕ} {read len index next : ℕ} {P : Bool → Type 0} → Reaches s slice read index next P → read + len ≤ length s.source → whole_end s ≤ length slice
+    → after ≡ take next slice ++ (take len (drop read s.source) ++ drop (next + len) slice) → Copied s after read len index next
+copied-by {s} {slice} {after} {read} {len} {index} {next} before inside fits is =
+    let r = Reaches-weaker before {Q = λ _. Unit {0}} (λ full p. tt) in
+    let room = least r in
+    let row = length-chunk read len s.source inside in
+    record {
+      inside = inside;
+      room = grind (arith, length-append, length-take-le, length-drop);
+      reaches = grind (arith, Opened-same, front-three, behind-three);
+      here = grind (arith, common_steps, mid-three);
+    }
 
-  pub length-row : length row ≡ len
-  length-row = grind (arith, length-take-le, length-drop)
-
-  pub length-after : whole_end s ≤ length after
-  length-after = grind (arith, length-row, length-append, length-take-le, length-drop, least c.reaches)
-
-  pub copied-reaches : Reaches s after read index next (λ _. Unit {0})
-  copied-reaches = grind (arith, common_steps, least, Opened-same, front-three, length-row, behind-three)
-
-  copied-here : take len (drop next after) ≡ row
-  copied-here = grind (arith, common_steps, least, mid-three, length-row)
-
-  -- the first k copied bytes, which aren't zeros, join the open block
-  copied-joins : (k : ℕ) → 0 < k → k ≤ len → next + k ≤ index + 255 → HasNoZero (take k (drop read s.source)) → Reaches s after (read + k) index (next + k) IsNotFull
-  copied-joins k some le short nonzero =
-      let here = sym (take-take k len (drop next after) le) ∙ ap (take k) copied-here ∙ take-take k len (drop read s.source) le in
-      Reaches-join copied-reaches length-after k (omega (arith, c.inside)) short nonzero here (λ full z p. absurd (omega arith)) (λ z. refl)
+-- the first k copied bytes, which aren't zeros, join the open block
+copied-joins : {s : Start} {slice : List ℕ} {read len index next : ℕ} → Copied s slice read len index next → (k : ℕ) → 0 < k → k ≤ len → next + k ≤ index + 255
+    → HasNoZero (take k (drop read s.source)) → Reaches s slice (read + k) index (next + k) IsNotFull
+copied-joins {s} {slice} {read} {len} {index} {next} c k some le short nonzero =
+    let here = sym (take-take k len (drop next slice) le) ∙ ap (take k) c.here ∙ take-take k len (drop read s.source) le in
+    Reaches-join c.reaches c.room k (omega arith) short nonzero here (λ full z p. absurd (omega arith)) (λ z. refl)
 
 -- the copied bytes are a window, whose bits say which of them are zeros
-pub record CopiedWindow (s : Start) (slice after : List ℕ) (read len index next zeros : ℕ) : Type 0 where
+pub record CopiedWindow (s : Start) (slice : List ℕ) (read len index next zeros : ℕ) : Type 0 where
   pub some : 0 < len
   pub few : len ≤ 32
   pub short : next < index + 255
-  pub copied : Copied s slice after read len index next
+  pub copied : Copied s slice read len index next
   pub bits : zeros ≡ zero_mask (take len (drop read s.source))
 
-module _ {s : Start} {slice after : List ℕ} {read len index next zeros : ℕ} (w : CopiedWindow s slice after read len index next zeros) where
+module _ {s : Start} {slice : List ℕ} {read len index next zeros : ℕ} (w : CopiedWindow s slice read len index next zeros) where
   -- a zero is within the window
   pub first-within : zeros ≢ 0 → lowest zeros < len
-  first-within some = grind (arith, common_steps, length-row, lowest-within)
+  first-within some = grind (arith, length-chunk, lowest-within)
 
-  pub masked-start : min (lowest zeros) len < index + 255 - next → IsMasked s read len next zeros index after
-  masked-start near =
-      grind (arith, mask_behind, Reaches-at, least w.copied.reaches, length-after w.copied, copied-here w.copied, copied-reaches w.copied)
+  pub masked-start : min (lowest zeros) len < index + 255 - next → IsMasked s read len next zeros index slice
+  masked-start near = grind (arith, least w.copied.reaches)
 
   -- no zero is near enough to keep the block from being full
   pub filled : index + 255 - next ≤ min (lowest zeros) len → read + (index + 255 - next) < length s.source
-      → Reaches s (set after index 255) (read + (index + 255 - next)) (index + 255) (index + 255 + 1) (λ noted. noted ≡ true)
+      → Reaches s (set slice index 255) (read + (index + 255 - next)) (index + 255) (index + 255 + 1) (λ noted. noted ≡ true)
   filled none more =
       let until_full : ℕ = index + 255 - next in
       let sum : next + until_full ≡ index + 255 = omega arith in
-      let long = length-row w.copied in
+      let long = length-chunk read len s.source w.copied.inside in
       let near = ap (λ n. min (lowest n) len) w.bits in
-      let nonzero = rw (take-take until_full len (drop read s.source) (omega arith)) at (clear_front (row w.copied) (omega arith) until_full (omega arith)) in
+      let nonzero = rw (take-take until_full len (drop read s.source) (omega arith)) at (clear_front (take len (drop read s.source)) (omega arith) until_full (omega arith)) in
       let joined = copied-joins w.copied until_full (omega arith) (omega arith) (omega arith) nonzero in
-      Reaches-full (rw sum at joined) more refl (length-after w.copied) refl
+      Reaches-full (rw sum at joined) more refl w.copied.room refl
 
 -- a window that is taken whole, and leaves its block open
 pub record WindowTaken (s : Start) (slice : List ℕ) (read len index next : ℕ) : Type 0 where
@@ -102,7 +100,7 @@ module _ {s : Start} {slice : List ℕ} {read len index next zeros d : ℕ} (m :
       let all = lowest-none zeros none in
       let nonzero = mask_behind-none d left (sym m.bits ∙ none) in
       let joined = Reaches-join m.reaches {Q = IsNotFull} m.room (len - d) (omega arith) (omega arith) nonzero m.here (λ full z p. p (omega arith)) (λ z. refl) in
-      grind (arith, Reaches-at, joined)
+      grind arith
 
   -- another byte is in the place of the open block's code
   masked-code : (byte : ℕ) → IsMaskedAt s read len next zeros index (set slice index byte) d
@@ -117,10 +115,10 @@ module _ {s : Start} {slice : List ℕ} {read len index next zeros d : ℕ} (m :
     some_bits e = grind arith
 
     first-is : lowest zeros ≡ d + nonzero_len left
-    first-is = grind (arith, lowest_left, small, some_bits)
+    first-is = grind (arith, lowest_left, small)
 
     first-lt : nonzero_len left < len - d
-    first-lt = grind (arith, nonzero_len-lt, mask_behind-some, small, some_bits, length-take-le, length-drop)
+    first-lt = grind (arith, nonzero_len-lt, mask_behind-some, length-take-le, length-drop)
 
     pub masked-step : IsMasked s read len next (without_lowest zeros) (next + lowest zeros) (set slice index (next + lowest zeros - index))
     masked-step =
@@ -128,7 +126,6 @@ module _ {s : Start} {slice : List ℕ} {read len index next zeros d : ℕ} (m :
         let j : ℕ = nonzero_len left in
         let e = first-is in
         let lt = first-lt in
-        let seen = m.seen in
         let sum : len - d ≡ j + 1 + (len - (k + 1)) = omega arith in
         let cut : (xs : List ℕ) (a : ℕ) → drop (j + 1) (take (len - d) (drop (a + d) xs)) ≡ take (len - (k + 1)) (drop (a + (k + 1)) xs) =
         λ xs a. ap (λ m. drop (j + 1) (take m (drop (a + d) xs))) sum ∙ drop-take (j + 1) (len - (k + 1)) (drop (a + d) xs)
@@ -141,13 +138,12 @@ module _ {s : Start} {slice : List ℕ} {read len index next zeros d : ℕ} (m :
         sym (get_or-drop (read + d) s.source j 0) ∙ sym (get_or-take (len - d) (drop (read + d) s.source) j 0 lt) ∙ nonzero_len-at left there in
         let joined = Reaches-join m.reaches {Q = λ _. Unit {0}} m.room j (omega arith) (omega arith) nonzero here (λ full z p. tt) (λ z. tt) in
         let closed = Reaches-zero joined {Q = λ full. 0 < k + 1 → full ≡ false} m.room (omega arith) zero_at (omega arith) (λ lt. refl) in
-        let code : next + d + j - index ≡ next + k - index = omega arith in
         let long = length-set slice index (next + k - index) in
-        grind (arith, mask_behind, left, Reaches-at, set, drop-set-lt, ap without_lowest m.bits ∙ mask_behind-and d left small some_bits)
+        grind (arith, drop-set-lt, ap without_lowest m.bits ∙ mask_behind-and d left small some_bits)
 
   -- the place of the next code is no later than the next zero
   pub masked-ordered : index ≤ next + lowest zeros
-  masked-ordered = grind (arith, cases_eq, lowest-none, first-is)
+  masked-ordered = grind (arith, lowest-none, first-is)
 
 -- the next zero is replaced, if there is one
 pub masked-first : {s : Start} {slice : List ℕ} {read len index next zeros : ℕ} → IsMasked s read len next zeros index slice → (after : List ℕ) (r : ℕ × ℕ)
@@ -158,10 +154,8 @@ masked-first {s} {slice} {read} {len} {index} {next} {zeros} m after r is none s
       let same : IsMasked s read len next zeros index (set slice index byte) = masked-code m byte in
       rw (is, none e, ← e) same)
   | inr other ↦ (let byte : ℕ = next + lowest zeros - index in
-      let ordered = m.reaches.ordered in
       let first = first-is m other in
       let lt = first-lt m other in
-      let short = m.short in
       let code : byte % 256 ≡ byte = omega arith in
       rw (is, some other, code) (masked-step m other))
 ]
@@ -172,11 +166,11 @@ pub short-copied : {source old slice : List ℕ} {r : Reached} {mask : ℕ} → 
     → IsMasked (start_with old r source) 0 (length source) (next_of r) mask r.block.index slice
 short-copied {source} {old} {slice} {r} {mask} code some few short fits is bits =
     let all = take_all (length source) source (omega arith) in
-    let window : CopiedWindow (start_with old r source) old slice 0 (length source) r.block.index (next_of r) mask = record {
+    let window : CopiedWindow (start_with old r source) slice 0 (length source) r.block.index (next_of r) mask = record {
       some = some;
       few = few;
       short = omega arith;
-      copied = record { inside = omega arith; room = fits; reaches = reaches-start some code (omega arith); is = rw all is };
+      copied = copied-by (reaches-start some code (omega arith)) (omega arith) fits (rw all is);
       bits = rw all bits;
     } in
     masked-start window (omega arith)
@@ -185,7 +179,7 @@ short-copied {source} {old} {slice} {r} {mask} code some few short fits is bits 
 pub window-front : {source old slice : List ℕ} {r r' : Reached} {read len index next : ℕ} → WindowTaken (start_with old r source) slice read len index next
     → read + len ≡ length source → r' ≡ place_at index (next + len - index) false → TakesFront old r source (length source) slice r'
 window-front {source} {old} {slice} {r} {r'} w last is =
-    subst (λ n. TakesFront old r source n slice r') last (front-open w.room w.reaches w.open' (omega (arith, w.ordered)) is)
+    subst (λ n. TakesFront old r source n slice r') last (front-open w.room w.reaches w.open' (omega arith) is)
 
 -- BYTES THAT ARE TAKEN WITHOUT A MASK
 
@@ -197,21 +191,25 @@ pub row-taken : {s : Start} {slice after : List ℕ} {read index next : ℕ} {P 
 row-taken {s} {slice} {after} {read} {index} {next} {P} r short fits n some inside zeros is =
     let room = least r in
     let m : ℕ = n - 1 in
+    let sum : suc m ≡ n = omega arith in
     let coded : List ℕ = set slice index (next - index) in
     let l = length-set slice index (next - index) in
     let ones : length {A = ℕ} (replicate n 1) ≡ n = length-replicate n 1 in
-    let long : length (take next coded) ≡ next = length-take-le next coded (omega arith) in
-    let front : take (next + m) after ≡ take next coded ++ replicate m 1 = grind (arith, take-append-add, take-append-le, take-replicate) in
-    let back : drop (whole_end s) after ≡ drop (whole_end s) s.slice = grind (arith, behind-three, drop-set-lt) in
-    let sum : suc m ≡ n = omega arith in
-    let w : take (suc m) (drop read s.source) ≡ replicate (suc m) 0 = grind arith in
-    let z = Reaches-zeros m after r (omega arith) w fits short front back in
-    record { ordered = omega arith; open' = omega arith; room = grind (arith, length-append, length-drop); reaches = grind (arith, Reaches-at) }
+    let front_long = length-take-le next coded (omega arith) in
+    let long : whole_end s ≤ length after = grind (arith, length-append, length-drop) in
+    let zero = alike-first m read 0 s.source (omega arith) (grind arith) in
+    let closed = Reaches-zero r {Q = IsNotFull} fits (omega arith) zero.0 short refl in
+    let front = ap (take next) is ∙ front-three coded (replicate n 1) next n ones (omega arith) in
+    let back : drop (whole_end s) after ≡ drop (whole_end s) s.slice = grind (arith, behind-three) in
+    let first = Reaches-same-empty closed after refl front back in
+    let row = ap (λ l. take n (drop next l)) is ∙ mid-three coded (replicate n 1) next n ones (omega arith) in
+    let taken = Reaches-ones m first (omega arith) long zero.1 (grind arith) in
+    record { ordered = omega arith; open' = omega arith; room = long; reaches = grind (arith, Reaches-at) }
 
 -- the first k bytes, which aren't zeros and are copied as one slice, join the open block
 pub slice-joined : {s : Start} {slice part : List ℕ} {index next k n m : ℕ} {P : Bool → Type 0} → Reaches s slice 0 index next P
     → HasNoZero (take k s.source) → k ≤ length s.source → whole_end s ≤ length slice
     → 0 < k → next + k ≤ index + 255 → n ≡ k → m ≡ k → part ≡ take m s.source → Reaches s (put_mid next n slice part) k index (next + k) IsNotFull
 slice-joined {s} {slice} {part} {index} {next} {k} {n} r nonzero within fits some short n-is m-is part-is =
-    let copied : Copied s slice (put_mid next n slice part) 0 k index next = record { inside = omega arith; room = fits; reaches = Reaches-weaker r (λ full p. tt); is = grind (arith, drop-drop) } in
+    let copied : Copied s (put_mid next n slice part) 0 k index next = copied-by r (omega arith) fits (grind (arith, drop-drop)) in
     Reaches-at refl (omega arith) refl refl (λ full p. p) (copied-joins copied k some (omega arith) short nonzero)

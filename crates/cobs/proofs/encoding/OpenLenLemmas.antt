@@ -1,14 +1,13 @@
 -- Lemmas on the length of the encoded frame, counted from its open block. The values of that block's nonzero bytes
 -- don't matter (`same_start`), so ones stand for them.
-use Rattle.std.proofs.Common.{◌≡◌, ◌≢◌, ℕ, ◌+◌, ◌-◌, ◌<◌, ◌≤◌, Bool, true, List, [], ◌∷◌, ◌++◌, length, drop, take, get_or, length-drop, length-take-le, take-append-drop, replicate, All, refl, ap, arith, append-nil, append_assoc, length-append}
-use Rattle.std.specs.List.{concat}
-use Rattle.std.proofs.lemmas.Bool.{cases_Bool, eqb-true, eqb-false}
-use Rattle.std.proofs.lemmas.List.{drop-drop, drop_all, drop_more, nil_from_length}
-use Rattle.std.proofs.lemmas.List.Elements.{All-append, All-head, All-tail}
-use Rattle.cobs.specs.Grammar.{HasNoZero, IsBlock, is_full, bytes_of, joint, last_of, message_of}
+use Rattle.std.proofs.Common.{◌≡◌, ◌≢◌, ℕ, ◌+◌, ◌-◌, ◌/◌, ◌<◌, ◌≤◌, Bool, true, List, [], ◌∷◌, ◌++◌, length, drop, take, get_or, length-drop, length-take-le, take-append-drop, replicate, arith, append-nil, append_assoc, length-append}
+use Rattle.std.proofs.lemmas.List.{drop-drop, drop_all, drop_more}
+use Rattle.std.proofs.lemmas.List.Elements.{All-append}
+use Rattle.cobs.specs.Grammar.{HasNoZero}
 use Rattle.cobs.specs.Length.{encoded_len, max_encoded_len, open_len}
-use Rattle.cobs.proofs.format.LengthLemmas.{stretches-front, encoded_len-zero, encoded_len-full, encoded_len-last, encoded_len-le}
-use Rattle.cobs.proofs.encoding.OpenLemmas.{append-some}
+use Rattle.cobs.proofs.format.LengthLemmas.{stretches-front, encoded_len-full, encoded_len-nonzero, encoded_len-run, encoded_len-le}
+use Rattle.cobs.proofs.format.UniqueLemmas.{len-blocks}
+use Rattle.cobs.proofs.encoding.OpenLemmas.{message_of-more}
 use Rattle.cobs_bytes.proofs.bytes.ListLemmas.{length-ones, one-nonzero, ones-nonzero}
 use Rattle.cobs.specs.Internal.Reaches.{Opened, ends_in_full}
 
@@ -33,9 +32,13 @@ open_len-run source read k code some within nonzero =
 pub open_len-full : (t : List ℕ) → t ≢ [] → open_len 255 t ≡ 255 + open_len 1 t
 open_len-full t more = encoded_len-full (replicate 254 1) t (length-ones 254) (ones-nonzero 254) more
 
--- a zero closes the open block
-pub open_len-zero : (code : ℕ) (t : List ℕ) → 0 < code → code < 255 → open_len code (0 ∷ t) ≡ code + open_len 1 t
-open_len-zero code t some short = grind (arith, length-ones, encoded_len-zero, ones-nonzero)
+-- a zero closes the open block. If `code` is greater than 255, the run before the zero fills other blocks first.
+pub open_len-zero : (code : ℕ) (t : List ℕ) → 0 < code → open_len code (0 ∷ t) ≡ code + (code - 1) / 254 + open_len 1 t
+open_len-zero code t some = grind (arith, length-ones, encoded_len-run, ones-nonzero)
+
+-- no byte follows
+pub open_len-end : (code : ℕ) → open_len code [] ≡ max_encoded_len (code - 1)
+open_len-end code = grind (arith, append-nil, length-ones, encoded_len-nonzero, ones-nonzero)
 
 -- each byte of the message adds at least one byte to the frame
 pub open_len-least : (code : ℕ) (t : List ℕ) → 0 < code → code + length t ≤ open_len code t
@@ -45,39 +48,19 @@ open_len-least code t some = grind (arith, length-append, length-ones)
 pub open_len-most : (code : ℕ) (t : List ℕ) → 0 < code → open_len code t ≤ max_encoded_len (code - 1 + length t)
 open_len-most code t some = grind (arith, length-append, length-ones, encoded_len-le)
 
--- a block before more bytes
-len-block : (block m t : List ℕ) → IsBlock block → (is_full block ≡ true → m ++ t ≢ []) → encoded_len ((bytes_of block ++ joint block ++ m) ++ t) ≡ length block + encoded_len (m ++ t)
-len-block [] m t is some = absurd is
-len-block (code ∷ bytes) m t is some = grind (arith, eqb-true, append-nil, append_assoc, encoded_len-full, eqb-false, encoded_len-zero, cases_Bool)
-
--- two blocks or more stand for some message
-some_message : (block : List ℕ) (blocks : List (List ℕ)) → IsBlock block → blocks ≢ [] → message_of (block ∷ blocks) ≢ []
-some_message [] blocks is more e = absurd is
-some_message (code ∷ bytes) [] is more e = more refl
-some_message (code ∷ bytes) (next ∷ blocks) is more e = grind (arith, cases_Bool, eqb-true, length-append, ap length e)
-
--- the frame of the bytes that follow some blocks
-pub len-blocks : (front : List (List ℕ)) (code : ℕ) (bytes t : List ℕ) → All IsBlock front → (is_full (last_of front) ≡ true → bytes ++ t ≢ [])
-    → encoded_len (message_of (front ++ (code ∷ bytes) ∷ []) ++ t) ≡ length (concat front) + encoded_len (bytes ++ t)
-len-blocks [] code bytes t each some = grind arith
-len-blocks (b ∷ []) code bytes t each some = grind (arith, append-nil, len-block, All-head)
-len-blocks (b ∷ c ∷ front) code bytes t each some =
-    let more = All-tail IsBlock b (c ∷ front) each in
-    let m : List ℕ = message_of (c ∷ front ++ (code ∷ bytes) ∷ []) in
-    let is_some : m ≢ [] = grind (arith, some_message, All-head, append-some) in
-    let not_none : m ++ t ≢ [] = λ e. is_some (nil_from_length m (omega (arith, length-append m t, ap length e))) in
-    grind (arith, len-block, All-head, All-tail, len-blocks (c ∷ front) code bytes t, length-append b (concat (c ∷ front)))
-
 -- the frame of a message that continues
 pub Opened-len : {slice m : List ℕ} {index next : ℕ} {full : Bool} (t : List ℕ) → (full ≡ true → t ≢ []) → Opened slice m index next full
     → encoded_len (m ++ t) ≡ index + open_len (next - index) t
-Opened-len {full = full} t more o = grind (arith, length-ones, len-blocks, same_start, ones-nonzero, ends_in_full)
+Opened-len {full = full} t more o =
+    let code : ℕ = length o.bytes + 1 in
+    let longer = message_of-more o.front code code o.bytes t in
+    grind (arith, length-ones, len-blocks o.front code (o.bytes ++ t) o.each, same_start, ones-nonzero, ends_in_full)
 
 -- the length of the frame, byte by byte
 module _ (bytes : List ℕ) (i : ℕ) where
   -- all bytes are taken
-  pub len-end : (code : ℕ) → 0 < code → code ≤ 255 → length bytes ≤ i → open_len code (drop i bytes) ≡ code
-  len-end code some short last = grind (arith, drop_all, append-nil, length-ones, encoded_len-last, ones-nonzero)
+  pub len-end : (code : ℕ) → length bytes ≤ i → open_len code (drop i bytes) ≡ max_encoded_len (code - 1)
+  len-end code last = grind (arith, drop_all, open_len-end)
 
   module _ (more : i < length bytes) where
     -- a full block is closed
@@ -90,5 +73,5 @@ module _ (bytes : List ℕ) (i : ℕ) where
         rw (drop_more bytes i 0 more) (open_len-join code (get_or bytes i 0 ∷ []) (drop (i + 1) bytes) some (one-nonzero _ other))
 
     -- a zero closes the open block
-    pub len-zero : (code : ℕ) → 0 < code → code < 255 → get_or bytes i 0 ≡ 0 → open_len code (drop i bytes) ≡ code + open_len 1 (drop (i + 1) bytes)
-    len-zero code some short is = grind (arith, drop_more, open_len-zero)
+    pub len-zero : (code : ℕ) → 0 < code → get_or bytes i 0 ≡ 0 → open_len code (drop i bytes) ≡ code + (code - 1) / 254 + open_len 1 (drop (i + 1) bytes)
+    len-zero code some is = grind (arith, drop_more, open_len-zero)

@@ -1,15 +1,19 @@
--- Lemmas on a slice that has the open frame of a message, except the open block's code, and on how the frame continues.
--- By lemmas on parts of the slice, and by `message_of-more` and `message_of-close` for the message.
-use Rattle.std.proofs.Common.{◌≡◌, ◌≢◌, ℕ, ◌+◌, ◌≤◌, ◌==◌, Bool, false, List, [], ◌∷◌, ◌++◌, length, drop, take, refl, sym, ap, ◌∙◌, arith, suc, length-append, length-take-le, length-take}
+-- Lemmas on a slice that has the open frame of a message, except the open block's code (`Opened`): nonzero bytes join
+-- the open block, and its code closes it. Such a slice follows from an open frame (`opened-of`), and the converse
+-- (`open_frame`). So the three ways in which a byte changes the output of a caller of `EncoderState` follow too.
+use Rattle.std.proofs.Common.{◌≡◌, ◌≢◌, ℕ, ◌+◌, ◌≤◌, ◌==◌, Bool, false, List, [], ◌∷◌, ◌++◌, length, drop, take, refl, sym, ap, ◌∙◌, arith, suc, length-append, length-take-le, length-take, ◌<◌, set, get_or, append-nil, append_assoc, take_at, drop_at, take_all, take-append-drop}
 use Rattle.std.specs.List.{concat}
 use Rattle.std.proofs.Math.ListN.{set}
 use Rattle.std.proofs.Math.Seq.{take-set-lt, take-add}
-use Rattle.std.proofs.lemmas.List.{take-take, take-set-le, drop-set-lt, set_split, drop-append-le, drop_all}
+use Rattle.std.proofs.lemmas.List.{take-take, take-set-le, drop-set-lt, set_split, drop-append-le, drop_all, drop_more, length_push, length-set, set_at, set-append_left, take-append-le}
 use Rattle.std.proofs.lemmas.List.Elements.{All-append, All-push, All-nil}
-use Rattle.cobs.specs.Grammar.{HasNoZero, IsBlock, is_full, joint}
-use Rattle.cobs.proofs.encoding.OpenLemmas.{append-some, concat-push, message_of-close, message_of-more}
-use Rattle.cobs.proofs.format.FrameLemmas.{last_of-push}
+use Rattle.cobs.specs.Grammar.{HasNoZero, IsBlock, is_full, joint, message_of, IsFrameOf, IsOpenFrame}
+use Rattle.cobs.proofs.encoding.OpenLemmas.{message_of-close, message_of-more, blocks-of, f-is, frame_push}
+use Rattle.cobs.proofs.format.FrameLemmas.{append-some, concat-push, last_of-push}
 use Rattle.cobs.specs.Internal.Reaches.{Opened, ends_in_full}
+use Rattle.std.proofs.lemmas.Grind.{common_steps}
+use Rattle.cobs.specs.OpenBlock.{OpenBlock, AgreeOutside, IsOpenOutput}
+use Rattle.cobs_bytes.proofs.bytes.ListLemmas.{one-nonzero}
 
 -- an open block with bytes is no placeholder
 not_full-more : (front : List (List ℕ)) (bytes more : List ℕ) → more ≢ [] → ends_in_full front (bytes ++ more) ≡ false
@@ -30,11 +34,11 @@ module _ {slice m : List ℕ} {index next : ℕ} {full : Bool} (o : Opened slice
 
   -- if the open block has no bytes, the byte in its code's place doesn't matter either
   pub Opened-same-empty : (slice' : List ℕ) → next ≡ index + 1 → take index slice' ≡ take index slice → Opened slice' m index next full
-  Opened-same-empty slice' empty same = grind (arith, Opened-in, drop_all, length-take)
+  Opened-same-empty slice' empty same = grind (arith, drop_all, length-take)
 
   -- the byte at the place of the open block's code doesn't matter
   pub Opened-code : (x : ℕ) → Opened (set slice index x) m index next full
-  Opened-code x = grind (arith, Opened-in, set, take-set-le, take-set-lt, drop-set-lt)
+  Opened-code x = grind (arith, take-set-le, take-set-lt, drop-set-lt)
 
   -- nonzero bytes that are already in place join the open block
   pub Opened-join : (more : List ℕ) → more ≢ [] → HasNoZero more → next + length more ≤ index + 255 → next + length more ≤ length slice → take (length more) (drop next slice) ≡ more
@@ -82,3 +86,136 @@ module _ {slice m : List ℕ} {index next : ℕ} {full : Bool} (o : Opened slice
         bytes_there = drop_all (next + 1) (take (next + 1) (set slice index code)) (omega (arith, length-take (next + 1) (set slice index code)));
         noted = ap is_full (sym (last_of-push o.front block));
       }
+
+-- FROM AN OPEN FRAME
+
+-- a slice that has the bytes of an open frame, except the open block's code
+pub opened-of : {f m slice : List ℕ} {index code next : ℕ} (o : IsOpenFrame f m index code) → next ≡ index + code → take index slice ≡ concat o.front
+    → drop (index + 1) (take next slice) ≡ o.bytes → Opened slice m index next (ends_in_full o.front o.bytes)
+opened-of o is front behind =
+    let each = blocks-of o in
+    let code-is = each.1.0 in
+    record {
+      front = o.front;
+      bytes = o.bytes;
+      each = each.0;
+      nonzero = each.1.2;
+      few = omega arith;
+      message = rw (← code-is) o.message;
+      begins = o.begins;
+      place = omega arith;
+      written = front;
+      bytes_there = behind;
+      noted = refl;
+    }
+
+module _ {g m : List ℕ} {state : OpenBlock} (o : IsOpenOutput g state m) where
+  abbrev front : List ℕ
+  front = concat o.1.front
+
+  abbrev next : ℕ
+  next = state.index + state.code
+
+  begins : length front ≡ state.index
+  begins = sym o.1.begins
+
+  output-is : g ≡ front ++ o.2.0 ∷ o.1.bytes
+  output-is = (rw (f-is o.1) at o.2.1) ∙ set_at front state.code o.1.bytes o.2.0 state.index begins
+
+  pub length-IsOpenOutput : length g ≡ next
+  length-IsOpenOutput = omega (arith, (blocks-of o.1).1, ap length output-is ∙ length-append front (o.2.0 ∷ o.1.bytes))
+
+  pub index-IsOpenOutput : state.index < length g
+  index-IsOpenOutput = grind (arith, common_steps, length-IsOpenOutput)
+
+  pub output-opened : Opened g m state.index next (ends_in_full o.1.front o.1.bytes)
+  output-opened =
+      let one : length (front ++ o.2.0 ∷ []) ≡ state.index + 1 = length_push front o.2.0 ∙ omega arith in
+      let all = take_all next g (omega (arith, length-IsOpenOutput)) in
+      opened-of o.1 refl
+      (ap (take state.index) output-is ∙ take_at front (o.2.0 ∷ o.1.bytes) state.index begins)
+      (ap (drop (state.index + 1)) (all ∙ output-is ∙ sym (append_assoc front (o.2.0 ∷ []) o.1.bytes)) ∙ drop_at (front ++ o.2.0 ∷ []) o.1.bytes (state.index + 1) one)
+
+-- TO AN OPEN FRAME
+
+module _ {slice m : List ℕ} {index next : ℕ} {full : Bool} (o : Opened slice m index next full) (code : ℕ) (is : index + code ≡ next) where
+  pub code-is : length o.bytes + 1 ≡ code
+  code-is = omega arith
+
+  pub blocks-are : code < 255 → IsFrameOf (concat o.front ++ code ∷ o.bytes) (o.front ++ (code ∷ o.bytes) ∷ [])
+  blocks-are short = grind (arith, frame_push)
+
+  pub message-is : m ≡ message_of (o.front ++ (code ∷ o.bytes) ∷ [])
+  message-is = grind arith
+
+  abbrev pub open_frame : code < 255 → IsOpenFrame (concat o.front ++ code ∷ o.bytes) m index code
+  open_frame short = record {
+    front = o.front;
+    bytes = o.bytes;
+    frame = blocks-are short;
+    message = message-is;
+    begins = o.begins;
+    not_full = short;
+  }
+
+  pub open_slice : next ≤ length slice → AgreeOutside index (concat o.front ++ code ∷ o.bytes) (take next slice)
+  open_slice fits =
+      let begins' = o.begins in
+      let front_long = length-take-le next slice fits in
+      let x : ℕ = get_or (take next slice) index 0 in
+      let split = take-append-drop index (take next slice) in
+      let front = take-take index next slice (omega arith) in
+      let rest = drop_more (take next slice) index 0 (omega arith) in
+      let begins : take next slice ≡ concat o.front ++ x ∷ o.bytes = cc (o.written, o.bytes_there) in
+      (x, begins ∙ sym (set_at (concat o.front) code o.bytes x index (sym begins')))
+
+  opened-output : code < 255 → length slice ≡ next → IsOpenOutput slice (record { index = index; code = code }) m
+  opened-output short long =
+      let all : take next slice ≡ slice = take_all next slice (omega arith) in
+      (_, open_frame short, rw all at (open_slice (omega arith)))
+
+-- ONE MORE BYTE
+
+module _ {g m : List ℕ} {state : OpenBlock} (o : IsOpenOutput g state m) where
+  -- g with the right code is the open frame
+  pub completed : IsOpenFrame (set g state.index state.code) m state.index state.code
+  completed =
+      let is = ap (λ l. set l state.index state.code) (output-is o) ∙ set_at (front o) o.2.0 o.1.bytes state.code state.index (begins o) ∙ sym (f-is o.1) in
+      rw is o.1
+
+  -- a zero closes the block
+  pub open-zero : (x : ℕ) → IsOpenOutput (set g state.index state.code ++ x ∷ []) (record { index = next o; code = 1 }) (m ++ 0 ∷ [])
+  open-zero x =
+      let long = length-IsOpenOutput o in
+      let code' = length-set g state.index state.code in
+      let closed = Opened-close (output-opened o) state.code (omega arith) refl in
+      let zero : joint (state.code ∷ []) ≡ 0 ∷ [] = grind arith in
+      let out = Opened-same-empty closed (set g state.index state.code ++ x ∷ []) refl (take-append-le _ _ _ (omega arith)) in
+      rw zero at (opened-output out 1 refl (omega arith) (length_push _ x ∙ omega arith))
+
+  module _ (byte : ℕ) (nonzero : byte ≢ 0) where
+    joins : Opened (g ++ byte ∷ []) (m ++ byte ∷ []) state.index (next o + 1) false
+    joins =
+        let long = length-IsOpenOutput o in
+        let longer = length_push g byte in
+        let same = Opened-same (output-opened o) (g ++ byte ∷ []) (take-append-le _ _ _ (omega arith)) in
+        Opened-join same (byte ∷ []) (λ e. cc) (one-nonzero byte nonzero) (omega arith) (omega arith) (ap (take 1) (drop_at g (byte ∷ []) _ long))
+
+    -- a nonzero byte joins the block
+    pub open-more : state.code ≢ 254 → IsOpenOutput (g ++ byte ∷ []) (record { index = state.index; code = state.code + 1 }) (m ++ byte ∷ [])
+    open-more room = opened-output joins (state.code + 1) (omega arith) (omega arith) (length_push g byte ∙ omega (arith, length-IsOpenOutput o))
+
+    -- the 254th byte fills the block
+    pub open-full : (x : ℕ) → state.code ≡ 254 → IsOpenOutput (set g state.index 255 ++ byte ∷ x ∷ []) (record { index = state.index + 255; code = 1 }) (m ++ byte ∷ [])
+    open-full x last =
+        let long = length-IsOpenOutput o in
+        let longer = length_push g byte in
+        let sum : next o + 1 ≡ state.index + 255 = omega arith in
+        let closed = Opened-close joins 255 (omega arith) (sym sum) in
+        let out = Opened-same-empty closed (set g state.index 255 ++ byte ∷ x ∷ []) refl (
+        let coded = set-append_left g (byte ∷ []) state.index 255 (index-IsOpenOutput o) in
+        let long' = length-set g state.index 255 in
+        let long_push = length_push (set g state.index 255) byte in
+        ap (take _) (sym (append_assoc (set g state.index 255) (byte ∷ []) (x ∷ []))) ∙ take-append-le _ _ _ (omega arith) ∙ ap (take _) (sym coded)
+        ) in
+        rw (sum, append-nil) at (opened-output out 1 refl (omega arith) (length-append (set g state.index 255) (byte ∷ x ∷ []) ∙ omega (arith, length-set g state.index 255)))

@@ -1,16 +1,14 @@
 -- Lemmas on how many bytes of a source the core of the encoder has taken, and on how it continues: nonzero bytes join
 -- the open block, and a zero or the 254th byte closes it. By `OpenedLemmas` for the slice, and by `OpenLenLemmas` for
 -- the end of the frame.
-use Rattle.std.proofs.Common.{◌≡◌, ◌≢◌, ℕ, ◌+◌, ◌-◌, ◌<◌, ◌≤◌, ◌==◌, Bool, true, false, List, ◌∷◌, ◌++◌, length, drop, take, get_or, replicate, zero, suc, refl, sym, ap, ◌∙◌, arith, inl, inr, ◌⊎◌, append-nil, append_assoc, length-take-le, length-drop}
+use Rattle.std.proofs.Common.{◌≡◌, ◌≢◌, ℕ, ◌+◌, ◌-◌, ◌<◌, ◌≤◌, Bool, true, false, List, ◌∷◌, ◌++◌, length, drop, take, get_or, replicate, zero, suc, refl, sym, ap, ◌∙◌, arith, inl, inr, ◌⊎◌, append-nil, append_assoc, length-take-le, length-drop}
 use Rattle.std.proofs.Math.ListN.{set}
 use Rattle.std.proofs.Math.Seq.{take-add}
-use Rattle.std.proofs.lemmas.Bool.{cases_eq, ne_eqb}
-use Rattle.std.proofs.lemmas.List.{drop_more, drop_all, drop-set-lt, take_more, take_more_set, length-set}
-use Rattle.cobs.proofs.format.LengthLemmas.{encoded_len-last}
-use Rattle.cobs_bytes.proofs.bytes.ListLemmas.{length-ones, ones-nonzero}
+use Rattle.std.proofs.lemmas.Bool.{cases_eq}
+use Rattle.std.proofs.lemmas.List.{drop_more, drop-set-lt, take_more, set-get_or}
 use Rattle.cobs.specs.Grammar.{HasNoZero}
 use Rattle.cobs.proofs.encoding.OpenedLemmas.{Opened-code, Opened-same-empty, Opened-join, Opened-close}
-use Rattle.cobs.proofs.encoding.OpenLenLemmas.{open_len-full, open_len-run, open_len-zero, open_len-least}
+use Rattle.cobs.proofs.encoding.OpenLenLemmas.{len-end, open_len-full, open_len-run, open_len-zero, open_len-least}
 use Rattle.cobs.specs.Internal.Reaches.{HadTaken, Opened, Reaches, Start, whole_end}
 
 -- the same places, by other names
@@ -25,16 +23,16 @@ module _ {s : Start} {slice : List ℕ} {pos index next : ℕ} {P : Bool → Typ
 
   -- a weaker fact about the last block
   pub Reaches-weaker : {Q : Bool → Type 0} → ((full : Bool) → P full → Q full) → Reaches s slice pos index next Q
-  Reaches-weaker weaker = grind (arith, Reaches-at)
+  Reaches-weaker weaker = grind arith
 
   -- if the open block has no bytes, the byte in its code's place doesn't matter
-  Reaches-same-empty : (slice' : List ℕ) → next ≡ index + 1 → take index slice' ≡ take index slice
+  pub Reaches-same-empty : (slice' : List ℕ) → next ≡ index + 1 → take index slice' ≡ take index slice
       → drop (whole_end s) slice' ≡ drop (whole_end s) s.slice → Reaches s slice' pos index next P
   Reaches-same-empty slice' empty front back = grind (arith, Opened-same-empty)
 
   -- another byte in the place of the open block's code
   pub Reaches-code : (x : ℕ) → Reaches s (set slice index x) pos index next P
-  Reaches-code x = grind (arith, least, drop-set-lt, Opened-code)
+  Reaches-code x = grind (arith, drop-set-lt, Opened-code)
 
   module _ {Q : Bool → Type 0} (fits : whole_end s ≤ length slice) where
     -- k bytes that are in place join the open block
@@ -72,8 +70,7 @@ module _ {s : Start} {slice : List ℕ} {pos index next : ℕ} {P : Bool → Typ
     Reaches-zero more is open' not_full =
         let least' = least in
         let left : drop pos s.source ≡ 0 ∷ drop (pos + 1) s.source = grind (arith, drop_more) in
-        let zero_len = open_len-zero (next - index) (drop (pos + 1) s.source) (omega arith) (omega arith) in
-        let apart : (next - index == 255) ≡ false = ne_eqb (next - index) 255 (λ e. omega arith) in
+        let zero_len = open_len-zero (next - index) (drop (pos + 1) s.source) (omega arith) in
         record {
           ordered = omega arith;
           short = omega arith;
@@ -98,31 +95,26 @@ module _ {s : Start} {slice : List ℕ} {pos index next : ℕ} {P : Bool → Typ
 
   -- if all bytes are taken, the frame ends with the open block
   pub ends : pos ≡ length s.source → whole_end s ≡ next
-  ends last = grind (arith, drop_all, append-nil, length-ones, encoded_len-last, ones-nonzero)
+  ends last = grind (arith, len-end)
 
 -- after a step it is known that the last block isn't full
 abbrev pub IsNotFull : Bool → Type 0
 IsNotFull full = full ≡ false
 
--- n + 1 zeros are a zero and n zeros
-zero-first : (n pos : ℕ) (source : List ℕ) → pos + suc n ≤ length source → take (suc n) (drop pos source) ≡ replicate (suc n) 0
-    → (get_or source pos 0 ≡ 0) × (take n (drop (pos + 1) source) ≡ replicate n 0)
-zero-first n pos source within zeros = let left = drop_more source pos 0 (omega arith) in (cc, cc)
+-- n + 1 equal bytes are one such byte and n more
+pub alike-first : (n pos b : ℕ) (xs : List ℕ) → pos + suc n ≤ length xs → take (suc n) (drop pos xs) ≡ replicate (suc n) b
+    → (get_or xs pos 0 ≡ b) × (take n (drop (pos + 1) xs) ≡ replicate n b)
+alike-first n pos b xs within alike = let left = drop_more xs pos 0 (omega arith) in (cc, cc)
 
--- n + 1 zeros close the open block and the n blocks without bytes after it
-pub Reaches-zeros : (n : ℕ) {s : Start} {slice : List ℕ} {pos index next : ℕ} {P : Bool → Type 0} (after : List ℕ) → Reaches s slice pos index next P → pos + suc n ≤ length s.source
-    → take (suc n) (drop pos s.source) ≡ replicate (suc n) 0 → whole_end s ≤ length slice → next < index + 255
-    → take (next + n) after ≡ take next (set slice index (next - index)) ++ replicate n 1 → drop (whole_end s) after ≡ drop (whole_end s) s.slice
-    → Reaches s after (pos + suc n) (next + n) (next + n + 1) IsNotFull
-Reaches-zeros zero {s} {slice} {pos} {index} {next} after r within zeros fits short front back =
-    let closed = Reaches-zero r {Q = IsNotFull} fits (omega arith) (zero-first 0 pos s.source within zeros).0 short refl in
-    let same : take next after ≡ take next (set slice index (next - index)) = grind (arith, append-nil) in
-    Reaches-at refl (omega arith) (omega arith) (omega arith) (λ full p. p) (Reaches-same-empty closed after refl same back)
-Reaches-zeros (suc n) {s} {slice} {pos} {index} {next} after r within zeros fits short front back =
-    let coded : List ℕ = set slice index (next - index) in
-    let long = length-set slice index (next - index) in
-    let zero = zero-first (suc n) pos s.source within zeros in
-    let closed = Reaches-zero r {Q = IsNotFull} fits (omega arith) zero.0 short refl in
-    let one : next + 1 - next ≡ 1 = omega arith in
-    let front' : take (next + 1 + n) after ≡ take (next + 1) (set coded next (next + 1 - next)) ++ replicate n 1 = rw one (grind (arith, append_assoc, take_more_set)) in
-    Reaches-at refl (omega arith) (omega arith) (omega arith) (λ full p. p) (Reaches-zeros n after closed (omega arith) zero.1 (omega arith) (omega arith) front' back)
+-- after a zero, n more zeros close n blocks without bytes, whose codes 1 are already in place
+pub Reaches-ones : (n : ℕ) {s : Start} {slice : List ℕ} {pos index : ℕ} → Reaches s slice pos index (index + 1) IsNotFull → pos + n ≤ length s.source → whole_end s ≤ length slice
+    → take n (drop pos s.source) ≡ replicate n 0 → take (suc n) (drop index slice) ≡ replicate (suc n) 1 → Reaches s slice (pos + n) (index + n) (index + n + 1) IsNotFull
+Reaches-ones zero r within fits zeros ones = Reaches-at refl (omega arith) (omega arith) (omega arith) (λ full p. p) r
+Reaches-ones (suc n) {s} {slice} {pos} {index} r within fits zeros ones =
+    let room = least r in
+    let zero = alike-first n pos 0 s.source within zeros in
+    let one = alike-first (suc n) index 1 slice (omega arith) ones in
+    let code : index + 1 - index ≡ get_or slice index 0 = omega arith in
+    let same : set slice index (index + 1 - index) ≡ slice = ap (set slice index) code ∙ set-get_or slice index 0 in
+    let closed = rw same at (Reaches-zero r {Q = IsNotFull} fits (omega arith) zero.0 (omega arith) refl) in
+    Reaches-at refl (omega arith) (omega arith) (omega arith) (λ full p. p) (Reaches-ones n closed (omega arith) fits zero.1 one.1)

@@ -1,12 +1,11 @@
 -- Lemmas on how the core of the encoder takes a source, step by step: `front-taken` derives `TakesFront` from
 -- `Reaches`, and `front-next` joins two steps.
-use Rattle.std.proofs.Common.{◌≡◌, ◌≢◌, get_or, ℕ, ◌+◌, ◌-◌, ◌<◌, ◌≤◌, Bool, true, false, List, [], ◌∷◌, ◌++◌, length, drop, take, refl, sym, ap, ◌∙◌, inl, inr, arith, append-nil, append_assoc, length-drop, take_all}
+use Rattle.std.proofs.Common.{◌≡◌, ◌≢◌, get_or, ℕ, ◌+◌, ◌<◌, ◌≤◌, Bool, true, false, List, [], ◌∷◌, ◌++◌, length, drop, take, refl, sym, ap, ◌∙◌, inl, inr, arith, append-nil, append_assoc, length-drop, take_all}
 use Rattle.std.proofs.Math.ListN.{set}
 use Rattle.std.proofs.Math.Seq.{take-add}
 use Rattle.std.proofs.lemmas.Bool.{cases_Bool, cases_lt}
 use Rattle.std.proofs.lemmas.List.{drop-drop, drop-set, drop-set-lt, drop_all, drop_more, length-set, take-set-le, take_rest}
 use Rattle.std.proofs.lemmas.Grind.{common_steps}
-use Rattle.cobs.proofs.encoding.OpenedLemmas.{Opened-same}
 use Rattle.cobs.specs.Grammar.{HasNoZero}
 use Rattle.cobs_bytes.proofs.bytes.ListLemmas.{one-nonzero}
 use Rattle.cobs.specs.Length.{encoded_len, open_len}
@@ -25,17 +24,17 @@ pub ruleset short_room = (after-some, open_len-most, cases_Bool)
 
 -- the frame has room for at least the bytes of the source
 pub next-least : (r : Reached) (source : List ℕ) → 0 < r.block.code → 0 < length source → next_of r + length source ≤ end_after r source
-next-least r source code some = grind (arith, after-some, open_len-least)
+next-least r source code some = grind (arith, open_len-least)
 
 pub reaches-start : {source old : List ℕ} {r : Reached} → 0 < length source → 0 < r.block.code → r.block.code < 255
     → Reaches (start_with old r source) old 0 r.block.index (next_of r) (λ _. Unit {0})
 unfolding HadTaken
-reaches-start {source} {old} {r} some code short = grind (arith, after-some, append-nil, from_after)
+reaches-start {source} {old} {r} some code short = grind (arith, append-nil, from_after)
 
 -- a byte is written after the open block's bytes
 module _ {s : Start} {slice : List ℕ} {read index next : ℕ} {P : Bool → Type 0} (byte : ℕ) (more : read < length s.source) (r : Reaches s slice read index next P) where
   pub written : Reaches s (set slice next byte) read index next P
-  written = grind (arith, common_steps, least, Opened-same, take-set-le, drop-set-lt)
+  written = grind (arith, common_steps, drop-set-lt)
 
   -- a byte that isn't a zero joins the open block
   pub joined : get_or s.source read 0 ≡ byte → byte ≢ 0 → next < index + 255 → whole_end s ≤ length slice → Reaches s (set slice next byte) (read + 1) index (next + 1) IsNotFull
@@ -56,7 +55,6 @@ module _ {source old slice : List ℕ} {r r' : Reached} (fits : end_after r sour
   front-taken {pos} {index} {next} {code} {full} s short last coded is =
       let room = least s in
       let place : Reached = place_at index code full in
-      let code-is : next - index ≡ code = omega arith in
       let end : end_after place (drop pos source) ≡ end_after r source = elim (cases_lt pos (length source)) [
         | inl more ↦ grind (arith, after-some, length-drop)
         | inr none ↦ (let all : pos ≡ length source = omega arith in rw (drop_all pos source (omega arith), last all, ends s all) (omega arith))
@@ -103,7 +101,7 @@ module _ {slice slice' source left : List ℕ} {r r' : Reached} (n : ℕ) (is : 
   left-end = grind arith
 
   pub front-next : {slice'' : List ℕ} {r'' : Reached} (k : ℕ) → TakesFront slice' r' left k slice'' r'' → TakesFront slice r source (n + k) slice'' r''
-  front-next {slice''} {r''} k b = grind (arith, take-add, append_assoc, drop-drop, left-end)
+  front-next {slice''} {r''} k b = grind (arith, take-add, append_assoc, drop-drop)
 
   -- after the second step the whole source is taken
   pub front-last : {slice'' : List ℕ} {r'' : Reached} → n ≤ length source → TakesFront slice' r' left (length left) slice'' r'' → TakesFront slice r source (length source) slice'' r''

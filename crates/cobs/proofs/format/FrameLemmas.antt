@@ -1,9 +1,9 @@
 -- A frame reads as its output, since the parts of a frame are its blocks: by induction on the blocks.
-use Rattle.std.proofs.Common.{◌≡◌, ◌≢◌, ℕ, zero, suc, ◌-◌, ◌<◌, ◌≤◌, List, [], ◌∷◌, ◌++◌, length, drop, All, refl, subst, arith, append-nil, append_assoc, length-append, length-take, length-take-le, take-append-drop, take_at, drop_at}
+use Rattle.std.proofs.Common.{◌≡◌, ◌≢◌, ℕ, zero, suc, ◌-◌, ◌<◌, ◌≤◌, List, [], ◌∷◌, ◌++◌, length, drop, All, refl, subst, arith, append-nil, append_assoc, length-append, length-take, take-append-drop, take_at, drop_at}
 use Rattle.std.specs.List.{concat}
-use Rattle.std.proofs.lemmas.Bool.{eq-eqb, eqb-true}
 use Rattle.std.proofs.lemmas.List.{drop_all}
-use Rattle.std.proofs.lemmas.List.Elements.{All-head, All-tail, All-cons, All-nil, All-append, All-take, All-drop}
+use Rattle.std.proofs.lemmas.List.Folds.{concat-append}
+use Rattle.std.proofs.lemmas.List.Elements.{All-head, All-tail, All-nil, All-append, All-take, All-drop}
 use Rattle.cobs.specs.Grammar.{HasNoZero, IsBlock, bytes_of, joint, message_of, last_of, IsFrameOf, Reads}
 use Rattle.cobs.specs.Piece.{parts_after, parts, last_part, missing, is_whole, IsWhole, output}
 
@@ -52,6 +52,15 @@ pub last_of-append : (xs ys : List (List ℕ)) → 0 < length ys → last_of (xs
 last_of-append [] ys some = refl
 last_of-append (x ∷ xs) ys some = grind (arith, length-append xs ys, last_of-append xs ys some)
 
+-- blocks and one more block aren't an empty list
+pub append-some : (bs : List (List ℕ)) (b : List ℕ) (cs : List (List ℕ)) → bs ++ b ∷ cs ≢ []
+append-some [] b cs e = cc
+append-some (x ∷ bs) b cs e = cc
+
+-- a block after others
+pub concat-push : (front : List (List ℕ)) (block : List ℕ) → concat (front ++ block ∷ []) ≡ concat front ++ block
+concat-push front block = grind (arith, concat-append, append-nil)
+
 pub last_of-push : (xs : List (List ℕ)) (x : List ℕ) → last_of (xs ++ x ∷ []) ≡ x
 last_of-push xs x = last_of-append xs (x ∷ []) (omega arith)
 
@@ -88,12 +97,12 @@ blocks_behind zero (c ∷ p) h below whole =
     let fits : c < 256 = All-head (λ b. b < 256) c p below in
     let rest = blocks_behind (c - 1) p (All-tail (λ b. b ≢ 0) c p h) (All-tail (λ b. b < 256) c p below) in
     let nonzero = All-take (λ b. b ≢ 0) (c - 1) p (All-tail (λ b. b ≢ 0) c p h) in
-    grind (arith, last_of-cons, parts_after-some, length-take-le, All-cons, parts_after-past, length-take, All-nil)
+    grind (arith, parts_after-past, length-take, All-nil)
 
 pub blocks_of_whole : (p : List ℕ) → HasNoZero p → All (λ b. b < 256) p → IsWhole p → All IsBlock (parts p)
 unfolding parts last_part is_whole
 blocks_of_whole [] h below whole = absurd (cc)
-blocks_of_whole (c ∷ p) h below whole = grind (arith, blocks_behind, eqb-true)
+blocks_of_whole (c ∷ p) h below whole = grind (arith, blocks_behind)
 
 -- A FRAME READS AS ITS OUTPUT
 
@@ -101,7 +110,7 @@ concat_nonzero : (blocks : List (List ℕ)) → All IsBlock blocks → HasNoZero
 concat_nonzero [] h = All-nil (λ b. b ≢ 0)
 concat_nonzero (block ∷ blocks) h =
     let is = All-head IsBlock block blocks h in
-    All-append (λ b. b ≢ 0) block (concat blocks) (grind (arith, All-cons)) (concat_nonzero blocks (All-tail IsBlock block blocks h))
+    All-append (λ b. b ≢ 0) block (concat blocks) (grind arith) (concat_nonzero blocks (All-tail IsBlock block blocks h))
 
 concat_some : (blocks : List (List ℕ)) → blocks ≢ [] → All IsBlock blocks → concat blocks ≢ []
 concat_some [] some h = grind arith
@@ -120,7 +129,7 @@ module _ (f m : List ℕ) (r : Reads f m) where
   -- the last part of a frame is whole
   pub frame_whole : IsWhole f
   unfolding last_part is_whole
-  frame_whole = grind (arith, frame_some, parts-frame, missing-last, eq-eqb)
+  frame_whole = grind (arith, frame_some, parts-frame, missing-last)
 
   -- a frame reads as its output
   pub frame_output : m ≡ output f
@@ -143,7 +152,7 @@ All-apart P xs ys h = (
 
 -- the code of a block is below 256, so if its bytes are, the whole block is
 block_bytes : (block : List ℕ) → IsBlock block → All (λ b. b < 256) (bytes_of block) → All (λ b. b < 256) block
-block_bytes block h e = grind (arith, All-cons)
+block_bytes block h e = grind arith
 
 blocks_bytes : (blocks : List (List ℕ)) → All IsBlock blocks → All (λ b. b < 256) (message_of blocks) → All (λ b. b < 256) (concat blocks)
 blocks_bytes [] h below = All-nil (λ b. b < 256)

@@ -1,10 +1,10 @@
 -- A block and the bytes after it are a frame if the bytes after it are one, and a frame can be cut into blocks in only
 -- one way (`one_frame`). Both follow from the block's code, which says where the next block begins.
-use Rattle.std.proofs.Common.{◌≡◌, ◌≢◌, ◌↔◌, ℕ, ◌+◌, ◌<◌, List, [], ◌∷◌, ◌++◌, length, All, refl, sym, ap, ◌∙◌, subst, arith, append-nil, length-append, length-take}
+use Rattle.std.proofs.Common.{true, ◌≡◌, ◌≢◌, ◌↔◌, ℕ, ◌+◌, ◌<◌, List, [], ◌∷◌, ◌++◌, length, All, refl, sym, ap, ◌∙◌, subst, arith, append-nil, length-append, length-take}
 use Rattle.std.specs.List.{concat}
 use Rattle.std.proofs.lemmas.List.{append_cancel_left}
-use Rattle.std.proofs.lemmas.List.Elements.{All-cons, All-nil, All-head, All-tail}
-use Rattle.cobs.specs.Grammar.{IsBlock, IsFull, bytes_of, joint, lone_block, message_of, IsFrame, IsFrameOf, Reads, IsCanonical, IsEncodedFrame}
+use Rattle.std.proofs.lemmas.List.Elements.{All-nil, All-head, All-tail}
+use Rattle.cobs.specs.Grammar.{IsBlock, IsFull, bytes_of, is_full, joint, last_of, lone_block, message_of, IsFrame, IsFrameOf, Reads, IsCanonical, IsEncodedFrame}
 use Rattle.cobs.specs.Piece.{parts, parts_after}
 use Rattle.cobs.proofs.format.FrameLemmas.{parts-block, parts-frame, frame_output}
 
@@ -30,6 +30,46 @@ IsShorter-cons b bs apart s (x ∷ front) block full e = grind arith
 pub IsShorter-single : (b : List ℕ) → IsShorter (b ∷ [])
 IsShorter-single b front block full e = (omega (arith, ap length e, length-append front (block ∷ lone_block ∷ [])))
 
+-- the last of blocks that don't end in a full block and the lone block
+pub record ShorterEnd (blocks : List (List ℕ)) : Type 0 where
+  pub front : List (List ℕ)
+  pub code : ℕ
+  pub bytes : List ℕ
+  pub is : blocks ≡ front ++ (code ∷ bytes) ∷ []
+  pub each : All IsBlock front
+  pub last : IsBlock (code ∷ bytes)
+  pub apart : is_full (last_of front) ≡ true → bytes ≢ []
+
+pub shorter_end : (bs : List (List ℕ)) → bs ≢ [] → All IsBlock bs → IsShorter bs → ShorterEnd bs
+shorter_end [] some each shorter = absurd (some refl)
+shorter_end ([] ∷ bs) some each shorter = absurd (All-head IsBlock [] bs each)
+shorter_end ((c ∷ a) ∷ []) some each shorter = record {
+  front = [];
+  code = c;
+  bytes = a;
+  is = refl;
+  each = All-nil IsBlock;
+  last = All-head IsBlock (c ∷ a) [] each;
+  apart = λ full. cc;
+}
+shorter_end ((c ∷ a) ∷ d ∷ ds) some each shorter =
+    let b : List ℕ = c ∷ a in
+    let r = shorter_end (d ∷ ds) (λ e. cc) (All-tail IsBlock b (d ∷ ds) each) (IsShorter-tail b (d ∷ ds) shorter) in
+    record {
+      front = b ∷ r.front;
+      code = r.code;
+      bytes = r.bytes;
+      is = ap (λ l. b ∷ l) r.is;
+      each = grind (arith, All-head);
+      last = r.last;
+      apart = by_front r.front r.is r.last r.apart;
+    }
+  where
+    by_front : (front : List (List ℕ)) {code : ℕ} {bytes : List ℕ} → d ∷ ds ≡ front ++ (code ∷ bytes) ∷ [] → IsBlock (code ∷ bytes) → (is_full (last_of front) ≡ true → bytes ≢ [])
+        → is_full (last_of ((c ∷ a) ∷ front)) ≡ true → bytes ≢ []
+    by_front [] {code} is last apart full none = let one : code ≡ 1 = omega (arith, ap length none) in shorter [] (c ∷ a) full (cc)
+    by_front (x ∷ front) is last apart full none = apart full none
+
 -- an encoded frame, given its blocks
 abbrev pub encoded-by : {f m : List ℕ} (blocks : List (List ℕ)) → IsFrameOf f blocks → m ≡ message_of blocks → IsShorter blocks → IsEncodedFrame f m
 encoded-by blocks frame message shorter = record {
@@ -39,7 +79,7 @@ encoded-by blocks frame message shorter = record {
 
 -- a block before a frame
 pub frame-cons : (b f : List ℕ) (bs : List (List ℕ)) → IsBlock b → IsFrameOf f bs → IsFrameOf (b ++ f) (b ∷ bs)
-frame-cons b f bs h frame = grind (arith, All-cons)
+frame-cons b f bs h frame = grind arith
 
 pub Reads-cons : (b f m : List ℕ) → IsBlock b → Reads f m → Reads (b ++ f) (bytes_of b ++ joint b ++ m)
 Reads-cons b f m h r = grind (arith, frame-cons)
@@ -50,13 +90,13 @@ IsCanonical-cons b f h apart r = grind (arith, frame-cons, IsShorter-cons)
 
 -- a block alone is a canonical frame
 pub block-frame : (b : List ℕ) → IsBlock b → IsFrameOf b (b ∷ [])
-block-frame b h = grind (arith, All-cons, All-nil, append-nil)
+block-frame b h = grind (arith, append-nil)
 
 pub IsCanonical-block : (b : List ℕ) → IsBlock b → IsCanonical b
 IsCanonical-block b h = grind (arith, block-frame, IsShorter-single)
 
 pub lone_block-is_block : IsBlock lone_block
-lone_block-is_block = grind (arith, All-nil)
+lone_block-is_block = grind arith
 
 -- the lone block reads as the empty message
 pub lone_block-reads : Reads lone_block []
@@ -104,4 +144,4 @@ pub short-frame : (code : ℕ) (bytes : List ℕ) → length bytes + 1 < code �
 unfolding parts parts_after
 short-frame code bytes short frame =
     let each : All IsBlock (parts (code ∷ bytes)) = subst (All IsBlock) (sym (parts-frame _ frame.1.blocks frame.1.frame)) frame.1.frame.each in
-    grind (arith, All-head, length-take)
+    grind (arith, length-take)

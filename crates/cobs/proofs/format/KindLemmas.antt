@@ -39,12 +39,12 @@ pub record BlocksBehind (f rest : List ℕ) (after_full : Bool) : Type 0 where
 -- no byte follows the whole blocks, or a broken block does
 pub broken-kind : (f rest : List ℕ) (full : Bool) → BlocksBehind f rest full → (0 < length rest → length rest < get_or rest 0 0) → IsKindOf NotAFrame f
 broken-kind f [] full blocks broken = λ frame. (let h = blocks.frame.0 frame in frame_some [] h.0 h.1 refl)
-broken-kind f (code ∷ bytes) full blocks broken = λ frame. short-frame code bytes (omega (arith, broken (omega arith))) (blocks.frame.0 frame)
+broken-kind f (code ∷ bytes) full blocks broken = λ frame. short-frame code bytes (omega arith) (blocks.frame.0 frame)
 
 -- one more whole block
 pub one-more : (f rest : List ℕ) (full : Bool) → BlocksBehind f rest full → get_or rest 0 0 < length rest → BlocksBehind f (drop (get_or rest 0 0) rest) (eqb (get_or rest 0 0) 255)
 one-more f [] full blocks more = grind arith
-one-more f (zero ∷ bytes) full blocks more = grind (arith, All-head)
+one-more f (zero ∷ bytes) full blocks more = grind arith
 one-more f (suc n ∷ bytes) full blocks more =
     let block : List ℕ = suc n ∷ take n bytes in
     let after : List ℕ = drop n bytes in

@@ -1,29 +1,36 @@
 -- The length of an encoded frame follows from the runs of its message: each run has one code for each 254 of its bytes,
 -- rounded up. Proved by cutting the message at its zeros.
-use Rattle.std.proofs.Common.{◌≡◌, ◌≢◌, ℕ, ◌+◌, ◌<◌, ◌≤◌, ◌==◌, false, List, [], ◌∷◌, ◌++◌, length, map, All, ap, ◌∙◌, subst, arith, length-append}
+use Rattle.std.proofs.Common.{◌≡◌, ◌≢◌, ℕ, ◌+◌, ◌/◌, ◌<◌, ◌≤◌, ◌==◌, false, List, [], ◌∷◌, ◌++◌, length, map, All, refl, ap, ◌∙◌, subst, arith, length-append}
 use Rattle.std.specs.List.{join_with_byte}
-use Rattle.std.proofs.lemmas.Bool.{ne_eqb}
 use Rattle.std.proofs.lemmas.List.{length-replicate}
-use Rattle.std.proofs.lemmas.List.Elements.{All-weaker, All-replicate, All-head, All-tail}
-use Rattle.std.proofs.lemmas.List.Splits.{slice_split_none, slice_split_at, slice_split-cons_no, join_with_byte-slice_split, length-slice_split}
+use Rattle.std.proofs.lemmas.List.Elements.{All-replicate, All-head, All-tail}
+use Rattle.std.proofs.lemmas.List.Splits.{slice_split_none, slice_split_at, join_with_byte-slice_split, length-slice_split}
 use Rattle.cobs.specs.Grammar.{HasNoZero}
 use Rattle.cobs.specs.Stream.{stretches}
 use Rattle.cobs.specs.Length.{runs, full_blocks, encoded_len, max_overhead, max_encoded_len}
 
 -- if bytes have no zero, none of them passes the test at which stretches are cut
 pub no_zero : (bytes : List ℕ) → HasNoZero bytes → All (λ b. (b == 0) ≡ false) bytes
-no_zero bytes h = grind (arith, All-weaker, ne_eqb)
+no_zero bytes h = grind arith
 
 pub some_stretch : (m : List ℕ) → stretches m ≢ []
 some_stretch m e = omega (arith, length-slice_split (λ b. b == 0) m, ap length e)
 
 -- a last run of at most 254 bytes is one block
 pub encoded_len-last : (bytes : List ℕ) → length bytes < 255 → HasNoZero bytes → encoded_len bytes ≡ length bytes + 1
-encoded_len-last bytes l h = grind (arith, slice_split_none, no_zero)
+encoded_len-last bytes l h = grind (arith, slice_split_none)
 
--- a run of fewer than 254 bytes and the zero after it are one block
+-- a run that others follow has one full block for each 254 bytes
+blocks-cons : (run : ℕ) (parts : List (List ℕ)) → parts ≢ [] → full_blocks (run ∷ map length parts) ≡ run / 254 + full_blocks (map length parts)
+blocks-cons run [] some = grind arith
+blocks-cons run (p ∷ ps) some = refl
+
+-- a run and the zero after it are one block, and a full block for each 254 bytes of the run
+pub encoded_len-run : (bytes m : List ℕ) → HasNoZero bytes → encoded_len (bytes ++ 0 ∷ m) ≡ length bytes + 1 + length bytes / 254 + encoded_len m
+encoded_len-run bytes m h = grind (arith, slice_split_at, some_stretch, length-append, blocks-cons)
+
 pub encoded_len-zero : (bytes m : List ℕ) → length bytes < 254 → HasNoZero bytes → encoded_len (bytes ++ 0 ∷ m) ≡ length bytes + 1 + encoded_len m
-encoded_len-zero bytes m l h = grind (arith, slice_split_at, no_zero, some_stretch, length-append)
+encoded_len-zero bytes m l h = omega (arith, encoded_len-run bytes m h)
 
 -- bytes put before the first part
 abbrev pub onto_parts : List ℕ → List (List ℕ) → List (List ℕ)
@@ -33,7 +40,7 @@ onto_parts a (p ∷ ps) = (a ++ p) ∷ ps
 -- nonzero bytes lengthen the first stretch
 pub stretches-front : (bytes m : List ℕ) → HasNoZero bytes → stretches (bytes ++ m) ≡ onto_parts bytes (stretches m)
 stretches-front [] m h = grind (arith, some_stretch)
-stretches-front (b ∷ bs) m h = grind (arith, slice_split-cons_no, ne_eqb, All-head, All-tail, stretches-front bs m (All-tail (λ b. b ≢ 0) b bs h))
+stretches-front (b ∷ bs) m h = grind (arith, All-head, All-tail, stretches-front bs m (All-tail (λ b. b ≢ 0) b bs h))
 
 -- 254 bytes before the first part are one full block more, if a part is left
 full_more : (bytes : List ℕ) (parts : List (List ℕ)) → length bytes ≡ 254 → parts ≢ [] → join_with_byte 0 parts ≢ []
@@ -46,7 +53,7 @@ full_more bytes (p ∷ q ∷ ps) l some more = grind (arith, length-append)
 -- 254 bytes of a run that continues are one block
 pub encoded_len-full : (bytes m : List ℕ) → length bytes ≡ 254 → HasNoZero bytes → m ≢ [] → encoded_len (bytes ++ m) ≡ 255 + encoded_len m
 encoded_len-full bytes m l h more =
-    grind (arith, stretches-front, full_more, some_stretch, length-append, join_with_byte-slice_split 0 m)
+    grind (arith, stretches-front, full_more, length-append, join_with_byte-slice_split 0 m)
 
 -- no message of the same length has more full blocks than one without zeros
 full_blocks-le : (parts : List (List ℕ)) → full_blocks (map length parts) + 1 ≤ max_overhead (length (join_with_byte 0 parts))
@@ -61,7 +68,7 @@ encoded_len-le m =
     omega arith
 
 pub encoded_len-nonzero : (m : List ℕ) → HasNoZero m → encoded_len m ≡ max_encoded_len (length m)
-encoded_len-nonzero m h = grind (arith, slice_split_none, no_zero)
+encoded_len-nonzero m h = grind (arith, slice_split_none)
 
 pub encoded_len-reached : (n : ℕ) → (m : List ℕ) × (length m ≡ n) × All (λ byte. byte < 256) m × (encoded_len m ≡ max_encoded_len n)
 encoded_len-reached n =

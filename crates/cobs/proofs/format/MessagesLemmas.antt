@@ -2,9 +2,9 @@
 -- message at a time.
 use Rattle.std.proofs.Common.{◌≡◌, ◌≢◌, ℕ, ◌+◌, ◌<◌, ◌≤◌, List, [], ◌∷◌, ◌++◌, length, take, set, map, All, arith, append_assoc, length-append, length-take, get_or}
 use Rattle.std.specs.List.{AllZip, flat_map}
-use Rattle.std.proofs.lemmas.List.{take_more, take_more_set, map_push, take-map, flat_map_more, take-append-le}
+use Rattle.std.proofs.lemmas.List.{take_more, map_push, take-map, flat_map_more, take-append-le}
 use Rattle.std.proofs.lemmas.List.Elements.{AllZip-push, All-nil, All-head, All-tail}
-use Rattle.std.proofs.lemmas.List.Sums.{sum_by-append, sum_by-take-le}
+use Rattle.std.proofs.lemmas.List.Sums.{sum_by-take-le}
 use Rattle.std.proofs.Math.Seq.{take-append-add}
 use Rattle.std.specs.Global.{Vec}
 use Rattle.std.proofs.lemmas.Grind.{common_steps}
@@ -42,7 +42,7 @@ room-some vectors i = rw take-map at (sum_by-take-le (λ m. max_encoded_len (len
 -- the room after one of the vectors: its longest frame and a zero more
 pub room-step : (vectors : List (Vec ℕ)) (i : ℕ) (vector : Vec ℕ) → i < length vectors → vector ≡ get_or vectors i vector
     → room_for_frames (messages_in (take (i + 1) vectors)) ≡ room_for_frames (messages_in (take i vectors)) + (max_encoded_len (length vector.items) + 1)
-room-step vectors i vector within is = grind (arith, common_steps, messages_in-more, sum_by-append)
+room-step vectors i vector within is = grind (arith, common_steps)
 
 -- WHERE THE FRAMES ARE WRITTEN
 
@@ -50,7 +50,7 @@ room-step vectors i vector within is = grind (arith, common_steps, messages_in-m
 pub written : (dest new behind : List ℕ) (end len : ℕ) → end ≤ length dest → len < length new
     → take (end + (len + 1)) (set (take end dest ++ (new ++ behind)) (end + len) 0) ≡ take end dest ++ take len new ++ 0 ∷ []
 written dest new behind end len within room =
-    grind (arith, common_steps, take_more_set, length-append, take-append-add, take-append-le)
+    grind (arith, common_steps, take-append-add, take-append-le)
 
 -- such a list has at least the bytes that were written
 pub length-written : (dest new : List ℕ) (end part : ℕ) → end ≤ length dest → end + length new ≤ length (put_mid end part dest new)

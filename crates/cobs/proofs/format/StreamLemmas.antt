@@ -1,23 +1,21 @@
 -- A stream in two parts, and one more byte of it: the ended pieces, and the unended bytes. By std's lemmas on `slice_split`.
-use Rattle.std.proofs.Common.{◌≡◌, ◌≢◌, ℕ, zero, suc, ◌+◌, ◌-◌, ◌<◌, ◌≤◌, true, cond, eqb, List, [], ◌∷◌, ◌++◌, length, take, refl, sym, ap, ◌∙◌, arith, append_assoc, length-append, filter, not, get_or, inl, inr}
+use Rattle.std.proofs.Common.{◌≡◌, ◌≢◌, ℕ, zero, suc, ◌+◌, ◌-◌, ◌<◌, ◌≤◌, true, cond, eqb, List, [], ◌∷◌, ◌++◌, length, take, refl, sym, ap, ◌∙◌, arith, append_assoc, length-append, not, get_or, inl, inr}
 use Rattle.std.proofs.lemmas.List.{map-append, take_all, take_more, take-append-le}
 use Rattle.std.proofs.Math.Seq.{take-append-add}
-use Rattle.std.proofs.lemmas.List.Elements.{All-push, All-nil, All-cons, All-take, filter-append}
-use Rattle.std.proofs.lemmas.List.Splits.{slice_split-cons_no, slice_split_at, slice_split_none, length-slice_split}
-use Rattle.std.proofs.lemmas.Bool.{cases_lt, ne_eqb}
+use Rattle.std.proofs.lemmas.List.Elements.{All-push, All-nil, All-take, filter-append}
+use Rattle.std.proofs.lemmas.List.Splits.{slice_split_at, slice_split_none, length-slice_split}
 use Rattle.std.specs.List.{onto_first}
 use Rattle.cobs.specs.Grammar.{HasNoZero, last_of}
 use Rattle.cobs.specs.Stream.{stretches, is_nonempty, but_last, ended_pieces, unended, Outcome, outcome_of, stream_outcomes}
 use Rattle.cobs.specs.Feed.{fed}
 use Rattle.cobs.specs.Laws.{IsAtSentinel}
 use Rattle.cobs.proofs.format.FrameLemmas.{last_of-append}
-use Rattle.cobs.proofs.format.LengthLemmas.{no_zero}
 
 -- A FRONT OF A PIECE AND ONE MORE BYTE
 
 -- a byte that is no zero joins the front
 pub fed-nonzero : (p : List ℕ) (b : ℕ) → b ≢ 0 → fed p b ≡ p ++ b ∷ []
-fed-nonzero p b h = grind (arith, ne_eqb)
+fed-nonzero p b h = grind arith
 
 -- STRETCHES OF A STREAM IN TWO PARTS
 
@@ -30,7 +28,7 @@ pub stretches-append : (t u : List ℕ) → stretches (t ++ u) ≡ but_last (str
 unfolding but_last
 stretches-append [] u = refl
 stretches-append (zero ∷ t) u = grind (arith, (stretches-append t u), length-stretches t)
-stretches-append (suc b ∷ t) u = grind (arith, slice_split-cons_no, ne_eqb, length-stretches, (stretches-append t u))
+stretches-append (suc b ∷ t) u = grind (arith, length-stretches, (stretches-append t u))
 
 but_last-append : (xs ys : List (List ℕ)) → 0 < length ys → but_last (xs ++ ys) ≡ xs ++ but_last ys
 unfolding but_last
@@ -56,11 +54,11 @@ stream_outcomes-append t u n = grind (arith, ended_pieces-append, map-append)
 
 -- the zero after a piece ends its stretch
 pub stretches-piece : (p u : List ℕ) → HasNoZero p → stretches (p ++ 0 ∷ u) ≡ p ∷ stretches u
-stretches-piece p u h = grind (arith, slice_split_at, no_zero)
+stretches-piece p u h = grind (arith, slice_split_at)
 
 -- a list without a zero is one stretch
 pub stretches-no_zero : (p : List ℕ) → HasNoZero p → stretches p ≡ p ∷ []
-stretches-no_zero p h = grind (arith, slice_split_none, no_zero)
+stretches-no_zero p h = grind (arith, slice_split_none)
 
 -- nothing has ended in a list without a zero
 pub ended_pieces-no_zero : (p : List ℕ) → HasNoZero p → ended_pieces p ≡ []
@@ -83,37 +81,37 @@ outcomes_at (c ∷ p) b n = cond (eqb b 0) (outcome_of (c ∷ p) n ∷ []) []
 -- a piece and its zero
 pub ended_pieces-piece : (p : List ℕ) → p ≢ [] → HasNoZero p → ended_pieces (p ++ 0 ∷ []) ≡ p ∷ []
 unfolding ended_pieces but_last
-ended_pieces-piece p some h = grind (arith, filter, stretches-piece)
+ended_pieces-piece p some h = grind (arith, stretches-piece)
 
 pub stream_outcomes-piece : (p : List ℕ) (n : ℕ) → HasNoZero p → stream_outcomes (p ++ 0 ∷ []) n ≡ outcomes_at p 0 n
 unfolding stream_outcomes ended_pieces but_last
-stream_outcomes-piece p n h = grind (arith, filter, stretches-piece)
+stream_outcomes-piece p n h = grind (arith, stretches-piece)
 
 pub outcomes_at-nonzero : (p : List ℕ) (b n : ℕ) → b ≢ 0 → outcomes_at p b n ≡ []
-outcomes_at-nonzero p b n h = grind (arith, ne_eqb)
+outcomes_at-nonzero p b n h = grind arith
 
 -- a front of a piece and one more byte
 pub stream_outcomes-push_piece : (p : List ℕ) (b n : ℕ) → HasNoZero p → stream_outcomes (p ++ b ∷ []) n ≡ outcomes_at p b n
 stream_outcomes-push_piece p zero n h = stream_outcomes-piece p n h
 stream_outcomes-push_piece p (suc b) n h =
-    grind (arith, stream_outcomes-no_zero, outcomes_at-nonzero, All-push (λ x. x ≢ 0) p (suc b) h (λ e. omega arith))
+    grind (arith, stream_outcomes-no_zero, All-push (λ x. x ≢ 0) p (suc b) h (λ e. omega arith))
 
 pub unended-push_piece : (p : List ℕ) (b : ℕ) → HasNoZero p → unended (p ++ b ∷ []) ≡ fed p b
 unfolding unended
 unended-push_piece p zero h = grind (arith, stretches-piece)
 unended-push_piece p (suc b) h =
-    grind (arith, unended-no_zero, fed-nonzero, All-push (λ x. x ≢ 0) p (suc b) h (λ e. omega arith))
+    grind (arith, unended-no_zero, All-push (λ x. x ≢ 0) p (suc b) h (λ e. omega arith))
 
 -- WHAT IS UNENDED HAS NO ZERO
 
 last_of-onto_first : (b : ℕ) (ss : List (List ℕ)) → b ≢ 0 → 0 < length ss → HasNoZero (last_of ss) → HasNoZero (last_of (onto_first b ss))
-last_of-onto_first b ss h e p = grind (arith, All-cons)
+last_of-onto_first b ss h e p = grind arith
 
 pub unended_no_zero : (t : List ℕ) → HasNoZero (unended t)
 unfolding unended
 unended_no_zero [] = All-nil (λ x. x ≢ 0)
-unended_no_zero (zero ∷ t) = grind (arith, length-stretches, unended_no_zero t)
-unended_no_zero (suc b ∷ t) = grind (arith, slice_split-cons_no, ne_eqb, last_of-onto_first, length-stretches, (unended_no_zero t))
+unended_no_zero (zero ∷ t) = grind (arith, unended_no_zero t)
+unended_no_zero (suc b ∷ t) = grind (arith, last_of-onto_first, length-stretches, (unended_no_zero t))
 
 -- ONE MORE BYTE OF A STREAM
 
@@ -135,7 +133,7 @@ nonempty-push (c ∷ p) b = refl
 
 -- something is unended after a byte exactly if the byte is no zero
 pub nonempty-unended_push : (t : List ℕ) (b : ℕ) → not (eqb b 0) ≡ is_nonempty (unended (t ++ b ∷ []))
-nonempty-unended_push t b = grind (arith, unended-push, ne_eqb, fed-nonzero, nonempty-push)
+nonempty-unended_push t b = grind (arith, unended-push, nonempty-push)
 
 -- the same, by the last of some bytes after p
 pub nonempty-unended_last : (p bytes : List ℕ) → 0 < length bytes → not (eqb (get_or bytes (length bytes - 1) 0) 0) ≡ is_nonempty (unended (p ++ bytes))
@@ -186,8 +184,8 @@ module _ (f u : List ℕ) (n k : ℕ) (some : f ≢ []) (h : HasNoZero f) where
 
   -- so the outcomes of the first k bytes say whether the zero is among them
   pub outcomes-none : stream_outcomes (take k (f ++ 0 ∷ u)) n ≡ [] → k ≤ length f
-  outcomes-none e = grind (arith, cases_lt, outcomes-behind)
+  outcomes-none e = grind (arith, outcomes-behind)
 
   pub outcomes-first : (x : Outcome) (rest : List Outcome) → stream_outcomes (take k (f ++ 0 ∷ u)) n ≡ x ∷ rest
       → (length f < k) × (x ≡ outcome_of f n)
-  outcomes-first x rest e = grind (arith, cases_lt, outcomes-behind, outcomes-before)
+  outcomes-first x rest e = grind (arith, outcomes-behind, outcomes-before)

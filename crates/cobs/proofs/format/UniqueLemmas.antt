@@ -1,62 +1,57 @@
--- Each message has one encoded frame (`one_encoded`), and its length: the message says which bytes its first block has
--- (`first_bytes`), so two canonical frames of one message begin with the same block, and so on.
-use Rattle.std.proofs.Common.{◌⊎◌, inl, inr, ◌≡◌, ◌≢◌, ℕ, ◌<◌, Bool, true, false, if◌then◌else◌, List, [], ◌∷◌, ◌++◌, length, take, All, refl, sym, ap, ◌∙◌, subst, arith, append-nil, append_assoc, length-append, take_at, take_all, ⊎_elim}
+-- Each message has one encoded frame (`one_encoded`): the message says which bytes its first block has (`first_bytes`),
+-- so blocks that stand for one message are equal, except for a lone block at the end (`same_blocks`). The length of the
+-- frame is counted block by block (`len-blocks`).
+use Rattle.std.proofs.Common.{◌⊎◌, inl, inr, ◌≡◌, ◌≢◌, ℕ, ◌+◌, true, List, [], ◌∷◌, ◌++◌, length, take, All, refl, sym, ap, ◌∙◌, subst, arith, append-nil, append_assoc, length-append, take_at, take_all}
 use Rattle.std.specs.List.{concat}
-use Rattle.std.proofs.lemmas.Bool.{cases_Bool, eqb-true, eqb-false}
+use Rattle.std.proofs.lemmas.Bool.{cases_Bool, eqb-false}
 use Rattle.std.proofs.lemmas.List.{append_cancel_left}
 use Rattle.std.proofs.lemmas.List.Elements.{All-head, All-tail}
-use Rattle.cobs.specs.Grammar.{IsBlock, is_full, joint, lone_block, message_of, bytes_of, IsEncodedFrame, Reads}
+use Rattle.cobs.specs.Grammar.{IsBlock, IsFull, is_full, joint, last_of, lone_block, message_of, bytes_of, IsEncodedFrame, Reads}
 use Rattle.cobs.specs.Length.{encoded_len}
 use Rattle.cobs.specs.Stream.{head}
 use Rattle.cobs.proofs.decoding.OutcomeLemmas.{head-append, head-zero, head_alone}
-use Rattle.cobs.proofs.format.GrammarLemmas.{one_frame, one_message, IsShorter, IsShorter-tail}
+use Rattle.cobs.proofs.format.GrammarLemmas.{one_frame, one_message, IsShorter, IsShorter-tail, shorter_end}
+use Rattle.cobs.proofs.format.FrameLemmas.{append-some, concat-push}
 use Rattle.cobs.proofs.format.LengthLemmas.{encoded_len-last, encoded_len-zero, encoded_len-full}
 
 -- WHAT BLOCKS STAND FOR
 
+-- two blocks or more stand for some message
+some_message : (block : List ℕ) (blocks : List (List ℕ)) → IsBlock block → blocks ≢ [] → message_of (block ∷ blocks) ≢ []
+some_message [] blocks is more e = absurd is
+some_message (code ∷ bytes) [] is more e = more refl
+some_message (code ∷ bytes) (next ∷ blocks) is more e = grind (arith, length-append, ap length e)
+
 -- blocks without a byte or a zero between them are the lone block
-pub empty_message : (b : List ℕ) (bs : List (List ℕ)) → All IsBlock (b ∷ bs) → message_of (b ∷ bs) ≡ [] → b ∷ bs ≡ lone_block ∷ []
-empty_message [] bs h e = grind (arith, All-head)
-empty_message (c ∷ []) [] h e = grind (arith, All-head)
-empty_message (c ∷ x ∷ bytes) [] h e = absurd (cc)
-empty_message (c ∷ x ∷ bytes) (d ∷ ds) h e = absurd (cc)
-empty_message (c ∷ []) (d ∷ ds) h e = grind (arith, All-head)
+empty_message : (b : List ℕ) (bs : List (List ℕ)) → All IsBlock (b ∷ bs) → message_of (b ∷ bs) ≡ [] → b ∷ bs ≡ lone_block ∷ []
+empty_message [] bs h e = absurd (All-head IsBlock [] bs h)
+empty_message (c ∷ bytes) [] h e = grind (arith, All-head)
+empty_message (c ∷ bytes) (d ∷ ds) h e = absurd (some_message (c ∷ bytes) (d ∷ ds) (All-head IsBlock (c ∷ bytes) (d ∷ ds) h) (λ z. cc) e)
 
--- the bytes of a block before others, its joint and the message of these
-pub message-rest : (b : List ℕ) (d : List ℕ) (ds : List (List ℕ)) (t : Bool) → is_full b ≡ t → message_of (b ∷ d ∷ ds) ≡ bytes_of b ++ ((if t then [] else 0 ∷ []) ++ message_of (d ∷ ds))
-message-rest b d ds t e = grind (arith, append_assoc)
+-- how long the frame of a block's bytes and more is
+len-block : (block m : List ℕ) → IsBlock block → (is_full block ≡ true → m ≢ []) → encoded_len (bytes_of block ++ joint block ++ m) ≡ length block + encoded_len m
+len-block [] m is some = absurd is
+len-block (code ∷ bytes) m is some = grind (arith, append_assoc, encoded_len-full, eqb-false, encoded_len-zero, cases_Bool)
 
--- after a full block of canonical blocks something is left
-pub full-more : (b d : List ℕ) (ds : List (List ℕ)) → All IsBlock (b ∷ d ∷ ds) → IsShorter (b ∷ d ∷ ds) → is_full b ≡ true → message_of (d ∷ ds) ≢ []
-full-more b d ds h s full none = s [] b full (ap (λ l. b ∷ l) (empty_message d ds (All-tail IsBlock b (d ∷ ds) h) none))
-
--- between a block and canonical ones after it is a zero, or the block is full and something is left
-pub first-block : (c : ℕ) (a d : List ℕ) (ds : List (List ℕ)) → All IsBlock ((c ∷ a) ∷ d ∷ ds) → IsShorter ((c ∷ a) ∷ d ∷ ds) → let k = message_of (d ∷ ds) in
-    ((length a < 254) × (message_of ((c ∷ a) ∷ d ∷ ds) ≡ a ++ 0 ∷ k)) ⊎ ((length a ≡ 254) × (message_of ((c ∷ a) ∷ d ∷ ds) ≡ a ++ k) × (k ≢ []))
-first-block c a d ds h s =
-    let is = All-head IsBlock (c ∷ a) (d ∷ ds) h in
-    ⊎_elim
-    (λ (full : is_full (c ∷ a) ≡ true). inr (omega (arith, is.0, eqb-true c 255 full), message-rest (c ∷ a) d ds true full, full-more (c ∷ a) d ds h s full))
-    (λ (open' : is_full (c ∷ a) ≡ false). inl (omega (arith, is.0, is.1, eqb-false c 255 open'), message-rest (c ∷ a) d ds false open'))
-    (cases_Bool (is_full (c ∷ a)))
-
--- how long canonical blocks are
-length-blocks : (bs : List (List ℕ)) → bs ≢ [] → All IsBlock bs → IsShorter bs → length (concat bs) ≡ encoded_len (message_of bs)
-length-blocks [] some each short = absurd (some refl)
-length-blocks ([] ∷ bs) some each short = grind (arith, All-head)
-length-blocks ((c ∷ a) ∷ []) some each short = let is = All-head IsBlock (c ∷ a) [] each in omega (arith, encoded_len-last a (omega arith) is.2, ap length (append-nil a))
-length-blocks ((c ∷ a) ∷ d ∷ ds) some each short = grind (arith, All-head, All-tail, IsShorter-tail, length-append, encoded_len-zero, encoded_len-full, first-block, length-blocks (d ∷ ds) (λ e. cc) (All-tail IsBlock (c ∷ a) (d ∷ ds) each) (IsShorter-tail (c ∷ a) (d ∷ ds) short))
+-- the blocks before the last one are part of the encoded frame, unless the last one is empty and follows a full block
+pub len-blocks : (front : List (List ℕ)) (code : ℕ) (bytes : List ℕ) → All IsBlock front → (is_full (last_of front) ≡ true → bytes ≢ [])
+    → encoded_len (message_of (front ++ (code ∷ bytes) ∷ [])) ≡ length (concat front) + encoded_len bytes
+len-blocks [] code bytes each some = omega arith
+len-blocks (b ∷ []) code bytes each some = grind (arith, append-nil, len-block, All-head)
+len-blocks (b ∷ c ∷ front) code bytes each some =
+    let more = All-tail IsBlock b (c ∷ front) each in
+    grind (arith, append-some, len-block, All-head, len-blocks (c ∷ front) code bytes more some, length-append b (concat (c ∷ front)))
 
 -- THERE IS ONE ENCODED FRAME
 
 -- the bytes of the first block are the first 254 of the message, as far as its first zero
 first_bytes : (c : ℕ) (a : List ℕ) (bs : List (List ℕ)) (n : ℕ) → All IsBlock ((c ∷ a) ∷ bs) → n ≡ 254 → a ≡ take n (head (message_of ((c ∷ a) ∷ bs)))
-first_bytes c a [] n h e = let is = All-head IsBlock (c ∷ a) [] h in rw (head_alone a is.2) (sym (take_all n a (omega (arith, is.0, is.1))))
+first_bytes c a [] n h e = let is = All-head IsBlock (c ∷ a) [] h in rw (head_alone a is.2) (sym (take_all n a (omega arith)))
 first_bytes c a (d ∷ ds) n h e =
     let is = All-head IsBlock (c ∷ a) (d ∷ ds) h in
     let cut : head (message_of ((c ∷ a) ∷ d ∷ ds)) ≡ a ++ head (joint (c ∷ a) ++ message_of (d ∷ ds))
     = ap head (append_assoc a (joint (c ∷ a)) (message_of (d ∷ ds))) ∙ head-append a _ is.2 in
-    grind (arith, cases_Bool, eqb-true, eqb-false, head-zero, append-nil, take_all, take_at)
+    grind (arith, eqb-false, head-zero, append-nil, take_all, take_at)
 
 -- so the first blocks of one message are one
 same_first : (b c : List ℕ) (bs cs : List (List ℕ)) → All IsBlock (b ∷ bs) → All IsBlock (c ∷ cs) → message_of (b ∷ bs) ≡ message_of (c ∷ cs) → b ≡ c
@@ -66,39 +61,57 @@ same_first (x ∷ b) (y ∷ c) bs cs h i e =
     let bytes : b ≡ c = first_bytes x b bs 254 h refl ∙ ap (λ m. take 254 (head m)) e ∙ sym (first_bytes y c cs 254 i refl) in
     grind (arith, All-head)
 
--- if the first block is the last, there are no more canonical blocks
-no_more : (b d : List ℕ) (ds : List (List ℕ)) → All IsBlock (b ∷ d ∷ ds) → IsShorter (b ∷ d ∷ ds) → message_of (b ∷ []) ≡ message_of (b ∷ d ∷ ds) → ⊥
-no_more b d ds h short e =
+-- a block that stands for the same message as it and other blocks is full, and the lone block follows it
+then_lone : (b d : List ℕ) (ds : List (List ℕ)) → All IsBlock (b ∷ d ∷ ds) → bytes_of b ≡ message_of (b ∷ d ∷ ds) → IsFull b × (d ∷ ds ≡ lone_block ∷ [])
+then_lone b d ds h e =
     let rest : [] ≡ joint b ++ message_of (d ∷ ds) = append_cancel_left (bytes_of b) [] _ (append-nil (bytes_of b) ∙ e ∙ append_assoc (bytes_of b) (joint b) (message_of (d ∷ ds))) in
-    grind (arith, full-more)
+    elim (cases_Bool (is_full b)) [
+      | inl full ↦ (full, empty_message d ds (All-tail IsBlock b (d ∷ ds) h) (grind arith))
+      | inr open' ↦ absurd (grind arith)
+    ]
 
--- two lists of canonical blocks with one message are equal, block by block
-one_blocks : (bs cs : List (List ℕ)) → bs ≢ [] → cs ≢ [] → All IsBlock bs → All IsBlock cs → IsShorter bs → IsShorter cs → message_of bs ≡ message_of cs → bs ≡ cs
-one_blocks [] cs some some' each each' shorter shorter' same = absurd (some refl)
-one_blocks (b ∷ bs) [] some some' each each' shorter shorter' same = absurd (some' refl)
-one_blocks (b ∷ []) (c ∷ []) some some' each each' shorter shorter' same = ap (λ l. l ∷ []) (same_first b c [] [] each each' same)
-one_blocks (b ∷ []) (c ∷ d ∷ ds) some some' each each' shorter shorter' same = grind (arith, no_more, same_first b c [] (d ∷ ds) each each' same)
-one_blocks (b ∷ d ∷ ds) (c ∷ []) some some' each each' shorter shorter' same = grind (arith, no_more, same_first b c (d ∷ ds) [] each each' same)
-one_blocks (b ∷ d ∷ ds) (c ∷ k ∷ ks) some some' each each' shorter shorter' same =
+-- bs are the blocks cs and the lone block, and the last of cs is full
+abbrev pub AddsLone : List (List ℕ) → List (List ℕ) → Type 0
+AddsLone bs cs = (front : List (List ℕ)) × (block : List ℕ) × IsFull block × (cs ≡ front ++ block ∷ []) × (bs ≡ front ++ block ∷ lone_block ∷ [])
+
+-- blocks that stand for the message of canonical blocks are these, or these and the lone block
+pub same_blocks : (bs cs : List (List ℕ)) → bs ≢ [] → cs ≢ [] → All IsBlock bs → All IsBlock cs → IsShorter cs → message_of bs ≡ message_of cs → (bs ≡ cs) ⊎ AddsLone bs cs
+same_blocks [] cs some some' each each' shorter same = absurd (some refl)
+same_blocks (b ∷ bs) [] some some' each each' shorter same = absurd (some' refl)
+same_blocks (b ∷ []) (c ∷ []) some some' each each' shorter same = inl (ap (λ l. l ∷ []) (same_first b c [] [] each each' same))
+same_blocks (b ∷ []) (c ∷ d ∷ ds) some some' each each' shorter same =
+    let lone = then_lone c d ds each' (ap bytes_of (sym (same_first b c [] (d ∷ ds) each each' same)) ∙ same) in
+    absurd (shorter [] c lone.0 (ap (λ l. c ∷ l) lone.1))
+same_blocks (b ∷ d ∷ ds) (c ∷ []) some some' each each' shorter same =
+    let first = same_first b c (d ∷ ds) [] each each' same in
+    let lone = then_lone b d ds each (ap bytes_of first ∙ sym same) in
+    inr ([], b, lone.0, ap (λ l. l ∷ []) (sym first), ap (λ l. b ∷ l) lone.1)
+same_blocks (b ∷ d ∷ ds) (c ∷ k ∷ ks) some some' each each' shorter same =
     let first = same_first b c (d ∷ ds) (k ∷ ks) each each' same in
     let rest : message_of (d ∷ ds) ≡ message_of (k ∷ ks) = grind (arith, append_cancel_left) in
-    cc (one_blocks (d ∷ ds) (k ∷ ks) (λ z. cc) (λ z. cc) (All-tail IsBlock b (d ∷ ds) each) (All-tail IsBlock c (k ∷ ks) each') (IsShorter-tail b (d ∷ ds) shorter) (IsShorter-tail c (k ∷ ks) shorter') rest)
+    elim (same_blocks (d ∷ ds) (k ∷ ks) (λ z. cc) (λ z. cc) (All-tail IsBlock b (d ∷ ds) each) (All-tail IsBlock c (k ∷ ks) each') (IsShorter-tail c (k ∷ ks) shorter) rest) [
+      | inl all ↦ inl cc
+      | inr (front, block, full, is, longer) ↦ inr (b ∷ front, block, full, cc, cc)
+    ]
 
 pub IsEncodedFrame-shorter : (f m : List ℕ) (e : IsEncodedFrame f m) → IsShorter e.reads.blocks
-IsEncodedFrame-shorter f m e = grind (arith, IsShorter, one_frame)
+IsEncodedFrame-shorter f m e = grind (arith, one_frame)
 
 -- a message has one encoded frame
 pub one_encoded : (f g m : List ℕ) → IsEncodedFrame f m → IsEncodedFrame g m → f ≡ g
 one_encoded f g m e d =
     let fr = e.reads.frame in
     let gr = d.reads.frame in
-    let same = one_blocks _ _ fr.some gr.some fr.each gr.each (IsEncodedFrame-shorter f m e) (IsEncodedFrame-shorter g m d) (sym e.reads.message ∙ d.reads.message) in
-    grind arith
+    elim (same_blocks _ _ fr.some gr.some fr.each gr.each (IsEncodedFrame-shorter g m d) (sym e.reads.message ∙ d.reads.message)) [
+      | inl same ↦ grind arith
+      | inr (front, block, full, is, longer) ↦ absurd (IsEncodedFrame-shorter f m e front block full longer)
+    ]
 
 pub length-encoded : (f m : List ℕ) → IsEncodedFrame f m → length f ≡ encoded_len m
 length-encoded f m e =
     let r = e.reads in
-    ap length r.frame.whole ∙ length-blocks r.blocks r.frame.some r.frame.each (IsEncodedFrame-shorter f m e) ∙ ap encoded_len (sym r.message)
+    let end = shorter_end r.blocks r.frame.some r.frame.each (IsEncodedFrame-shorter f m e) in
+    grind (arith, len-blocks, concat-push, encoded_len-last, length-append)
 
 -- equal frames have equal messages
 pub same_message : (f g m k : List ℕ) → IsEncodedFrame f m → IsEncodedFrame g k → f ≡ g → m ≡ k

@@ -15,6 +15,7 @@ use crate::error::DestBufTooSmallError;
 pub(crate) fn write_each(source: &[u8], dest: &mut [u8]) -> usize
     requires { encoded_len source.now ≤ length dest.old }
     ensures frame { IsEncodedFrame (take result dest.new) source.now }
+    ensures no_sentinel { HasNoZero (take result dest.new) }
     ensures len { result ≡ encoded_len source.now }
     ensures rest { drop result dest.new ≡ drop result dest.old }
 {

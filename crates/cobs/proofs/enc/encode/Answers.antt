@@ -2,7 +2,7 @@
 -- `write_each`.
 use Rattle.std.proofs.Common.{arith}
 use Rattle.cobs.proofs.format.SentinelLemmas.{encoded_nonzero}
-use Rattle.cobs.proofs.encoding.TakingLemmas.{start-after, start-len}
+use Rattle.cobs.proofs.encoding.TakingLemmas.{start-after}
 use Rattle.cobs.proofs.enc.encode.Goals as goal
 use Rattle.std.proofs.lemmas.Grind.{common_steps}
 
@@ -10,13 +10,10 @@ pub returns-then-source-le-WINDOW-clause-frame : goal.returns-then-source-le-WIN
 returns-then-source-le-WINDOW-clause-frame c = c.close.ensures.frame c.args.source.now (start-after c.args.dest.now _ c.new.ensures.start (omega arith) c.append_short-encoder.ensures)
 
 pub returns-then-source-le-WINDOW-clause-len : goal.returns-then-source-le-WINDOW-clause-len
-returns-then-source-le-WINDOW-clause-len c = grind (arith, common_steps, start-len)
+returns-then-source-le-WINDOW-clause-len c = grind (arith, common_steps)
 
 pub returns-then-source-le-WINDOW-clause-no_sentinel : goal.returns-then-source-le-WINDOW-clause-no_sentinel
 returns-then-source-le-WINDOW-clause-no_sentinel c = encoded_nonzero (returns-then-source-le-WINDOW-clause-frame c)
 
 pub returns-clause-no_sentinel : goal.returns-clause-no_sentinel
 returns-clause-no_sentinel c = encoded_nonzero c.encode_long.ensures.frame
-
-pub returns-then-not-has_vectors-clause-no_sentinel : goal.returns-then-not-has_vectors-clause-no_sentinel
-returns-then-not-has_vectors-clause-no_sentinel c = encoded_nonzero c.write_each.ensures.frame

@@ -6,13 +6,13 @@ use Rattle.std.proofs.lemmas.Slice.{drop-append-drop}
 use Rattle.cobs.specs.Grammar.{IsEncodedFrame}
 use Rattle.cobs.specs.Length.{encoded_len}
 use Rattle.cobs.specs.Sentinel.{IsEncodedFrameFor, xor_each}
-use Rattle.cobs.proofs.encoding.RoomLemmas.{blocks-most}
+use Rattle.cobs.proofs.format.LengthLemmas.{encoded_len-le}
 use Rattle.cobs.proofs.format.SentinelLemmas.{xor_each-twice}
 use Rattle.cobs.proofs.enc.encode_block.Goals as goal
 use Rattle.cobs.proofs.enc.encode_block.Goals.{After-xor_bytes}
 
 len-short : (m : List ℕ) → length m < 255 → encoded_len m ≡ length m + 1
-len-short m short = omega (arith, blocks-most 0 m)
+len-short m short = omega (arith, encoded_len-le m)
 
 -- a frame of which each byte is XORed with s is a frame for s
 frame_for : (s n : ℕ) (coded changed m : List ℕ) → n ≤ length coded → changed ≡ xor_each s (take n coded) → IsEncodedFrame (take n coded) m
@@ -26,14 +26,13 @@ pub returns-clause-frame : goal.returns-clause-frame
 returns-clause-frame c =
     let coded : List ℕ = c.encode-len.new.dest in
     let m : List ℕ = c.args.source.now in
-    frame_for c.args.sentinel (length m + 1) coded c.xor_bytes.new.bytes m (omega (arith, c.requires.room)) c.xor_bytes.ensures.changed
+    frame_for c.args.sentinel (length m + 1) coded c.xor_bytes.new.bytes m (omega arith) c.xor_bytes.ensures.changed
     (rw (len-is (goal.at.returns-clause-frame c).After-xor_bytes) at c.encode-len.ensures.frame)
 
 pub returns-clause-rest : goal.returns-clause-rest
 returns-clause-rest c =
     let coded : List ℕ = c.encode-len.new.dest in
     let n : ℕ = length c.args.source.now + 1 in
-    let within : n ≤ length coded = omega (arith, c.requires.room) in
-    let len : length c.xor_bytes.new.bytes ≡ n = grind (arith, length-map, length-take-le) in
+    let len : length c.xor_bytes.new.bytes ≡ n = grind (arith, length-take-le) in
     drop-append-drop n coded c.xor_bytes.new.bytes n (omega arith) len
     ∙ (rw (len-is (goal.at.returns-clause-rest c).After-xor_bytes) at c.encode-len.ensures.rest)

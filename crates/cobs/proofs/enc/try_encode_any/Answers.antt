@@ -1,19 +1,18 @@
 -- The whole source was taken from an encoder that had taken nothing (`start-after`), and closing its last block ends the
 -- frame.
 use Rattle.std.proofs.Common.{◌<◌, ◌∙◌, length, arith}
-use Rattle.std.proofs.lemmas.Grind.{common_steps}
 use Rattle.cobs.proofs.encoding.TakingLemmas.{start-after, start-len}
 use Rattle.cobs.proofs.format.SentinelLemmas.{encoded_nonzero}
 use Rattle.cobs.proofs.enc.try_encode_any.Goals as goal
 
 pub returns-clause-frame : goal.returns-clause-frame
 returns-clause-frame c =
-    let some : 0 < length c.args.dest.now = grind (arith, common_steps) in
+    let some : 0 < length c.args.dest.now = grind arith in
     c.close.ensures.frame c.args.source.now (start-after c.args.dest.now _ c.new-encoder.ensures.start some (c.try_append.ensures.taken cc))
 
 pub returns-clause-len : goal.returns-clause-len
 returns-clause-len c =
-    let some : 0 < length c.args.dest.now = grind (arith, common_steps) in
+    let some : 0 < length c.args.dest.now = grind arith in
     c.close.ensures.end ∙ start-len c.args.dest.now _ c.new-encoder.ensures.start some (c.try_append.ensures.taken cc)
 
 pub returns-clause-no_sentinel : goal.returns-clause-no_sentinel

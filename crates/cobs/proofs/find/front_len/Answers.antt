@@ -51,53 +51,51 @@ module _ (c : After-zeros_at-later) where
   inside = grind arith
 
   later : Window (drop at source) c.zeros_at-later.result
-  later = grind (arith, inside, length-drop, at, source)
+  later = grind (arith, length-drop)
 
   both : (k : ℕ) → HasNoZero (take k (drop at source)) → HasNoZero (take (at + k) source)
   both k after =
       let none = zero_mask-none (take 32 source) (sym c.zeros_at-zeros.ensures ∙ c.if-zeros-ne0.false) in
-      let front = rw (take-take at 32 source (omega (arith, c.min-at.ensures))) at (All-take (λ b. b ≢ 0) at (take 32 source) none) in
+      let front = rw (take-take at 32 source (omega arith)) at (All-take (λ b. b ≢ 0) at (take 32 source) none) in
       rw (take-add at k source) (All-append (λ b. b ≢ 0) (take at source) (take k (drop at source)) front after)
 
   -- the second window has no zero either
   module _ (none : c.zeros_at-later.result ≡ 0) where
     windows : HasNoZero (take (at + 32) source)
-    windows = grind (arith, both, zero_mask-none, at, source, later)
+    windows = grind (arith, both, zero_mask-none, later)
 
     wide : 64 ≤ length source → HasNoZero (take 64 source)
     wide long =
-        let far : c.min-at.result + 32 ≡ 64 = omega (arith, c.min-at.ensures) in
+        let far : c.min-at.result + 32 ≡ 64 = omega arith in
         rw far at windows
 
     wide_more : 64 < length source → get_or source 64 0 ≢ 0 → HasNoZero (take 65 source)
     wide_more more other = All-more (λ b. b ≢ 0) source 64 0 more (wide (omega arith)) other
 
-pub returns-then-zeros-ne0-clause-within : goal.returns-then-zeros-ne0-clause-within
-returns-then-zeros-ne0-clause-within c = grind (arith, at, After-zeros_at-zeros, within)
+pub returns-then-zeros-ne0 : goal.returns-then-zeros-ne0
+returns-then-zeros-ne0 c =
+    let w : Window c.args.source.now c.zeros_at-zeros.result = record { long = omega arith; is = c.zeros_at-zeros.ensures } in
+    let some = c.if-zeros-ne0.true in
+    let lt = within w some in
+    record {
+      within = omega arith;
+      near = λ _. omega arith;
+      before = λ _. before w some;
+      stop = λ _. stop w some;
+    }
 
-pub returns-then-zeros-ne0-clause-before : goal.returns-then-zeros-ne0-clause-before
-returns-then-zeros-ne0-clause-before c _ = grind (arith, before, at, After-zeros_at-zeros)
-
-pub returns-then-zeros-ne0-clause-stop : goal.returns-then-zeros-ne0-clause-stop
-returns-then-zeros-ne0-clause-stop c _ = grind (arith, stop, at, After-zeros_at-zeros)
-
-pub returns-then-later-ne0-clause-within : goal.returns-then-later-ne0-clause-within
-returns-then-later-ne0-clause-within c =
-    let after = (goal.at.returns-then-later-ne0-clause-within c).After-zeros_at-later in
-    omega (arith, within (later after) c.if-later-ne0.true, inside after)
-
-pub returns-then-later-ne0-clause-near : goal.returns-then-later-ne0-clause-near
-returns-then-later-ne0-clause-near c _ =
-    omega (arith, c.min-at.ensures, within (later (goal.at.returns-then-later-ne0-clause-near c).After-zeros_at-later) c.if-later-ne0.true)
-
-pub returns-then-later-ne0-clause-before : goal.returns-then-later-ne0-clause-before
-returns-then-later-ne0-clause-before c _ =
-    let after = (goal.at.returns-then-later-ne0-clause-before c).After-zeros_at-later in
-    both after _ (before (later after) c.if-later-ne0.true)
-
-pub returns-then-later-ne0-clause-stop : goal.returns-then-later-ne0-clause-stop
-returns-then-later-ne0-clause-stop c _ =
-    sym (get_or-drop c.min-at.result c.args.source.now _ 0) ∙ stop (later (goal.at.returns-then-later-ne0-clause-stop c).After-zeros_at-later) c.if-later-ne0.true
+pub returns-then-later-ne0 : goal.returns-then-later-ne0
+returns-then-later-ne0 c =
+    let after = (goal.at.returns-then-later-ne0 c).After-zeros_at-later in
+    let w = later after in
+    let some = c.if-later-ne0.true in
+    let lt = within w some in
+    record {
+      within = omega arith;
+      near = λ _. omega arith;
+      before = λ _. both after _ (before w some);
+      stop = λ _. sym (get_or-drop c.min-at.result c.args.source.now _ 0) ∙ stop w some;
+    }
 
 pub returns-then-source-eq0-clause-before : goal.returns-then-source-eq0-clause-before
 returns-then-source-eq0-clause-before c _ = wide (goal.at.returns-then-source-eq0-clause-before c).After-zeros_at-later c.if-later-ne0.false (omega arith)
@@ -107,7 +105,7 @@ returns-then-source-eq0-2-clause-before c _ =
     let more = wide_more (goal.at.returns-then-source-eq0-2-clause-before c).After-zeros_at-later c.if-later-ne0.false in
     elim c.else-source-gt-WIDE_WINDOW.branch [
       | else-source-gt-WIDE_WINDOW-via-then-source-gt-WIDE_WINDOW+else-source-eq0 w ↦ more w.if-source-gt-WIDE_WINDOW.true w.if-source-eq0.false
-      | else-source-gt-WIDE_WINDOW-via-else-source-gt-WIDE_WINDOW w ↦ absurd (omega (arith, w.if-source-gt-WIDE_WINDOW, c.if-source.true))
+      | else-source-gt-WIDE_WINDOW-via-else-source-gt-WIDE_WINDOW w ↦ absurd (omega arith)
     ]
 
 pub returns-clause-before : goal.returns-clause-before
@@ -115,9 +113,9 @@ returns-clause-before c short =
     let after = (goal.at.returns-clause-before c).After-zeros_at-later in
     elim c.else-source-gt-WIDE_WINDOW.branch [
       | else-source-gt-WIDE_WINDOW-via-then-source-gt-WIDE_WINDOW+else-source-eq0 w ↦
-          let last : 65 ≡ length c.args.source.now = omega (arith, w.if-source-gt-WIDE_WINDOW.true, short) in
+          let last : 65 ≡ length c.args.source.now = omega arith in
           rw (← last) (wide_more after c.if-later-ne0.false w.if-source-gt-WIDE_WINDOW.true w.if-source-eq0.false)
       | else-source-gt-WIDE_WINDOW-via-else-source-gt-WIDE_WINDOW w ↦
-          let all : c.min-at.result + 32 ≡ length c.args.source.now = omega (arith, c.min-at.ensures, w.if-source-gt-WIDE_WINDOW.false) in
+          let all : c.min-at.result + 32 ≡ length c.args.source.now = omega arith in
           rw (← all) (windows after c.if-later-ne0.false)
     ]

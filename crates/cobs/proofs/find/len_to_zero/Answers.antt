@@ -1,9 +1,8 @@
 -- The bytes that were passed have no zero (`Searched`). Each iteration passes four bytes, or one byte, that aren't
 -- zeros (`next`, `shorter`).
 use Rattle.std.proofs.Common.{◌≡◌, ◌≢◌, ◌∙◌, ◌+◌, ◌-◌, ◌<◌, ◌≤◌, ◌++◌, ℕ, List, length, take, drop, get_or, ap, sym, subst, arith, length-drop, refl, take_all}
-use Rattle.std.proofs.lemmas.Bool.{eqb-false}
-use Rattle.std.proofs.lemmas.List.{drop-drop, take_more}
-use Rattle.std.proofs.lemmas.List.Elements.{All-append, All-nil, All-push}
+use Rattle.std.proofs.lemmas.List.{drop-drop}
+use Rattle.std.proofs.lemmas.List.Elements.{All-append, All-nil}
 use Rattle.std.proofs.Math.Seq.{take-add}
 use Rattle.std.proofs.lemmas.Grind.{common_steps}
 use Rattle.cobs.specs.Grammar.{HasNoZero}
@@ -12,14 +11,14 @@ use Rattle.cobs.proofs.find.len_to_zero.Goals as goal
 
 -- one more byte that isn't a zero
 next : (xs : List ℕ) (n : ℕ) → n < length xs → get_or xs n 0 ≢ 0 → HasNoZero (take n xs) → HasNoZero (take (n + 1) xs)
-next xs n here other front = grind (arith, common_steps, take_more, All-push)
+next xs n here other front = grind (arith, common_steps)
 
 -- the rest without its first bytes, which have no zero
 shorter : (bytes rest after : List ℕ) (k : ℕ) → Searched bytes rest → k ≤ length rest → HasNoZero (take k rest) → after ≡ take (length rest - k) (drop k rest) → Searched bytes after
 shorter bytes rest after k s within nonzero is =
     let n : ℕ = length bytes - length rest in
     let after-is : after ≡ drop k rest = grind (arith, take_all, length-drop) in
-    let sum : n + k ≡ length bytes - length after = omega (arith, s.within, ap length after-is, length-drop k rest) in
+    let sum : n + k ≡ length bytes - length after = omega (arith, ap length after-is, length-drop k rest) in
     let part : take k (drop n bytes) ≡ take k rest = ap (take k) (sym s.rest) in
     record {
       within = omega (arith, s.within, ap length after-is, length-drop k rest);
@@ -42,5 +41,5 @@ pub by_byte-preserved : goal.by_byte-preserved
 by_byte-preserved c =
     let rest : List ℕ = c.by_byte.rest.now in
     let none : HasNoZero (take 0 rest) = All-nil (λ b. b ≢ 0) in
-    let some : length rest ≢ 0 = grind (arith, eqb-false) in
-    shorter c.args.bytes.now rest _ 1 c.by_byte.invariant (omega (arith, some)) (next rest 0 (omega (arith, some)) c.if-rest-ne0.true none) refl
+    let some : length rest ≢ 0 = grind arith in
+    shorter c.args.bytes.now rest _ 1 c.by_byte.invariant (omega arith) (next rest 0 (omega arith) c.if-rest-ne0.true none) refl

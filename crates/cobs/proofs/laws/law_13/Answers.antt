@@ -1,14 +1,14 @@
--- The open frame of a streaming encoder: its length follows by `OpenLemmas`, and how it differs from the encoded frame
+-- The open frame of a streaming encoder: its length follows by `OpenedLemmas`, and how it differs from the encoded frame
 -- by `EnumerationLemmas`.
 use Rattle.std.proofs.Common.{sym}
 use Rattle.cobs.proofs.encoding.AfterLemmas.{end-is}
 use Rattle.cobs.proofs.format.EnumerationLemmas.{open_longer, open_shorter}
-use Rattle.cobs.proofs.encoding.OpenLemmas.{length-IsOpenOutput, index-IsOpenOutput}
+use Rattle.cobs.proofs.encoding.OpenedLemmas.{length-IsOpenOutput, index-IsOpenOutput}
 use Rattle.cobs.proofs.laws.law_13.Goals as goal
 
 pub returns : goal.returns
 returns c = record {
-  output = λ g m state o. (length-IsOpenOutput g state m o, index-IsOpenOutput g state m o);
+  output = λ g m state o. (length-IsOpenOutput o, index-IsOpenOutput o);
   shorter = open_shorter;
   longer = open_longer;
   end = λ slice m reached after. sym (end-is after);

@@ -2,8 +2,5 @@
 use Rattle.cobs.proofs.format.EnumerationLemmas.{all_frames, length-second}
 use Rattle.cobs.proofs.laws.law_3.Goals as goal
 
-pub returns-clause-frames : goal.returns-clause-frames
-returns-clause-frames c = all_frames
-
-pub returns-clause-longer : goal.returns-clause-longer
-returns-clause-longer c = length-second
+pub returns : goal.returns
+returns c = record { frames = all_frames; longer = length-second }

@@ -2,8 +2,5 @@
 use Rattle.cobs.proofs.format.JoinLemmas.{front_frame, front_message}
 use Rattle.cobs.proofs.laws.law_7.Goals as goal
 
-pub returns-clause-frame : goal.returns-clause-frame
-returns-clause-frame c = front_frame
-
-pub returns-clause-message : goal.returns-clause-message
-returns-clause-message c = front_message
+pub returns : goal.returns
+returns c = record { frame = front_frame; message = front_message }

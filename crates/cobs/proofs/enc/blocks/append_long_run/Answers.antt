@@ -28,10 +28,7 @@ module _ (c : After-copy_from_slice) where
       c.min-len.result c.by_block.index (c.by_block.next + c.min-len.result) IsNotFull
   joined =
       let i = c.by_block.invariant in
-      let ordered = i.ordered in
       let place = i.taken.place in
-      let end = i.taken.end in
-      let within = c.requires.run.within in
       let long = length-drop c.by_block.read c.args.source.now in
       let at : c.by_block.index + (c.by_block.next - c.by_block.index) ≡ c.by_block.next = omega arith in
       let nonzero = part-nonzero c.by_block.read c.min-len.result c.args.run c.args.source.now c.requires.run.nonzero (omega arith) in
@@ -40,8 +37,6 @@ module _ (c : After-copy_from_slice) where
 pub by_block-preserved : goal.by_block-preserved
 by_block-preserved c =
     let s = joined (goal.at.by_block-preserved c).After-copy_from_slice in
-    let end = c.by_block.invariant.taken.end in
-    let ordered' = s.ordered in
     let short = s.short in
     record {
       within = omega arith;
@@ -54,7 +49,6 @@ by_block-preserved c =
 pub by_block-preserved-then-next-index : goal.by_block-preserved-then-next-index
 by_block-preserved-then-next-index c =
     let s = joined (goal.at.by_block-preserved-then-next-index c).After-copy_from_slice in
-    let end = c.by_block.invariant.taken.end in
     record {
       within = omega arith;
       ordered = omega arith;
@@ -66,11 +60,7 @@ pub returns-clause-taken : goal.returns-clause-taken
 returns-clause-taken c =
     let left : List ℕ = drop c.by_block.read c.args.source.now in
     let i = c.by_block.invariant in
-    let ordered = i.ordered in
     let t = i.taken in
-    let end = t.end in
-    let within = c.requires.run.within in
-    let stop = c.requires.run.stop (omega arith) in
     let zero : get_or left 0 0 ≡ 0 = grind (arith, drop_more) in
     let long = length-drop c.by_block.read c.args.source.now in
     let one : c.by_block.next + 1 - c.by_block.next ≡ 1 = omega arith in

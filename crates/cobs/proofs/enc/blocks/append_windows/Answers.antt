@@ -3,6 +3,7 @@
 use Rattle.std.proofs.Common.{ℕ, ◌≡◌, refl, ◌∙◌, ◌≢◌, ◌<◌, ◌≤◌, ◌+◌, ◌-◌, min, ap, sym, arith, length, take, drop, length-drop}
 use lib.Count.{count_trailing_zeros}
 use Rattle.std.proofs.lemmas.Grind.{common_steps}
+use Rattle.std.proofs.lemmas.Simd.{length-chunk}
 use Rattle.cobs_bytes.specs.Mask.{lowest, without_lowest}
 use Rattle.std.proofs.lemmas.List.{length-set, take_rest}
 use Rattle.cobs.specs.Internal.Marks.{IsMasked}
@@ -10,9 +11,9 @@ use Rattle.cobs.specs.Internal.Reaches.{Start, start_with}
 use Rattle.std.proofs.Math.ListN.{set}
 use Rattle.cobs.specs.Fields.Progress.{reached_by}
 use Rattle.cobs.proofs.encoding.ReachLemmas.{Reaches-weaker}
-use Rattle.cobs.proofs.encoding.MarkLemmas.{CopiedWindow, WindowTaken, copied-reaches, filled, first-within, length-after, length-row, lowest-none, masked-end, masked-start, masked-step, row-taken}
+use Rattle.cobs.proofs.encoding.MarkLemmas.{CopiedWindow, WindowTaken, copied-by, filled, first-within, lowest-none, masked-end, masked-start, masked-step, row-taken}
 use Rattle.cobs_bytes.proofs.bytes.MaskLemmas.{window_all}
-use Rattle.cobs.proofs.encoding.TakingLemmas.{front-none, front-open, front-taken, reaches-start}
+use Rattle.cobs.proofs.encoding.TakingLemmas.{front-open, front-taken, reaches-start}
 use Rattle.cobs.proofs.enc.blocks.append_windows.Goals.{After-copy_at-window, Joined-window-eq0, After-write_codes_of_zeros-zeros}
 use Rattle.cobs.proofs.enc.blocks.append_windows.Goals as goal
 
@@ -24,8 +25,14 @@ module _ (c : After-copy_at-window) where
   abbrev zeros : ℕ
   zeros = c.copy_at-window.result
 
-  copied : CopiedWindow start c.by_window.dest c.copy_at-window.new.dest c.by_window.read 32 c.by_window.index c.by_window.next zeros
-  copied = grind (arith, Reaches-weaker, zeros)
+  copied : CopiedWindow start c.copy_at-window.new.dest c.by_window.read 32 c.by_window.index c.by_window.next zeros
+  copied = record {
+    some = omega arith;
+    few = omega arith;
+    short = omega arith;
+    copied = copied-by c.by_window.invariant.reaches (omega arith) (omega arith) c.copy_at-window.ensures.copied;
+    bits = c.copy_at-window.ensures.zeros;
+  }
 
   -- the window with a code in the place of its first zero
   abbrev first : ℕ
@@ -36,7 +43,7 @@ module _ (c : After-copy_at-window) where
   coded some near = let ordered = c.by_window.invariant.reaches.ordered in masked-step (masked-start copied (omega arith)) some
 
 pub returns-then-source-le-WINDOW-clause-taken : goal.returns-then-source-le-WINDOW-clause-taken
-returns-then-source-le-WINDOW-clause-taken c = grind (arith, common_steps, front-none)
+returns-then-source-le-WINDOW-clause-taken c = grind (arith, common_steps)
 
 pub by_window-init : goal.by_window-init
 by_window-init c =
@@ -54,20 +61,19 @@ mark_zeros-index-requires c = (_, _, _, coded (goal.at.mark_zeros-index-requires
 
 -- a row of zeros is taken
 row : (c : After-write_codes_of_zeros-zeros) → let s = start_with c.args.dest.now (reached_by c.args.encoder) c.args.source.now in let n = c.write_codes_of_zeros-zeros.result in
-    CopiedWindow s c.by_window.dest c.copy_at-window.new.dest c.by_window.read 32 c.by_window.index c.by_window.next c.copy_at-window.result
+    CopiedWindow s c.copy_at-window.new.dest c.by_window.read 32 c.by_window.index c.by_window.next c.copy_at-window.result
     → WindowTaken s c.write_codes_of_zeros-zeros.new.dest c.by_window.read n (c.by_window.next + n - 1) c.by_window.next × (0 < n) × (c.by_window.read + n < length c.args.source.now)
 unfolding count_trailing_zeros
 row c w =
-    let fits = length-after w.copied in
+    let fits = w.copied.room in
     let long = length-drop c.by_window.read c.args.source.now in
-    let n = length-row w.copied in
+    let n = length-chunk c.by_window.read 32 c.args.source.now w.copied.inside in
     let zeros = (window_all (take 32 (drop c.by_window.read c.args.source.now)) (omega arith) (sym w.bits ∙ c.if-window-eq-ALL_ZEROS.true)).1 in
     let first : lowest c.copy_at-window.result ≡ 0 = ap lowest c.if-window-eq-ALL_ZEROS.true in
     let code : c.by_window.next + lowest c.copy_at-window.result - c.by_window.index ≡ c.by_window.next - c.by_window.index = omega arith in
     let written = rw (take_rest c.args.source.now c.by_window.read, code) at c.write_codes_of_zeros-zeros.ensures in
     let some = written.some (omega arith) zeros in
-    let within = written.within in
-    (row-taken (copied-reaches w.copied) w.short fits c.write_codes_of_zeros-zeros.result some (omega arith) written.zeros written.written, some, omega arith)
+    (row-taken (w.copied.reaches) w.short fits c.write_codes_of_zeros-zeros.result some (omega arith) written.zeros written.written, some, omega arith)
 
 pub by_window-preserved-then-window-eq-ALL_ZEROS : goal.by_window-preserved-then-window-eq-ALL_ZEROS
 by_window-preserved-then-window-eq-ALL_ZEROS c =
@@ -90,18 +96,16 @@ none-near : (c : Joined-window-eq0) → (c.copy_at-window.result ≢ 0 → lowes
     → c.by_window.index + 255 - c.by_window.next ≤ min (lowest c.copy_at-window.result) 32
 none-near c first = grind (arith, lowest-none)
 
-pub returns-in-by_window-clause-within : goal.returns-in-by_window-clause-within
-returns-in-by_window-clause-within c =
-    let w = copied (goal.at.returns-in-by_window-clause-within c).After-copy_at-window in
-    let none = none-near (goal.at.returns-in-by_window-clause-within c).Joined-window-eq0 (first-within w) in
-    omega arith
-
-pub returns-in-by_window-clause-taken : goal.returns-in-by_window-clause-taken
-returns-in-by_window-clause-taken c =
-    let w = copied (goal.at.returns-in-by_window-clause-taken c).After-copy_at-window in
-    let none = none-near (goal.at.returns-in-by_window-clause-taken c).Joined-window-eq0 (first-within w) in
+pub returns-in-by_window : goal.returns-in-by_window
+returns-in-by_window c =
+    let at = goal.at.returns-in-by_window c in
+    let w = copied at.After-copy_at-window in
+    let none = none-near at.Joined-window-eq0 (first-within w) in
     let long = length-set c.copy_at-window.new.dest c.by_window.index 255 in
-    front-taken (omega arith) (filled w none (omega arith)) (omega arith) (λ all. absurd (omega arith)) (omega arith) c.encoder_at.ensures
+    record {
+      within = omega arith;
+      taken = front-taken (omega arith) (filled w none (omega arith)) (omega arith) (λ all. absurd (omega arith)) (omega arith) c.encoder_at.ensures;
+    }
 
 pub returns-clause-taken : goal.returns-clause-taken
 returns-clause-taken c =

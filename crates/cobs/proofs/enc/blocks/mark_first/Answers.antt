@@ -1,6 +1,5 @@
 -- One zero of each window that the mask describes is marked, by `masked-first`.
 use Rattle.std.proofs.Common.{refl, arith}
-use Rattle.std.proofs.lemmas.Grind.{common_steps}
 use Rattle.cobs.proofs.encoding.MarkLemmas.{masked-first, masked-ordered}
 use Rattle.cobs.proofs.enc.blocks.mark_first.Goals as goal
 
@@ -8,4 +7,4 @@ pub overflow_sub-dest : goal.overflow_sub-dest
 overflow_sub-dest c = masked-ordered c.requires.3
 
 pub returns-clause-marks : goal.returns-clause-marks
-returns-clause-marks c = λ start read len m. masked-first m _ (c.if-zeros-eq0.index, _) refl (λ none. grind (arith, common_steps)) (λ some. grind (arith, common_steps))
+returns-clause-marks c = λ start read len m. masked-first m _ (c.if-zeros-eq0.index, _) refl (λ none. grind arith) (λ some. grind arith)

@@ -1,13 +1,59 @@
 -- Each byte closes the open block or joins it. The open block has room for all bytes of the part, because a full one is
--- closed before the part (`opened`).
-use Rattle.std.proofs.Common.{length, ◌≡◌, ◌<◌, ◌+◌, ◌-◌, ◌∙◌, false, ℕ, List, drop, get_or, take, refl, arith}
-use Rattle.std.proofs.lemmas.List.{get_or-drop, get_or-take}
-use Rattle.cobs.specs.Internal.Reaches.{Reaches}
-use Rattle.cobs.proofs.encoding.ReachLemmas.{IsNotFull, Reaches-at, Reaches-full, Reaches-weaker, Reaches-zero}
-use Rattle.cobs.proofs.encoding.TakingLemmas.{joined}
-use Rattle.cobs.proofs.encoding.WholeLemmas.{start, whole-fits, whole-frame, whole-len, whole-rest, whole-start}
+-- closed before the part (`opened`). The last block is closed at the end, whether it is full or not (`whole-frame`).
+use Rattle.std.proofs.Common.{length, ◌≡◌, ◌<◌, ◌+◌, ◌-◌, ◌∙◌, false, ℕ, List, drop, get_or, take, refl, arith, ◌≤◌, sym, inl, inr, append-nil}
+use Rattle.std.proofs.lemmas.List.{get_or-drop, get_or-take, drop-set-lt}
+use Rattle.cobs.specs.Internal.Reaches.{Reaches, HadTaken, Start, start_with, whole_end}
+use Rattle.cobs.proofs.encoding.ReachLemmas.{IsNotFull, Reaches-at, Reaches-full, Reaches-weaker, Reaches-zero, ends}
+use Rattle.cobs.proofs.encoding.TakingLemmas.{joined, front-filled, front-open, start-after}
+use Rattle.cobs.proofs.format.SentinelLemmas.{encoded_nonzero}
 use Rattle.cobs.proofs.enc.each.write_each.Goals.{After-min-len, then-next-index-eq-FULL_CODE, else-next-index-eq-FULL_CODE, then-byte-eq0, else-byte-eq0}
 use Rattle.cobs.proofs.enc.each.write_each.Goals as goal
+use Rattle.std.proofs.Math.ListN.{set}
+use Rattle.std.proofs.lemmas.Bool.{cases_lt}
+use Rattle.cobs.specs.Grammar.{IsEncodedFrame}
+use Rattle.cobs.specs.Length.{encoded_len}
+use Rattle.cobs.specs.OpenBlock.{place_at}
+use Rattle.cobs.proofs.encoding.AfterLemmas.{closed-full, closed-open, from_after}
+
+-- a new encoder, and the message
+abbrev start : List ℕ → List ℕ → Start
+start old source = start_with old (place_at 0 1 false) source
+
+-- the end of the message's frame
+whole-fits : (old source : List ℕ) → 0 < length old → whole_end (start old source) ≡ encoded_len source
+whole-fits old source some = grind arith
+
+whole-start : {old source : List ℕ} → 0 < length old → Reaches (start old source) old 0 0 1 IsNotFull
+unfolding HadTaken
+whole-start {old} {source} some = record {
+  ordered = omega arith;
+  short = omega arith;
+  within = omega arith;
+  end = omega (arith, whole-fits old source some);
+  rest = refl;
+  taken = λ m h. (false, refl, rw append-nil (from_after h));
+}
+
+-- the last block of the message is closed
+module _ {old source slice : List ℕ} {pos index next : ℕ} (some : 0 < length old) (last : pos ≡ length source) (fits : encoded_len source ≤ length slice) (r : Reaches (start old source) slice pos index next IsNotFull) where
+  whole-len : next ≡ encoded_len source
+  whole-len = sym (ends r last) ∙ whole-fits old source some
+
+  whole-rest : drop next (set slice index (next - index)) ≡ drop next old
+  whole-rest = let ordered = r.ordered in drop-set-lt next slice index (next - index) (omega arith) ∙ (rw (ends r last) at r.rest)
+
+  whole-frame : IsEncodedFrame (take next (set slice index (next - index))) source
+  whole-frame =
+      let end = whole-fits old source some in
+      let r' : Reaches (start old source) slice (length source) index next IsNotFull = rw (← last) r in
+      elim (cases_lt next (index + 255)) [
+        | inl open' ↦ (let sum : index + (next - index) ≡ next = omega arith in
+            let after = start-after old (place_at 0 1 false) refl some (front-open (omega arith) r' open' sum refl) in
+            rw sum at (closed-open after refl))
+        | inr full ↦ (let code : next - index ≡ 255 = omega arith in
+            let after = start-after old (place_at 0 1 false) refl some (front-filled (omega arith) (omega arith) r' refl refl) in
+            rw code (closed-full after refl))
+      ]
 
 pub by_part-init : goal.by_part-init
 by_part-init c = whole-start (omega arith)
@@ -21,11 +67,11 @@ opened c =
     elim c.if-next-index-eq-FULL_CODE.branch [
       | then-next-index-eq-FULL_CODE w ↦ rw (w.dest-is, w.index-is, w.next-is)
           (omega arith, Reaches-full r (omega arith) (omega arith) (omega arith) (λ none. absurd (omega arith)))
-      | else-next-index-eq-FULL_CODE w ↦ rw (w.dest-is, w.index-is, w.next-is) (omega (arith, w.if-next-index-eq-FULL_CODE.false), Reaches-weaker r (λ full p none. p))
+      | else-next-index-eq-FULL_CODE w ↦ rw (w.dest-is, w.index-is, w.next-is) (omega arith, Reaches-weaker r (λ full p none. p))
     ]
 
 pub by_byte-init : goal.by_byte-init
-by_byte-init c = grind (arith, opened, After-min-len, Reaches-at)
+by_byte-init c = grind (arith, opened)
 
 pub by_byte-preserved : goal.by_byte-preserved
 by_byte-preserved c =
@@ -37,7 +83,6 @@ by_byte-preserved c =
     let fits = whole-fits c.args.dest.now source (omega arith) in
     let i = c.by_byte.invariant in
     let open' = i.open' in
-    let ordered = i.reaches.ordered in
     elim c.if-byte-eq0.branch [
       | then-byte-eq0 w ↦ rw (w.dest-is, w.index-is) (record {
         open' = omega arith;
@@ -49,11 +94,13 @@ by_byte-preserved c =
       })
     ]
 
-pub returns-clause-frame : goal.returns-clause-frame
-returns-clause-frame c = let within = c.by_part.invariant.within in whole-frame (omega arith) (omega arith) (omega arith) c.by_part.invariant
-
-pub returns-clause-len : goal.returns-clause-len
-returns-clause-len c = grind (arith, whole-len)
-
-pub returns-clause-rest : goal.returns-clause-rest
-returns-clause-rest c = grind (arith, whole-rest)
+pub returns : goal.returns
+returns c =
+    let r = c.by_part.invariant in
+    let frame = whole-frame (omega arith) (omega arith) (omega arith) r in
+    record {
+      frame = frame;
+      no_sentinel = encoded_nonzero frame;
+      len = grind (arith, whole-len);
+      rest = grind (arith, whole-rest);
+    }

@@ -1,6 +1,5 @@
 -- The frame so far ends before the bytes that are still to be read (`encoded_len-le`), so each of these is as it was (`there`).
 use Rattle.std.proofs.Common.{◌≡◌, ◌<◌, ◌≤◌, ◌+◌, ◌-◌, ◌++◌, ℕ, List, [], ◌∷◌, drop, take, get_or, refl, sym, ◌∙◌, arith, length, length-drop, length-take}
-use Rattle.std.proofs.lemmas.Bool.{cases_Bool}
 use Rattle.std.proofs.lemmas.List.{get_or-drop, length_push, take_more}
 use Rattle.cobs.specs.Fields.Progress.{reached_by}
 use Rattle.cobs.specs.Length.{max_encoded_len}
@@ -9,14 +8,14 @@ use Rattle.cobs.specs.Overwritten.{message_in}
 use Rattle.cobs.proofs.format.LengthLemmas.{encoded_len-le}
 use Rattle.cobs.proofs.format.SentinelLemmas.{encoded_nonzero}
 use Rattle.cobs.proofs.encoding.AfterLemmas.{after-end, after-place, end-is}
-use Rattle.cobs.proofs.encoding.StepLemmas.{room-only}
-use Rattle.cobs.proofs.encoding.TakingLemmas.{all-end, all-rest, next-least}
+use Rattle.cobs.proofs.encoding.ByteLemmas.{room-only}
+use Rattle.cobs.proofs.encoding.TakingLemmas.{next-least}
 use Rattle.cobs.proofs.enc.in_place.encode_in_place.Goals as goal
 use Rattle.cobs_bytes.proofs.bytes.ListLemmas.{drop-later}
 
 -- the frame ends at the place of the next byte at the latest
 end-le : (r : Reached) → end_of r ≤ next_of r
-end-le r = grind (arith, cases_Bool)
+end-le r = grind arith
 
 -- lists that are equal from index a on have the same element at each index from a on
 there : (a k : ℕ) (x y : List ℕ) → a ≤ k → drop a x ≡ drop a y → get_or x k 0 ≡ get_or y k 0
@@ -35,7 +34,6 @@ by_byte-init c = grind arith
 pub append_byte-requires : goal.append_byte-requires
 append_byte-requires c =
     let i = c.by_byte.invariant in
-    let r : Reached = reached_by c.by_byte.encoder in
     let byte : ℕ = get_or c.by_byte.buffer (c.max_encoding_overhead-before.result + c.by_byte.taken) 0 in
     let long = length-take c.by_byte.taken (drop c.max_encoding_overhead-before.result c.args.buffer.now) in
     let room = room-only c.by_byte.encoder (length c.by_byte.buffer) byte
@@ -57,7 +55,7 @@ by_byte-preserved c =
     let byte : get_or c.by_byte.buffer at 0 ≡ get_or (drop before old) c.by_byte.taken 0 =
     there (end_of r) at c.by_byte.buffer old (omega arith) i.rest ∙ sym (get_or-drop before old c.by_byte.taken 0) in
     let more : take (c.by_byte.taken + 1) (drop before old) ≡ take c.by_byte.taken (drop before old) ++ get_or c.by_byte.buffer at 0 ∷ [] = grind (arith, take_more) in
-    grind (arith, all-rest, drop-later, all-end, end-le r, next-least r (get_or c.by_byte.buffer at 0 ∷ []) (after-place i.after).some (omega arith))
+    grind (arith, drop-later, end-le r, next-least r (get_or c.by_byte.buffer at 0 ∷ []) (after-place i.after).some (omega arith))
 
 pub close_block-requires : goal.close_block-requires
 close_block-requires c = after-place c.by_byte.invariant.after

@@ -1,8 +1,8 @@
--- The blocks that the bytes before `read` need are counted (`blocks_in`), `run` nonzero bytes before `read` are in the
--- open block, and `first` is the length of the first run, if it is known.
+-- The frame fits exactly if the rest of it fits. This follows from `total`, as in `fits_each`: before `read` there are
+-- `counted` full blocks and `run` nonzero bytes after them. `first` is the length of the first run, if it is known.
 use Rattle.std.proofs.Common.{◌≡◌, ◌<◌, ◌≤◌, ◌+◌, ◌-◌, length, drop}
+use Rattle.cobs.specs.Length.{open_len}
 use Rattle.cobs.specs.Internal.Taking.{IsFirstRun}
-use Rattle.cobs.proofs.encoding.RoomLemmas.{blocks_in, behind}
 use Rattle.cobs.proofs.enc.room.fits.Given as goal
 
 abbrev pub invariant-by_run : goal.invariant-by_run
@@ -10,7 +10,7 @@ invariant-by_run l = record {
   within : l.read ≤ length l.source;
   run : l.run < 254;
   first : 0 < l.first → IsFirstRun l.first l.source;
-  counted : l.counted + blocks_in (behind l.run (drop l.read l.source)) ≡ blocks_in (behind l.taken l.source);
+  total : open_len (l.run + 1) (drop l.read l.source) + l.counted + l.read + l.taken ≡ open_len (l.taken + 1) l.source + l.run;
 }
 
 abbrev pub decreases-by_run : goal.decreases-by_run

@@ -2,12 +2,12 @@
 -- `len-byte` and `len-zero` say how a full block and a byte change the first number, and `len-end` is its value at the end.
 use Rattle.std.proofs.Common.{◌≡◌, ◌<◌, ◌+◌, arith, drop, length-drop}
 use Rattle.cobs.specs.Length.{open_len}
-use Rattle.cobs.proofs.encoding.OpenLenLemmas.{len-full, len-end, len-byte, len-zero, open_len-least}
+use Rattle.cobs.proofs.encoding.OpenLenLemmas.{len-full, len-end, len-byte, len-zero}
 use Rattle.cobs.proofs.enc.room.fits_each.Goals as goal
 use Rattle.cobs.proofs.enc.room.fits_each.Goals.{then-taken-eq-FULL_BLOCK_BYTES+else-left-eq0, else-taken-eq-FULL_BLOCK_BYTES, then-bytes-i-ne0, else-bytes-i-ne0}
 
 pub returns-then-left-eq0 : goal.returns-then-left-eq0
-returns-then-left-eq0 c = grind (arith, len-full, open_len-least, length-drop)
+returns-then-left-eq0 c = grind (arith, len-full, length-drop)
 
 pub returns : goal.returns
 returns c = grind (arith, len-end)
@@ -24,18 +24,15 @@ by_byte-preserved c =
     elim c.if-taken-eq-FULL_BLOCK_BYTES.branch [
       | then-taken-eq-FULL_BLOCK_BYTES+else-left-eq0 w ↦
           let full = len-full c.args.bytes.now c.by_byte.i next (c.by_byte.taken + 1) (omega arith) in
-          let left = w.if-left-eq0.false in
           rw (w.left-is, w.taken-is) (omega arith, omega arith, omega arith)
       | else-taken-eq-FULL_BLOCK_BYTES w ↦ let other = w.if-taken-eq-FULL_BLOCK_BYTES.false in rw (w.left-is, w.taken-is) (omega arith, more, total)
     ] in
-    let short' = ready.0 in
     let more' = ready.1 in
-    let total' = ready.2 in
     elim c.if-bytes-i-ne0.branch [
       | then-bytes-i-ne0 w ↦
           let step = len-byte c.args.bytes.now c.by_byte.i next (c.if-taken-eq-FULL_BLOCK_BYTES.taken + 1) (omega arith) w.if-bytes-i-ne0.true in
           rw (w.taken-is) (record { short = omega arith; more = more'; total = omega arith })
       | else-bytes-i-ne0 w ↦
-          let step = len-zero c.args.bytes.now c.by_byte.i next (c.if-taken-eq-FULL_BLOCK_BYTES.taken + 1) (omega arith) (omega arith) w.if-bytes-i-ne0.false in
+          let step = len-zero c.args.bytes.now c.by_byte.i next (c.if-taken-eq-FULL_BLOCK_BYTES.taken + 1) (omega arith) w.if-bytes-i-ne0.false in
           rw (w.taken-is) (record { short = omega arith; more = more'; total = omega arith })
     ]

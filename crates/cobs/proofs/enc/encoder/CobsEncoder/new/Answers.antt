@@ -1,10 +1,9 @@
 -- A new encoder is at the start of its slice (`start-place`), and has taken nothing.
 use Rattle.std.proofs.Common.{arith}
-use Rattle.cobs.proofs.encoding.TakingLemmas.{start-place}
 use Rattle.cobs.proofs.enc.encoder.CobsEncoder.new.Goals as goal
 
 pub invariant_of-result : goal.invariant_of-result
-invariant_of-result c = grind (arith, start-place)
+invariant_of-result c = grind arith
 
 pub returns-clause-taken : goal.returns-clause-taken
 returns-clause-taken c = grind arith

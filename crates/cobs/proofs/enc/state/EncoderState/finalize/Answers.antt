@@ -1,7 +1,6 @@
 -- The last code completes the open frame, by `completed`.
-use Rattle.std.proofs.Common.{arith}
-use Rattle.cobs.proofs.encoding.OpenLemmas.{completed}
+use Rattle.cobs.proofs.encoding.OpenedLemmas.{completed}
 use Rattle.cobs.proofs.enc.state.EncoderState.finalize.Goals as goal
 
 pub returns-clause-completed : goal.returns-clause-completed
-returns-clause-completed c = grind (arith, completed)
+returns-clause-completed c = λ m g o. completed (rw (← c.self.view_is) at o)

@@ -1,7 +1,6 @@
 -- A zero closes the open block, and any other byte joins or fills it: the three steps of `ByteLemmas`.
 use Rattle.std.proofs.Common.{length, refl, arith}
-use Rattle.cobs.proofs.encoding.ByteLemmas.{byte-fills, byte-joins, byte-zero}
-use Rattle.cobs.proofs.encoding.StepLemmas.{is-place}
+use Rattle.cobs.proofs.encoding.ByteLemmas.{byte-fills, byte-joins, byte-zero, is-place}
 use Rattle.cobs.proofs.enc.unbuffered.UnbufferedEncoder.append_byte.Goals.{then-byte-eq0, else-byte-eq0+then-code-eq-FULL_BLOCK_BYTES, else-byte-eq0+else-code-eq-FULL_BLOCK_BYTES}
 use Rattle.cobs.proofs.enc.unbuffered.UnbufferedEncoder.append_byte.Goals as goal
 

@@ -5,7 +5,6 @@ use Rattle.std.proofs.lemmas.List.{get_or-drop}
 use Rattle.cobs.specs.Internal.Taking.{TakesFront}
 use Rattle.cobs.specs.OpenBlock.{Reached, end_after, place_at}
 use Rattle.cobs.proofs.encoding.ByteLemmas.{byte-fills, byte-joins, byte-zero}
-use Rattle.cobs.proofs.encoding.OpenLenLemmas.{open_len-least}
 use Rattle.cobs.proofs.encoding.TakingLemmas.{front-next}
 use Rattle.cobs.proofs.enc.unbuffered.UnbufferedEncoder.append_each.Goals.{then-byte-ne0, else-byte-ne0, then-byte-eq0, then-byte-eq0-via-then-byte-eq0, then-byte-eq0-via-else-byte-eq0+then-left-eq0, else-byte-eq0+else-left-eq0}
 use Rattle.cobs.proofs.enc.unbuffered.UnbufferedEncoder.append_each.Goals as goal
@@ -18,17 +17,13 @@ next i before is byte = rw (sym is) (front-next i refl before 1 byte)
 pub by_byte-preserved : goal.by_byte-preserved
 by_byte-preserved c =
     let i = c.by_byte.invariant in
-    let ordered' = i.ordered in
     let short = i.short in
     let t = i.taken.2 in
-    let end = t.end in
     let source : List ℕ = c.args.bytes.now in
     let left : List ℕ = drop c.by_byte.i source in
     let is : get_or left 0 0 ≡ get_or source c.by_byte.i 0 = get_or-drop c.by_byte.i source 0 0 ∙ ap (λ n. get_or source n 0) (omega arith) in
     let some : 0 < length left = omega (arith, length-drop c.by_byte.i source) in
     let fits : end_after (place_at c.by_byte.index (c.by_byte.next - c.by_byte.index) i.taken.0) left ≤ length c.by_byte.dest = omega arith in
-    let least = open_len-least (c.by_byte.next - c.by_byte.index) left (omega arith) in
-    let room : c.by_byte.next < length c.by_byte.dest = grind (arith, end_after) in
     let at : c.by_byte.next ≡ c.by_byte.index + (c.by_byte.next - c.by_byte.index) = omega arith in
     elim c.if-byte-ne0.branch [
       | then-byte-ne0 a ↦ elim c.if-byte-eq0.branch [

@@ -1,9 +1,9 @@
 -- The three tests say exactly that the byte has room (`room-only`, `has-room`), and then `append_byte` takes it.
-use Rattle.std.proofs.Common.{[], ◌∷◌, length, refl, arith}
+use Rattle.std.proofs.Common.{[], ◌∷◌, length, refl, arith, rules}
 use Rattle.cobs.specs.Fields.Progress.{reached_by}
 use Rattle.cobs.specs.OpenBlock.{HasRoomFor}
 use Rattle.cobs.specs.Internal.Taking.{TakesFront}
-use Rattle.cobs.proofs.encoding.StepLemmas.{has-room, room-only}
+use Rattle.cobs.proofs.encoding.ByteLemmas.{has-room, room-only}
 use Rattle.cobs.proofs.encoding.TakingLemmas.{all-after, all-rest}
 use Rattle.cobs.proofs.encoding.AfterLemmas.{after-end, after-place}
 use Rattle.cobs.proofs.enc.unbuffered.UnbufferedEncoder.feed_len.Goals.{Joined-then-code-gt-FULL_BLOCK_BYTES, After-append_byte, then-code-gt-FULL_BLOCK_BYTES-via-then-code-gt-FULL_BLOCK_BYTES}
@@ -12,7 +12,7 @@ use Rattle.cobs.proofs.enc.unbuffered.UnbufferedEncoder.feed_len.Goals as goal
 -- after one of the tests failed there is no room
 none : (c : Joined-then-code-gt-FULL_BLOCK_BYTES) → HasRoomFor (length c.args.dest.now) (reached_by c.args.self.now) (c.args.byte ∷ []) → ⊥
 none c h =
-    grind (arith, then-code-gt-FULL_BLOCK_BYTES-via-then-code-gt-FULL_BLOCK_BYTES, room-only c.args.self.now (length c.args.dest.now) c.args.byte h)
+    grind (arith, room-only c.args.self.now (length c.args.dest.now) c.args.byte h)
 
 pub returns-then-code-gt-FULL_BLOCK_BYTES-clause-room : goal.returns-then-code-gt-FULL_BLOCK_BYTES-clause-room
 returns-then-code-gt-FULL_BLOCK_BYTES-clause-room c = (λ t. cc, λ h. absurd (none c h))
@@ -28,20 +28,18 @@ room c = has-room c.args.self.now c.args.dest.now c.args.byte (omega arith) (ome
 taken : (c : After-append_byte) → TakesFront c.args.dest.now (reached_by c.args.self.now) (c.args.byte ∷ []) 1 c.append_byte.new.dest (reached_by c.append_byte.new.self)
 taken c = c.append_byte.ensures.taken [] (room c).fits
 
-pub returns-clause-room : goal.returns-clause-room
-returns-clause-room c = (λ t. room (goal.at.returns-clause-room c).After-append_byte, λ h. refl)
-
-pub returns-clause-fits : goal.returns-clause-fits
-returns-clause-fits c = λ m h.
-    let end = after-end h (c.args.byte ∷ []) in
-    let fits = (room (goal.at.returns-clause-fits c).After-append_byte).fits in
-    (λ t. omega arith, λ le. refl)
-
-pub returns-clause-taken : goal.returns-clause-taken
-returns-clause-taken c = all-after (taken (goal.at.returns-clause-taken c).After-append_byte)
-
-pub returns-clause-rest : goal.returns-clause-rest
-returns-clause-rest c = all-rest (taken (goal.at.returns-clause-rest c).After-append_byte)
-
-pub returns-clause-within : goal.returns-clause-within
-returns-clause-within c = (taken (goal.at.returns-clause-within c).After-append_byte).place
+pub returns : goal.returns
+returns c =
+    let after = (goal.at.returns c).After-append_byte in
+    let t = taken after in
+    let fits = (room after).fits in
+    record {
+      room = (λ t. room after, λ h. refl);
+      fits = λ m h. (let end = after-end h (c.args.byte ∷ []) in (λ t. omega arith, λ le. refl));
+      taken = all-after t;
+      rest = all-rest t;
+      within = t.place;
+      len = search rules;
+      refused = search rules;
+      end = search rules;
+    }

@@ -21,8 +21,6 @@ pub returns-then-self-bytes-clause-fits : goal.returns-then-self-bytes-clause-fi
 returns-then-self-bytes-clause-fits c = λ m h.
     let e = after-end h c.args.bytes.now in
     let end = all-end c.append_short.ensures in
-    let fits = c.append_short.ensures.place.fits in
-    let long = c.append_short.auto.dest in
     (λ t. omega arith, λ le. refl)
 
 pub returns-then-not-try_append-clause-fits : goal.returns-then-not-try_append-clause-fits

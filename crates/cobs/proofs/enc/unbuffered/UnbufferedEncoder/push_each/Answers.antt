@@ -4,7 +4,7 @@
 use Rattle.std.proofs.Common.{append-nil, [], ◌≡◌, ◌≢◌, length, refl, sym, ◌∙◌, arith}
 use Rattle.std.proofs.lemmas.Bool.{eqb-false}
 use Rattle.std.proofs.lemmas.Grind.{common_steps}
-use Rattle.cobs.proofs.encoding.StepLemmas.{end-with, place-short}
+use Rattle.cobs.proofs.encoding.ByteLemmas.{end-with, place-short}
 use Rattle.cobs.proofs.encoding.AfterLemmas.{after-end, after-fits, after-place}
 use Rattle.cobs.proofs.encoding.TakingLemmas.{all-end}
 use Rattle.cobs.proofs.enc.unbuffered.UnbufferedEncoder.push_each.Goals as goal
@@ -13,7 +13,7 @@ use Rattle.cobs.proofs.enc.unbuffered.UnbufferedEncoder.push_each.Goals.{then-se
 pub returns-then-self-gt253-clause-fits : goal.returns-then-self-gt253-clause-fits
 returns-then-self-gt253-clause-fits c = λ m h.
     let place = after-place h in
-    grind (arith, then-self-gt253-via-then-self-gt253, place-short c.args.self.now _ place)
+    grind arith
 
 pub returns-then-self-ne0-clause-fits : goal.returns-then-self-ne0-clause-fits
 returns-then-self-ne0-clause-fits c = λ m h.
@@ -34,6 +34,4 @@ pub returns-clause-fits : goal.returns-clause-fits
 returns-clause-fits c = λ m h.
     let e = after-end h c.args.bytes.now in
     let end = all-end c.append_each.ensures in
-    let fits = c.append_each.ensures.place.fits in
-    let long = c.append_each.auto.dest in
     (λ t. omega arith, λ le. refl)
