@@ -29,6 +29,8 @@ use arrayvec::ArrayVec;
 pub struct CobsDecoderHeapless<const N: usize> {
     dest: ArrayVec<u8, N>,
     inner: UnbufferedDecoder,
+
+    /// The vector is always full, so the buffer has `N` bytes.
     ghost filled: { length dest.items ≡ N },
 }
 
@@ -74,7 +76,8 @@ impl<const N: usize> CobsDecoderHeapless<N> {
     }
 
     /// Decodes the next byte of the stream. The results and errors are those of
-    /// [`CobsDecoder::feed`](crate::CobsDecoder::feed).
+    /// [`CobsDecoder::feed`](crate::CobsDecoder::feed). As there, each byte changes the decoder's state as it changes a
+    /// [`DecoderState`](crate::DecoderState), as long as the output of the piece fits the buffer.
     ///
     /// ```
     /// let mut decoder = CobsDecoderHeapless::<4>::new();

@@ -27,6 +27,8 @@ use crate::error::DestBufTooSmallError;
 pub struct CobsEncoder<'a> {
     dest: &'a mut [u8],
     encoder: UnbufferedEncoder,
+
+    /// The frame so far is within the slice, and the slice has room for the code of the open block.
     ghost place: { IsPlaceIn (length dest.now) (reached_by encoder) },
 }
 

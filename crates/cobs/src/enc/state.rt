@@ -63,6 +63,7 @@ impl Model for EncoderState {
     ghost use Rattle.std.specs.Prelude.{◌<◌};
     ghost use Rattle.cobs.specs.OpenBlock.{OpenBlock};
 
+    // Contracts describe an `EncoderState` by an `OpenBlock`, a record of its two numbers. The code is from 1 to 254.
     ghost Value = { OpenBlock };
 
     ghost view = { λ s. record { index = s.code_index; code = s.code } };

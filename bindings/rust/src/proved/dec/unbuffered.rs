@@ -109,7 +109,8 @@ impl UnbufferedDecoder {
     }
 
     /// Decodes the next byte of the stream, with `dest` as the buffer. The results and errors are those of
-    /// [`CobsDecoder::feed`](crate::CobsDecoder::feed).
+    /// [`CobsDecoder::feed`](crate::CobsDecoder::feed). As there, each byte changes the decoder's state as it changes a
+    /// [`DecoderState`](crate::DecoderState), as long as the output of the piece fits the buffer.
     ///
     /// ```
     /// use jcobs::UnbufferedDecoder;
@@ -159,6 +160,7 @@ impl UnbufferedDecoder {
         let mut at = 0;
         while at < bytes.len() {
             at += self.take_at_once(dest, &bytes[at..]);
+            // The byte at `at` is a zero, or `dest` has no room for its output. Without vectors it may be any byte.
             if at < bytes.len() {
                 let parsed_size = at + 1;
                 match self.feed(dest, bytes[at]) {
@@ -204,6 +206,7 @@ impl UnbufferedDecoder {
                     if is_all {
                         return None;
                     }
+                    // A piece is open, so the zero ends it, and `reported` doesn't return `None`.
                     let end = PieceEnd::reported(self.feed(dest, 0))?;
                     return Some((end, front + 1));
                 }
@@ -218,6 +221,7 @@ impl UnbufferedDecoder {
         if taken == bytes.len() {
             return None;
         }
+        // The byte at `taken` is the zero that ends the open piece.
         let last = PieceEnd::reported(self.end(dest.len()))?;
         Some((last, taken + 1))
     }
