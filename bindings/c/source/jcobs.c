@@ -599,6 +599,7 @@ jcobs_answer jcobs_decode_in_place(void *buffer, size_t buffer_len)
     size_t frame_len = jcobs_length_to_zero(buffer_bytes, buffer_len);
     jcobs_end decoded = jcobs_decode_blocks(buffer_bytes, frame_len);
 
+    /* The zero after the frame is consumed too, if there is one. */
     return jcobs_in_place_answer(jcobs_min(buffer_len, frame_len + 1), buffer_len, decoded);
 }
 
@@ -762,7 +763,8 @@ static JCOBS_INLINE jcobs_piece jcobs_decoder_take_bytes(jcobs_decoder *decoder,
     return jcobs_make_piece(JCOBS_END_NONE, 0, 0);
 }
 
-/* Returns the number of decoded bytes of the open piece that are in the buffer. The buffer has buffer_size bytes. */
+/* Returns the number of decoded bytes of the open piece that are in the buffer. The buffer has buffer_size bytes.
+ * Even if the decoder's state is corrupt, the number is at most buffer_size. */
 static JCOBS_INLINE size_t jcobs_decoder_length(const jcobs_decoder *decoder, size_t buffer_size)
 {
     if (decoder->too_long != 0) {
@@ -1005,6 +1007,7 @@ static jcobs_frame_length jcobs_encoder_close(jcobs_encoder *encoder, unsigned c
  * as they were. */
 jcobs_answer jcobs_encoder_finish(jcobs_encoder *encoder, void *buffer, size_t buffer_size)
 {
+    /* No frame fits an empty buffer. Without this test, a corrupt state could end in a frame of 0 bytes. */
     if (buffer_size == 0) {
         return jcobs_too_small_answer();
     }
@@ -1026,6 +1029,7 @@ jcobs_answer jcobs_encoder_finish_terminated(jcobs_encoder *encoder, void *buffe
 {
     unsigned char *const buffer_bytes = (unsigned char *)buffer;
 
+    /* The shortest frame and the zero need two bytes. */
     if (buffer_size < 2) {
         return jcobs_too_small_answer();
     }

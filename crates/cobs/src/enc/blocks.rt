@@ -116,7 +116,8 @@ pub(crate) fn append_few(
 
 /// Encodes a `source` of up to 32 bytes, which can't fill the open block. The function has few branches that a
 /// processor could mispredict: it calls `mark_first` twice before a branch depends on the number of zeros. If
-/// `test_for_none` is true, a branch first tests whether `source` has a zero.
+/// `test_for_none` is true, a branch first tests whether `source` has a zero. Pushes set this flag, because with it a
+/// push without a zero is faster.
 #[inline(always)]
 #[tactic(auto, using(crate::proofs::encoding::TakingLemmas::next_steps))]
 pub(crate) fn append_short(
