@@ -111,6 +111,7 @@ module _ (counted : (f m : List ℕ) → IsEncodedFrame f m → length f ≡ enc
   -- a byte after the bytes that were written for a message
   module _ {IsWanted IsEnded : List ℕ → List ℕ → Type 0} {encoder encoder' : UnbufferedEncoder} {buffer part : List ℕ} {result : Answer} (last s : ℕ) (room : last + 1 ≡ length buffer) (len : length part ≡ last)
       (f : Finishes 0 IsWanted encoder (take last buffer) result encoder' part) where
+    -- if that call succeeded, the whole call has written the frame and this byte
     pub Finishes-terminated : ((x m : List ℕ) → IsWanted x m → IsEnded (x ++ s ∷ []) m) → result.status ≡ OK
         → Finishes 1 IsEnded encoder buffer (record { status = OK; consumed = result.consumed; length = result.length + 1 }) encoder' (set (part ++ drop last buffer) result.length s)
     Finishes-terminated ended ok = let front : length (take last buffer) ≡ last = length-take-le last buffer (omega arith) in record {
@@ -130,6 +131,7 @@ module _ (counted : (f m : List ℕ) → IsEncodedFrame f m → length f ≡ enc
       len = length-set (part ++ drop last buffer) result.length s ∙ length-append part (drop last buffer) ∙ omega (arith, length-drop last buffer);
     }
 
+    -- if that call failed, the whole call has no room either, and nothing has changed
     pub Finishes-no_room : result.status ≢ OK → Finishes 1 IsEnded encoder buffer result encoder' (part ++ drop last buffer)
     Finishes-no_room other =
         let front : length (take last buffer) ≡ last = length-take-le last buffer (omega arith) in

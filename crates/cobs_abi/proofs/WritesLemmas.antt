@@ -12,6 +12,7 @@ module _ {size taken : ℕ} {IsWanted : List ℕ → Type 0} {buffer : List ℕ}
   pub Writes-ok : Writes size taken IsWanted buffer result buffer' → result.status ≡ OK → size ≤ length buffer
   Writes-ok w ok = grind (arith, leb-true, leb-false, cases_Bool)
 
+  -- if it fails, the frame is longer than the buffer
   pub Writes-failed : Writes size taken IsWanted buffer result buffer' → (result.status ≡ OK → ⊥) → length buffer < size
   Writes-failed w other = grind (arith, leb-true, leb-false, cases_Bool)
 

@@ -8,9 +8,11 @@ use Rattle.cobs.specs.declared.DecodeError.{DecodeError}
 
 -- the first piece, given its end in the bytes after the leading zeros of a source; by `none` and `found` of `law_12`
 module _ (source rest : List ℕ) (n : ℕ) (is : rest ≡ drop (leading_zeros source) source) (stop : n < length rest → get_or rest n 0 ≡ 0) where
+  -- if no nonzero byte follows the leading zeros, there is no piece
   pub first_none : ((t : List ℕ) → let r = drop (leading_zeros t) t in (0 < length r → get_or r 0 0 ≡ 0) → first_piece t ≡ None) → n ≡ 0 → first_piece source ≡ None
   first_none law none = law source (subst (λ (r : List ℕ). 0 < length r → get_or r 0 0 ≡ 0) is (subst (λ (k : ℕ). k < length rest → get_or rest k 0 ≡ 0) none stop))
 
+  -- otherwise the first piece is the n bytes after the leading zeros
   pub first_some : ((t : List ℕ) (k : ℕ) → let r = drop (leading_zeros t) t in 0 < k → k ≤ length r → HasNoZero (take k r) → (k < length r → get_or r k 0 ≡ 0) → first_piece t ≡ Some (take k r))
       → n ≤ length rest → HasNoZero (take n rest) → 0 < n → first_piece source ≡ Some (take n rest)
   first_some law within before some =

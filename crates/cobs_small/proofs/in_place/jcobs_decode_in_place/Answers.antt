@@ -17,6 +17,7 @@ unfolding head
 empty [] e = record { returned = refl; buffer = sym (drop_all _ [] (omega arith)) }
 empty (x ∷ source) e = absurd (omega arith)
 
+-- the result for a buffer that isn't empty is that for its head
 result-equals : (source : List ℕ) → 0 < length source → result_in_place source ≡ head_result (head source)
 result-equals [] some = absurd (omega arith)
 result-equals (x ∷ source) some = refl

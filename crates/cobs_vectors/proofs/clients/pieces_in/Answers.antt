@@ -21,11 +21,12 @@ module _ (law : StreamLaw) where
       let more : HasNoZero (unended t ++ b ∷ []) = All-push (λ x. x ≢ 0) (unended t) b (law.begun t) h in
       (sym (law.pieces t (b ∷ []) ∙ ap (λ x. ended_pieces t ++ x) (no_piece _ more) ∙ append-nil (ended_pieces t)), sym (law.left t (b ∷ []) ∙ law.same _ more))
 
-  -- a zero, without a piece before it, and with a piece before it
+  -- a zero, without a piece before it
   ends_none : (t : List ℕ) → unended t ≡ [] → ended_pieces t ≡ ended_pieces (t ++ 0 ∷ [])
   unfolding ended_pieces but_last
   ends_none t none = grind (arith, append-nil)
 
+  -- a zero, with a piece before it
   ends_one : (t : List ℕ) → unended t ≢ [] → ended_pieces t ++ unended t ∷ [] ≡ ended_pieces (t ++ 0 ∷ [])
   ends_one t some = grind arith
 

@@ -6,11 +6,13 @@ use Rattle.cobs.specs.Stream.{Outcome, Message, Broken, TooLong}
 use Rattle.cobs_vectors.specs.Relayed.{messages_of}
 use Rattle.cobs_vectors.proofs.clients.relay.Goals as goal
 
+-- the messages among an outcome and more outcomes
 first : (o : Outcome) (more : List Outcome) → messages_of (o ∷ []) ++ messages_of more ≡ messages_of (o ∷ more)
 first (Message message) more = refl
 first (Broken count) more = refl
 first TooLong more = refl
 
+-- one outcome is moved from the remaining outcomes to the messages that were sent
 relayed : (out out' found more all : List Outcome) (o : Outcome) → out ++ messages_of found ≡ all → found ≡ o ∷ more → out' ≡ out ++ messages_of (o ∷ []) → out' ++ messages_of more ≡ all
 relayed out out' found more all o so_far one reported = grind (arith, append_assoc, first)
 

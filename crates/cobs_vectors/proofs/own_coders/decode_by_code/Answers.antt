@@ -14,23 +14,28 @@ module _ (list : List ℕ) (read : ℕ) (nonzero : HasNoZero list) (within : rea
   abbrev code : ℕ
   code = get_or list read 0
 
+  -- the bytes at `read` are a block
   block : IsBlock (block_at list read)
   block = grind (arith, is_block)
 
   -- the block is the last one
   module _ (end : length list - read ≡ get_or list read 0) where
+    -- the rest is whole
     whole_end : is_whole (drop read list) ≡ true
     whole_end = grind (arith, last, block_at, block)
 
+    -- its kept output is the bytes of the block
     kept_end : ((block : List ℕ) → IsBlock block → output block ≡ bytes_of block) → ((p : List ℕ) → IsWhole p → kept_output p ≡ output p)
         → kept_output (drop read list) ≡ take (get_or list read 0 - 1) (drop (read + 1) list)
     kept_end one all_kept = grind (arith, last, block_at, block)
 
   -- more bytes follow the block
   module _ (far : get_or list read 0 < length list - read) where
+    -- the rest is whole exactly if the bytes after the block are
     whole_more : ((block p : List ℕ) → IsBlock block → p ≢ [] → is_whole (block ++ p) ≡ is_whole p) → is_whole (drop read list) ≡ is_whole (drop (read + get_or list read 0) list)
     whole_more whole = ap is_whole (split list read nonzero within) ∙ whole (block_at list read) (drop (read + code) list) block (more_some list read nonzero within far)
 
+    -- its kept output: the bytes of the block, the joint, and the kept output of the bytes after the block
     kept_more : ((block p : List ℕ) → IsBlock block → p ≢ [] → kept_output (block ++ p) ≡ bytes_of block ++ joint block ++ kept_output p)
         → kept_output (drop read list) ≡ take (get_or list read 0 - 1) (drop (read + 1) list) ++ joint (block_at list read) ++ kept_output (drop (read + get_or list read 0) list)
     kept_more kept = ap kept_output (split list read nonzero within) ∙ kept (block_at list read) (drop (read + code) list) block (more_some list read nonzero within far)

@@ -76,6 +76,7 @@ by_byte-preserved c =
 whole : (dest m : List ℕ) (i n : ℕ) → length m ≤ i → IsEncodedFrame (take n dest) (take i m) → IsEncodedFrame (take n dest) m
 whole dest m i n end frame = grind (arith, take_all)
 
+-- if the last block isn't full, there is room for its code
 end_in : (n : ℕ) (reached : Reached) → IsPlaceIn n reached → reached.full ≡ false → (reached.block.index < n) × (next_of reached ≤ n)
 end_in n reached place short = grind arith
 

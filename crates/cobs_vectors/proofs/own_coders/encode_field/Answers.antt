@@ -5,6 +5,7 @@ use Rattle.cobs.specs.OpenBlock.{CobsEncoderAfter, IsFewFor, Reached}
 use Rattle.cobs_vectors.proofs.own_coders.encode_field.Goals.{After-push_few}
 use Rattle.cobs_vectors.proofs.own_coders.encode_field.Goals as goal
 
+-- the encoder has taken the field
 after : (c : After-push_few) → CobsEncoderAfter c.push_few.new.dest (reached_by c.push_few.new.self) c.args.field.now
 after c =
     let start = c.new-encoder.ensures.start in

@@ -16,22 +16,27 @@ module _ (list : List ℕ) (read : ℕ) (nonzero : HasNoZero list) (within : rea
   one_left : ((block : List ℕ) → IsBlock block → IsCanonical block) → length list - read ≡ get_or list read 0 → IsCanonical (drop read list)
   one_left one end = grind (arith, last, block_at, is_block)
 
+  -- if the rest is the lone block, the code is 1
   lone_left : drop read list ≡ lone_block → get_or list read 0 ≡ 1
   lone_left lone = grind (arith, drop_more)
 
   -- the rest is a block and more bytes
   module _ (far : get_or list read 0 < length list - read) where
+    -- the bytes at `read` are a block
     block : IsBlock (block_at list read)
     block = grind (arith, is_block)
 
+    -- the rest is a frame exactly if the bytes after the block are
     frame_left : ((block f : List ℕ) → IsBlock block → f ≢ [] → (IsFrame (block ++ f) ↔ IsFrame f)) → IsFrame (drop read list) ↔ IsFrame (drop (read + get_or list read 0) list)
     frame_left law = subst (λ (x : List ℕ). IsFrame x ↔ IsFrame (drop (read + get_or list read 0) list)) (sym (split list read nonzero within)) (law (block_at list read) (drop (read + get_or list read 0) list) block (more_some list read nonzero within far))
 
+    -- the rest is canonical exactly if the bytes after the block are, and aren't the lone block after a full block
     canonical_left : ((block f : List ℕ) → IsBlock block → f ≢ [] → (IsCanonical (block ++ f) ↔ (IsCanonical f × (IsFull block → f ≢ lone_block))))
         → IsCanonical (drop read list) ↔ (IsCanonical (drop (read + get_or list read 0) list) × (IsFull (block_at list read) → drop (read + get_or list read 0) list ≢ lone_block))
     canonical_left law = subst (λ (x : List ℕ). IsCanonical x ↔ (IsCanonical (drop (read + get_or list read 0) list) × (IsFull (block_at list read) → drop (read + get_or list read 0) list ≢ lone_block)))
         (sym (split list read nonzero within)) (law (block_at list read) (drop (read + get_or list read 0) list) block (more_some list read nonzero within far))
 
+    -- the rest isn't the lone block
     not_lone : drop read list ≢ lone_block
     not_lone lone = let l = length-drop read list in let e = ap length lone in let some = code_some list read nonzero within in omega arith
 
