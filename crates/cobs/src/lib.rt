@@ -64,6 +64,7 @@
 //! contract, to be safe and to end. In the examples `rt` is the argument of `main`, and `alloc` is `rt.alloc()`.
 #![tactic(auto)]
 
+// Lines that begin with `ghost` are for contracts and proofs. They have no effect when a program runs.
 ghost use Rattle.std.specs.Prelude.{◌≡◌, ◌<◌, ◌^◌};
 ghost use Rattle.cobs.specs.Length.{max_overhead, max_encoded_len};
 

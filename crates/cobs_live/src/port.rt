@@ -103,7 +103,8 @@ pub trait Opener<R> {
     fn open(&self) -> io::Result<R>;
 }
 
-/// A line that is opened again each time it hangs up. A line hangs up if it ends, or if a read of it fails.
+/// A line that is opened again each time it hangs up. A line hangs up if it ends, or if a read of it fails with an error
+/// other than "interrupted" or "would block".
 #[derive(Drop)]
 pub struct Reopened<C, O, R> {
     clock: C,

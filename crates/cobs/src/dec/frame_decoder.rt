@@ -167,6 +167,7 @@ pub trait WriteBuffer: FrameDecoder {
     /// assert_eq!(rt; decoder.buffer(), [9, 9].as_slice());
     /// ```
     fn dest_mut(&mut self) -> &mut [u8]
+        // `Self.row` is the type `Self`, in the form that `LendsBytes` needs.
         ensures* writes_back { sem 𝓛 (LendsBytes Self.row self.entry result with_bytes) }
         ensures value { result.now ≡ Self.bytes self.old };
 

@@ -155,6 +155,7 @@ impl<const N: usize> CobsDecoderHeapless<N> {
     /// assert_eq!(rt; decoder.dest(), [9, 9].as_slice());
     /// ```
     pub fn dest_mut(&mut self) -> &mut [u8]
+        // `N.row` is `N`, in the form that a parameter of a type has in a contract.
         ensures* writes_back { sem 𝓛 (LendsHeapless N.row self.entry result) }
         ensures value { result.now ≡ heapless_buffer self.old }
     {

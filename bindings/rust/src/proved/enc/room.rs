@@ -85,6 +85,7 @@ fn fits(taken: u8, source: &[u8], room: usize) -> Option<usize> {
                 first = more;
             }
             read += more;
+            // The source ends with this run. A block that becomes full with the last byte isn't counted.
             if read == source.len() {
                 if spare <= held + counted + (run + more - 1) / FULL_BLOCK_BYTES {
                     return None;
