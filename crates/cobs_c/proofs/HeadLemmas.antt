@@ -11,7 +11,7 @@ use Rattle.cobs.specs.Piece.{kept_output, output}
 use Rattle.cobs.specs.Stream.{head}
 use Rattle.cobs.specs.declared.DecodeError.TheVariants.{InvalidFrame}
 
--- a nonzero byte in front of a list is in front of the list's head
+-- the head of a list that begins with a nonzero byte begins with this byte
 head-cons : (b : ℕ) (t : List ℕ) → head (suc b ∷ t) ≡ suc b ∷ head t
 unfolding head
 head-cons b t = grind (arith, slice_split-cons_no, ne_eqb)

@@ -1,5 +1,6 @@
--- Lemmas on the first piece of a source, given the ends of the leading zeros and of the piece (`first_none`,
--- `first_some`), and on the result of `decode` for this piece (`result-some`). By clauses of `law_12`.
+-- Lemmas on the first piece of a source. By clauses of `law_12`, the ends of the leading zeros and of the piece
+-- determine the piece (`first_none`, `first_some`). `result-some` is about the result of `decode` for this piece.
+-- `law_12`: A stream's first piece, and its last.
 use Rattle.std.proofs.Common.{◌≡◌, ◌<◌, ◌≤◌, ℕ, List, [], ◌∷◌, length, take, drop, get_or, Some, None, Result, Ok, Err, sym, subst, arith}
 use Rattle.cobs.specs.Grammar.{HasNoZero}
 use Rattle.cobs.specs.Decode.{leading_zeros, len_through_piece, result_of_decode, report_result, outcome_result}

@@ -101,6 +101,7 @@ fn check_with_sentinel(
     } else {
         CallResult::InvalidFrame(kept)
     };
+    // The call writes the output without the bytes of a broken block.
     let mut known = output;
     known.truncate(kept);
     let before = repeated(alloc, 170, room)?;

@@ -1,5 +1,6 @@
 -- A push reports the outcomes of the bytes that it consumed, which follow the outcomes of the earlier bytes (`law_9:
 -- cut`). A message is counted; an error and the end of the bytes aren't.
+-- `law_9`: A stream may be cut anywhere.
 use Rattle.std.proofs.Common.{◌≡◌, ◌≢◌, ◌≤◌, ◌+◌, ◌∙◌, ℕ, List, [], ◌∷◌, ◌++◌, length, take, drop, refl, sym, ap, arith, append_assoc, length-append, length-drop, take_all}
 use Rattle.std.specs.Prelude.{Option, Some, None, Result, Ok, Err}
 use Rattle.std.proofs.lemmas.List.{take_rest}

@@ -1,5 +1,6 @@
 -- The pieces and the begun bytes are those of the stream so far: one byte joins the begun piece (`joins`) or ends it
 -- (`ends_none`, `ends_one`), by the fields of `law_9`.
+-- `law_9`: A stream may be cut anywhere.
 use Rattle.std.proofs.Common.{◌≡◌, ◌≢◌, ℕ, ◌+◌, List, [], ◌∷◌, ◌++◌, get_or, length, take, take_all, sym, ap, ◌∙◌, append_assoc, append-nil, arith}
 use Rattle.std.proofs.lemmas.List.{length-map, map-append, nil_from_length, take_more}
 use Rattle.std.proofs.lemmas.List.Elements.{All-push}

@@ -1,5 +1,6 @@
 -- The messages that were sent, followed by the messages among the remaining outcomes, are all messages of the stream.
 -- Each piece moves its outcome from the remaining outcomes to the messages that were sent (`relayed`), by `law_21`.
+-- `law_21`: A loop over the pieces of a stream.
 use Rattle.std.proofs.Common.{◌≡◌, ◌-◌, ℕ, List, [], ◌∷◌, ◌++◌, length, drop, refl, ◌∙◌, arith, append_assoc, length-take, length-drop}
 use Rattle.std.proofs.lemmas.List.{drop-drop, take_rest}
 use Rattle.cobs.specs.Stream.{Outcome, Message, Broken, TooLong}

@@ -1,5 +1,6 @@
 -- The rest of the piece is a block, and then more bytes if there are any (`Blocks`). So each iteration adds the bytes
 -- of one block to the output, by `law_20`.
+-- `law_20`: The output of a piece, block by block.
 use Rattle.std.proofs.Common.{◌≡◌, ◌≢◌, ◌∙◌, ◌++◌, ◌∷◌, ◌+◌, ◌-◌, ◌<◌, ◌≤◌, ◌==◌, [], false, true, ℕ, List, length, take, drop, get_or, refl, sym, ap, arith, append_assoc, append-nil}
 use Rattle.std.proofs.lemmas.Bool.{eq-eqb, ne_eqb, true≢false}
 use Rattle.std.proofs.lemmas.List.Elements.{All-from_get_or}

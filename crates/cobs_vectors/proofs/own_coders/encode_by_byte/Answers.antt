@@ -1,5 +1,6 @@
 -- Each byte is one of the three steps of `law_16`. There is room for it, because the frame of the whole message fits
 -- (`room`).
+-- `law_16`: An encoder of your own, byte by byte.
 use Rattle.std.proofs.Common.{◌≡◌, ◌≢◌, ◌<◌, ◌≤◌, ◌+◌, ◌-◌, ◌∙◌, ℕ, false, List, [], ◌++◌, length, replicate, take, drop, get_or, slice_set, ap, arith, length-append, length-drop, take_all}
 use Rattle.std.proofs.lemmas.List.{length-replicate, length-set, take-append-drop, take_more}
 use Rattle.std.proofs.lemmas.List.Elements.{All-replicate}

@@ -1,4 +1,5 @@
--- A new encoder takes the field (`few`), so it has taken the field after the push (`after`), and the finish ends its frame.
+-- A new encoder accepts the field (`few`). So it has taken the field after the push (`after`), and `finalize` ends the
+-- field's frame.
 use Rattle.std.proofs.Common.{◌≡◌, [], ap, arith, length}
 use Rattle.cobs.specs.Fields.Encoders.{reached_by}
 use Rattle.cobs.specs.OpenBlock.{CobsEncoderAfter, IsFewFor, Reached}

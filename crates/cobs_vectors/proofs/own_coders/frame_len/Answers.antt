@@ -1,5 +1,7 @@
 -- The bytes of the open block may be replaced by ones (`one_more`). So the length of the frame follows from the closed
 -- blocks and from the length of the open block, by `law_15`.
+-- `law_4`: The length of a frame, and its bound.
+-- `law_15`: The length of a frame, counted block by block.
 use Rattle.std.proofs.Common.{◌≡◌, ◌≢◌, ◌<◌, ◌≤◌, ◌+◌, ◌∙◌, ℕ, List, [], ◌∷◌, ◌++◌, length, replicate, drop, drop-cons, get_or, sym, ap, add-one, arith, append_assoc, length-append}
 use Rattle.std.proofs.lemmas.List.{length-replicate}
 use Rattle.std.proofs.lemmas.List.Elements.{All-append, All-cons, All-nil, All-replicate}

@@ -1,5 +1,6 @@
 -- After each block, the kind of the piece depends only on the bytes after that block (`frame_left`, `canonical_left`),
 -- by `law_19`.
+-- `law_19`: The kind of a frame, block by block.
 use Rattle.std.proofs.Common.{◌≡◌, ◌≢◌, ◌↔◌, ◌++◌, ◌+◌, ◌-◌, ◌<◌, [], ℕ, List, length, drop, get_or, refl, sym, ap, subst, arith, length-drop}
 use Rattle.std.proofs.lemmas.Bool.{true≢false}
 use Rattle.std.proofs.lemmas.List.{drop_more}
