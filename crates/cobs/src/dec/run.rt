@@ -221,9 +221,12 @@ impl UnbufferedDecoder {
     }
 
     /// Decodes `bytes` as one span, or decodes nothing. Returns whether it decoded the bytes; if it returns false,
-    /// nothing has changed. The function decodes the bytes only if all these conditions hold: a piece has begun, and
-    /// isn't too long for the buffer; there are 1 to 31 bytes; none of the bytes is a zero; no full block ends before
-    /// the last byte; and `dest` has room for the output of the bytes.
+    /// nothing has changed. The function decodes the bytes only if all these conditions hold:
+    ///
+    /// - A piece has begun, and isn't too long for the buffer.
+    /// - There are 1 to 31 bytes, and none of them is a zero.
+    /// - No full block ends before the last byte.
+    /// - `dest` has room for the output of the bytes.
     #[inline(always)]
     pub(crate) fn take_short(&mut self, dest: &mut [u8], bytes: &[u8]) -> bool
         ensures fed { IsTrue result → FeedsQuietly dest.old (phase_of self.old) bytes.now dest.new (phase_of self.new) }

@@ -18,8 +18,8 @@ use cobs_bytes::window::{WINDOW, has_vectors};
 /// of its own, only a few numbers. So a program can use the buffer for other data between two pieces, and a decoder can
 /// be in a struct together with its buffer, or be passed to another language.
 ///
-/// While a piece is open, that is, from its first byte to the zero that ends it, the caller must pass the same buffer
-/// to each call and must not change the buffer between two calls. If the caller passes another buffer, of any length,
+/// A piece is open from its first byte to the zero that ends it. While a piece is open, the caller must pass the same
+/// buffer to each call, and must not change the buffer between two calls. If the caller passes another buffer, of any length,
 /// each call is still safe: no call panics or returns a message that is longer than the buffer. But the results for
 /// that piece, and the bytes of the buffer, are then unspecified.
 ///
