@@ -160,7 +160,7 @@ impl UnbufferedDecoder {
         let mut at = 0;
         'by_run: while at < bytes.len() {
             at += self.take_at_once(dest, &bytes[at..]);
-            // The byte at `at` is a zero, or `dest` has no room for its output. Without vectors it may be any byte.
+            // The byte at `at` is a zero, or a byte of a piece that is too long. Without vectors it may be any byte.
             if at < bytes.len() {
                 let parsed_size = at + 1;
                 match self.feed(dest, bytes[at]) {

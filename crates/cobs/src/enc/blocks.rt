@@ -178,8 +178,8 @@ fn write_codes_of_zeros(source: &[u8], dest: &mut [u8], at: usize) -> usize
 /// copied: their codes are written 32 at a time. No byte after the frame is written.
 ///
 /// In the body, the code of the open block belongs at `index`, and the window is copied to `next`. `place` is the index
-/// of the copy of the window's first zero. A block has at most 255 bytes, so the open block stays open if the bytes
-/// before the first zero, or all bytes of a window without zeros, end before `index + 255`.
+/// of the copy of the window's first zero. A block has at most 255 bytes. So the open block doesn't become full if
+/// `place`, or the index after a window without zeros, is less than `index + 255`.
 #[inline(always)]
 #[tactic(auto, using(crate::proofs::encoding::TakingLemmas::next_steps))]
 fn append_windows(

@@ -28,7 +28,7 @@ pub struct CobsEncoder<'a> {
     dest: &'a mut [u8],
     encoder: UnbufferedEncoder,
 
-    /// The frame so far is within the slice, and the slice has room for the code of the open block.
+    /// The code of the open block is from 1 to 254, and the encoded frame so far ends within the slice.
     ghost place: { IsPlaceIn (length dest.now) (reached_by encoder) },
 }
 

@@ -67,7 +67,7 @@ fn fits(taken: u8, source: &[u8], room: usize) -> Option<usize> {
     if room < source.len() {
         return None;
     }
-    // The `held` bytes of the open block, and the codes of all blocks, must fit `spare` bytes.
+    // `spare` bytes are for the open block's code, its `held` bytes, and one code after each full block.
     let spare = room - source.len();
     // The current run has `run` bytes before index `read`, and there are `counted` full blocks before this run.
     let held = taken as usize;
