@@ -58,6 +58,7 @@ module _ (law : StreamLaw) {buffer buffer' : List ℕ} {phase phase' : Phase} (b
 whole : (bytes : List ℕ) (at : ℕ) → at ≤ length bytes → take (at + length (drop at bytes)) bytes ≡ bytes
 whole bytes at within = grind (arith, length-drop, take_all)
 
+-- all bytes are consumed
 pub returns-in-Ok-None-clause-counted : goal.returns-in-Ok-None-clause-counted
 returns-in-Ok-None-clause-counted c p h =
     let inv = c.by_push.invariant in
@@ -74,6 +75,7 @@ returns-in-Ok-None-clause-after c p h =
     let t = rw (take_rest bytes at, c.in-Ok-None.field-0-is) at c.in-Ok-None.ensures.pushes in
     rw (whole bytes at inv.within) at (after c.law_9.ensures bytes _ at _ inv.len t p (inv.after p h))
 
+-- a message
 pub by_push-preserved-in-Ok-Some : goal.by_push-preserved-in-Ok-Some
 by_push-preserved-in-Ok-Some c =
     let inv = c.by_push.invariant in
@@ -91,6 +93,7 @@ by_push-preserved-in-Ok-Some c =
       counted = λ p h. rw size (ap (λ (k : ℕ). k + 1) (inv.counted p h) ∙ sym (counted c.law_9.ensures bytes _ at _ inv.len t p (inv.after p h)));
     }
 
+-- an error
 pub by_push-preserved : goal.by_push-preserved
 by_push-preserved c =
     let inv = c.by_push.invariant in

@@ -45,6 +45,7 @@ module _ (list : List ℕ) (read : ℕ) (nonzero : HasNoZero list) (within : rea
 copied : (list : List ℕ) (read code : ℕ) → take (read + code - (read + 1)) (drop (read + 1) list) ≡ take (code - 1) (drop (read + 1) list)
 copied list read code = grind arith
 
+-- the last block breaks off
 pub returns-then-left-code-clause-reads : goal.returns-then-left-code-clause-reads
 returns-then-left-code-clause-reads c = λ m.
     let none = broken c.args.piece.now c.by_block.read c.requires.1 c.by_block.invariant.within (λ p. is_whole p ≡ false) c.law_20.ensures.short c.if-left-code.true in (
@@ -52,6 +53,7 @@ returns-then-left-code-clause-reads c = λ m.
       λ reads. absurd (true≢false (sym (c.law_1.ensures.only c.args.piece.now m reads).2 ∙ (c.by_block.invariant.whole ∙ none))),
     )
 
+-- the last block is whole
 pub returns-then-left-code-2-clause-whole : goal.returns-then-left-code-2-clause-whole
 returns-then-left-code-2-clause-whole c = grind (arith, whole_end)
 
@@ -70,6 +72,7 @@ returns-then-left-code-2-clause-reads c = λ m.
       λ reads. (refl, kept ∙ sym (c.law_1.ensures.only piece m reads).3),
     )
 
+-- a block with more bytes after it
 pub by_block-preserved : goal.by_block-preserved
 by_block-preserved c =
     let list : List ℕ = c.args.piece.now in

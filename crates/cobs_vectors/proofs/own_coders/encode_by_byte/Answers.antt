@@ -29,6 +29,7 @@ room lower goes_on m slice reached i n taken place left len fits =
     let both = length-append a rest in
     omega (arith, on, whole, least, both, l, d)
 
+-- IN THE LOOP the indices are within `dest`
 pub overflow_add-next : goal.overflow_add-next
 overflow_add-next c = let r = room c.law_4.ensures.lower c.law_16.ensures.goes_on c.args.message.now c.by_byte.dest (place_at c.by_byte.index c.by_byte.code c.by_byte.full) _ _ c.by_byte.invariant.taken (c.law_16.ensures.place _ _ _ c.by_byte.invariant.taken) c.by_byte-test.true c.by_byte.invariant.len c.requires in omega arith
 
@@ -52,6 +53,7 @@ overflow_add-index c =
     let place = c.law_16.ensures.place _ _ _ c.by_byte.invariant.taken in
     omega (arith, place.not_full, r)
 
+-- the byte is one of the three steps
 pub by_byte-preserved : goal.by_byte-preserved
 by_byte-preserved c =
     let m : List ℕ = c.args.message.now in
@@ -81,10 +83,12 @@ whole dest m i n end frame = grind (arith, take_all)
 end_in : (n : ℕ) (reached : Reached) → IsPlaceIn n reached → reached.full ≡ false → (reached.block.index < n) × (next_of reached ≤ n)
 end_in n reached place short = grind arith
 
+-- the last block is full
 pub returns-then-full : goal.returns-then-full
 returns-then-full c =
     whole c.by_byte.dest c.args.message.now c.by_byte.byte-index c.by_byte.index c.by_byte-test.false (c.law_16.ensures.full_frame _ _ _ c.by_byte.invariant.taken c.if-full.true)
 
+-- the code of the open block is written
 pub returns : goal.returns
 returns c =
     whole (slice_set c.by_byte.dest c.by_byte.index c.by_byte.code) c.args.message.now c.by_byte.byte-index (c.by_byte.index + c.by_byte.code) c.by_byte-test.false (c.law_16.ensures.frame _ _ _ c.by_byte.invariant.taken c.if-full.false)

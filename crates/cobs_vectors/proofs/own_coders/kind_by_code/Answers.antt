@@ -41,6 +41,7 @@ module _ (list : List ℕ) (read : ℕ) (nonzero : HasNoZero list) (within : rea
     not_lone : drop read list ≢ lone_block
     not_lone lone = let l = length-drop read list in let e = ap length lone in let some = code_some list read nonzero within in omega arith
 
+-- the last block breaks off
 pub returns-then-left-code-clause-frame : goal.returns-then-left-code-clause-frame
 returns-then-left-code-clause-frame c =
     let none = broken c.args.piece.now c.by_block.read c.requires.1 c.by_block.invariant.within (λ f. IsFrame f → ⊥) c.law_19.ensures.short c.if-left-code.true in
@@ -51,15 +52,18 @@ returns-then-left-code-clause-canonical c =
     let none = broken c.args.piece.now c.by_block.read c.requires.1 c.by_block.invariant.within (λ f. IsFrame f → ⊥) c.law_19.ensures.short c.if-left-code.true in
     (λ same. absurd cc, λ is. absurd (none (frame_of (drop c.by_block.read c.args.piece.now) (c.by_block.invariant.canonical.0 is).0)))
 
+-- a full block and the lone block
 pub returns-then-code-eq1-clause-frame : goal.returns-then-code-eq1-clause-frame
 returns-then-code-eq1-clause-frame c = grind (arith, one_left, frame_of)
 
+-- any other last block
 pub returns-else-after_full-clause-frame : goal.returns-else-after_full-clause-frame
 returns-else-after_full-clause-frame c = grind (arith, one_left, frame_of)
 
 pub returns-else-after_full-clause-canonical : goal.returns-else-after_full-clause-canonical
 returns-else-after_full-clause-canonical c = grind (arith, one_left, lone_left, true≢false)
 
+-- a block with more bytes after it
 pub by_block-preserved : goal.by_block-preserved
 by_block-preserved c =
     let list : List ℕ = c.args.piece.now in
