@@ -136,6 +136,7 @@ impl Composed {
             ≡ take self.old.len self.old.bytes ++ in_view view.now number times (seen_in piece.now) }
         ensures same { (result ≡ false) → take self.new.len self.new.bytes ≡ take self.old.len self.old.bytes }
     {
+        // Raw messages have no colour and no time, so only the number is tested.
         if view.number || piece.kind != Kind::Message || SHORT_LEN < piece.bytes.len() {
             return false;
         }

@@ -176,6 +176,7 @@ fn sized(written: &Written) -> Option<Params>
         32 => 4,
         _ => return None,
     };
+    // A register has 32 bits, and `Params` has the polynomial and the initial value in the highest of them.
     let spare = 32 - 8 * size;
     let poly = u32::try_from(written.poly.unwrap_or(0)).ok()?;
     let init = u32::try_from(written.init.unwrap_or(0)).ok()?;

@@ -327,7 +327,8 @@ impl UnbufferedDecoder {
         ensures stop { result < length bytes.now → next_phase (length dest.new) (phase_of self.new)
             (slice_index (xor_each sentinel bytes.now) result) ≡ Overlong }
     {
-        // The loop changes `here`, a copy of the decoder, which stays in registers.
+        // The loop changes `here`, a copy of the decoder, which stays in registers. `too_long` is 0 before the loop and
+        // after it, so it isn't copied.
         let mut here = UnbufferedDecoder {
             too_long: 0,
             ..*self

@@ -225,7 +225,8 @@ impl UnbufferedDecoder {
     /// decoded. The caller ensures that none of the bytes is the sentinel.
     #[inline(always)]
     pub(crate) fn take_blocks(&mut self, dest: &mut [u8], bytes: &[u8], sentinel: u8) -> usize {
-        // The loop changes `here`, a copy of the decoder, which stays in registers.
+        // The loop changes `here`, a copy of the decoder, which stays in registers. `too_long` is 0 before the loop and
+        // after it, so it isn't copied.
         let mut here = UnbufferedDecoder {
             too_long: 0,
             ..*self

@@ -1,5 +1,5 @@
 -- `first` and `second` are clauses of the two calls. After the first call, the decoder has taken the unended bytes of
--- the first part (`after`), so the second call finds the outcomes from these bytes on. By `cut` of `law_9`, the
+-- the first chunk (`after`), so the second call finds the outcomes from these bytes on. By `cut` of `law_9`, the
 -- outcomes of both calls are those of the whole stream. `room` is the length of the buffer.
 -- `law_9`: A stream may be cut anywhere.
 use Rattle.std.proofs.Common.{[], ◌++◌, length, refl}
