@@ -296,6 +296,7 @@ impl Composed {
         if code < 65_536 {
             return self.put_unit(code as u16);
         }
+        // As in `write_escape` of `escape.rt`.
         self.put_unit((0xD800 + (code - 65_536) / 1024 % 1024) as u16)?;
         self.put_unit((0xDC00 + code % 1024) as u16)
     }
