@@ -56,13 +56,22 @@ def snake_case(path):
     return re.sub(r"(?<=[a-z])(?=[A-Z])|::", "_", path).lower()
 
 
+def titles():
+    """The title of each law: the first line of its doc comment, without the period."""
+    files = [SRC / "laws.rt", *sorted((SRC / "laws").glob("*.rt"))]
+    text = "".join(path.read_text() for path in files)
+    return {law: title for title, law in re.findall(r"^/// (.*)\.\n(?:///.*\n)*pub fn (law_\d+)", text, re.M)}
+
+
 def as_tests(name):
-    """The text below the imports of a file of tests, and how it is laid out doesn't matter."""
-    text, names = "", {}
+    """The text below the imports of a file of tests. Its layout doesn't matter. Each call of a law has the law's title
+    beside it, as in the other crates."""
+    text, names, title_of = "", {}, titles()
     for path in [path for pattern in SOURCES[name] for path in sorted(SRC.glob(pattern))]:
         for _, item, lines in blocks(path, ""):
             lines = [line for line in lines if not line.startswith("use ")]
             if lines[0].startswith("fn "):
+                lines = [re.sub(r"^( *(law_\d+)\(\);)$", lambda call: f"{call[1]} // {title_of[call[2]]}", line) for line in lines]
                 text += f"/// The example of `{item}`.\npub " + "\n".join(lines) + "\n\n"
                 continue
             test = snake_case(item) + "_example"

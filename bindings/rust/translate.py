@@ -424,7 +424,7 @@ def step(source, out):
 
 def without_comment(out):
     """Drops the comment of an item that is dropped."""
-    while out and out[-1].strip().startswith("///"):
+    while out and re.match(r"\s*//(?!!)", out[-1]):
         out.pop()
 
 

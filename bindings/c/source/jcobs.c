@@ -237,6 +237,8 @@ static JCOBS_INLINE int jcobs_has_room(unsigned char taken, const unsigned char 
  * the block is full. */
 static size_t jcobs_write_blocks(const unsigned char *message, size_t message_len, unsigned char *frame)
 {
+    /* The code of the open block belongs at `index`, and the next byte of the frame at `next`. The difference of
+     * these two indices is the code that the open block has so far. */
     size_t index = 0;
     size_t next = 1;
     size_t read = 0;
@@ -253,6 +255,7 @@ static size_t jcobs_write_blocks(const unsigned char *message, size_t message_le
         for (size_t i = 0; i < part_len; i++) {
             unsigned char byte = rest[i];
             if (byte == 0) {
+                /* The zero ends the open block. The code of the next block takes the zero's place in the frame. */
                 frame[index] = (unsigned char)(next - index);
                 index = next;
             } else {
@@ -330,6 +333,9 @@ jcobs_answer jcobs_encode_terminated(const void *message, size_t message_len, vo
  * with this byte. The caller ensures that there is room for the byte. */
 static JCOBS_INLINE size_t jcobs_encoder_append_byte(jcobs_encoder *encoder, unsigned char *buffer, unsigned char byte)
 {
+    /* `code` is the code of the open block before this byte. If the byte joins this block, the same number is
+     * how many bytes the block then has, so `taken` becomes `code`. If the byte ends the block, `taken` becomes
+     * 0. */
     size_t index = encoder->index;
     size_t code = (size_t)encoder->taken + 1;
     size_t next = index + code;
@@ -373,6 +379,8 @@ static size_t jcobs_write_in_place(unsigned char *buffer, size_t buffer_size, si
     size_t start = jcobs_max_overhead(message_len);
     jcobs_encoder encoder = JCOBS_ENCODER_INIT;
 
+    /* The frame of the bytes that were read so far ends, at the latest, at the index of the byte that was read
+     * last. So the frame never overwrites a byte that wasn't read yet. */
     for (size_t taken = 0; taken < message_len; taken++) {
         unsigned char byte = buffer[start + taken];
         jcobs_encoder_append_byte(&encoder, buffer, byte);
@@ -448,6 +456,7 @@ static JCOBS_INLINE jcobs_piece jcobs_decode_piece(const unsigned char *source, 
 
     size_t at = start + 1;
     size_t written = 0;
+    /* `code` is the code of the current block, and `missing` is the number of its missing bytes. */
     unsigned char code = source[start];
     size_t missing = (size_t)code - 1;
 
@@ -465,6 +474,8 @@ static JCOBS_INLINE jcobs_piece jcobs_decode_piece(const unsigned char *source, 
             written++;
             missing--;
         } else {
+            /* `byte` is the code of the next block. A zero joins the two blocks, unless the block before is
+             * full. */
             if (code != JCOBS_FULL_CODE) {
                 if (written == message_size) {
                     return jcobs_make_piece(JCOBS_END_TOO_LONG, 0, jcobs_find_end(source, source_len, at));
@@ -588,6 +599,7 @@ jcobs_answer jcobs_decode_in_place(void *buffer, size_t buffer_len)
     size_t frame_len = jcobs_length_to_zero(buffer_bytes, buffer_len);
     jcobs_end decoded = jcobs_decode_blocks(buffer_bytes, frame_len);
 
+    /* The zero after the frame is consumed too, if there is one. */
     return jcobs_in_place_answer(jcobs_min(buffer_len, frame_len + 1), buffer_len, decoded);
 }
 
@@ -610,6 +622,7 @@ static enum jcobs_kind jcobs_kind_by_blocks(const unsigned char *bytes, size_t l
         after_full = code == JCOBS_FULL_CODE;
         read += code;
     }
+    /* The loop returns at the last block, so it ends only if there are no bytes. */
     return JCOBS_NOT_A_FRAME;
 }
 
@@ -674,8 +687,11 @@ static JCOBS_INLINE size_t jcobs_decoder_take_byte(jcobs_decoder *decoder, unsig
         at++;
         decoder->written = at;
     }
+    /* For a zero, which no caller should pass, the subtraction wraps. */
     decoder->missing = (unsigned char)(byte - 1);
     decoder->joint = jcobs_joint_after(byte);
+    /* `at` is greater than buffer_size only if the caller has passed another buffer, or has changed the
+     * decoder's numbers. */
     return jcobs_min(at, buffer_size);
 }
 
@@ -696,8 +712,9 @@ static JCOBS_INLINE jcobs_end jcobs_decoder_end_piece(jcobs_decoder *decoder, si
     if (buffer_size < before.written) {
         return jcobs_make_end(JCOBS_END_TOO_LONG, 0);
     }
-    /* No byte of a block is missing. If a piece has begun, its last block isn't full, and then `joint` isn't 0,
-     * or it is full, and then its bytes were written. */
+    /* No byte of a block is missing here. If a piece has begun and its last block isn't full, `joint` isn't 0.
+     * If a piece has begun and its last block is full, `written` isn't 0, because the bytes of that block were
+     * written. */
     if (before.written == 0 && before.joint == 0) {
         return jcobs_make_end(JCOBS_END_NONE, 0);
     }
@@ -746,7 +763,8 @@ static JCOBS_INLINE jcobs_piece jcobs_decoder_take_bytes(jcobs_decoder *decoder,
     return jcobs_make_piece(JCOBS_END_NONE, 0, 0);
 }
 
-/* Returns the number of decoded bytes of the open piece that are in the buffer. The buffer has buffer_size bytes. */
+/* Returns the number of decoded bytes of the open piece that are in the buffer. The buffer has buffer_size bytes.
+ * Even if the decoder's state is corrupt, the number is at most buffer_size. */
 static JCOBS_INLINE size_t jcobs_decoder_length(const jcobs_decoder *decoder, size_t buffer_size)
 {
     if (decoder->too_long != 0) {
@@ -873,6 +891,7 @@ static JCOBS_INLINE void jcobs_encoder_append_bytes(jcobs_encoder *encoder, unsi
 
     encoder->index = index;
     encoder->taken = (unsigned char)(code - 1);
+    /* If the open block has no byte, and the last byte isn't a zero, the last byte has filled a block. */
     encoder->full = code == 1 && bytes[len - 1] != 0 ? 1 : 0;
 }
 
@@ -889,6 +908,7 @@ static int jcobs_encoder_try_append(jcobs_encoder *encoder, unsigned char *buffe
 
     size_t room = buffer_size - encoder->index;
 
+    /* A push of no bytes succeeds if the encoder's state is possible in this buffer. */
     if (len == 0) {
         if (encoder->full != 0 || encoder->taken < room) {
             return 1;
@@ -987,6 +1007,7 @@ static jcobs_frame_length jcobs_encoder_close(jcobs_encoder *encoder, unsigned c
  * as they were. */
 jcobs_answer jcobs_encoder_finish(jcobs_encoder *encoder, void *buffer, size_t buffer_size)
 {
+    /* No frame fits an empty buffer. Without this test, a corrupt state could end in a frame of 0 bytes. */
     if (buffer_size == 0) {
         return jcobs_too_small_answer();
     }
@@ -1008,6 +1029,7 @@ jcobs_answer jcobs_encoder_finish_terminated(jcobs_encoder *encoder, void *buffe
 {
     unsigned char *const buffer_bytes = (unsigned char *)buffer;
 
+    /* The shortest frame and the zero need two bytes. */
     if (buffer_size < 2) {
         return jcobs_too_small_answer();
     }

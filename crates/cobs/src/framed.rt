@@ -210,8 +210,11 @@ pub struct FrameReader<D: FrameDecoder> {
 
     /// Whether a piece has begun and hasn't ended yet, that is, whether the last byte that was fed isn't a zero.
     unfinished: bool,
+
     ghost ordered: { start ≤ end },
     ghost in_chunk: { end ≤ 64 },
+
+    /// There is a front `p` of a piece that the decoder has been fed, and `unfinished` says whether `p` has a byte.
     ghost has_taken: { ∥ ((p : List ℕ) × DecoderHasTaken (D.bytes decoder)
         (D.phase decoder) unfinished p) ∥₁ },
 }
@@ -322,6 +325,7 @@ impl<D: FrameDecoder> FrameReader<D> {
         ensures len { length (D.bytes (decoder_of self.new)) ≡ length (D.bytes (decoder_of self.old)) }
         ensures same_loan { D.loan (decoder_of self.new) ≡ D.loan (decoder_of self.old) }
     {
+        // A copy, because `feed_through_end` borrows the whole reader.
         let kept = self.chunk;
         if let Some((next, count)) = self.feed_through_end(&kept[self.start..self.end]) {
             self.start += count;

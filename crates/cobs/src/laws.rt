@@ -247,13 +247,13 @@ pub fn law_8()
 
 /// A stream may be cut anywhere.
 ///
-/// The unended bytes of a stream are the bytes after its last zero. Cut a stream into two parts, and put the unended bytes of
-/// the first part before the second part. Then the pieces of the whole stream are the pieces of the first part, followed by the
-/// pieces of the extended second part, and likewise for the outcomes. The unended bytes of the whole stream are those of the
-/// extended second part. A stream that ends in a zero has no unended bytes. In a stream without a zero, all bytes are unended,
+/// The unended bytes of a stream are the bytes after its last zero. Cut a stream into two chunks, and put the unended bytes of
+/// the first chunk before the second chunk. Then the pieces of the whole stream are the pieces of the first chunk, and then the
+/// pieces of the extended second chunk. The same is true for the outcomes. The unended bytes of the whole stream are those of
+/// the extended second chunk. A stream that ends in a zero has no unended bytes. In a stream without a zero, all bytes are unended,
 /// and there is no outcome. One or more nonzero bytes with a zero after them are one piece.
 ///
-/// So a receiver may decode a stream in parts of any length, as reads return them. The outcomes of all parts, in order, are
+/// So a receiver may decode a stream in chunks of any length, as reads return them. The outcomes of all chunks, in order, are
 /// those of one call for the whole stream. `decode_stream`, `push` and `FrameReader` rely on this law.
 ///
 /// ```

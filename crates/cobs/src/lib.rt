@@ -41,19 +41,40 @@
 //!
 //! # Which call to use
 //!
-//! - To encode a whole message, call [`encode`] to write to a slice that has room for the frame, [`try_encode`] if you
-//!   don't know whether the frame fits the slice, [`encode_vec`] for a frame in a new vector, or [`encode_in_place`]
-//!   for a frame in the buffer that holds the message. The forms `.._with_sentinel` use a sentinel other than 0, and
-//!   the forms `.._including_sentinels` write a sentinel on each side of the frame.
-//! - To encode a message that comes in chunks, use [`CobsEncoder`] over a slice, [`UnbufferedEncoder`] with a buffer
-//!   that you pass to each call, or [`EncoderState`] to write to a container of your own.
-//! - To decode a whole frame, call [`decode`] for a message in a slice, [`decode_vec`] for a message in a new vector,
-//!   or [`decode_in_place`] for a message in the buffer that holds the frame.
-//! - To decode frames from a serial line, use [`CobsDecoder`] over a slice, [`CobsDecoderOwned`] with a vector that is
-//!   allocated once, [`CobsDecoderHeapless`] with its buffer inside, [`UnbufferedDecoder`] with a buffer that you pass
-//!   to each call, or [`DecoderState`] to write to a container of your own. [`FrameReader`] reads frames from any
-//!   reader.
-//! - To decode a recorded stream, call [`decode_stream`]. To make a stream, call [`encode_frames`].
+//! To encode a whole message:
+//!
+//! - [`encode`] writes the frame to a slice that has room for it.
+//! - [`try_encode`] returns an error if the frame doesn't fit the slice.
+//! - [`encode_vec`] returns the frame in a new vector.
+//! - [`encode_in_place`] writes the frame to the buffer that holds the message.
+//! - The forms `.._with_sentinel` use a sentinel other than 0, and the forms `.._including_sentinels` write a sentinel
+//!   on each side of the frame.
+//!
+//! To encode a message that comes in chunks:
+//!
+//! - [`CobsEncoder`] writes to a slice.
+//! - [`UnbufferedEncoder`] writes to a buffer that you pass to each call.
+//! - [`EncoderState`] has no buffer: you write the encoded bytes to a container of your own.
+//!
+//! To decode a whole frame:
+//!
+//! - [`decode`] writes the message to a slice.
+//! - [`decode_vec`] returns the message in a new vector.
+//! - [`decode_in_place`] writes the message to the buffer that holds the frame.
+//! - The forms `.._with_sentinel` use a sentinel other than 0.
+//!
+//! To decode frames from a serial line:
+//!
+//! - [`CobsDecoder`] decodes into a slice.
+//! - [`CobsDecoderOwned`] decodes into a vector that is allocated once.
+//! - [`CobsDecoderHeapless`] decodes into a buffer that is part of the decoder.
+//! - [`UnbufferedDecoder`] decodes into a buffer that you pass to each call.
+//! - [`DecoderState`] has no buffer: you write the decoded bytes to a container of your own.
+//! - [`FrameReader`] reads frames from any reader.
+//!
+//! Other calls, and the laws:
+//!
+//! - [`decode_stream`] decodes a recorded stream, and [`encode_frames`] makes a stream.
 //! - [`max_encoding_length`] returns the length of a buffer that has room for the frame of any message of a given
 //!   length.
 //! - [`frame_kind`] returns whether some bytes are a frame, and whether this frame is the shortest frame of its
@@ -64,6 +85,7 @@
 //! contract, to be safe and to end. In the examples `rt` is the argument of `main`, and `alloc` is `rt.alloc()`.
 #![tactic(auto)]
 
+// Lines that begin with `ghost` are for contracts and proofs. They have no effect when a program runs.
 ghost use Rattle.std.specs.Prelude.{◌≡◌, ◌<◌, ◌^◌};
 ghost use Rattle.cobs.specs.Length.{max_overhead, max_encoded_len};
 

@@ -1,6 +1,10 @@
--- What a call that ends a frame ensures (`Finishes`): of `finalize`, for another sentinel once each byte of the frame is
--- XORed (`Finishes-changed`), and with the terminator after the frame, which the call wrote to all but the last byte of the
--- buffer (`Finishes-terminated`).
+-- Lemmas on the postcondition of a call that ends a frame (`Finishes`). `finalize` has it (`Finishes-finalized`,
+-- `Finishes-refused`). It is still true for another sentinel if each byte of the frame is XORed (`Finishes-changed`).
+-- A terminator may follow the frame if the call got the buffer without its last byte (`Finishes-terminated`,
+-- `Finishes-no_room`).
+-- `law_2`: Each message has one encoded frame.
+-- `law_6`: No frame contains its sentinel; a second XOR restores the frame.
+-- `law_13`: The open frame of a streaming encoder.
 use Rattle.std.proofs.Common.{◌≡◌, ◌≢◌, ◌∙◌, ◌++◌, ◌+◌, ◌<◌, ◌≤◌, ℕ, nat_le, true, false, List, [], ◌∷◌, All, length, take, drop, set, refl, sym, ap, subst, arith, take_at, length-append, length-drop, length-take-le, take-append-drop, ⊎_elim}
 use Rattle.std.proofs.lemmas.Bool.{leb-true, leb-false, cases_Bool}
 use Rattle.std.proofs.lemmas.List.{length-map, length-set, take-take}
@@ -20,7 +24,7 @@ use Rattle.cobs_abi.specs.declared.answer.Answer.{Answer}
 use Rattle.cobs_abi.specs.declared.answer.TheConstants.{OK, TOO_SMALL}
 pub use Rattle.cobs_bytes.proofs.bytes.XoredLemmas.{xor_each-zero}
 
--- of `law_6`
+-- with two clauses of `law_6`
 module _ (free : (f : List ℕ) (s : ℕ) → IsFrame f → All (λ byte. byte ≢ s) (xor_each s f)) (back : (f : List ℕ) (s : ℕ) → xor_each s (xor_each s f) ≡ f) where
   -- a frame that is finished, and then XORed
   pub Finishes-changed : {encoder encoder' : UnbufferedEncoder} {buffer part changed : List ℕ} {result : Answer} (s : ℕ) → changed ≡ xor_each s (take result.length part)
@@ -52,7 +56,7 @@ module _ (free : (f : List ℕ) (s : ℕ) → IsFrame f → All (λ byte. byte �
         len = length-append changed (drop result.length part) ∙ omega (arith, len, within, f.len, length-drop result.length part);
       }
 
--- what `finalize` ensures, as the result of a call
+-- the clauses of `finalize`, as the postcondition of a call
 module _ {encoder encoder' : UnbufferedEncoder} {buffer buffer' : List ℕ} where
   -- the call wrote a frame of n bytes
   pub Finishes-finalized : {n : ℕ} → length buffer ≢ 0
@@ -93,7 +97,7 @@ module _ {encoder encoder' : UnbufferedEncoder} {buffer buffer' : List ℕ} wher
     len = ap (λ (l : List ℕ). length l) same;
   }
 
--- of `law_2` and `law_13`
+-- with a clause of `law_2` and a clause of `law_13`
 module _ (counted : (f m : List ℕ) → IsEncodedFrame f m → length f ≡ encoded_len m) (end : (slice m : List ℕ) (reached : Reached) → CobsEncoderAfter slice reached m → end_of reached ≡ encoded_len m) where
   -- an encoder over the front of a slice that its frame fits
   After-front : (slice m : List ℕ) (reached : Reached) (last : ℕ) → last ≤ length slice → encoded_len m ≤ last → CobsEncoderAfter slice reached m → CobsEncoderAfter (take last slice) reached m
@@ -111,6 +115,7 @@ module _ (counted : (f m : List ℕ) → IsEncodedFrame f m → length f ≡ enc
   -- a byte after the bytes that were written for a message
   module _ {IsWanted IsEnded : List ℕ → List ℕ → Type 0} {encoder encoder' : UnbufferedEncoder} {buffer part : List ℕ} {result : Answer} (last s : ℕ) (room : last + 1 ≡ length buffer) (len : length part ≡ last)
       (f : Finishes 0 IsWanted encoder (take last buffer) result encoder' part) where
+    -- if that call succeeded, the whole call has written the frame and this byte
     pub Finishes-terminated : ((x m : List ℕ) → IsWanted x m → IsEnded (x ++ s ∷ []) m) → result.status ≡ OK
         → Finishes 1 IsEnded encoder buffer (record { status = OK; consumed = result.consumed; length = result.length + 1 }) encoder' (set (part ++ drop last buffer) result.length s)
     Finishes-terminated ended ok = let front : length (take last buffer) ≡ last = length-take-le last buffer (omega arith) in record {
@@ -130,6 +135,7 @@ module _ (counted : (f m : List ℕ) → IsEncodedFrame f m → length f ≡ enc
       len = length-set (part ++ drop last buffer) result.length s ∙ length-append part (drop last buffer) ∙ omega (arith, length-drop last buffer);
     }
 
+    -- if that call failed, the whole call has no room either, and nothing has changed
     pub Finishes-no_room : result.status ≢ OK → Finishes 1 IsEnded encoder buffer result encoder' (part ++ drop last buffer)
     Finishes-no_room other =
         let front : length (take last buffer) ≡ last = length-take-le last buffer (omega arith) in

@@ -1,5 +1,5 @@
--- What a call that writes a frame ensures (`Writes`), with a byte after the frame: the call was passed all but the last byte
--- of the buffer, so there is room for it (`Writes-terminated`).
+-- Lemmas on the postcondition of a call that writes a frame (`Writes`), if a byte is written after the frame. The call
+-- gets the buffer without its last byte, so there is room for this byte (`Writes-terminated`).
 use Rattle.std.proofs.Common.{◌≡◌, ℕ, ◌+◌, ◌≤◌, ◌<◌, List, [], ◌∷◌, ◌++◌, length, take, drop, set, refl, sym, ap, ◌∙◌, subst, arith, length-append, length-drop, length-take-le, take-append-drop}
 use Rattle.std.proofs.lemmas.Bool.{leb-true, leb-false, cases_Bool}
 use Rattle.std.proofs.lemmas.List.{drop-append-le, drop-drop, drop-set-lt, take_more_set, take-append-le}
@@ -12,6 +12,7 @@ module _ {size taken : ℕ} {IsWanted : List ℕ → Type 0} {buffer : List ℕ}
   pub Writes-ok : Writes size taken IsWanted buffer result buffer' → result.status ≡ OK → size ≤ length buffer
   Writes-ok w ok = grind (arith, leb-true, leb-false, cases_Bool)
 
+  -- if it fails, the frame is longer than the buffer
   pub Writes-failed : Writes size taken IsWanted buffer result buffer' → (result.status ≡ OK → ⊥) → length buffer < size
   Writes-failed w other = grind (arith, leb-true, leb-false, cases_Bool)
 

@@ -57,6 +57,7 @@ pub fn finish(encoder: &mut UnbufferedEncoder, buffer: &mut [u8]) -> Answer
     ensures finishes { Finishes 0 IsFrameOnWire encoder.old buffer.old result
         encoder.new buffer.new }
 {
+    // No frame fits an empty buffer. Without this test, a corrupt state could end in a frame of 0 bytes.
     if buffer.is_empty() {
         return too_small();
     }
@@ -75,6 +76,7 @@ pub fn finish_terminated(encoder: &mut UnbufferedEncoder, buffer: &mut [u8]) -> 
 {
     law_2(); // Each message has one encoded frame
     law_13(); // The open frame of a streaming encoder
+    // The shortest frame and the zero need two bytes.
     if buffer.len() < 2 {
         return too_small();
     }

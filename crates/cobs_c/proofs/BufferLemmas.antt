@@ -1,5 +1,4 @@
--- The text of `jcobs_strerror` is copied as far as it fits, and a zero ends it (`words-written`). By lemmas on parts of
--- a list.
+-- The text of `jcobs_strerror` is copied as far as it fits, and a zero ends it (`words-written`).
 use Rattle.std.proofs.Common.{◌≡◌, ℕ, ◌+◌, ◌-◌, ◌<◌, ◌≤◌, min, List, [], ◌∷◌, ◌++◌, length, take, drop, set, get_or, sym, ap, ◌∙◌, arith, length-append, length-take-le, take_all, append_assoc, nat_le, true, false, ⊎_elim}
 use Rattle.std.proofs.lemmas.List.{drop_more, set_at}
 use Rattle.std.proofs.lemmas.Bool.{leb-true, leb-false, cases_Bool}

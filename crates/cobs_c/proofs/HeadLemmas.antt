@@ -11,6 +11,7 @@ use Rattle.cobs.specs.Piece.{kept_output, output}
 use Rattle.cobs.specs.Stream.{head}
 use Rattle.cobs.specs.declared.DecodeError.TheVariants.{InvalidFrame}
 
+-- the head of a list that begins with a nonzero byte begins with this byte
 head-cons : (b : ℕ) (t : List ℕ) → head (suc b ∷ t) ≡ suc b ∷ head t
 unfolding head
 head-cons b t = grind (arith, slice_split-cons_no, ne_eqb)
@@ -23,22 +24,26 @@ head-drop (suc k) [] within = absurd (omega (arith, within))
 head-drop (suc k) (zero ∷ t) within = absurd (omega (arith, within))
 head-drop (suc k) (suc b ∷ t) within = let e = ap length (head-cons b t) in omega (arith, e, head-drop k t (omega (arith, e, within)))
 
+-- the head of a list isn't longer than the list
 pub head-within : (t : List ℕ) → length (head t) ≤ length t
 unfolding head
 head-within [] = omega arith
 head-within (zero ∷ t) = omega arith
 head-within (suc b ∷ t) = omega (arith, ap length (head-cons b t), head-within t)
 
+-- the number of decoded bytes in the error for a head is the length of its kept output
 count-of : (n : ℕ) (h : List ℕ) (d : ℕ) → Err (InvalidFrame d) ≡ report_result n (head_result h) → d ≡ length (kept_output h)
 count-of n [] d e = absurd cc
 count-of n (x ∷ h) d e = grind (arith, cases_Bool)
 
 -- a broken frame, whose whole blocks decode to d bytes
 module _ (shorter : (p : List ℕ) → length (output p) ≤ length p) where
+  -- the kept output of a piece isn't longer than the piece
   kept-within : (p : List ℕ) → length (kept_output p) ≤ length p
   unfolding kept_output
   kept-within p = let l = shorter p in grind (arith, cases_Bool, length-take)
 
+  -- d is the length of the kept output, which is at most the length of the frame
   pub broken-within : (t : List ℕ) (d : ℕ) → Err (InvalidFrame d) ≡ in_place_report t → (d ≡ length (kept_output (head t))) × (d ≤ length (head t)) × (length (head t) ≤ length t)
   broken-within [] d e = absurd cc
   broken-within (b ∷ t) d e =

@@ -1,6 +1,7 @@
--- Lemmas on the first piece of a source, given the ends of the leading zeros and of the piece (`first_none`,
--- `first_some`), on the result of `decode` for a piece (`result-some`), and on the result of the call for the source of
--- a short frame (`short-decodes`). By clauses of `law_1` and `law_12`.
+-- Lemmas on the first piece of a source. By clauses of `law_12`, the ends of the leading zeros and of the piece
+-- determine the piece (`first_none`, `first_some`). `result-some` is about the result of `decode` for this piece, and
+-- `short-decodes` about the result of the call for the source of a short frame. `law_1`: A frame reads as its output.
+-- `law_12`: A stream's first piece, and its last.
 use Rattle.std.proofs.Common.{◌≡◌, ◌≢◌, ◌∙◌, ◌<◌, ◌≤◌, ℕ, zero, suc, List, [], ◌∷◌, length, take, drop, get_or, Some, None, Result, Ok, Err, refl, sym, ap, subst, arith}
 use Rattle.cobs.specs.Grammar.{HasNoZero}
 use Rattle.cobs.specs.Decode.{IsShortPiece, first_output, leading_zeros, len_through_piece, result_of_decode, report_result, outcome_result}
@@ -17,9 +18,11 @@ use Rattle.cobs_c.proofs.HeadLemmas.{head-within}
 
 -- the first piece, given its end in the bytes after the leading zeros of a source; by `none` and `found` of `law_12`
 module _ (source rest : List ℕ) (n : ℕ) (is : rest ≡ drop (leading_zeros source) source) (stop : n < length rest → get_or rest n 0 ≡ 0) where
+  -- if no nonzero byte follows the leading zeros, there is no piece
   pub first_none : ((t : List ℕ) → let r = drop (leading_zeros t) t in (0 < length r → get_or r 0 0 ≡ 0) → first_piece t ≡ None) → n ≡ 0 → first_piece source ≡ None
   first_none law none = law source (subst (λ (r : List ℕ). 0 < length r → get_or r 0 0 ≡ 0) is (subst (λ (k : ℕ). k < length rest → get_or rest k 0 ≡ 0) none stop))
 
+  -- otherwise the first piece is the n bytes after the leading zeros
   pub first_some : ((t : List ℕ) (k : ℕ) → let r = drop (leading_zeros t) t in 0 < k → k ≤ length r → HasNoZero (take k r) → (k < length r → get_or r k 0 ≡ 0) → first_piece t ≡ Some (take k r))
       → n ≤ length rest → HasNoZero (take n rest) → 0 < n → first_piece source ≡ Some (take n rest)
   first_some law within before some =

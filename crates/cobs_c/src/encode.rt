@@ -97,6 +97,7 @@ pub extern "C" fn jcobs_encode_terminated(message: &[u8], frame: &mut [u8]) -> A
     if frame.is_empty() {
         return too_small();
     }
+    // The zero needs one byte.
     let last = frame.len() - 1;
     let returned = jcobs_encode(message, &mut frame[..last]);
     if returned.status != OK {
@@ -119,6 +120,7 @@ pub extern "C" fn jcobs_encode_terminated_with_sentinel(
     if frame.is_empty() {
         return too_small();
     }
+    // The sentinel needs one byte.
     let last = frame.len() - 1;
     let returned = jcobs_encode_with_sentinel(message, &mut frame[..last], sentinel);
     if returned.status != OK {

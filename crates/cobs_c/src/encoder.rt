@@ -1,4 +1,4 @@
-//! Encodes messages that come in pieces. The state and the buffer of each encoder belong to a program in C.
+//! Encodes messages that come in chunks. The state and the buffer of each encoder belong to a program in C.
 ghost use Rattle.std.specs.Prelude.{◌≡◌, [], ◌∷◌};
 ghost use Rattle.cobs_abi.specs.Frames.{IsFrameOnWire, IsFrameOnWireFor, IsTerminatedFrame};
 ghost use Rattle.cobs_abi.specs.Stream.{EncodesNext, Finishes, IsFreshEncoder};
@@ -100,6 +100,7 @@ pub extern "C" fn jcobs_encoder_finish_terminated_with_sentinel(
     if buffer.is_empty() {
         return too_small();
     }
+    // The sentinel needs one byte.
     let last = buffer.len() - 1;
     let front = &mut buffer[..last];
     let returned = jcobs_encoder_finish_with_sentinel(encoder, front, sentinel);
@@ -121,5 +122,6 @@ pub extern "C" fn jcobs_encoder_finish_terminated(
         encoder.new buffer.new }
 {
     let returned = finish_terminated(encoder, buffer);
+    // Copied field by field, as in `jcobs_encoder_finish`.
     Answer { ..returned }
 }

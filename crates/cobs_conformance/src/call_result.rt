@@ -109,7 +109,7 @@ impl CallResult {
         Ok(())
     }
 
-    /// Adds `ok` and the number of written bytes, or `too_small` and `-`.
+    /// Adds two words to the result of a case: `ok` and the number of written bytes, or `too_small` and `-`.
     pub fn say_written(
         &mut self,
         written: &Result<usize, DestBufTooSmallError>,
@@ -126,8 +126,8 @@ impl CallResult {
         }
     }
 
-    /// Adds `ok` and the length of the message. For an error, adds the error's name and the number of decoded bytes
-    /// that the error reports.
+    /// Adds two words to the result of a case: `ok` and the message's length. For an error, adds the error's name and the
+    /// number of decoded bytes that the error reports.
     pub fn say_decoded(&mut self, decoded: &Result<usize, DecodeError>) -> Result<(), AllocError> {
         match decoded {
             Ok(len) => {
@@ -141,8 +141,8 @@ impl CallResult {
         }
     }
 
-    /// Adds `ok`, the number of consumed bytes, and the length of the message. For an error, adds the error's name,
-    /// `-`, and the number of decoded bytes that the error reports.
+    /// Adds three words to the result of a case: `ok`, the number of consumed bytes, and the message's length. For an
+    /// error, adds the error's name, `-`, and the number of decoded bytes that the error reports.
     pub fn say_report(
         &mut self,
         report: &Result<DecodeReport, DecodeError>,

@@ -69,8 +69,8 @@ pub fn decode_in_place(alloc: Global, arguments: &[&str]) -> Result<CallResult, 
     Ok(returned)
 }
 
-/// Decodes a frame in place by `decode_in_place_report`. The result has the message's length and the number of consumed
-/// bytes.
+/// Runs `decode_in_place_report`, which decodes a frame in place, and returns the number of consumed bytes and the
+/// message's length.
 pub fn decode_in_place_report(alloc: Global, arguments: &[&str]) -> Result<CallResult, CaseFault> {
     let [buffer] = arguments else {
         return Err(CaseFault::Malformed);

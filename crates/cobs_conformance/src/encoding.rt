@@ -93,6 +93,7 @@ pub fn encode_including_sentinels(
         return Err(CaseFault::Malformed);
     };
     let message = bytes_of(alloc, message)?;
+    // As in `encode`, a try with a buffer of its own finds out whether the precondition holds.
     let mut tried = bytes_of(alloc, buffer)?;
     let mut buffer = bytes_of(alloc, buffer)?;
     if cobs::try_encode_including_sentinels(&message, &mut tried).is_err() {
@@ -109,6 +110,8 @@ pub fn encode_with_sentinel(alloc: Global, arguments: &[&str]) -> Result<CallRes
     };
     let sentinel = byte_of(alloc, sentinel)?;
     let message = bytes_of(alloc, message)?;
+    // As in `encode`, a try with a buffer of its own finds out whether the frame fits. Its length is the same for every
+    // sentinel.
     let mut tried = bytes_of(alloc, buffer)?;
     let mut buffer = bytes_of(alloc, buffer)?;
     if cobs::try_encode(&message, &mut tried).is_err() {
@@ -167,7 +170,7 @@ pub fn try_encode_with_sentinel(
     Ok(returned)
 }
 
-/// Runs a `CobsEncoder` with this buffer, and pushes each part of the message to it.
+/// Runs a `CobsEncoder` with this buffer, and pushes each chunk of the message (`pieces`) to it.
 pub fn encoder(alloc: Global, arguments: &[&str]) -> Result<CallResult, CaseFault> {
     let [buffer, pieces @ ..] = arguments else {
         return Err(CaseFault::Malformed);
@@ -183,8 +186,8 @@ pub fn encoder(alloc: Global, arguments: &[&str]) -> Result<CallResult, CaseFaul
     Ok(returned)
 }
 
-/// Pushes each part of the message to a new encoder, ends the message, and returns the frame's length. For each part,
-/// adds to `taken` the word `ok`, or `too_small` if the push failed.
+/// Pushes each chunk of the message (`pieces`) to a new encoder, ends the message, and returns the frame's length. For
+/// each chunk, adds to `taken` the word `ok`, or `too_small` if the push failed.
 fn push_pieces(
     alloc: Global,
     buffer: &mut [u8],

@@ -19,6 +19,7 @@ pub enum CaseFault {
 }
 
 impl From<AllocError> for CaseFault {
+    // The result of `from`, for the proofs of callers whose `?` converts an `AllocError`.
     ghost from_gives = { λ _ fault. fault ≡ OutOfMemory };
 
     fn from(_error: AllocError) -> CaseFault {

@@ -4,7 +4,7 @@
 //! the call of each case. The case has the expected result and the expected bytes of the buffer after the call, and the
 //! program compares them with the actual ones. For each case that differs it prints a line: the name of the case, the
 //! expected result and the actual result. The last line is `N cases, M differ`. The exit status is 0 if M is 0, and
-//! otherwise 1. It is 2 if the input can't be read to its end or memory runs out.
+//! otherwise 1. It is 2 if the input can't be read to its end, if the output can't be written, or if memory runs out.
 #![tactic(auto)]
 
 mod agree;

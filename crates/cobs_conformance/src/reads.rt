@@ -7,7 +7,10 @@ use std::alloc::Global;
 /// The result of one read: a failure, or bytes.
 #[derive(Debug, Drop)]
 enum Reading {
+    /// The read fails.
     Fails,
+
+    /// The read returns the first of these bytes, as many as fit the caller's chunk.
     Gives(Vec<u8>),
 }
 
@@ -45,6 +48,7 @@ impl Reads {
 }
 
 impl FrameSource for Reads {
+    // Nothing is claimed about the reads: every step is permitted.
     ghost step = { λ _ _ _. Unit {0} };
 
     fn read_some(&mut self, chunk: &mut [u8; 64]) -> Option<usize> {

@@ -25,7 +25,8 @@ enum Feeding {
     Pieces,
 }
 
-/// The methods of streaming decoders that the cases need and that `FrameDecoder` doesn't have.
+/// The methods of streaming decoders that the cases need and that `FrameDecoder` doesn't have. They have no contracts, so
+/// the functions below take slices with `get` and `unwrap_or`, although each range is within its slice.
 trait Streaming: FrameDecoder {
     /// Pushes bytes, and stops at the first message or error. Returns `None` if there is no message and no error.
     fn push_bytes(&mut self, bytes: &[u8]) -> Result<Option<DecodeReport>, PushError>;
@@ -205,8 +206,8 @@ fn write_over(dest: &mut [u8], bytes: &[u8]) {
     }
 }
 
-/// Passes each argument to a decoder: the bytes of a part of the stream, or the word `reset`. Returns the decoder's
-/// buffer at the end, and then each message and error.
+/// Passes each argument (`pieces`) to a decoder: the bytes of a chunk of the stream, or the word `reset`. Returns the
+/// decoder's buffer at the end, and then each message and error.
 fn given<D: Streaming>(
     alloc: Global,
     decoder: &mut D,
@@ -235,8 +236,8 @@ fn given<D: Streaming>(
     Ok(returned)
 }
 
-/// Pushes a part of the stream. A push stops at a message or an error, so the bytes that it hasn't consumed are pushed
-/// again. `taken` is the number of bytes before this part.
+/// Pushes a chunk of the stream. A push stops at a message or an error, so the bytes that it hasn't consumed are pushed
+/// again. Each push consumes at least one byte, if there is one. `taken` is the number of bytes before this chunk.
 fn push_piece<D: Streaming>(
     decoder: &mut D,
     piece: &[u8],
@@ -258,8 +259,8 @@ fn push_piece<D: Streaming>(
     Ok(())
 }
 
-/// Feeds a part of the stream byte by byte. Adds the result for each byte if `all` is set, and otherwise only the
-/// results for zeros. `taken` is the number of bytes before this part.
+/// Feeds a chunk of the stream byte by byte. Adds the result for each byte if `all` is set, and otherwise only the
+/// results for zeros. `taken` is the number of bytes before this chunk.
 fn feed_bytes<D: Streaming>(
     decoder: &mut D,
     piece: &[u8],
@@ -278,8 +279,8 @@ fn feed_bytes<D: Streaming>(
     Ok(())
 }
 
-/// Passes a part of the stream to `feed_piece`. A call stops at the end of a piece, so the bytes that it hasn't
-/// consumed are passed to another call. `taken` is the number of bytes before this part.
+/// Passes a chunk of the stream to `feed_piece`. A call stops at the end of a piece, so the bytes that it hasn't
+/// consumed are passed to another call. `taken` is the number of bytes before this chunk.
 fn feed_pieces<D: Streaming>(
     decoder: &mut D,
     piece: &[u8],
@@ -324,7 +325,7 @@ fn say_event(
     Ok(())
 }
 
-/// Runs `decode_stream` on each part of a stream, and returns the outcomes of the stream.
+/// Runs `decode_stream` on each chunk of a stream (`pieces`), and returns the outcomes of the stream.
 pub fn decode_stream(alloc: Global, arguments: &[&str]) -> Result<CallResult, CaseFault> {
     let [room, pieces @ ..] = arguments else {
         return Err(CaseFault::Malformed);

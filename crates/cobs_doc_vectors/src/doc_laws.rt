@@ -33,7 +33,7 @@ pub fn encode_by_longest(source: &[u8], dest: &mut [u8]) -> usize
     requires { max_encoded_len (length source.now) ≤ length dest.old }
     ensures { result ≡ encoded_len source.now }
 {
-    law_4();
+    law_4(); // The length of a frame, and its bound
     encode(source, dest)
 }
 
@@ -42,7 +42,7 @@ pub fn is_output(piece: &[u8], message: &[u8], buffer: &mut [u8]) -> bool
     requires { IsPiece piece.now }
     ensures { IsTrue result → message.now ≡ output piece.now }
 {
-    law_1();
+    law_1(); // A frame reads as its output
     reads_as(piece, message, buffer)
 }
 
@@ -52,7 +52,7 @@ pub fn encode_again(message: &[u8], frame: &[u8], dest: &mut [u8]) -> usize
     requires room { encoded_len message.now ≤ length dest.old }
     ensures { take result dest.new ≡ frame.now }
 {
-    law_2();
+    law_2(); // Each message has one encoded frame
     encode(message, dest)
 }
 
@@ -61,7 +61,7 @@ pub fn is_frame_for(piece: &[u8], message: &[u8], buffer: &mut [u8]) -> bool
     requires { IsPiece piece.now }
     ensures { IsTrue result → IsFrameFor piece.now message.now }
 {
-    law_3();
+    law_3(); // All frames of a message
     reads_as(piece, message, buffer)
 }
 
@@ -71,7 +71,7 @@ pub fn encode_nonzero(source: &[u8], dest: &mut [u8]) -> usize
     requires room { max_encoded_len (length source.now) ≤ length dest.old }
     ensures { result ≡ max_encoded_len (length source.now) }
 {
-    law_4();
+    law_4(); // The length of a frame, and its bound
     encode(source, dest)
 }
 
@@ -81,7 +81,7 @@ pub fn are_equal(alloc: Global, first: &[u8], second: &[u8]) -> Result<bool, All
     requires second { max_encoded_len (length second.now) < 2 ^ 64 }
     ensures { IfOk result (λ equal. IsTrue equal → first.now ≡ second.now) }
 {
-    law_5();
+    law_5(); // Equal frames, equal messages
     Ok(encode_vec(alloc, first)? == encode_vec(alloc, second)?)
 }
 
@@ -89,7 +89,7 @@ pub fn are_equal(alloc: Global, first: &[u8], second: &[u8]) -> Result<bool, All
 pub fn as_received<'a>(frame: &'a [u8], sentinel: u8) -> &'a [u8]
     ensures { IsFrame (xor_each sentinel frame.now) → IsFreeOf sentinel result.now }
 {
-    law_6();
+    law_6(); // No frame contains its sentinel; a second XOR restores the frame
     frame
 }
 
@@ -99,7 +99,7 @@ pub fn is_begun(received: &[u8], message: &[u8], buffer: &mut [u8]) -> bool
     ensures { (lost m : List ℕ) → IsTrue result
         → Reads (received.now ++ lost) m → IsFront message.now m }
 {
-    law_7();
+    law_7(); // The fronts of a frame
     reads_as(received, message, buffer)
 }
 
@@ -108,7 +108,7 @@ pub fn join(alloc: Global, first: &[u8], second: &[u8]) -> Result<Vec<u8>, Alloc
     ensures { (m k : List ℕ) → Reads first.now m → Reads second.now k
         → IfOk result (λ both. IsFrame both.items) }
 {
-    law_8();
+    law_8(); // Frames joined without a sentinel
     let mut both = first.to_vec(alloc)?;
     both.extend_from_slice(second)?;
     Ok(both)
@@ -125,7 +125,7 @@ pub fn decode_in_two<D: FrameDecoder>(
     ensures { IfOk result (λ found. outcomes_in found.0.items ++ outcomes_in found.1.items
         ≡ stream_outcomes (first.now ++ second.now) (length (D.bytes decoder.old))) }
 {
-    law_9();
+    law_9(); // A stream may be cut anywhere
     let found = decode_stream(alloc, decoder, first)?;
     Ok((found, decode_stream(alloc, decoder, second)?))
 }
@@ -141,7 +141,7 @@ pub fn one_outcome<D: FrameDecoder>(
     ensures { IfOk result (λ found. outcomes_in found.items
         ≡ outcome_of damaged.now (length (D.bytes decoder.old)) ∷ []) }
 {
-    law_10();
+    law_10(); // Damage stays between its sentinels
     let mut ended = damaged.to_vec(alloc)?;
     ended.push(0)?;
     decode_stream(alloc, decoder, &ended)
@@ -153,7 +153,7 @@ pub fn encode_for_stream(message: &[u8], dest: &mut [u8]) -> usize
     ensures { (n : ℕ) → length message.now ≤ n
         → outcome_of (take result dest.new) n ≡ Message message.now }
 {
-    law_11();
+    law_11(); // A frame in a stream is decoded as its message
     encode(message, dest)
 }
 
@@ -161,7 +161,7 @@ pub fn encode_for_stream(message: &[u8], dest: &mut [u8]) -> usize
 pub fn begins_with_piece(stream: &[u8]) -> bool
     ensures { IsTrue result → first_piece stream.now ≡ Some (head stream.now) }
 {
-    law_12();
+    law_12(); // A stream's first piece, and its last
     match stream {
         [] | [0, ..] => false,
         _ => true,
@@ -174,7 +174,7 @@ pub fn as_encoded<'a>(frame: &'a [u8], message: &[u8], index: usize, code: u8) -
     requires last_run { EndsInFullRun message.now → ⊥ }
     ensures { IsEncodedFrame result.now message.now }
 {
-    law_13();
+    law_13(); // The open frame of a streaming encoder
     frame
 }
 
@@ -182,7 +182,7 @@ pub fn as_encoded<'a>(frame: &'a [u8], message: &[u8], index: usize, code: u8) -
 pub fn reader_after_zero(mut decoder: CobsDecoderOwned) -> FrameReader<CobsDecoderOwned>
     ensures { kept_of result ≡ [] }
 {
-    law_14();
+    law_14(); // A decoder has been fed nothing of a piece exactly if it is idle
     let _ended = decoder.feed(0);
     FrameReader::new(decoder)
 }
@@ -194,7 +194,7 @@ pub fn encode_short(message: &[u8], dest: &mut [u8]) -> usize
     requires room { length message.now < length dest.old }
     ensures { result ≡ length message.now + 1 }
 {
-    law_15();
+    law_15(); // The length of a frame, counted block by block
     encode(message, dest)
 }
 
@@ -206,7 +206,7 @@ pub fn take_nonzero(slice: &mut [u8], index: usize, code: u8, byte: u8)
     ensures { (m : List ℕ) (full : Bool) → CobsEncoderAfter slice.old (place_at index code full) m
         → CobsEncoderAfter slice.new (place_at index (code + 1) false) (m ++ byte ∷ []) }
 {
-    law_16();
+    law_16(); // An encoder of your own, byte by byte
     slice[index + code as usize] = byte;
 }
 
@@ -216,7 +216,7 @@ pub fn feed_one(decoder: &mut UnbufferedDecoder, buffer: &mut [u8], byte: u8)
     ensures { TakesPiece buffer.old (phase_of decoder.old) (byte ∷ []) None
         buffer.new (phase_of decoder.new) }
 {
-    law_17();
+    law_17(); // A decoder of your own, byte by byte
     let _returned = decoder.feed(buffer, byte);
 }
 
@@ -226,7 +226,7 @@ pub fn end_frame(decoder: &mut CobsDecoderOwned) -> Result<Option<usize>, Decode
         → Reads f m → length m ≤ length (owned_buffer decoder.old)
         → result ≡ Ok (Some (length m)) }
 {
-    law_18();
+    law_18(); // A frame is decoded as its message however it is streamed, and nothing else is
     decoder.feed(0)
 }
 
@@ -237,7 +237,7 @@ pub fn is_canonical_behind(block: &[u8], frame: &[u8]) -> bool
     requires some { frame.now ≢ [] }
     ensures { IsTrue result → IsCanonical (block.now ++ frame.now) }
 {
-    law_19();
+    law_19(); // The kind of a frame, block by block
     frame_kind(frame) == FrameKind::Canonical
 }
 
@@ -246,7 +246,7 @@ pub fn decode_block<'a>(block: &'a [u8]) -> &'a [u8]
     requires { IsBlock block.now }
     ensures { result.now ≡ output block.now }
 {
-    law_20();
+    law_20(); // The output of a piece, block by block
     &block[1..]
 }
 
@@ -256,6 +256,6 @@ pub fn first_outcome<D: FrameDecoder>(decoder: &mut D, stream: &[u8]) -> bool
     ensures { (result ≡ false)
         → stream_outcomes stream.now (length (D.bytes decoder.old)) ≡ [] }
 {
-    law_21();
+    law_21(); // A loop over the pieces of a stream
     decoder.feed_piece(stream).is_some()
 }

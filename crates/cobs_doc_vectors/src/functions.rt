@@ -61,6 +61,7 @@ fn a_law_of_frames_that_are_written_twice(rt: HostRuntime) {
 #[test]
 fn laws_of_sentinels_and_open_frames(rt: HostRuntime) {
     let mut frame = [3, 7, 8, 170];
+    // Each byte is XORed with 8, so the frame for 8 has a 0 in the place of the 8.
     change_sentinel(&mut frame, 8);
     assert_eq!(rt; frame, [11, 15, 0, 162]);
     assert_eq!(rt; as_received(&[9], 8), [9].as_slice());

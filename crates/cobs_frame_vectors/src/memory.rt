@@ -176,6 +176,7 @@ fn decode_vec(rt: HostRuntime) {
 
 #[test]
 fn decode_vec_of_a_broken_frame(rt: HostRuntime) {
+    // The decoded bytes are 5, 0 and 1: they include the byte of the broken block.
     let wanted = Err(CallResult::InvalidFrame(3));
     check_vector(&rt, rt.alloc(), VectorCall::Decode, BROKEN, wanted);
 }
@@ -195,6 +196,7 @@ fn decode_vec_with_sentinel_0(rt: HostRuntime) {
 #[test]
 fn decode_vec_with_sentinel_of_a_broken_frame(rt: HostRuntime) {
     let call = VectorCall::DecodeWithSentinel(0);
+    // The decoded bytes are 5 and 0: for a sentinel, they don't include the byte of the broken block.
     let wanted = Err(CallResult::InvalidFrame(2));
     check_vector(&rt, rt.alloc(), call, BROKEN, wanted);
 }

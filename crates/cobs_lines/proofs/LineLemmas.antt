@@ -9,6 +9,7 @@ unfolding encode_with
 encode_with-append t [] ys = refl
 encode_with-append t (x ∷ xs) ys = ap (λ (l : List ℕ). slice_index t (x / 16) ∷ slice_index t (x % 16) ∷ l) (encode_with-append t xs ys)
 
+-- no bytes have no digits
 pub encode_with-nil : (t : List ℕ) → encode_with t [] ≡ []
 unfolding encode_with
 encode_with-nil t = refl

@@ -19,6 +19,7 @@ take_least xs n e = elim (cases_lt (length xs) 64) [
       ap (λ k. take k xs) whole
 ]
 
+-- the bytes after them
 drop_least : (xs : List ℕ) (n : ℕ) → n ≡ min (length xs) 64 → drop n xs ≡ drop 64 xs
 drop_least xs n e = elim (cases_lt (length xs) 64) [
   | inl short ↦ drop_all n xs (omega arith) ∙ sym (drop_all 64 xs (omega arith))

@@ -6,6 +6,7 @@ use std::io::Read;
 /// never fails.
 #[derive(Drop)]
 pub struct InMemory<'a> {
+    /// The bytes that haven't been read yet.
     left: &'a [u8],
 }
 

@@ -14,6 +14,7 @@ pub on_ok : {A E P Q : Type 0} (r : Result A E) → (P → Q) → OnOk r P → O
 on_ok (Ok v) f p = f p
 on_ok (Err e) f p = tt
 
+-- without a time, no text precedes a piece
 untimed-front : (style : Style) (times : Times) → in_front style Untimed times ≡ []
 untimed-front Hex times = refl
 untimed-front Text times = refl

@@ -3,10 +3,12 @@ use Rattle.std.proofs.Common.{◌≡◌, ◌+◌, ◌-◌, ℕ, add-one, List, [
 use Rattle.std.proofs.lemmas.Bool.{cases_lt}
 use Rattle.cobs_live.specs.Dump.{upto}
 
+-- no text
 pub upto-none : (f : ℕ → List ℕ) → upto f 0 ≡ []
 unfolding upto
 upto-none f = refl
 
+-- one more text
 pub upto-more : (f : ℕ → List ℕ) (n : ℕ) → upto f (n + 1) ≡ upto f n ++ f n
 unfolding upto
 upto-more f n = rw add-one refl

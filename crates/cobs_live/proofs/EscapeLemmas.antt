@@ -14,18 +14,23 @@ use Rattle.std.proofs.lemmas.Str.{IsCharBoundary-past_char, IsUtf8-drop, IsUtf8-
 use Rattle.cobs_live.specs.Json.{json_text}
 use Rattle.cobs_live.specs.Escaped.{WritesFront, escaped, is_hidden, is_plain_byte, text_escaped}
 
+-- a character at the front of a text, and the rest of the text
 pub char_escaped : (text rest : List ℕ) (c : ℕ) → IsUtf8 text → text ≡ encode_utf8 c ++ rest → text_escaped text ≡ escaped c ++ text_escaped rest
 char_escaped text rest c u e = grind (arith, chars_past_char, flat_map-cons, chars)
 
+-- a byte that needs no escape is ASCII
 pub plain_below : (b : ℕ) → IsTrue (is_plain_byte b) → b < 128
 plain_below b h = grind arith
 
+-- it isn't hidden
 plain_unseen : (b : ℕ) → IsTrue (is_plain_byte b) → is_hidden b ≡ false
 plain_unseen b h = grind (arith, nat_lt)
 
+-- it is neither a quote nor a backslash
 plain_unquoted : (b : ℕ) → IsTrue (is_plain_byte b) → ((b == 34) || (b == 92)) ≡ false
 plain_unquoted b h = grind arith
 
+-- so it is written as it is
 plain_escaped : (b : ℕ) → IsTrue (is_plain_byte b) → escaped b ≡ b ∷ []
 plain_escaped b h = rw (plain_unseen b h, plain_unquoted b h) (encode_ascii b (plain_below b h))
 
@@ -58,23 +63,28 @@ run_past text rest run more u b is all same = grind (arith, run_more, front_run,
 char_run : (text rest : List ℕ) (c : ℕ) → IsUtf8 text → text ≡ encode_utf8 c ++ rest → escaped c ≡ encode_utf8 c → text_escaped text ≡ take (len_utf8 c) text ++ text_escaped (drop (len_utf8 c) text)
 char_run text rest c u split same = grind (arith, drop_at, length-encode, take-append_seam, char_escaped)
 
--- a run, and a character after it that needs no escape
+-- a run ends between two characters, and so do the run and the character after it
 pub past_char : (text rest : List ℕ) (run c n : ℕ) → IsUtf8 text → IsCharBoundary text run → drop run text ≡ encode_utf8 c ++ rest → n ≡ len_utf8 c → IsCharBoundary text (run + n)
 past_char text rest run c n u b split is = subst (λ (k : ℕ). IsCharBoundary text (run + k)) (sym is) (IsCharBoundary-past_char text rest run c b.0 (IsUtf8-drop text run u b) split)
 
+-- a run, and a character after it that needs no escape
 pub past_char_run : (text rest : List ℕ) (run c n : ℕ) → IsUtf8 text → IsCharBoundary text run → drop run text ≡ encode_utf8 c ++ rest → n ≡ len_utf8 c → escaped c ≡ encode_utf8 c → text_escaped text ≡ take run text ++ text_escaped (drop run text)
     → text_escaped text ≡ take (run + n) text ++ text_escaped (drop (run + n) text)
 past_char_run text rest run c n u b split is plain same = grind (arith, run_more, char_run, IsUtf8-drop)
 
+-- a run, and the character after it in its escaped form
 pub front_escaped : (text rest : List ℕ) (run c : ℕ) → IsUtf8 (drop run text) → text_escaped text ≡ take run text ++ text_escaped (drop run text) → drop run text ≡ encode_utf8 c ++ rest → text_escaped text ≡ (take run text ++ escaped c) ++ text_escaped rest
 front_escaped text rest run c v same split = grind (arith, char_escaped, append_assoc)
 
+-- a run up to the end of the text
 pub front_ended : (text : List ℕ) (run : ℕ) → text_escaped text ≡ take run text ++ text_escaped (drop run text) → length (drop run text) ≡ 0 → text_escaped text ≡ take run text ++ text_escaped []
 front_ended text run same none = grind (arith, nil_from_length)
 
+-- a front that was written, and then the front of the rest
 pub front-more : {a b c : Option (List ℕ)} {text rest left : List ℕ} → WritesFront a b text rest → WritesFront b c rest left → WritesFront a c text left
 front-more {a} {b} {c} {text} {rest} {left} s t = grind (arith, Appends-trans, append_assoc)
 
+-- if no rest is left, the whole text is written
 pub front-end : {a b : Option (List ℕ)} {text rest : List ℕ} → WritesFront a b text rest → length rest ≡ 0 → Appends a b (text_escaped text)
 front-end {a} {b} {text} {rest} s none = grind (arith, nil_from_length, chars-nil, append-nil)
 

@@ -14,26 +14,32 @@ use Rattle.cobs_live.specs.declared.shown.View.{View}
 
 -- ONE MORE LINE THAT HUNG UP
 
+-- after a line that hung up, the beginning of the next line is skipped
 pub skips_behind-gone : (skip : Bool) (gone : List (List ℕ)) (line : List ℕ) → skips_behind skip (gone ++ line ∷ []) ≡ true
 skips_behind-gone skip [] line = refl
 skips_behind-gone skip (g ∷ gone) line = skips_behind-gone true gone line
 
+-- the streams
 pub streams_of-gone : (settings : Settings) (skip : Bool) (gone : List (List ℕ)) (line : List ℕ) → streams_of settings skip (gone ++ line ∷ []) ≡ streams_of settings skip gone ++ stream_of settings (skips_behind skip gone) line ∷ []
 streams_of-gone settings skip [] line = refl
 streams_of-gone settings skip (g ∷ gone) line = grind (arith, (streams_of-gone settings true gone line))
 
+-- the outcomes of the streams
 pub outcomes_of-gone : (ts : List (List ℕ)) (t : List ℕ) (n : ℕ) → outcomes_of (ts ++ t ∷ []) n ≡ outcomes_of ts n ++ stream_outcomes t n
 outcomes_of-gone [] t n = append-nil (stream_outcomes t n)
 outcomes_of-gone (u ∷ ts) t n = grind (arith, append_assoc, (outcomes_of-gone ts t n))
 
+-- the results of reading, if the open line hangs up
 pub letters_of-gone : (gone : List (List ℕ)) (bytes : List ℕ) → letters_of (gone ++ bytes ∷ []) [] ≡ letters_of gone bytes ++ None ∷ []
 letters_of-gone [] bytes = refl
 letters_of-gone (g ∷ gone) bytes = grind (arith, append_assoc, (letters_of-gone gone bytes))
 
+-- the results of reading, if more bytes of the open line are read
 pub letters_of-more : (gone : List (List ℕ)) (bytes more : List ℕ) → letters_of gone (bytes ++ more) ≡ letters_of gone bytes ++ map Some more
 letters_of-more [] bytes more = map-append Some bytes more
 letters_of-more (g ∷ gone) bytes more = grind (arith, append_assoc, (letters_of-more gone bytes more))
 
+-- the number of bytes, which a hang-up doesn't change
 pub count_bytes-gone : (gone : List (List ℕ)) (bytes : List ℕ) → count_bytes (gone ++ bytes ∷ []) [] ≡ count_bytes gone bytes
 count_bytes-gone gone bytes = grind (arith, concat-append, append-nil, length-append)
 

@@ -20,19 +20,23 @@ use Rattle.cobs_live.specs.declared.seen.Kind.TheVariants.{Message}
 
 -- THE PIECES THAT HAVE ENDED
 
+-- the pieces of a stream in two parts
 pub all_ended-append : (law : StreamLaw) (t u : List ℕ) (n : ℕ) → all_ended (t ++ u) n ≡ all_ended t n ++ all_ended (unended t ++ u) n
 unfolding all_ended
 all_ended-append law t u n = grind (arith, map-append)
 
+-- there is one outcome for each piece
 pub length-all_ended : (t : List ℕ) (n : ℕ) → length (all_ended t n) ≡ length (stream_outcomes t n)
 unfolding all_ended stream_outcomes
 length-all_ended t n = grind (arith, length-map)
 
+-- without an outcome, no piece has ended
 pub all_ended-none : (t : List ℕ) (n : ℕ) → stream_outcomes t n ≡ [] → all_ended t n ≡ []
 all_ended-none t n none = nil_from_length (all_ended t n) (length-all_ended t n ∙ ap length none)
 
 -- THE PIECE THAT A ZERO ENDS
 
+-- if the stream is the bytes q and a zero, q is the piece that has ended
 one_piece : (law : StreamLaw) (q : List ℕ) (n : ℕ) (outcome : Outcome) → HasNoZero q → outcome ∷ [] ≡ stream_outcomes (q ++ 0 ∷ []) n → (all_ended (q ++ 0 ∷ []) n ≡ ended_in n q ∷ []) × (outcome ≡ outcome_of q n)
 unfolding all_ended stream_outcomes ended_pieces but_last
 one_piece law [] n outcome h reported = absurd cc
@@ -40,6 +44,7 @@ one_piece law (b ∷ q) n outcome h reported =
     let one = law.piece (b ∷ q) (λ none. cc) h in
     (ap (map (ended_in n)) one, let same = reported ∙ ap (map (λ p. outcome_of p n)) one in cc)
 
+-- if no piece has ended in t, a zero after t ends the unended bytes of t
 one_ended : (law : StreamLaw) (t : List ℕ) (n : ℕ) (outcome : Outcome) → stream_outcomes t n ≡ [] → outcome ∷ [] ≡ stream_outcomes (t ++ 0 ∷ []) n → (all_ended (t ++ 0 ∷ []) n ≡ ended_in n (unended t) ∷ []) × (outcome ≡ outcome_of (unended t) n)
 one_ended law t n outcome none reported =
     let behind = all_ended-append law t (0 ∷ []) n ∙ ap (λ (z : List Ended). z ++ all_ended (unended t ++ 0 ∷ []) n) (all_ended-none t n none) in
@@ -48,17 +53,21 @@ one_ended law t n outcome none reported =
 
 -- THE BYTES OF THAT PIECE IN THE BUFFER
 
+-- the output of a broken piece fits the buffer, and the outcome has its length
 broken-fits : (q : List ℕ) (n count : ℕ) → OfBroken count ≡ outcome_of q n → (count ≡ length (output q)) × (length (output q) ≤ n)
 unfolding outcome_of
 broken-fits q n count e = grind (arith, cases_Bool, leb-true)
 
+-- the output of a piece that is too long is longer than the buffer
 too_long-exceeds : (q : List ℕ) (n : ℕ) → OfTooLong ≡ outcome_of q n → n < length (output q)
 unfolding outcome_of
 too_long-exceeds q n e = grind (arith, nat_le, leb-false, cases_Bool)
 
+-- the buffer holds the output of a broken piece
 held-broken : (out buffer : List ℕ) → length out ≤ length buffer → take (min (length out) (length (overwritten buffer out))) (overwritten buffer out) ≡ take (length buffer) out
 held-broken out buffer fits = grind (arith, length-append, length-take, take-append_seam)
 
+-- the buffer is filled with the front of the output of a piece that is too long
 held-too_long : (out buffer : List ℕ) → length buffer < length out → overwritten buffer out ≡ take (length buffer) out
 held-too_long out buffer more = grind (arith, drop_of_length-le, append-nil)
 
@@ -67,6 +76,7 @@ message-alone : (checksum : Option Checksum) (message d e : List ℕ) → with_p
 message-alone None message d e = refl
 message-alone (Some c) message d e = grind arith
 
+-- so the buffer has the bytes that are shown for a piece
 seen-held : (checksum : Option Checksum) (partial : Bool) (q buffer buffer' : List ℕ) (end : PieceEnd) → buffer' ≡ overwritten buffer (output q) → outcome_at end buffer' ≡ outcome_of q (length buffer)
     → (seen : Seen) → seen ≡ seen_of checksum (outcome_at end buffer') → with_part partial seen (held seen.kind seen.len buffer') ≡ seen_piece checksum partial (ended_in (length buffer) q)
 seen-held checksum false q buffer buffer' end holds same seen is = grind arith
@@ -74,12 +84,13 @@ seen-held checksum true q buffer buffer' (ends.Message k) holds same seen is = g
 seen-held checksum true q buffer buffer' (ends.Broken count) holds same seen is = grind (arith, broken-fits, held-broken)
 seen-held checksum true q buffer buffer' ends.TooLong holds same seen is = grind (arith, held-too_long, too_long-exceeds)
 
--- the last piece that ended in a stream is shown as `seen`
+-- one piece has ended in a stream, and it is shown as `seen`
 pub record IsLastPiece (checksum : Option Checksum) (partial : Bool) (stream : List ℕ) (n : ℕ) (seen : Seen) : Type 0 where
   pub piece : Ended
   pub ended : all_ended stream n ≡ piece ∷ []
   pub seen_so : seen ≡ seen_piece checksum partial piece
 
+-- it is the piece whose end `feed_piece` has reported
 pub IsLastPiece-taken : StreamLaw → ((t : List ℕ) (n : ℕ) → stream_outcomes t n ≡ [] → last_piece (t ++ 0 ∷ []) ≡ unended t) → {buffer bytes buffer' : List ℕ} {phase phase' : Phase} {end : PieceEnd} {count : ℕ} (h : TakesPiece buffer phase bytes (Some (end, count)) buffer' phase') (p : List ℕ) → DecoderAfter buffer phase p → (checksum : Option Checksum) (partial : Bool) (seen : Seen)
     → seen ≡ seen_of checksum (outcome_at end buffer') → IsLastPiece checksum partial (p ++ take count bytes) (length buffer) (with_part partial seen (held seen.kind seen.len buffer'))
 IsLastPiece-taken law last_ended {buffer} {bytes} {buffer'} {phase} {phase'} {end} {count} h p d checksum partial seen is =

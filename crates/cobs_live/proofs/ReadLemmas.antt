@@ -9,6 +9,7 @@ pub Runs-append : {S A : Type 0} (step : S → Read A → S → Type 0) (a b c :
 Runs-append step a b c [] ys r s = subst (λ from. Runs step from ys c) (sym r) s
 Runs-append step a b c (x ∷ xs) ys r s = (r.0, r.1, Runs-append step r.0 b c xs ys r.2 s)
 
+-- reads that are live, and then reads that are live after them
 pub live-append : {A : Type 0} (IsRight : List (List A) → Option (List ℕ) → Type 0) (gone : List (List A)) (xs ys : List (Read A)) → IsLiveAfter IsRight gone xs → IsLiveAfter IsRight (gone ++ came xs) ys → IsLiveAfter IsRight gone (xs ++ ys)
 live-append {A} IsRight gone [] ys l m = subst (λ (g : List (List A)). IsLiveAfter IsRight g ys) (append-nil gone) m
 live-append {A} IsRight gone (x ∷ xs) ys l m = (l.0, l.1, live-append IsRight (gone ++ x.came ∷ []) xs ys l.2 (subst (λ (g : List (List A)). IsLiveAfter IsRight g ys) (sym (append_assoc gone (x.came ∷ []) (came xs))) m))
@@ -19,6 +20,7 @@ pub live-behind : {A : Type 0} (P Q : List (List A) → Option (List ℕ) → Ty
 live-behind P Q front gone [] h l = tt
 live-behind {A} P Q front gone (read ∷ reads) h l = (l.0, h gone read.written l.1, subst (λ (g : List (List A)). IsLiveAfter Q g reads) (sym (append_assoc front gone (read.came ∷ []))) (live-behind P Q front (gone ++ read.came ∷ []) reads h l.2))
 
+-- the elements of lists, and then those of other lists
 pub joined-append : {A : Type 0} (xs ys : List (List A)) → joined (xs ++ ys) ≡ joined xs ++ joined ys
 joined-append [] ys = refl
 joined-append {A} (x ∷ xs) ys = ap (λ (l : List A). x ++ l) (joined-append xs ys) ∙ sym (append_assoc x (joined xs) (joined ys))
@@ -43,6 +45,7 @@ module _ {S A : Type 0} {step : S → Read A → S → Type 0} {source mid sourc
 abbrev pub live-none : {S A : Type 0} (step : S → Read A → S → Type 0) (source : S) (P : List (List A) → Option (List ℕ) → Type 0) → IsLive step source source P
 live-none step source P = record { reads = []; runs = refl; live = tt }
 
+-- before the first read, there is no result
 pub once-none : {S A : Type 0} (step : S → Read A → S → Type 0) (source : S) (written : Option (List ℕ)) → ReadsOnce step source source written []
 once-none step source written = record { live = live-none step source (HeldWhileNothing written); given = refl }
 
@@ -67,5 +70,6 @@ live-push {step = step} {source = source} {mid = mid} {source' = source'} {P = P
   live = live-append P [] a.reads (read ∷ []) a.live (back, right, tt);
 }
 
+-- the results of reads, with one more read
 pub came-push : {A : Type 0} (reads : List (Read A)) (read : Read A) → came (reads ++ read ∷ []) ≡ came reads ++ read.came ∷ []
 came-push {A} reads read = map-append (λ (r : Read A). r.came) reads (read ∷ [])

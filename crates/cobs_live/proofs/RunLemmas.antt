@@ -103,6 +103,7 @@ module _ {S : Type 0} {step : S → Read (Option ℕ) → S → Type 0} {source 
   abbrev pub live-next : IsLiveSoFar step source mid settings from to before after watch → ReadsOnce step mid source' after letters → IsLive step source source' (HoldsText settings before)
   live-next s r = live-more s.live r (λ nothing none. HoldsText-so_far s.so_far (came s.live.reads ++ nothing) (joined-append (came s.live.reads) nothing ∙ ap (λ (x : List (Option ℕ)). joined (came s.live.reads) ++ x) none ∙ append-nil _ ∙ s.given))
 
+  -- the results of its reads
   pub given-next : (s : IsLiveSoFar step source mid settings from to before after watch) (r : ReadsOnce step mid source' after letters) → joined (came (live-next s r).reads) ≡ letters_of s.so_far.ended.gone s.so_far.ended.bytes ++ letters
   given-next s r = came-more s.live.reads r ∙ ap (λ (x : List (Option ℕ)). x ++ letters) s.given
 
@@ -121,6 +122,7 @@ pub unknown-alone : (from to : Option (List ℕ)) (bytes : List ℕ) (P : Type 0
 unknown-alone None to bytes P none c = tt
 unknown-alone (Some xs) to bytes P none c = grind arith
 
+-- and nothing is claimed about the bytes that were read from it
 pub unknown-read : (from to to' : Option (List ℕ)) (bytes : List ℕ) → to ≡ None → Consumes from to bytes → Consumes from to' []
 unknown-read None to to' bytes none c = tt
 unknown-read (Some xs) to to' bytes none c = grind arith
@@ -144,13 +146,15 @@ module _ (law : StreamLaw) {settings : Settings} {from to before after : Option 
   abbrev pub newly : List ℕ → List ℕ
   newly more = begun watch.skipping (xor_each watch.settings.now.sentinel more)
 
-  -- with more bytes, the unended bytes of a stream are those of the decoder, and its outcomes those that the decoder reports
+  -- WITH MORE BYTES of the open line: its stream
   pub more-stream : (more : List ℕ) → open_stream settings s.ended.gone (s.ended.bytes ++ more) ≡ opened ++ newly more
   more-stream more = grind (arith, map-append, begun-append)
 
+  -- whether bytes are still skipped
   pub more-skips : (more : List ℕ) → skips_on watch.skipping (xor_each watch.settings.now.sentinel more) ≡ skips_on skip (xor_each settings.sentinel (s.ended.bytes ++ more))
   more-skips more = grind (arith, map-append, skips_on-append)
 
+  -- the unended bytes, which the decoder has taken
   pub more-left : (more : List ℕ) → unended (open_stream settings s.ended.gone (s.ended.bytes ++ more)) ≡ unended (unended opened ++ newly more)
   more-left more = ap unended (more-stream more) ∙ law.left opened (newly more)
 
@@ -158,6 +162,7 @@ module _ (law : StreamLaw) {settings : Settings} {from to before after : Option 
   abbrev pub new_outcomes : List ℕ → List Outcome
   new_outcomes more = stream_outcomes (unended opened ++ newly more) (length watch.message.items)
 
+  -- all outcomes
   pub more-outcomes : (more : List ℕ) → all_outcomes settings s.ended.gone (s.ended.bytes ++ more) ≡ all_outcomes settings s.ended.gone s.ended.bytes ++ new_outcomes more
   more-outcomes more =
       ap (λ (t : List ℕ). before_open ++ stream_outcomes t settings.length) (more-stream more)
@@ -165,13 +170,16 @@ module _ (law : StreamLaw) {settings : Settings} {from to before after : Option 
       ∙ ap (λ (k : ℕ). before_open ++ (stream_outcomes opened settings.length ++ stream_outcomes (unended opened ++ newly more) k)) (sym s.len)
       ∙ sym (append_assoc before_open (stream_outcomes opened settings.length) (new_outcomes more))
 
+  -- the pieces that have ended in the open line
   pub more-pieces : (more : List ℕ) → all_ended (open_stream settings s.ended.gone (s.ended.bytes ++ more)) settings.length
       ≡ all_ended opened settings.length ++ all_ended (unended opened ++ newly more) (length watch.message.items)
   more-pieces more = grind (arith, more-stream, all_ended-append)
 
+  -- the number of bytes
   more-count : (more : List ℕ) → count_bytes s.ended.gone (s.ended.bytes ++ more) ≡ count_bytes s.ended.gone s.ended.bytes + length more
   more-count more = grind (arith, length-append)
 
+  -- the tally
   pub more-tallied : (tally : Tally) (more : List ℕ)
       → IsTallyOf watch.settings.now.view.checksum tally (all_outcomes settings s.ended.gone s.ended.bytes ++ new_outcomes more) (count_bytes s.ended.gone s.ended.bytes + length more)
       → IsTallyOf settings.view.checksum tally (all_outcomes settings s.ended.gone (s.ended.bytes ++ more)) (count_bytes s.ended.gone (s.ended.bytes ++ more))
@@ -185,9 +193,11 @@ module _ (law : StreamLaw) {settings : Settings} {from to before after : Option 
   abbrev pub more-times : Moment → ℕ → Moment
   more-times now = extended s.ended.times known now
 
+  -- the clock at these times
   pub more-read : (clock : Times) → clock.last ≡ watch.clock.last → IsReadAt (more-times clock.next) known clock
   more-read clock same = IsReadAt-extended s.ended.times known clock.next clock (same ∙ s.timed) refl
 
+  -- the time of the last piece
   pub more-timed : (clock : Times) (now : Moment) (more : List ℕ)
       → IsReadAt (more-times now) (length (all_outcomes settings s.ended.gone s.ended.bytes ++ new_outcomes more)) clock
       → clock.last ≡ more-times now (length (all_outcomes settings s.ended.gone (s.ended.bytes ++ more)))
@@ -197,10 +207,12 @@ module _ (law : StreamLaw) {settings : Settings} {from to before after : Option 
   abbrev pub new_text : View → Moment → List ℕ → List ℕ
   new_text view now more = shown_from view (more-times now) known (all_ended (unended opened ++ newly more) (length watch.message.items))
 
+  -- the text of the lines, with this text
   pub more-text : (now : Moment) (more : List ℕ) → shown_lines settings (more-times now) s.ended.gone (s.ended.bytes ++ more)
       ≡ shown_lines settings s.ended.times s.ended.gone s.ended.bytes ++ new_text settings.view now more
   more-text now more = grind (arith, length-append, length-all_ended, more-pieces, shown_from-append, append_assoc, shown_gone-extended, shown_from-extended)
 
+  -- this text has been written
   abbrev pub more-ended : {to' after' : Option (List ℕ)} (more : List ℕ) (now : Moment) → watch.clock.last.millis ≤ now.millis → Consumes to to' more
       → Appends after after' (new_text watch.settings.now.view now more)
       → HasWritten (shown_lines settings) from to' before after'
@@ -248,19 +260,24 @@ module _ (law : StreamLaw) {settings : Settings} {from to before after : Option 
   pub not_begun : (b : Bool) → stream_of settings b [] ≡ []
   not_begun b = begun-none b
 
+  -- so its stream has no outcome
   no_outcomes : (b : Bool) → stream_outcomes (stream_of settings b []) settings.length ≡ []
   no_outcomes b = ap (λ (t : List ℕ). stream_outcomes t settings.length) (not_begun b) ∙ law.none [] settings.length (All-nil (λ (b : ℕ). b ≢ 0))
 
+  -- the streams of the lines that hung up
   gone-streams : gone_streams settings (s.ended.gone ++ s.ended.bytes ∷ []) ≡ streams ++ opened ∷ []
   gone-streams = grind (arith, streams_of-gone)
 
+  -- all outcomes, which the hang-up doesn't change
   pub gone-outcomes : all_outcomes settings (s.ended.gone ++ s.ended.bytes ∷ []) [] ≡ all_outcomes settings s.ended.gone s.ended.bytes
   gone-outcomes = grind (arith, no_outcomes, append-nil, gone-streams, outcomes_of-gone)
 
+  -- the text of the lines, with the text of the hang-up
   pub gone-text : shown_lines settings s.ended.times (s.ended.gone ++ s.ended.bytes ∷ []) []
       ≡ shown_lines settings s.ended.times s.ended.gone s.ended.bytes ++ shown_hang_up settings.view (is_nonempty (unended opened))
   gone-text = grind (arith, all_ended-none, no_outcomes, shown_from-none, append-nil, gone-streams, shown_gone-gone, append_assoc)
 
+  -- the state after the hang-up
   abbrev pub hung-up : {to' after' : Option (List ℕ)} {watch' : Watch} → to ≡ None → ShowsHangUp (phase_of watch.decoder) watch.settings.now.view after after' → BeginsAnew watch watch'
       → HasShownSoFar settings from to' before after' watch'
   hung-up {to' = to'} {after' = after'} {watch' = watch'} unknown shows anew =
@@ -287,16 +304,19 @@ module _ (law : StreamLaw) {settings : Settings} {from to before after : Option 
 pub whole-message : (message items : List ℕ) (len : ℕ) → len ≡ length items → length message ≡ length items → take len (message ++ drop (length message) items) ≡ message
 whole-message message items len is same = grind (arith, take-append_seam)
 
--- a read that returned bytes, or a hang-up
+-- a read that returned bytes
 pub takes-bytes : (from to : Option (List ℕ)) (gave : Came) (n : ℕ) (chunk : List ℕ) → gave ≡ Bytes n → Takes from to gave chunk → Takes from to (Bytes n) chunk
 takes-bytes from to gave n chunk is h = grind arith
 
+-- a read that found a hang-up
 pub takes-hang_up : (from to : Option (List ℕ)) (gave : Came) (chunk : List ℕ) → gave ≡ HungUp → Takes from to gave chunk → Takes from to HungUp chunk
 takes-hang_up from to gave chunk is h = grind arith
 
+-- the result of a read that returned bytes
 pub given-bytes : (E : Type 0) (gave : Came) (n : ℕ) (chunk : List ℕ) → gave ≡ Bytes n → given {E = E} (Ok gave) chunk ≡ map Some (take n chunk)
 given-bytes E gave n chunk is = grind arith
 
+-- the result of a read that found a hang-up
 pub given-hang_up : (E : Type 0) (gave : Came) (chunk : List ℕ) → gave ≡ HungUp → given {E = E} (Ok gave) chunk ≡ None ∷ []
 given-hang_up E gave chunk is = grind arith
 

@@ -40,10 +40,12 @@ lines_of-first (b ∷ c ∷ bytes) some = ⊎_elim
 abbrev pub AreFirst : (from to : Option (List ℕ)) → List (List ℕ) → Type 0
 AreFirst from to lines = IfSome from (λ xs. IfSome to (λ ys. lines_of xs ≡ lines ++ lines_of ys))
 
+-- before the first line
 pub start-AreFirst : (from : Option (List ℕ)) → AreFirst from from []
 start-AreFirst None = tt
 start-AreFirst (Some xs) = refl
 
+-- after one more line
 pub more-AreFirst : (from to to' : Option (List ℕ)) (lines : List (List ℕ)) (read line : List ℕ) → Consumes from to read → AreFirst from to lines → line ≢ []
     → IfSome to (λ ys. line ≡ take_through 10 ys) → DropsThrough to to' 10 → AreFirst from to' (lines ++ line ∷ [])
 more-AreFirst None to to' lines read line r first some through left = tt
@@ -53,11 +55,13 @@ more-AreFirst (Some xs) (Some ys) to' lines read line r first some through left 
     subst (λ (t : Option (List ℕ)). IfSome t (λ zs. lines_of xs ≡ (lines ++ line ∷ []) ++ lines_of zs)) (sym left)
     (first ∙ ap (λ (l : List (List ℕ)). lines ++ l) next ∙ sym (append_assoc lines (line ∷ []) (lines_of (drop_through 10 ys))))
 
+-- so the lines that were read are the first lines of the reader's bytes
 first-lines : (from to : Option (List ℕ)) (lines : List (List ℕ)) (read : List ℕ) → Consumes from to read → AreFirst from to lines → IfSome from (λ bytes. (more : List (List ℕ)) × (lines_of bytes ≡ lines ++ more))
 first-lines None to lines read r first = tt
 first-lines (Some xs) None lines read r first = absurd r
 first-lines (Some xs) (Some ys) lines read r first = (lines_of ys, first)
 
+-- at the end of the input, they are all lines
 all-lines : (from to : Option (List ℕ)) (lines : List (List ℕ)) (read : List ℕ) → Consumes from to read → AreFirst from to lines → IsAtEnd to → IfSome from (λ bytes. lines ≡ lines_of bytes)
 unfolding lines_of
 all-lines None to lines read r first end = tt
@@ -106,6 +110,7 @@ SentSoFar-start settings from before = record {
 module _ {settings : Settings} {all_sent : Bool} {from to to' before after after' : Option (List ℕ)} (line bytes : List ℕ) (s : SentSoFar settings all_sent from to before after)
     (some : line ≢ []) (through : IfSome to (λ ys. line ≡ take_through 10 ys)) (left : DropsThrough to to' 10)
     (stops : StopsAt line 10) (r : Consumes to to' line) (t : SendsText settings (text_of line) bytes) (w : Appends after after' bytes) where
+  -- one more line, with this flag after it
   abbrev SentSoFar-with : (flag : Bool) → (IsTrue flag ↔ All (λ l. IsSendable settings (text_of l)) (s.lines ++ line ∷ [])) → SentSoFar settings flag from to' before after'
   SentSoFar-with flag all = record {
     lines = s.lines ++ line ∷ [];

@@ -25,10 +25,12 @@ unfolding shown_from
 shown_from-append view times index [] ys = grind arith
 shown_from-append view times index (x ∷ xs) ys = grind (arith, append_assoc, (shown_from-append view times (index + 1) xs ys))
 
+-- the text of no pieces
 pub shown_from-none : (view : View) (times : ℕ → Moment) (index : ℕ) → shown_from view times index [] ≡ []
 unfolding shown_from
 shown_from-none view times index = refl
 
+-- the text of one piece
 pub shown_from-one : (view : View) (times : ℕ → Moment) (index : ℕ) (piece : Ended) → shown_from view times index (piece ∷ []) ≡ shown view times index piece
 unfolding shown_from
 shown_from-one view times index piece = grind (arith, append-nil)
@@ -51,22 +53,27 @@ append_through (Some x) None b t w p q = absurd p
 append_through (Some x) (Some y) None t w p q = absurd q
 append_through (Some x) (Some y) (Some z) t w p q = q ∙ p
 
+-- the bytes are shown, with the composed text written
 pub ShowsBytes-through : {view : View} {times : ℕ → Moment} {n : ℕ} {p bytes : List ℕ} {gone : List Outcome} {read : ℕ} {buffer : List ℕ} {phase : Phase} {before : Option (List ℕ)} {tally : Tally} {clock : Times} (a b : Option (List ℕ)) (t : List ℕ)
     → ShowsBytes view times n p bytes gone read buffer phase before (append_known a t) tally clock → Appends a b t → ShowsBytes view times n p bytes gone read buffer phase before b tally clock
 ShowsBytes-through {before = before} a b t s q = grind (arith, append_through)
 
+-- before the first byte
 pub ShowsBytes-start : (law : StreamLaw) (view : View) (times : ℕ → Moment) (p buffer : List ℕ) (phase : Phase) (gone : List Outcome) (read : ℕ) (before : Option (List ℕ)) (tally : Tally) (clock : Times) → DecoderAfter buffer phase p
     → IsTallyOf view.checksum tally gone read → IsReadAt times (length gone) clock → ShowsBytes view times (length buffer) p [] gone read buffer phase before before tally clock
 ShowsBytes-start law view times p buffer phase gone read before tally clock d t r = grind (arith, append-nil, all_ended-none, shown_from-none, Appends-nil)
 
 module _ (law : StreamLaw) {view : View} {times : ℕ → Moment} {n : ℕ} {p bytes : List ℕ} {gone : List Outcome} {read : ℕ} {buffer : List ℕ} {phase : Phase} {before after : Option (List ℕ)} {tally : Tally} {clock : Times}
     (s : ShowsBytes view times n p bytes gone read buffer phase before after tally clock) (rest : List ℕ) where
+  -- with the bytes `rest`: the unended bytes
   left-on : unended (p ++ (bytes ++ rest)) ≡ unended (unended (p ++ bytes) ++ rest)
   left-on = grind (arith, append_assoc)
 
+  -- the outcomes
   outcomes-on : stream_outcomes (p ++ (bytes ++ rest)) n ≡ stream_outcomes (p ++ bytes) n ++ stream_outcomes (unended (p ++ bytes) ++ rest) n
   outcomes-on = grind (arith, append_assoc)
 
+  -- the pieces that have ended
   pieces-on : all_ended (p ++ (bytes ++ rest)) n ≡ all_ended (p ++ bytes) n ++ all_ended (unended (p ++ bytes) ++ rest) n
   pieces-on = grind (arith, append_assoc, all_ended-append)
 

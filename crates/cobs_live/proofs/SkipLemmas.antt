@@ -11,6 +11,7 @@ begun-append true (byte ∷ bytes) u = elim (byte == 0) as (λ zero. cond zero (
   | false ↦ begun-append true bytes u
 ]
 
+-- whether bytes are still skipped, after bytes in two parts
 pub skips_on-append : (skipping : Bool) (t u : List ℕ) → skips_on skipping (t ++ u) ≡ skips_on (skips_on skipping t) u
 skips_on-append false t u = refl
 skips_on-append true [] u = refl
@@ -19,10 +20,12 @@ skips_on-append true (byte ∷ bytes) u = elim (byte == 0) as (λ zero. cond zer
   | false ↦ skips_on-append true bytes u
 ]
 
+-- without a byte, nothing changes
 pub skips_on-none : (skipping : Bool) → skips_on skipping [] ≡ skipping
 skips_on-none true = refl
 skips_on-none false = refl
 
+-- without a byte, no byte is shown
 pub begun-none : (skipping : Bool) → begun skipping [] ≡ []
 begun-none true = refl
 begun-none false = refl

@@ -14,6 +14,7 @@ stepped poly zero r _ h = grind (arith, common_steps)
 stepped poly (suc zero) r _ h = grind (arith, common_steps)
 stepped poly (suc (suc q)) r h _ = absurd (omega arith)
 
+-- the product of a polynomial and the XOR of two bits
 picked : (poly p q : ℕ) → p < 2 → q < 2 → bit_xor p q * poly ≡ bit_xor (p * poly) (q * poly)
 picked poly zero q _ _ = grind (arith, common_steps)
 picked poly (suc zero) zero _ _ = grind (arith, common_steps)
@@ -21,12 +22,15 @@ picked poly (suc zero) (suc zero) _ _ = grind (arith, common_steps)
 picked poly (suc zero) (suc (suc q)) _ h = absurd (omega arith)
 picked poly (suc (suc p)) q h _ = absurd (omega arith)
 
+-- a shift of the XOR of two numbers
 doubled : (r s : ℕ) → bit_xor r s * 2 ≡ bit_xor (r * 2) (s * 2)
 doubled r s = grind (arith, xor_block 1 r s 0 0 (omega arith) (omega arith))
 
+-- the XOR of four numbers, in another order
 mixed : (a b c d : ℕ) → bit_xor (bit_xor a b) (bit_xor c d) ≡ bit_xor (bit_xor a c) (bit_xor b d)
 mixed a b c d = grind (arith, xor_assoc, xor_comm)
 
+-- a step of the XOR of two registers, given the highest bit and the other bits of each
 shifted-parts : (poly p r q s : ℕ) → p < 2 → r < 2 ^ 31 → q < 2 → s < 2 ^ 31
     → shifted poly (bit_xor (p * 2 ^ 31 + r) (q * 2 ^ 31 + s)) ≡ bit_xor (shifted poly (p * 2 ^ 31 + r)) (shifted poly (q * 2 ^ 31 + s))
 shifted-parts poly p r q s hp hr hq hs =
@@ -35,6 +39,7 @@ shifted-parts poly p r q s hp hr hq hs =
     ∙ mixed (r * 2) (s * 2) (p * poly) (q * poly)
     ∙ sym (ap (bit_xor (shifted poly (p * 2 ^ 31 + r))) (stepped poly q s hq hs) ∙ ap (λ (x : ℕ). bit_xor x (bit_xor (s * 2) (q * poly))) (stepped poly p r hp hr))
 
+-- a step of the XOR of two registers is the XOR of the two steps
 shifted-xor : (poly a b : ℕ) → a < 2 ^ 32 → b < 2 ^ 32 → shifted poly (bit_xor a b) ≡ bit_xor (shifted poly a) (shifted poly b)
 shifted-xor poly a b ha hb =
     let a-is : a / 2 ^ 31 * 2 ^ 31 + a % 2 ^ 31 ≡ a = omega arith in
@@ -43,20 +48,24 @@ shifted-xor poly a b ha hb =
     (subst (λ (y : ℕ). shifted poly (bit_xor (a / 2 ^ 31 * 2 ^ 31 + a % 2 ^ 31) y) ≡ bit_xor (shifted poly (a / 2 ^ 31 * 2 ^ 31 + a % 2 ^ 31)) (shifted poly y)) b-is
     (shifted-parts poly (a / 2 ^ 31) (a % 2 ^ 31) (b / 2 ^ 31) (b % 2 ^ 31) (omega arith) (omega arith) (omega arith) (omega arith)))
 
+-- after a step, a register still has 32 bits
 shifted-lt : (poly r : ℕ) → poly < 2 ^ 32 → r < 2 ^ 32 → shifted poly r < 2 ^ 32
 shifted-lt poly r hp hr = grind (arith, common_steps, xor_lt 32 (2 * r - 2 ^ 32) poly)
 
+-- and after n steps
 after_bits-lt : (poly n r : ℕ) → poly < 2 ^ 32 → r < 2 ^ 32 → after_bits poly n r < 2 ^ 32
 unfolding after_bits
 after_bits-lt poly zero r hp hr = hr
 after_bits-lt poly (suc n) r hp hr = grind (arith, shifted-lt, (after_bits-lt poly n r hp hr))
 
+-- n steps of the XOR of two registers are the XOR of n steps of each
 after_bits-xor : (poly n a b : ℕ) → poly < 2 ^ 32 → a < 2 ^ 32 → b < 2 ^ 32
     → after_bits poly n (bit_xor a b) ≡ bit_xor (after_bits poly n a) (after_bits poly n b)
 unfolding after_bits
 after_bits-xor poly zero a b hp ha hb = refl
 after_bits-xor poly (suc n) a b hp ha hb = grind (arith, shifted-xor, after_bits-lt, (after_bits-xor poly n a b hp ha hb))
 
+-- if the highest bit is a zero, a step only shifts the register
 low_step : (poly r : ℕ) → r * 2 < 2 ^ 32 → shifted poly r ≡ r * 2
 low_step poly r h = grind (arith, common_steps)
 
@@ -69,6 +78,7 @@ after_bits-low poly (suc n) r h =
     let so_far : after_bits poly n r ≡ r * 2 ^ n = after_bits-low poly n r (omega arith) in
     ap (shifted poly) so_far ∙ low_step poly (r * 2 ^ n) (omega arith) ∙ sym more
 
+-- the XOR of a register and a byte changes only the high byte; the low bits are those of the register
 parted : (r b : ℕ) → b < 2 ^ 8 → bit_xor r (2 ^ 24 * b) ≡ bit_xor (2 ^ 24 * bit_xor (r / 2 ^ 24) b) (r % 2 ^ 24)
 parted r b hb =
     let high : ℕ = r / 2 ^ 24 in
@@ -79,6 +89,7 @@ parted r b hb =
     ∙ ap (λ (x : ℕ). bit_xor high b * 2 ^ 24 + x) (xor_zero_r low) ∙ sym (xor_shifted (bit_xor high b) 24 low (omega arith))
     ∙ ap (λ (x : ℕ). bit_xor x low) (omega arith)
 
+-- eight steps for a byte: the XOR of an entry of the table and of the shifted register
 pub table_step : (poly r b : ℕ) → poly < 2 ^ 32 → r < 2 ^ 32 → b < 2 ^ 8
     → bit_xor (after_bits poly 8 (2 ^ 24 * bit_xor (r / 2 ^ 24) b)) (r * 2 ^ 8 % 2 ^ 32) ≡ after_bits poly 8 (bit_xor r (2 ^ 24 * b))
 table_step poly r b hp hr hb =

@@ -16,21 +16,27 @@ abbrev pub extended : (ℕ → Moment) → ℕ → Moment → ℕ → Moment
 extended times known now number = if nat_le number known then times number else now
 
 module _ (times : ℕ → Moment) (known : ℕ) (now : Moment) where
+  -- the times up to this number
   pub early : (number : ℕ) → number ≤ known → extended times known now number ≡ times number
   early number h = grind (arith, le-leb)
 
+  -- the times after it
   pub late : (number : ℕ) → known < number → extended times known now number ≡ now
   late number h = grind (arith, leb_tells)
 
+  -- no time from this number on is after `now`
   most : (number : ℕ) → known ≤ number → (times known).millis ≤ now.millis → (extended times known now number).millis ≤ now.millis
   most number from le = grind (arith, early, late, leb_tells)
 
+  -- the times don't decrease
   pub IsTimeline-extended : IsTimeline times → (times known).millis ≤ now.millis → IsTimeline (extended times known now)
   IsTimeline-extended line le = grind (arith, early, most, late, leb_tells)
 
+  -- a clock whose last time is that of this number
   pub IsReadAt-extended : (clock : Times) → clock.last ≡ times known → clock.next ≡ now → IsReadAt (extended times known now) known clock
   IsReadAt-extended clock last is = grind (arith, early, late)
 
+  -- the text of the pieces up to this number
   pub shown_from-extended : (view : View) (index : ℕ) (pieces : List Ended) → index + length pieces ≤ known → shown_from view (extended times known now) index pieces ≡ shown_from view times index pieces
   unfolding shown_from
   shown_from-extended view index [] h = refl

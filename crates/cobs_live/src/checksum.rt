@@ -16,7 +16,10 @@ pub struct Checksum {
     /// instead of eight steps.
     words: [u32; 256],
 
+    /// Every checksum has 1 to 4 bytes.
     ghost sized: { (0 < params.size) × (params.size ≤ 4) },
+
+    /// The table belongs to the polynomial.
     ghost table: { IsTable params.poly words },
 }
 

@@ -37,6 +37,7 @@ pub struct Moment {
     pub civil: DateTime,
     pub offset: Offset,
 
+    /// The date and time of day are those of `millis` in the zone.
     ghost shows: { civil_nanos civil ≡ pos (millis * 1_000_000) +ℤ nanos_of_seconds offset.seconds },
 }
 

@@ -41,7 +41,10 @@ struct Full;
 /// test takes longer than composing the text of a short message. So there is at most one write for each message.
 #[derive(Drop)]
 pub struct Composed {
+    /// The text is the first `len` bytes.
     bytes: [u8; ROOM],
+
+    /// At most `ROOM`. No invariant states this, so the functions below test it.
     len: usize,
 }
 
@@ -90,7 +93,8 @@ impl Composed {
     /// Adds the text of a piece and returns true, or adds nothing and returns false. It returns true only if three
     /// conditions hold: the piece is a short message; its text fits; and the view shows raw messages without numbers,
     /// or digits without colours, numbers and times. If the view's filter hides the message, its text is empty. The
-    /// text is written later, so one write can contain the text of many messages.
+    /// text is written later, so one write can contain the text of many messages. The text has no number and no time, so
+    /// the clause `kept` is true for every `number` and all `times`.
     #[inline(always)]
     pub fn keep(&mut self, view: &View, piece: &Sight<'_>) -> bool
         ensures kept { IsTrue result → (number : ℕ) (times : Times) → take self.new.len self.new.bytes
@@ -132,6 +136,7 @@ impl Composed {
             ≡ take self.old.len self.old.bytes ++ in_view view.now number times (seen_in piece.now) }
         ensures same { (result ≡ false) → take self.new.len self.new.bytes ≡ take self.old.len self.old.bytes }
     {
+        // Raw messages have no colour and no time, so only the number is tested.
         if view.number || piece.kind != Kind::Message || SHORT_LEN < piece.bytes.len() {
             return false;
         }
@@ -167,8 +172,10 @@ impl Composed {
         self.put_message(view.style, number, piece).is_ok()
     }
 
-    /// Adds a message with this number, if the style is `Json`. For other styles, `put_message` returns `Full`, and the
-    /// caller writes the text directly.
+    /// Adds a message with this number, without colour and time, if the style is `Json`. For other styles, `put_message`
+    /// returns `Full`, and the caller writes the text directly. The text has no time, so the clause `put` is true for all
+    /// `times`. [`compose`](Composed::compose) has already tested the style. The style is matched again, so that the
+    /// clause is true for every style, as the definition `styled` needs it.
     #[inline(always)]
     fn put_message(&mut self, style: Style, number: u64, piece: &Sight<'_>) -> Result<(), Full>
         requires message { piece.now.kind ≡ Message }
@@ -200,7 +207,7 @@ impl Composed {
         self.append(b"\n");
     }
 
-    /// Adds a message as a JSON object on a line.
+    /// Adds a message as a JSON object on a line. The object has no time, so the clause `put` is true for all `times`.
     fn put_json(&mut self, number: u64, piece: &Sight<'_>) -> Result<(), Full>
         requires message { piece.now.kind ≡ Message }
         ensures put { (times : Times) → OnOk result (Appends (contents_of self.old) (contents_of self.new)
@@ -289,6 +296,7 @@ impl Composed {
         if code < 65_536 {
             return self.put_unit(code as u16);
         }
+        // As in `write_escape` of `escape.rt`.
         self.put_unit((0xD800 + (code - 65_536) / 1024 % 1024) as u16)?;
         self.put_unit((0xDC00 + code % 1024) as u16)
     }

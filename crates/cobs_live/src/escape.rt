@@ -129,6 +129,8 @@ fn write_escape<W: Write>(output: &mut W, code: u32) -> io::Result<()>
     if code < 65_536 {
         return write_unit(output, code as u16);
     }
+    // As in UTF-16: the first surrogate has the upper 10 bits of `code - 65_536`, and the second has the lower 10 bits,
+    // which are also the lower 10 bits of `code`.
     write_unit(output, (0xD800 + (code - 65_536) / 1024 % 1024) as u16)?;
     write_unit(output, (0xDC00 + code % 1024) as u16)
 }

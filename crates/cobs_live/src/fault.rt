@@ -30,6 +30,7 @@ pub enum WatchFault {
 }
 
 impl From<AllocError> for WatchFault {
+    // The result of `from`, for the proofs of callers whose `?` converts an `AllocError`.
     ghost from_gives = { λ _ fault. fault ≡ OutOfMemory };
 
     fn from(_error: AllocError) -> WatchFault {

@@ -103,7 +103,8 @@ pub trait Opener<R> {
     fn open(&self) -> io::Result<R>;
 }
 
-/// A line that is opened again each time it hangs up. A line hangs up if it ends, or if a read of it fails.
+/// A line that is opened again each time it hangs up. A line hangs up if it ends, or if a read of it fails with an error
+/// other than "interrupted" or "would block".
 #[derive(Drop)]
 pub struct Reopened<C, O, R> {
     clock: C,
@@ -154,10 +155,12 @@ impl<C: Clock + Drop, O: Opener<R> + Drop, R: Read + Drop, W: Write + Drop> Live
     /// hung up.
     fn read_beside(&mut self, _output: &BufWriter<W>, chunk: &mut [u8]) -> io::Result<Came> {
         self.wait();
+        // The line is open now, unless `wait` has made the greatest number of tries.
         let Some(line) = &mut self.line else {
             return Err(ErrorKind::NotConnected.into());
         };
         let given = line.read(chunk);
+        // A read into an empty chunk returns no bytes, but isn't a hang-up.
         if !chunk.is_empty() && is_hang_up(&given) {
             self.line = None;
             return Ok(Came::HungUp);

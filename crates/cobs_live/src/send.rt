@@ -69,6 +69,7 @@ pub fn run_send<S: LiveLines<W>, W: Write + Drop, E: Write>(
         }
         if !send_text(alloc, settings, without_newline(&line), output)? {
             all_sent = false;
+            // A failure to write the report isn't a fault.
             let _ = writeln!(errors, "cobs_watch: line {number}: not hexadecimal digits");
         }
     }

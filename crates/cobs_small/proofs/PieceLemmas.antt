@@ -1,5 +1,6 @@
 -- Lemmas on the first piece of a source: it is no longer than the source, so a buffer as long as the source is never
 -- too small.
+-- `law_12`: A stream's first piece, and its last.
 use Rattle.std.proofs.Common.{◌≡◌, ◌≢◌, ◌∙◌, ◌<◌, ◌≤◌, ℕ, zero, suc, List, [], ◌∷◌, length, drop, take, slice_index, Option, Some, None, refl, sym, ap, arith, inl, inr, length-drop, length-take-le}
 use Rattle.std.proofs.lemmas.Bool.{cases_eq}
 use Rattle.std.proofs.lemmas.List.Elements.{All-cons, All-nil}
@@ -23,6 +24,7 @@ record Front (t : List ℕ) : Type 0 where
   none : HasNoZero (take n t)
   stop : n < length t → slice_index t n ≡ 0
 
+-- these bytes of a list, perhaps none
 front : (t : List ℕ) → Front t
 front [] = record { n = 0; within = omega arith; none = All-nil (λ b. b ≢ 0); stop = λ more. absurd (omega (arith, more)) }
 front (zero ∷ t) = record { n = 0; within = omega arith; none = All-nil (λ b. b ≢ 0); stop = λ more. refl }
@@ -47,6 +49,7 @@ count_in (Some (end, count)) = count
 -- two clauses of `law_12`
 module _ (is_found : (t : List ℕ) (n : ℕ) → let rest = drop (leading_zeros t) t in 0 < n → n ≤ length rest → HasNoZero (take n rest) → (n < length rest → slice_index rest n ≡ 0) → first_piece t ≡ Some (take n rest))
     (is_none : (t : List ℕ) → let rest = drop (leading_zeros t) t in (0 < length rest → slice_index rest 0 ≡ 0) → first_piece t ≡ None) where
+  -- the first piece isn't longer than the source
   piece_within : (t p : List ℕ) → first_piece t ≡ Some p → length p ≤ length t
   piece_within t p is =
       let rest : List ℕ = drop (leading_zeros t) t in
@@ -63,6 +66,7 @@ module _ (is_found : (t : List ℕ) (n : ℕ) → let rest = drop (leading_zeros
     abbrev Is : Type 0
     Is = Decodes source message (record { status = TOO_SMALL; consumed = consumed; length = length message }) message'
 
+    -- the result, if the first piece is p, and its outcome is o
     long_by : (p : List ℕ) (o : Outcome) → first_piece source ≡ Some p → outcome_of p (length message) ≡ o → ends.TooLong ≡ end_with o → consumed ≡ len_through_piece source p → Is
     long_by p (Message m) found out end count = absurd (cc)
     long_by p (Broken other) found out end count = absurd (cc)
@@ -82,6 +86,7 @@ module _ (is_found : (t : List ℕ) (n : ℕ) → let rest = drop (leading_zeros
     abbrev reported : Option (PieceEnd × ℕ)
     reported = Some (ends.TooLong, consumed)
 
+    -- the result, if `found` is the first piece or `None`
     long_first : (found : Option (List ℕ)) → first_piece source ≡ found → reported ≡ end_by_piece source found (length message) → Is
     long_first None is e = absurd (cc)
     long_first (Some p) is e =
@@ -89,5 +94,6 @@ module _ (is_found : (t : List ℕ) (n : ℕ) → let rest = drop (leading_zeros
         let count : consumed ≡ len_through_piece source p = ap count_in e in
         long_by p (outcome_of p (length message)) is refl end count
 
+    -- the result, if `decode_piece` reported that the first piece is too long
     pub too_long : reported ≡ end_of_first source (length message) → Is
     too_long e = long_first (first_piece source) refl e

@@ -1,4 +1,4 @@
-//! Encodes messages that come in pieces.
+//! Encodes messages that come in chunks.
 ghost use Rattle.std.specs.Prelude.{[], ◌∷◌};
 ghost use Rattle.cobs_abi.specs.Frames.{IsFrameOnWire, IsTerminatedFrame};
 ghost use Rattle.cobs_abi.specs.Stream.{EncodesNext, Finishes, IsFreshEncoder};

@@ -17,5 +17,6 @@ pub extern "C" fn jcobs_decode_in_place(buffer: &mut [u8]) -> Answer
     }
     let end = len_to_zero(buffer);
     let size = decode_blocks_each(buffer, end);
+    // The zero after the frame is consumed too, if there is one.
     result_by(room.min(end + 1), room, size)
 }

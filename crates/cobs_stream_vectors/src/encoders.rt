@@ -6,7 +6,7 @@ use std::alloc::Global;
 use std::process::Abort;
 use std::test::Fail;
 
-/// Encodes a message that comes in these pieces, and returns the frame's length.
+/// Encodes a message that comes in these chunks (`pieces`), and returns the frame's length.
 fn encode_pieces(rt: &impl Abort, pieces: &[&[u8]], slice: &mut [u8]) -> usize {
     assert!(rt; !slice.is_empty());
     let mut encoder = CobsEncoder::new(slice);
@@ -16,7 +16,7 @@ fn encode_pieces(rt: &impl Abort, pieces: &[&[u8]], slice: &mut [u8]) -> usize {
     encoder.finalize()
 }
 
-/// Encodes the message in pieces of `size` bytes. The last piece may be shorter.
+/// Encodes the message in chunks of `size` bytes. The last chunk may be shorter.
 pub fn encode_in_pieces(
     rt: &impl Abort,
     alloc: Global,
@@ -29,8 +29,8 @@ pub fn encode_in_pieces(
     Ok(encode_pieces(rt, &pieces, slice))
 }
 
-/// Checks that the message has this frame if it comes in two pieces, with an empty piece between them and another empty
-/// piece after them. The slice is as long as the frame, or has one more byte, which must not change.
+/// Checks that the message has this frame if it comes in two chunks, with an empty chunk between them and another empty
+/// chunk after them. The slice is as long as the frame, or has one more byte, which must not change.
 fn check_two_pieces<'a>(
     rt: &impl Abort,
     alloc: Global,

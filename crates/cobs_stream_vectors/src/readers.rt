@@ -168,7 +168,7 @@ const READERS: [&[ReaderRow]; 12] = [
             1,
         ),
     ],
-    // each outcome
+    // each outcome; the stream has 18 bytes, and the last read finds its end
     &[(Given::Bytes(DAMAGED, 1), OUTCOMES, 19)],
     &[(Given::Bytes(DAMAGED, 2), OUTCOMES, 10)],
     &[(Given::Bytes(DAMAGED, 5), OUTCOMES, 5)],

@@ -1,4 +1,4 @@
-//! Tests of messages that are encoded and decoded again, in pieces.
+//! Tests of messages that are encoded and decoded again, in chunks.
 use crate::encoders::encode_in_pieces;
 use crate::streaming::{CallResult, Check, StreamingDecoder, check_all, feed_all, pushed};
 use cobs::{CobsDecoder, CobsDecoderHeapless, CobsDecoderOwned, max_encoding_length};
@@ -46,7 +46,8 @@ fn streams_go_there_and_back(rt: HostRuntime) -> Result<(), Fail> {
     Ok(())
 }
 
-/// A test of a frame of two blocks or more. The frame comes in pieces of `size` bytes, and then a sentinel follows.
+/// A test of a frame of two blocks or more. The frame comes in chunks of `size` bytes (`pieces`), and then a sentinel
+/// follows.
 #[derive(Drop)]
 struct Pieces<'a> {
     frame: &'a [u8],
@@ -55,8 +56,8 @@ struct Pieces<'a> {
 }
 
 impl Check for Pieces<'_> {
-    /// Checks that each piece of the frame returns no message, and that the sentinel returns `returned`. If a piece
-    /// returns an error, each later piece must return an error too. At the end, the buffer must have the bytes of the
+    /// Checks that the push of each chunk returns no message, and that the push of the sentinel returns `returned`. If a
+    /// push returns an error, each later push must return an error too. At the end, the buffer must have the bytes of the
     /// message that fit.
     fn check<D: StreamingDecoder + Drop>(
         &self,

@@ -132,7 +132,7 @@ fn push_all<D: StreamingDecoder>(
     panic!(rt; "a push consumed nothing");
 }
 
-/// A case whose stream is decoded in parts. It is cut at each pair of places, for up to three calls of `decode_stream`,
+/// A case whose stream is decoded in chunks. It is cut at each pair of places, for up to three calls of `decode_stream`,
 /// and at each place, for two rounds of pushes. The stream ends with a zero, so the decoder is idle after each round.
 #[derive(Drop)]
 struct Cuts {

@@ -76,6 +76,7 @@ left_of-given : (reader : ReaderState) (source : InMemory) (reads : List Read) (
 left_of-given reader source reads source' runs =
     ap (λ l. reader.kept ++ l) (bytes_left-Runs source reads source' runs) ∙ sym (append_assoc reader.kept (all_given reads) (bytes_left source'))
 
+-- this is so if the reader is at the end of a piece (`AtPieceEnd`)
 pub PieceReported-from : (law : StreamLaw) (reader : ReaderState) (source : InMemory) (reader' : ReaderState) (source' : InMemory) (reads : List Read) (outcome : Outcome)
     → length reader'.buffer ≡ longest_message → Runs MemoryStep source reads source' → AtPieceEnd (reader.kept ++ all_given reads) outcome reader'
     → PieceReported reader source reader' source' outcome
@@ -92,6 +93,7 @@ PieceReported-from law reader source reader' source' reads outcome len runs end 
 
 -- the report of each result of a call, if the reader was idle
 
+-- a message, which fits the buffer
 pub message_reported : (law : StreamLaw) (reader : ReaderState) (source : InMemory) (reader' : ReaderState) (source' : InMemory) (n : ℕ)
     → ReadsNext MemoryStep source source' reader (Ok (nexts.Message n)) reader' → ReaderAfter reader [] → length reader'.buffer ≡ longest_message
     → PieceReported reader source reader' source' (Message (take n reader'.buffer)) × (n ≤ length reader'.buffer)
@@ -99,12 +101,14 @@ message_reported law reader source reader' source' n next idle len =
     let stated = next.result_says [] idle in
     (PieceReported-from law reader source reader' source' next.reads _ len next.runs stated.0, stated.1)
 
+-- a broken piece
 pub broken_reported : (law : StreamLaw) (reader : ReaderState) (source : InMemory) (reader' : ReaderState) (source' : InMemory) (count : ℕ)
     → ReadsNext MemoryStep source source' reader (Ok (nexts.Broken count)) reader' → ReaderAfter reader [] → length reader'.buffer ≡ longest_message
     → PieceReported reader source reader' source' (Broken count)
 broken_reported law reader source reader' source' count next idle len =
     PieceReported-from law reader source reader' source' next.reads _ len next.runs (next.result_says [] idle)
 
+-- a piece that is too long
 pub too_long_reported : (law : StreamLaw) (reader : ReaderState) (source : InMemory) (reader' : ReaderState) (source' : InMemory)
     → ReadsNext MemoryStep source source' reader (Ok nexts.TooLong) reader' → ReaderAfter reader [] → length reader'.buffer ≡ longest_message
     → PieceReported reader source reader' source' TooLong

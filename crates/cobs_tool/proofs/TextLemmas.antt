@@ -10,10 +10,12 @@ use Rattle.cobs_tool.specs.Text.{hex_of}
 
 -- the digits that formatting writes are those of the table
 
+-- whether this is so for each digit below a number
 all_in_table : ℕ → Bool
 all_in_table zero = true
 all_in_table (suc n) = eqb (digit_glyph false n) (slice_index lower_digits n) && all_in_table n
 
+-- it is so for each digit
 digit_glyph_is : (d : ℕ) → d < 16 → digit_glyph false d ≡ slice_index lower_digits d
 unfolding all_in_table
 digit_glyph_is d below = (Decides-below_and (λ k. eqb (digit_glyph false k) (slice_index lower_digits k)) (λ k. digit_glyph false k ≡ slice_index lower_digits k) all_in_table (λ k. Decides-eqb _ _) refl (λ _. refl) 16).0 refl d below

@@ -21,6 +21,7 @@ pub enum ToolFault {
 }
 
 impl From<AllocError> for ToolFault {
+    // The result of `from`, for the proofs of callers whose `?` converts an `AllocError`.
     ghost from_gives = { λ _ fault. fault ≡ OutOfMemory };
 
     fn from(_error: AllocError) -> ToolFault {

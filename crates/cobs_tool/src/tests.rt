@@ -269,6 +269,8 @@ fn check_limit(rt: &impl Abort, alloc: Global, mode: &Mode, zeros: &[u8], count:
 
 #[test]
 fn input_has_a_limit(rt: HostRuntime) -> Result<(), Fail> {
+    // The frame of 1 MiB of zeros has 1,048,577 bytes, and a zero follows it. `show` writes three characters for each of
+    // these bytes: two digits, and a space or the newline. For `decode`, zeros are no piece.
     let zeros = vec![in rt.alloc(); 0u8; 1_048_577]?;
     check_limit(&rt, rt.alloc(), &Mode::Show, &zeros, 3_145_734);
     check_limit(&rt, rt.alloc(), &Mode::Encode, &zeros, 1_048_578);

@@ -4,6 +4,7 @@ use Rattle.std.proofs.lemmas.List.{drop-drop, drop_all, drop_more}
 use Rattle.std.proofs.lemmas.List.Elements.{All-drop, All-get_or, All-take}
 use Rattle.cobs.specs.Grammar.{HasNoZero, IsBlock}
 
+-- the code at this index, and the bytes that it counts
 abbrev pub block_at : List ℕ → ℕ → List ℕ
 block_at list read = get_or list read 0 ∷ take (get_or list read 0 - 1) (drop (read + 1) list)
 
@@ -17,6 +18,7 @@ module _ (list : List ℕ) (read : ℕ) (nonzero : HasNoZero list) (within : rea
   pub code_some : 0 < get_or list read 0
   code_some = grind (arith, All-get_or)
 
+  -- the bytes from the index on are the code and more bytes
   cons : drop read list ≡ code ∷ more
   cons = drop_more list read 0 within
 
@@ -25,6 +27,7 @@ module _ (list : List ℕ) (read : ℕ) (nonzero : HasNoZero list) (within : rea
       → P (drop read list)
   broken P short less = grind (arith, cons, length-drop)
 
+  -- if there are as many bytes as the code says, they are a block
   pub is_block : get_or list read 0 ≤ length list - read → get_or list read 0 < 256 → IsBlock (block_at list read)
   is_block fits below =
       let l = length-drop (read + 1) list in

@@ -9,9 +9,10 @@ pub coded_piece : (s : ℕ) (bytes : List ℕ) → bytes ≢ [] → HasNoZero (x
 coded_piece s [] some nonzero = absurd (some refl)
 coded_piece s (byte ∷ bytes) some nonzero = grind arith
 
--- a piece that reads as the front of a buffer reads as the message there, which fits the buffer
+-- a piece that reads as the front of a buffer reads as the message there
 pub reads_front : (f buffer m : List ℕ) (n : ℕ) → Reads f (take n buffer) → BeginsWith buffer n m → Reads f m
 reads_front f buffer m n reads begins = grind arith
 
+-- and the message fits the buffer
 pub held_front : (buffer m : List ℕ) (n : ℕ) → BeginsWith buffer n m → length m ≤ length buffer
 held_front buffer m n begins = grind (arith, length-take)

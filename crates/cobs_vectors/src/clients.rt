@@ -246,7 +246,7 @@ pub fn no_other(message: &[u8], frame: &mut [u8], buffer: &mut [u8]) -> Option<u
     }
 }
 
-/// Encodes a message that comes in two pieces. The bytes of `dest` after the frame don't change.
+/// Encodes a message that comes in two chunks. The bytes of `dest` after the frame don't change.
 pub fn encode_two(
     first: &[u8],
     second: &[u8],

@@ -49,7 +49,7 @@ pub fn encode_field(field: &[u8], buffer: &mut [u8]) -> Result<usize, DestBufToo
     encoder.finalize(buffer)
 }
 
-/// Writes the frame for a link's sentinel. For 0 no byte is XORed.
+/// Encodes the message for a link whose delimiter is the sentinel. For the sentinel 0, no byte is XORed.
 pub fn encode_for_link(message: &[u8], dest: &mut [u8], sentinel: u8) -> usize
     requires { encoded_len message.now ≤ length dest.old }
     ensures { IsEncodedFrameFor sentinel (take result dest.new) message.now }
@@ -79,6 +79,7 @@ pub fn frame_len(message: &[u8]) -> usize
 {
     law_4(); // The length of a frame, and its bound
     law_15(); // The length of a frame, counted block by block
+    // `closed` is the length of the closed blocks, and `run` is the number of bytes of the open block without its code.
     let mut closed = 0;
     let mut run = 0;
     'by_byte: for byte in message {
@@ -108,6 +109,7 @@ pub fn encode_by_byte(message: &[u8], dest: &mut [u8]) -> usize
     let mut index = 0;
     let mut code = 1u8;
     let mut full = false;
+    // Each byte is one of the three steps of `law_16`: a zero closes the open block, a byte joins it, or a byte fills it.
     'by_byte: for byte in message {
         let next = index + code as usize;
         if *byte == 0 {

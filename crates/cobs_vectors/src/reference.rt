@@ -27,6 +27,7 @@ pub fn frame_of(alloc: Global, message: &[u8]) -> Result<Vec<u8>, AllocError> {
 
 /// Appends a block: its code, which is the number of the block's bytes plus 1, and then the bytes.
 fn append_block(frame: &mut Vec<u8>, block: &[u8]) -> Result<(), AllocError> {
+    // The code is written last, over this byte.
     frame.push(1)?;
     for byte in block {
         frame.push(*byte)?;

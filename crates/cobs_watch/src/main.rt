@@ -44,7 +44,7 @@ const OUTPUT_LEN: usize = 131_072;
 /// The system's error number of the last read or write that failed, if there is one.
 type Reason = Cell<Option<i32>>;
 
-/// The reasons why `show` failed.
+/// The reasons why `show` failed, as the system's error numbers. They name the cause in the line on standard error.
 #[derive(Drop)]
 struct Reasons {
     /// The last error of the input or of standard output.
@@ -58,6 +58,7 @@ fn main(rt: HostRuntime) -> ExitCode {
     match run(&rt) {
         Ok(status) => status,
         Err(error) => {
+            // A line that can't be written to standard error is lost, here and below. The exit status stays the same.
             let _ = eprintln!(rt; "cobs_watch: {error}");
             ExitCode::FAILURE
         }

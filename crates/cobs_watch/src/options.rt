@@ -273,6 +273,7 @@ fn show_task<'a>(
                 checksum: checksum_of(alloc, matches)?,
                 partial: matches.get_flag("partial"),
             },
+            // `number_of` already limits the length, but no clause of it says so.
             length: length.min(MAX_LENGTH) as usize,
             sentinel: sentinel_of(alloc, matches)?,
             skip_first: matches.get_flag("skip-first"),

@@ -51,6 +51,7 @@ fn parsed(text: &str) -> Option<u64> {
 /// Returns the value of `--sentinel`.
 pub(crate) fn sentinel_of(alloc: Global, matches: &ArgMatches<'_>) -> Result<u8, Error> {
     let number = number_of(alloc, matches, "sentinel", 255)?.unwrap_or(0);
+    // The conversion never fails, because `number_of` has limited the number to 255.
     Ok(u8::try_from(number).unwrap_or(0))
 }
 
@@ -175,6 +176,7 @@ fn sized(written: &Written) -> Option<Params>
         32 => 4,
         _ => return None,
     };
+    // A register has 32 bits, and `Params` has the polynomial and the initial value in the highest of them.
     let spare = 32 - 8 * size;
     let poly = u32::try_from(written.poly.unwrap_or(0)).ok()?;
     let init = u32::try_from(written.init.unwrap_or(0)).ok()?;

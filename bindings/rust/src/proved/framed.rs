@@ -300,6 +300,7 @@ impl<D: FrameDecoder> FrameReader<D> {
     /// # }
     /// ```
     pub fn next_frame<S: FrameSource>(&mut self, source: &mut S) -> Result<Next, ReadFault> {
+        // A copy, because `feed_through_end` borrows the whole reader.
         let kept = self.chunk;
         if let Some((next, count)) = self.feed_through_end(&kept[self.start..self.end]) {
             self.start += count;

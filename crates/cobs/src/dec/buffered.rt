@@ -62,7 +62,8 @@ impl<'a> CobsDecoder<'a> {
     /// - `Ok(None)`: the byte didn't end a piece, and the slice begins with the output of the piece so far.
     /// - `Ok(Some(n))`: the byte was the zero after a whole frame, and the message is the slice's first `n` bytes.
     ///
-    /// The bytes of the slice after the output are as they were.
+    /// The bytes of the slice after the output are as they were. As long as the output of the piece fits the slice, each
+    /// byte changes the decoder's state as it changes a [`DecoderState`](crate::DecoderState).
     ///
     /// # Errors
     /// - `InvalidFrame`: the byte was a zero inside a block. `decoded_bytes` is the length of the piece's output, which
@@ -241,7 +242,8 @@ impl CobsDecoderOwned {
     }
 
     /// Decodes the next byte of the stream. The results and errors are those of
-    /// [`CobsDecoder::feed`](crate::CobsDecoder::feed).
+    /// [`CobsDecoder::feed`](crate::CobsDecoder::feed). As there, each byte changes the decoder's state as it changes a
+    /// [`DecoderState`](crate::DecoderState), as long as the output of the piece fits the buffer.
     ///
     /// ```
     /// let mut decoder = CobsDecoderOwned::new(alloc, 0)?;

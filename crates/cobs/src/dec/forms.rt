@@ -25,7 +25,8 @@ fn decode_blocks(source: &[u8], dest: &mut [u8], sentinel: u8) -> Result<usize, 
     ensures returned { result ≡ head_result_within (xor_each sentinel source.now) (length dest.old) }
     ensures buffer { dest.new ≡ overwritten dest.old (kept_output (xor_each sentinel source.now)) }
 {
-    // A block has at most 255 bytes, so a block that begins before the last 254 bytes of the source is whole.
+    // A block has at most 255 bytes, so a block that begins before the last 254 bytes of the source is whole. These
+    // blocks are decoded at once. In the last 254 bytes, `kept_len` first finds out whether the last block is broken.
     let tail = source.len().saturating_sub(FULL_BLOCK_BYTES);
     let mut progress = START;
     if progress.take_blocks(dest, &source[..tail], sentinel) < tail {

@@ -30,8 +30,8 @@ pub enum PieceEnd {
 }
 
 impl PieceEnd {
-    /// Converts `returned`, the result of `feed` for a zero, to the end of the piece that this zero ended. Returns
-    /// `None` if no piece had begun.
+    /// Returns how a piece ended. `returned` is the result of `feed` for the zero after the piece. If no piece had begun
+    /// before the zero, the function returns `None`.
     ///
     /// ```
     /// let mut decoder = UnbufferedDecoder::new();
@@ -73,11 +73,13 @@ pub trait FrameDecoder {
     /// The decoder's phase.
     ghost phase: { Self → Phase };
 
-    /// A number that identifies the slice that the decoder borrows as its buffer, if it borrows one.
+    /// A number that identifies the slice that the decoder borrows as its buffer. If the decoder borrows no slice, any
+    /// constant number.
     ghost loan: { Self → ℕ };
 
     /// Decodes the next byte of the stream. The results and errors are those of
-    /// [`CobsDecoder::feed`](crate::CobsDecoder::feed).
+    /// [`CobsDecoder::feed`](crate::CobsDecoder::feed). As there, each byte changes the decoder's state as it changes a
+    /// [`DecoderState`](crate::DecoderState), as long as the output of the piece fits the buffer.
     ///
     /// ```
     /// let mut decoder = CobsDecoderHeapless::<1>::new();
@@ -165,6 +167,7 @@ pub trait WriteBuffer: FrameDecoder {
     /// assert_eq!(rt; decoder.buffer(), [9, 9].as_slice());
     /// ```
     fn dest_mut(&mut self) -> &mut [u8]
+        // `Self.row` is the type `Self`, in the form that `LendsBytes` needs.
         ensures* writes_back { sem 𝓛 (LendsBytes Self.row self.entry result with_bytes) }
         ensures value { result.now ≡ Self.bytes self.old };
 
@@ -187,16 +190,16 @@ pub trait WriteBuffer: FrameDecoder {
         dest[at..at + source.len()].copy_from_slice(source);
     }
 
-    /// After a write, the buffer has the bytes that were written.
+    /// A fact that each implementation proves: after a write, the buffer has the bytes that were written.
     ghost bytes_are_written: { (decoder : Self) (written : List ℕ)
         → length written ≡ length (Self.bytes decoder)
         → Self.bytes (with_bytes decoder written) ≡ written };
 
-    /// A write doesn't change the decoder's phase.
+    /// A fact that each implementation proves: a write doesn't change the decoder's phase.
     ghost phase_stays: { (decoder : Self) (written : List ℕ)
         → Self.phase (with_bytes decoder written) ≡ Self.phase decoder };
 
-    /// After a write, the buffer is still the same slice.
+    /// A fact that each implementation proves: after a write, the buffer is still the same slice.
     ghost loan_stays: { (decoder : Self) (written : List ℕ)
         → Self.loan (with_bytes decoder written) ≡ Self.loan decoder };
 }

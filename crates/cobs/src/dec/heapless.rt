@@ -29,6 +29,8 @@ use arrayvec::ArrayVec;
 pub struct CobsDecoderHeapless<const N: usize> {
     dest: ArrayVec<u8, N>,
     inner: UnbufferedDecoder,
+
+    /// The vector is always full, so the buffer has `N` bytes.
     ghost filled: { length dest.items ≡ N },
 }
 
@@ -74,7 +76,8 @@ impl<const N: usize> CobsDecoderHeapless<N> {
     }
 
     /// Decodes the next byte of the stream. The results and errors are those of
-    /// [`CobsDecoder::feed`](crate::CobsDecoder::feed).
+    /// [`CobsDecoder::feed`](crate::CobsDecoder::feed). As there, each byte changes the decoder's state as it changes a
+    /// [`DecoderState`](crate::DecoderState), as long as the output of the piece fits the buffer.
     ///
     /// ```
     /// let mut decoder = CobsDecoderHeapless::<4>::new();
@@ -152,6 +155,7 @@ impl<const N: usize> CobsDecoderHeapless<N> {
     /// assert_eq!(rt; decoder.dest(), [9, 9].as_slice());
     /// ```
     pub fn dest_mut(&mut self) -> &mut [u8]
+        // `N.row` is `N`, in the form that a parameter of a type has in a contract.
         ensures* writes_back { sem 𝓛 (LendsHeapless N.row self.entry result) }
         ensures value { result.now ≡ heapless_buffer self.old }
     {

@@ -1,6 +1,8 @@
 //! The loop that decodes the bytes before a sentinel, on targets with SIMD vectors. Each step of the loop decodes a
 //! long block, rows of 32 blocks 01, a *span*, or only a code. A span is up to 253 bytes of a piece. All bytes of a
 //! span are copied, even the codes, and then a zero is written over each code.
+//!
+//! Each step requires that the output so far fits the buffer, and ensures that it still does (the clauses `going`).
 ghost use Rattle.std.specs.Prelude.{IsTrue, ◌++◌, drop, ◌≡◌, ◌≢◌, ◌<◌, ◌≤◌, ◌+◌, ◌-◌, ◌∷◌, [], length, take, replicate, slice_index, false, List, ℕ};
 ghost use Rattle.cobs.specs.Feed.{Idle, Overlong};
 ghost use Rattle.cobs.specs.Fields.Decoders.{phase_of};
@@ -131,8 +133,8 @@ impl UnbufferedDecoder {
     }
 
     /// Decodes `len` bytes that the caller has moved to the end of the output, that is, to index `written` of `dest`.
-    /// The caller ensures that none of these bytes is a zero, and that no full block ends before the last of these
-    /// bytes.
+    /// The caller ensures that there are 1 to 253 bytes, that none of them is a zero, and that no full block ends before
+    /// the last of them.
     #[inline(always)]
     pub(crate) fn take_moved(&mut self, dest: &mut [u8], len: usize)
         requires going { self.old.too_long ≡ 0 }
@@ -160,8 +162,8 @@ impl UnbufferedDecoder {
     }
 
     /// Decodes the bytes of `copied`, which the caller has copied to the end of the output, that is, to index `written`
-    /// of `dest`, each XORed with the sentinel. The caller ensures that none of these bytes is the sentinel, and that
-    /// no full block ends before the last of these bytes.
+    /// of `dest`, each XORed with the sentinel. The caller ensures that there are 1 to 253 bytes, that none of them is
+    /// the sentinel, and that no full block ends before the last of them.
     #[inline(always)]
     fn take_copied(&mut self, dest: &mut [u8], copied: &[u8], sentinel: u8)
         requires going { self.old.too_long ≡ 0 }
@@ -219,9 +221,12 @@ impl UnbufferedDecoder {
     }
 
     /// Decodes `bytes` as one span, or decodes nothing. Returns whether it decoded the bytes; if it returns false,
-    /// nothing has changed. The function decodes the bytes only if all these conditions hold: a piece has begun, and
-    /// isn't too long for the buffer; there are 1 to 31 bytes; none of the bytes is a zero; no full block ends before
-    /// the last byte; and `dest` has room for the output of the bytes.
+    /// nothing has changed. The function decodes the bytes only if all these conditions hold:
+    ///
+    /// - A piece has begun, and isn't too long for the buffer.
+    /// - There are 1 to 31 bytes, and none of them is a zero.
+    /// - No full block ends before the last byte.
+    /// - `dest` has room for the output of the bytes.
     #[inline(always)]
     pub(crate) fn take_short(&mut self, dest: &mut [u8], bytes: &[u8]) -> bool
         ensures fed { IsTrue result → FeedsQuietly dest.old (phase_of self.old) bytes.now dest.new (phase_of self.new) }
@@ -322,7 +327,8 @@ impl UnbufferedDecoder {
         ensures stop { result < length bytes.now → next_phase (length dest.new) (phase_of self.new)
             (slice_index (xor_each sentinel bytes.now) result) ≡ Overlong }
     {
-        // The loop changes `here`, a copy of the decoder, which stays in registers.
+        // The loop changes `here`, a copy of the decoder, which stays in registers. `too_long` is 0 before the loop and
+        // after it, so it isn't copied.
         let mut here = UnbufferedDecoder {
             too_long: 0,
             ..*self

@@ -55,6 +55,7 @@ pub enum DecodeResult {
 impl Default for DecoderState {
     ghost use Rattle.cobs.specs.declared.dec.state.DecoderState.TheVariants.{Idle};
 
+    // The state that generic code gets from `default`.
     ghost is_default = { λ state. state ≡ Idle };
 
     /// Makes the state before the first byte of a stream, which is `Idle`.

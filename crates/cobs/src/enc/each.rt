@@ -19,6 +19,8 @@ pub(crate) fn write_each(source: &[u8], dest: &mut [u8]) -> usize
     ensures len { result ≡ encoded_len source.now }
     ensures rest { drop result dest.new ≡ drop result dest.old }
 {
+    // The code of the open block belongs at `index`, and the next byte of the frame at `next`. The difference of these two
+    // indices is the code that the open block has so far.
     let mut index = 0;
     let mut next = 1;
     let mut read = 0;
@@ -33,6 +35,7 @@ pub(crate) fn write_each(source: &[u8], dest: &mut [u8]) -> usize
         'by_byte: for i in 0..len {
             let byte = rest[i];
             if byte == 0 {
+                // The zero ends the open block. The code of the next block takes the zero's place in the frame.
                 dest[index] = (next - index) as u8;
                 index = next;
             } else {

@@ -27,6 +27,8 @@ use crate::error::DestBufTooSmallError;
 pub struct CobsEncoder<'a> {
     dest: &'a mut [u8],
     encoder: UnbufferedEncoder,
+
+    /// The code of the open block is from 1 to 254, and the encoded frame so far ends within the slice.
     ghost place: { IsPlaceIn (length dest.now) (reached_by encoder) },
 }
 

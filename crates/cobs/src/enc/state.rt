@@ -63,6 +63,7 @@ impl Model for EncoderState {
     ghost use Rattle.std.specs.Prelude.{◌<◌};
     ghost use Rattle.cobs.specs.OpenBlock.{OpenBlock};
 
+    // Contracts describe an `EncoderState` by an `OpenBlock`, a record of its two numbers. The code is from 1 to 254.
     ghost Value = { OpenBlock };
 
     ghost view = { λ s. record { index = s.code_index; code = s.code } };
@@ -71,6 +72,7 @@ impl Model for EncoderState {
 }
 
 impl Default for EncoderState {
+    // The state that generic code gets from `default`.
     ghost is_default = { λ state. state ≡ record { index = 0; code = 1 } };
 
     /// Makes the state before the first byte of a message. The open block begins with the placeholder at index 0, and
@@ -95,6 +97,7 @@ impl Default for EncoderState {
 impl Clone for EncoderState {
     ghost use Rattle.std.specs.Prelude.{◌≡◌, Ok, ⊤};
 
+    // For generic code: a clone equals the state, and `clone` never fails.
     ghost is_clone = { λ state copy. copy ≡ state };
 
     ghost is_infallible = { λ _. ⊤ };

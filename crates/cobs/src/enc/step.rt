@@ -24,6 +24,8 @@ impl UnbufferedEncoder {
             → TakesFront dest.old (reached_by self.old) (byte ∷ behind) 1 dest.new (reached_by self.new) }
         ensures end { result ≡ end_of (reached_by self.new) }
     {
+        // `code` is the code of the open block before this byte. If the byte joins this block, the same number is how many
+        // bytes the block then has, so `taken` becomes `code`. If the byte ends the block, `taken` becomes 0.
         let index = self.index;
         let mut code = self.taken as usize + 1;
         let next = index + code;
@@ -192,6 +194,7 @@ impl UnbufferedEncoder {
             return Err(DestBufTooSmallError);
         }
         let room = dest.len() - self.index;
+        // A push of no bytes succeeds if the encoder's state is possible in this buffer.
         if bytes.is_empty() {
             if self.full != 0 || (self.taken as usize) < room {
                 return Ok(());
@@ -238,6 +241,7 @@ impl UnbufferedEncoder {
         let code = next - index;
         self.index = index;
         self.taken = (code - 1) as u8;
+        // If the open block has no byte, and the last byte isn't a zero, the last byte has filled a block.
         self.full = if code == 1 && bytes[bytes.len() - 1] != 0 {
             1
         } else {

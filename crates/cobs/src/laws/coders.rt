@@ -46,9 +46,10 @@ pub fn law_15()
 /// block's code. At the end of the message the encoder writes the code of the open block, unless the last block is
 /// full.
 ///
-/// If more bytes of the message follow, the length of the whole frame is the sum of two numbers: the index of the open
-/// block, and the length of the encoded frame of the open block's bytes followed by these other bytes. The clause
-/// `goes_on` states this sum; its `a` is any list of nonzero bytes that is as long as the open block.
+/// If more bytes of the message follow, the length of the whole frame is the sum of two numbers. The first number is
+/// the index of the open block. The second number is the length of an encoded frame: the frame of a message that
+/// consists of the open block's bytes and these other bytes. The clause `goes_on` states this sum; its `a` is any list
+/// of nonzero bytes that is as long as the open block.
 ///
 /// So an encoder of your own that makes these steps writes the frames that [`encode`](crate::encode) writes.
 ///

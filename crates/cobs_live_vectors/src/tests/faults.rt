@@ -75,6 +75,7 @@ fn show<S: LiveInput<W>, W: Write + Drop>(
 #[test]
 fn one_byte_a_read_and_a_write_shows_the_same(rt: HostRuntime) -> Result<(), Fail> {
     let alloc = rt.alloc();
+    // The stream is read with 22 reads: one for each of its 20 bytes, one for its end, and the interrupted read.
     for interrupted in 0..22 {
         let mut input = AnyInput::new(reader(STREAM, interrupted, ErrorKind::Interrupted));
         let mut output = BufWriter::new(alloc, writer(alloc, interrupted, ErrorKind::Interrupted))?;
@@ -115,6 +116,7 @@ fn a_failed_write_ends_a_run(rt: HostRuntime) -> Result<(), Fail> {
         (ErrorKind::BrokenPipe, WatchFault::OutputClosed),
     ];
     for (kind, fault) in faults {
+        // Each write accepts one byte of the text, which has 59 bytes.
         for failing in 0..58 {
             let mut input = AnyInput::new(STREAM);
             let mut output = BufWriter::new(alloc, writer(alloc, failing, kind))?;

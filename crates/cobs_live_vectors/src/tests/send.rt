@@ -91,6 +91,7 @@ fn what_is_sent_with_a_checksum_is_shown_without_it(rt: HostRuntime) -> Result<(
             let done = run_send(alloc, &how, &mut lines, &mut sent, &mut Vec::new(alloc));
             assert_eq!(rt; done, Ok(true));
             let mut how = settings(alloc, Style::Text, Stamp::Untimed);
+            // The message `ping` and a checksum have at most 8 bytes.
             how.length = 8;
             how.view.checksum = Some(Checksum::new(crc.params(), little));
             let mut shown = BufWriter::new(alloc, Vec::new(alloc))?;

@@ -103,6 +103,7 @@ pub fn decode_piece(source: &[u8], dest: &mut [u8]) -> Option<(PieceEnd, usize)>
     }
     let mut at = start + 1;
     let mut written = 0;
+    // `code` is the code of the current block, and `left` is the number of its missing bytes.
     let mut code = source[start];
     let mut left = code as usize - 1;
     while at < source.len() {
@@ -119,6 +120,7 @@ pub fn decode_piece(source: &[u8], dest: &mut [u8]) -> Option<(PieceEnd, usize)>
             written += 1;
             left -= 1;
         } else {
+            // `byte` is the code of the next block. A zero joins the two blocks, unless the block before is full.
             if code != FULL {
                 if written == dest.len() {
                     return Some((PieceEnd::TooLong, through_piece(source, at)));
@@ -177,6 +179,7 @@ pub(crate) fn decode_head_each(
             written += 1;
         }
         rest = &rest[code..];
+        // A zero joins this block and the next block, unless this block is full.
         if code != FULL_CODE && !rest.is_empty() {
             if dest.len() <= written {
                 return Err(DecodeError::TargetBufTooSmall);

@@ -11,7 +11,8 @@ use crate::proved::find::{len_without_end, position_or_len};
 
 /// Decodes a source that contains no sentinel, and returns the message's length in bytes.
 fn decode_blocks(source: &[u8], dest: &mut [u8], sentinel: u8) -> Result<usize, DecodeError> {
-    // A block has at most 255 bytes, so a block that begins before the last 254 bytes of the source is whole.
+    // A block has at most 255 bytes, so a block that begins before the last 254 bytes of the source is whole. These
+    // blocks are decoded at once. In the last 254 bytes, `kept_len` first finds out whether the last block is broken.
     let tail = source.len().saturating_sub(FULL_BLOCK_BYTES);
     let mut progress = START;
     if progress.take_blocks(dest, &source[..tail], sentinel) < tail {

@@ -28,8 +28,8 @@ pub enum PieceEnd {
 }
 
 impl PieceEnd {
-    /// Converts `returned`, the result of `feed` for a zero, to the end of the piece that this zero ended. Returns
-    /// `None` if no piece had begun.
+    /// Returns how a piece ended. `returned` is the result of `feed` for the zero after the piece. If no piece had begun
+    /// before the zero, the function returns `None`.
     ///
     /// ```
     /// use jcobs::{PieceEnd, UnbufferedDecoder};
@@ -66,7 +66,8 @@ impl PieceEnd {
 /// ```
 pub trait FrameDecoder {
     /// Decodes the next byte of the stream. The results and errors are those of
-    /// [`CobsDecoder::feed`](crate::CobsDecoder::feed).
+    /// [`CobsDecoder::feed`](crate::CobsDecoder::feed). As there, each byte changes the decoder's state as it changes a
+    /// [`DecoderState`](crate::DecoderState), as long as the output of the piece fits the buffer.
     ///
     /// ```
     /// use jcobs::{CobsDecoderHeapless, FrameDecoder};

@@ -22,6 +22,9 @@ impl UnbufferedDecoder {
     /// Decodes bytes of the buffer in one step, from index `read` on and before index `end`, and writes the output to
     /// the same buffer. Returns how many bytes it decoded. The steps are those of `take_part` in `run.rt`, with two
     /// differences: a step decodes at most one row of 32 blocks 01, and the output always fits.
+    ///
+    /// The output must not overwrite a byte that isn't decoded yet. So the caller ensures that the output so far ends at
+    /// index `read` at the latest, and before `read` if the next code will add the zero of a joint.
     #[inline(always)]
     fn take_part_in_place(&mut self, buffer: &mut [u8], read: usize, end: usize) -> usize {
         let code = buffer[read];
@@ -66,7 +69,8 @@ impl UnbufferedDecoder {
 /// bytes. The caller ensures that none of these bytes is a zero.
 #[inline(never)]
 fn decode_blocks_in_place(buffer: &mut [u8], end: usize) -> Result<usize, DecodeError> {
-    // A block has at most 255 bytes, so a block that begins before the last 254 bytes of the frame is whole.
+    // A block has at most 255 bytes, so a block that begins before the last 254 bytes of the frame is whole. These
+    // blocks are decoded at once. In the last 254 bytes, `kept_len` first finds out whether the last block is broken.
     let tail = end.saturating_sub(FULL_BLOCK_BYTES);
     let mut progress = START;
     progress.take_in_place(buffer, 0, tail);

@@ -66,5 +66,6 @@ pub fn kind_by_blocks(bytes: &[u8]) -> FrameKind {
         after_full = code == FULL_CODE;
         read += code;
     }
+    // The loop returns at the last block, so it ends only if there are no bytes.
     FrameKind::NotAFrame
 }

@@ -2,6 +2,8 @@
 //! The loop that decodes the bytes before a sentinel, on targets with SIMD vectors. Each step of the loop decodes a
 //! long block, rows of 32 blocks 01, a *span*, or only a code. A span is up to 253 bytes of a piece. All bytes of a
 //! span are copied, even the codes, and then a zero is written over each code.
+//!
+//! Each step requires that the output so far fits the buffer, and ensures that it still does (the clauses `going`).
 
 use crate::proved::block::FULL_BLOCK_BYTES;
 use crate::proved::cobs_bytes::lanes::{copy_xored, copy_xored_short};
@@ -91,8 +93,8 @@ impl UnbufferedDecoder {
     }
 
     /// Decodes `len` bytes that the caller has moved to the end of the output, that is, to index `written` of `dest`.
-    /// The caller ensures that none of these bytes is a zero, and that no full block ends before the last of these
-    /// bytes.
+    /// The caller ensures that there are 1 to 253 bytes, that none of them is a zero, and that no full block ends before
+    /// the last of them.
     #[inline(always)]
     pub(crate) fn take_moved(&mut self, dest: &mut [u8], len: usize) {
         let at = self.written;
@@ -107,8 +109,8 @@ impl UnbufferedDecoder {
     }
 
     /// Decodes the bytes of `copied`, which the caller has copied to the end of the output, that is, to index `written`
-    /// of `dest`, each XORed with the sentinel. The caller ensures that none of these bytes is the sentinel, and that
-    /// no full block ends before the last of these bytes.
+    /// of `dest`, each XORed with the sentinel. The caller ensures that there are 1 to 253 bytes, that none of them is
+    /// the sentinel, and that no full block ends before the last of them.
     #[inline(always)]
     fn take_copied(&mut self, dest: &mut [u8], copied: &[u8], sentinel: u8) {
         let at = self.written;
@@ -146,9 +148,12 @@ impl UnbufferedDecoder {
     }
 
     /// Decodes `bytes` as one span, or decodes nothing. Returns whether it decoded the bytes; if it returns false,
-    /// nothing has changed. The function decodes the bytes only if all these conditions hold: a piece has begun, and
-    /// isn't too long for the buffer; there are 1 to 31 bytes; none of the bytes is a zero; no full block ends before
-    /// the last byte; and `dest` has room for the output of the bytes.
+    /// nothing has changed. The function decodes the bytes only if all these conditions hold:
+    ///
+    /// - A piece has begun, and isn't too long for the buffer.
+    /// - There are 1 to 31 bytes, and none of them is a zero.
+    /// - No full block ends before the last byte.
+    /// - `dest` has room for the output of the bytes.
     #[inline(always)]
     pub(crate) fn take_short(&mut self, dest: &mut [u8], bytes: &[u8]) -> bool {
         let at = self.written;
@@ -220,7 +225,8 @@ impl UnbufferedDecoder {
     /// decoded. The caller ensures that none of the bytes is the sentinel.
     #[inline(always)]
     pub(crate) fn take_blocks(&mut self, dest: &mut [u8], bytes: &[u8], sentinel: u8) -> usize {
-        // The loop changes `here`, a copy of the decoder, which stays in registers.
+        // The loop changes `here`, a copy of the decoder, which stays in registers. `too_long` is 0 before the loop and
+        // after it, so it isn't copied.
         let mut here = UnbufferedDecoder {
             too_long: 0,
             ..*self

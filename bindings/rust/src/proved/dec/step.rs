@@ -31,8 +31,8 @@ impl UnbufferedDecoder {
         if len < ended.written {
             return Err(DecodeError::TargetBufTooSmall);
         }
-        // No byte of a block is missing. If a piece has begun, its last block isn't full, and then `joint` isn't 0, or
-        // it is full, and then its bytes were written.
+        // No byte of a block is missing here. If a piece has begun and its last block isn't full, `joint` isn't 0. If a
+        // piece has begun and its last block is full, `written` isn't 0, because the bytes of that block were written.
         if ended.written == 0 && ended.joint == 0 {
             Ok(None)
         } else {
@@ -88,8 +88,10 @@ impl UnbufferedDecoder {
             at += 1;
             self.written = at;
         }
+        // For a zero, which no caller should pass, the subtraction wraps.
         self.missing = byte.wrapping_sub(1);
         self.joint = joint_after(byte);
+        // `at` is greater than `room` only if the caller has passed another buffer, or has changed the decoder's numbers.
         at.min(room)
     }
 

@@ -13,8 +13,8 @@ use crate::proved::find::{front_len, position_or_len};
 /// of its own, only a few numbers. So a program can use the buffer for other data between two pieces, and a decoder can
 /// be in a struct together with its buffer, or be passed to another language.
 ///
-/// While a piece is open, that is, from its first byte to the zero that ends it, the caller must pass the same buffer
-/// to each call and must not change the buffer between two calls. If the caller passes another buffer, of any length,
+/// A piece is open from its first byte to the zero that ends it. While a piece is open, the caller must pass the same
+/// buffer to each call, and must not change the buffer between two calls. If the caller passes another buffer, of any length,
 /// each call is still safe: no call panics or returns a message that is longer than the buffer. But the results for
 /// that piece, and the bytes of the buffer, are then unspecified.
 ///
@@ -109,7 +109,8 @@ impl UnbufferedDecoder {
     }
 
     /// Decodes the next byte of the stream, with `dest` as the buffer. The results and errors are those of
-    /// [`CobsDecoder::feed`](crate::CobsDecoder::feed).
+    /// [`CobsDecoder::feed`](crate::CobsDecoder::feed). As there, each byte changes the decoder's state as it changes a
+    /// [`DecoderState`](crate::DecoderState), as long as the output of the piece fits the buffer.
     ///
     /// ```
     /// use jcobs::UnbufferedDecoder;
@@ -159,6 +160,7 @@ impl UnbufferedDecoder {
         let mut at = 0;
         while at < bytes.len() {
             at += self.take_at_once(dest, &bytes[at..]);
+            // The byte at `at` is a zero, or a byte of a piece that is too long. Without vectors it may be any byte.
             if at < bytes.len() {
                 let parsed_size = at + 1;
                 match self.feed(dest, bytes[at]) {
@@ -204,6 +206,7 @@ impl UnbufferedDecoder {
                     if is_all {
                         return None;
                     }
+                    // A piece is open, so the zero ends it, and `reported` doesn't return `None`.
                     let end = PieceEnd::reported(self.feed(dest, 0))?;
                     return Some((end, front + 1));
                 }
@@ -218,6 +221,7 @@ impl UnbufferedDecoder {
         if taken == bytes.len() {
             return None;
         }
+        // The byte at `taken` is the zero that ends the open piece.
         let last = PieceEnd::reported(self.end(dest.len()))?;
         Some((last, taken + 1))
     }

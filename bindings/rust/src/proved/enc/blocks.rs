@@ -42,6 +42,7 @@ pub(crate) fn fits_window_and_block(encoder: UnbufferedEncoder, len: usize) -> b
 /// written later.
 #[inline(always)]
 fn mark_first(dest: &mut [u8], index: usize, next: usize, zeros: u64) -> (usize, u64) {
+    // If `zeros` is 0, `trailing_zeros` returns 64, and `place - index` may be greater than 255.
     let place = next + zeros.trailing_zeros() as usize;
     dest[index] = ((place - index) % 256) as u8;
     let index = if zeros == 0 { index } else { place };
@@ -89,7 +90,8 @@ pub(crate) fn append_few(
 
 /// Encodes a `source` of up to 32 bytes, which can't fill the open block. The function has few branches that a
 /// processor could mispredict: it calls `mark_first` twice before a branch depends on the number of zeros. If
-/// `test_for_none` is true, a branch first tests whether `source` has a zero.
+/// `test_for_none` is true, a branch first tests whether `source` has a zero. Pushes set this flag, because with it a
+/// push without a zero is faster.
 #[inline(always)]
 pub(crate) fn append_short(
     source: &[u8],
@@ -134,6 +136,10 @@ fn write_codes_of_zeros(source: &[u8], dest: &mut [u8], at: usize) -> usize {
 /// run that fills one block often fills more blocks. Otherwise the function writes a code over each zero of the window,
 /// and the last block stays open for the next window. If the window has only zeros, rows of 32 zeros after it aren't
 /// copied: their codes are written 32 at a time. No byte after the frame is written.
+///
+/// In the body, the code of the open block belongs at `index`, and the window is copied to `next`. `place` is the index
+/// of the copy of the window's first zero. A block has at most 255 bytes. So the open block doesn't become full if
+/// `place`, or the index after a window without zeros, is less than `index + 255`.
 #[inline(always)]
 fn append_windows(
     source: &[u8],
@@ -212,14 +218,14 @@ fn append_long_run(
     if read == source.len() {
         return (read, encoder_at(index, next, full));
     }
+    // A zero follows the run. It ends the open block.
     dest[index] = (next - index) as u8;
     (read + 1, encoder_at(next, next + 1, 0))
 }
 
 /// Encodes all bytes of `source`, whose first run has `run` bytes. The function encodes this run first. Then it repeats
-/// two steps until no byte remains. First, `append_windows` encodes bytes until a run fills the open block, or until
-/// few bytes remain. Then `append_long_run` encodes the rest of this run,
-/// or the next of the last runs; both may be short.
+/// two steps until no byte remains. First, `append_windows` encodes bytes until a run fills the open block, or until at
+/// most 32 bytes remain. Then `append_long_run` encodes the rest of the current run, and the zero after it.
 #[inline(never)]
 pub(crate) fn append_rest(
     source: &[u8],

@@ -11,6 +11,8 @@ use crate::proved::error::DestBufTooSmallError;
 /// doesn't test for each byte whether the block is full. A full block is closed when another byte follows. The last
 /// block is closed after the loop, whether it is full or not.
 pub(crate) fn write_each(source: &[u8], dest: &mut [u8]) -> usize {
+    // The code of the open block belongs at `index`, and the next byte of the frame at `next`. The difference of these two
+    // indices is the code that the open block has so far.
     let mut index = 0;
     let mut next = 1;
     let mut read = 0;
@@ -25,6 +27,7 @@ pub(crate) fn write_each(source: &[u8], dest: &mut [u8]) -> usize {
         for i in 0..len {
             let byte = rest[i];
             if byte == 0 {
+                // The zero ends the open block. The code of the next block takes the zero's place in the frame.
                 dest[index] = (next - index) as u8;
                 index = next;
             } else {

@@ -17,6 +17,8 @@ use crate::proved::max_encoding_overhead;
 pub fn encode_in_place(buffer: &mut [u8], len: usize) -> usize {
     let before = max_encoding_overhead(len);
     let mut encoder = UnbufferedEncoder::new();
+    // The frame of the bytes that were read so far ends, at the latest, at the index of the byte that was read last. So the
+    // frame never overwrites a byte that wasn't read yet.
     for taken in 0..len {
         let byte = buffer[before + taken];
         encoder.append_byte(buffer, byte);

@@ -67,6 +67,7 @@ fn fits(taken: u8, source: &[u8], room: usize) -> Option<usize> {
     if room < source.len() {
         return None;
     }
+    // `spare` bytes are for the open block's code, its `held` bytes, and one code after each full block.
     let spare = room - source.len();
     // The current run has `run` bytes before index `read`, and there are `counted` full blocks before this run.
     let held = taken as usize;
@@ -84,6 +85,7 @@ fn fits(taken: u8, source: &[u8], room: usize) -> Option<usize> {
                 first = more;
             }
             read += more;
+            // The source ends with this run. A block that becomes full with the last byte isn't counted.
             if read == source.len() {
                 if spare <= held + counted + (run + more - 1) / FULL_BLOCK_BYTES {
                     return None;

@@ -14,6 +14,8 @@ impl UnbufferedEncoder {
     // In each case the byte at index `next` is the last byte of the frame.
     #[inline(always)]
     pub(crate) fn append_byte(&mut self, dest: &mut [u8], byte: u8) -> usize {
+        // `code` is the code of the open block before this byte. If the byte joins this block, the same number is how many
+        // bytes the block then has, so `taken` becomes `code`. If the byte ends the block, `taken` becomes 0.
         let index = self.index;
         let mut code = self.taken as usize + 1;
         let next = index + code;
@@ -143,6 +145,7 @@ impl UnbufferedEncoder {
             return Err(DestBufTooSmallError);
         }
         let room = dest.len() - self.index;
+        // A push of no bytes succeeds if the encoder's state is possible in this buffer.
         if bytes.is_empty() {
             if self.full != 0 || (self.taken as usize) < room {
                 return Ok(());
@@ -184,6 +187,7 @@ impl UnbufferedEncoder {
         let code = next - index;
         self.index = index;
         self.taken = (code - 1) as u8;
+        // If the open block has no byte, and the last byte isn't a zero, the last byte has filled a block.
         self.full = if code == 1 && bytes[bytes.len() - 1] != 0 {
             1
         } else {

@@ -1,4 +1,5 @@
 -- A byte of a piece changes the decoder and the buffer as `law_17` says, and ends no piece.
+-- `law_17`: A decoder of your own, byte by byte.
 use Rattle.std.proofs.Common.{[], ◌∷◌, refl, arith}
 use Rattle.cobs.specs.Fields.Decoders.{phase_of}
 use Rattle.cobs_abi.proofs.decoding.decode_byte.Goals as goal

@@ -1,4 +1,5 @@
--- A zero that ends no piece, and one that ends it, as `law_17` says.
+-- A zero that ends no piece, and a zero that ends a piece, have the effect that `law_17` states.
+-- `law_17`: A decoder of your own, byte by byte.
 use Rattle.std.proofs.Common.{[], ◌∷◌, refl, sym, ◌∙◌, arith}
 use Rattle.cobs_abi.proofs.decoding.decode_zero.Goals.{in-Some, in-None}
 use Rattle.cobs_abi.proofs.decoding.decode_zero.Goals as goal

@@ -1,4 +1,5 @@
--- The clauses of `finalize` are those of `Finishes` with no bytes added, for a frame that fits and for one that doesn't.
+-- The clauses of `finalize` are the fields of `Finishes` for 0 more bytes: `Finishes-finalized` if the call succeeded,
+-- and `Finishes-refused` if it failed.
 use Rattle.std.proofs.Common.{◌≢◌, length, sym, ◌∙◌}
 use Rattle.std.proofs.lemmas.Bool.{eqb-false}
 use Rattle.cobs_abi.proofs.FinishLemmas.{Finishes-finalized, Finishes-refused}

@@ -9,6 +9,7 @@ use Rattle.cobs_c.proofs.HeadLemmas.{behind-kept, broken-within, head-drop}
 use Rattle.cobs_c.proofs.decode.decode_long_in_place.Goals as goal
 use Rattle.cobs_c.proofs.SourceLemmas.{report_result-err}
 
+-- the range after the decoded bytes is within the buffer
 pub slice_bounds-first_sentinel-count : goal.slice_bounds-first_sentinel-count
 slice_bounds-first_sentinel-count c =
     let b = broken-within c.law_1.ensures.within c.args.buffer.now c.in-Err-InvalidFrame.decoded_bytes (ap Err (sym c.in-Err-InvalidFrame.field-0-is) ∙ sym c.in-Err-InvalidFrame.is ∙ c.decode_in_place_report.ensures.answer) in
@@ -19,6 +20,7 @@ slice_bounds-first_sentinel-start c =
     let b = broken-within c.law_1.ensures.within c.args.buffer.now c.in-Err-InvalidFrame.decoded_bytes (ap Err (sym c.in-Err-InvalidFrame.field-0-is) ∙ sym c.in-Err-InvalidFrame.is ∙ c.decode_in_place_report.ensures.answer) in
     omega (arith, b.1, b.2)
 
+-- the result for a broken frame
 pub returns-in-Err-InvalidFrame : goal.returns-in-Err-InvalidFrame
 returns-in-Err-InvalidFrame c =
     let old : List ℕ = c.args.buffer.now in

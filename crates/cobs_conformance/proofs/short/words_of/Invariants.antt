@@ -1,4 +1,4 @@
--- The words so far are those that the iterator has yielded, each written out (`word_text`).
+-- The words so far are the words that the iterator has yielded, each expanded (`word_text`).
 use Rattle.std.proofs.Common.{◌≡◌, map, string_bytes}
 use Rattle.cobs_conformance.specs.Short.{word_text}
 use Rattle.cobs_conformance.proofs.short.words_of.Given as goal

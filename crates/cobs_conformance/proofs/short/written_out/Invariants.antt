@@ -1,4 +1,4 @@
--- The text so far is that of the parts before the index, each written out (`part_text`), one after another.
+-- The text so far is the text of the parts before the index, each expanded (`part_text`), one after another.
 use Rattle.std.proofs.Common.{◌≡◌, map, take, string_bytes}
 use Rattle.std.specs.List.{flat_map}
 use Rattle.cobs_conformance.specs.Short.{part_text}

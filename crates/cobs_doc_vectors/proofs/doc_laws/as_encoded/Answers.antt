@@ -1,4 +1,5 @@
 -- By `shorter` of `law_13`, an open frame is the encoded frame if its message doesn't end in a full run.
+-- `law_13`: The open frame of a streaming encoder.
 use Rattle.cobs_doc_vectors.proofs.doc_laws.as_encoded.Goals as goal
 
 pub returns : goal.returns

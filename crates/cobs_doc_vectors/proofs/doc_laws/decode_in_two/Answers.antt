@@ -1,6 +1,7 @@
--- `first` and `second` are what the two calls ensure. After the first call, the decoder has taken the unended bytes of
--- the first part (`after`), so the second call finds the outcomes from these bytes on. By `cut` of `law_9`, the
+-- `first` and `second` are clauses of the two calls. After the first call, the decoder has taken the unended bytes of
+-- the first chunk (`after`), so the second call finds the outcomes from these bytes on. By `cut` of `law_9`, the
 -- outcomes of both calls are those of the whole stream. `room` is the length of the buffer.
+-- `law_9`: A stream may be cut anywhere.
 use Rattle.std.proofs.Common.{[], ◌++◌, length, refl}
 use Rattle.cobs_doc_vectors.proofs.doc_laws.decode_in_two.Goals as goal
 

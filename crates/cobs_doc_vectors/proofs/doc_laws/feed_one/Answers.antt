@@ -1,5 +1,6 @@
 -- By `nothing` of `law_17`, no piece has ended before the byte. By `byte` of `law_17`, no piece ends with the byte
 -- either, since it isn't a zero.
+-- `law_17`: A decoder of your own, byte by byte.
 use Rattle.std.proofs.Common.{[], ◌∷◌, arith}
 use Rattle.cobs_doc_vectors.proofs.doc_laws.feed_one.Goals as goal
 

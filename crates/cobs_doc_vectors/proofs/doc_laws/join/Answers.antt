@@ -1,5 +1,6 @@
 -- The vector has the bytes of the first frame, and then those of the second (`joined`). By `joined` of `law_8`, both
 -- together are a frame. m and k are the messages of the two frames.
+-- `law_8`: Frames joined without a sentinel.
 use Rattle.std.proofs.Common.{◌≡◌, ◌++◌, rules, subst, sym}
 use Rattle.cobs.specs.Grammar.{IsFrame}
 use Rattle.cobs_doc_vectors.proofs.doc_laws.join.Goals as goal

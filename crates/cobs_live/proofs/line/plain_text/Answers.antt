@@ -10,13 +10,16 @@ use Rattle.cobs_live.specs.Escaped.{is_hidden}
 use Rattle.cobs_live.specs.Shown.{is_plain}
 use Rattle.cobs_live.proofs.line.plain_text.Goals as goal
 
+-- whether none of the characters is hidden
 no_controls : List ℕ → Bool
 no_controls cs = list_all (λ c. not (is_hidden c)) cs
 
+-- if none is hidden, the bytes are plain text
 is_plain_from : (bytes : List ℕ) → IsUtf8 bytes → no_controls (chars bytes) ≡ true → is_plain bytes ≡ true
 unfolding no_controls
 is_plain_from bytes u none = and_from (utf8_valid_len bytes == length bytes) _ (eq-eqb _ _ (utf8_valid_len-IsUtf8 bytes u)) none
 
+-- if one is hidden, they aren't
 none_plain : (bytes : List ℕ) → no_controls (chars bytes) ≡ false → is_plain bytes ≡ true → false ≡ true
 unfolding no_controls
 none_plain bytes some plain = sym some ∙ (and_parts (utf8_valid_len bytes == length bytes) _ plain).1

@@ -14,9 +14,11 @@ use Rattle.cobs_live.proofs.SendLemmas.{live-read, SentSoFar-start, SentSoFar-mo
 use Rattle.cobs_live.proofs.send.run_send.Goals as goal
 use Rattle.cobs_live.proofs.send.run_send.Goals.{then-not-branch, else-not-branch}
 
+-- before the first line
 pub by_line-init : goal.by_line-init
 by_line-init g c = record { live = record { so_far = SentSoFar-start _ _ _; live = live-none _ _ _; same = refl }; flushed = c.requires.flushed }
 
+-- the read returned no bytes: the input has ended
 pub returns-then-count-eq0 : goal.returns-then-count-eq0
 returns-then-count-eq0 g c =
     let none : c.in-Ok.count ≡ 0 = c.if-count-eq0.true in
@@ -29,6 +31,7 @@ returns-then-count-eq0 g c =
       flushed = c.by_line.invariant.flushed;
     }
 
+-- a line was read, and was sent or skipped
 pub by_line-preserved : goal.by_line-preserved
 by_line-preserved g c =
     let sent = c.in_ok-send_text.ensures.sent in
@@ -55,6 +58,7 @@ by_line-preserved g c =
       }
     ]
 
+-- a read failed
 pub returns-in_default : goal.returns-in_default
 returns-in_default g c =
     record {
@@ -63,12 +67,15 @@ returns-in_default g c =
       flushed = c.by_line.invariant.flushed;
     }
 
+-- a line couldn't be sent, because of a fault
 pub returns-in_err-send_text-clause-sent : goal.returns-in_err-send_text-clause-sent
 returns-in_err-send_text-clause-sent g c =
     send_failed _ _ _ _ (search rules) c.by_line.invariant.live.so_far (rw c.clear.ensures.items at c.in-Ok.ensures.stops) (rw c.clear.ensures.items at c.in-Ok.ensures.none_lost)
 
+-- the greatest number of lines was read
 pub returns-clause-sent : goal.returns-clause-sent
 returns-clause-sent g c = unsent _ _ [] c.by_line.invariant.live.so_far (All-nil (λ (b : ℕ). b ≢ 10)) (Consumes-nil _) (Keeps-refl _)
 
+-- the run was live before that fault
 pub returns-in_err-send_text-clause-live : goal.returns-in_err-send_text-clause-live
 returns-in_err-send_text-clause-live g c = live-read _ c.by_line.invariant.live c.in-Ok.ensures.step c.by_line.invariant.flushed refl

@@ -8,9 +8,11 @@ use Rattle.cobs_live.proofs.ShowLemmas.{ShowsBytes-piece, ShowsBytes-rest, Shows
 use Rattle.cobs_live.proofs.TimeLemmas.{IsReadAt-next}
 use Rattle.cobs_live.proofs.show.show_bytes.Goals as goal
 
+-- before the first byte
 pub by_part-init : goal.by_part-init
 by_part-init g c = record { within = omega arith; len = refl; so_far = λ p d gone read t times r. rw (with_text-empty (g.W.Write.contents c.args.output.now) c.new-composed.result c.new-composed.ensures.empty) (ShowsBytes-start (assumption c.law_9.ensures) _ times p _ _ gone read _ _ _ d t r) }
 
+-- a piece has ended in the bytes that were passed to the decoder
 pub by_part-preserved : goal.by_part-preserved
 by_part-preserved g c =
     let h = c.in-Some.ensures.takes in
@@ -30,6 +32,7 @@ by_part-preserved g c =
           (IsReadAt-next times _ _ _ _ s.timed c.advance.ensures.last c.advance.ensures.next)));
     }
 
+-- no piece has ended in them
 pub by_part-preserved-in_default : goal.by_part-preserved-in_default
 by_part-preserved-in_default g c =
     let h = c.in_default.ensures.takes in
@@ -44,6 +47,7 @@ by_part-preserved-in_default g c =
           rw is (ShowsBytes-rest (assumption c.law_9.ensures) s part h.takes.len (h.takes.after _ s.taken) (h.takes.outcomes _ s.taken)));
     }
 
+-- at the end, the composed text is written
 pub returns-clause-shown : goal.returns-clause-shown
 returns-clause-shown g c = λ p d gone read t times r.
     ShowsBytes-through _ _ _ (rw (take_all c.by_part.at c.args.bytes.now (omega arith)) at (c.by_part.invariant.so_far p d gone read t times r)) c.in_ok-write_to.ensures.written

@@ -9,16 +9,20 @@ use Rattle.cobs_live.specs.Checksum.{body_of, is_checked, sum_of, with_sum}
 use Rattle.cobs_live.specs.declared.checksum.Checksum.{Checksum}
 use Rattle.cobs_live.proofs.shown.sum_law.Goals as goal
 
+-- the order of the bytes doesn't change their number
 ordered : (little : Bool) (bytes : List ℕ) → length (if little then bytes else reverse bytes) ≡ length bytes
 ordered true bytes = refl
 ordered false bytes = length-reverse bytes
 
+-- a checksum has as many bytes as its parameters say
 length-sum : (c : Checksum) (message : List ℕ) → length (sum_of c message) ≡ c.params.size
 length-sum c message = grind (arith, ordered, length-take-le)
 
+-- the bytes before the checksum are the message
 body-back : (c : Checksum) (message : List ℕ) → body_of c (with_sum (Some c) message) ≡ message
 body-back c message = grind (arith, length-append, length-sum, take-append-le, take_all)
 
+-- the checksum is right
 checked-back : (c : Checksum) (message : List ℕ) → is_checked c (with_sum (Some c) message) ≡ true
 checked-back c message =
     (ends_is Decides-eqb (message ++ sum_of c message) (sum_of c (body_of c (message ++ sum_of c message))) _ refl).1 message

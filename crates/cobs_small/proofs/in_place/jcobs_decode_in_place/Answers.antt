@@ -1,5 +1,6 @@
 -- The bytes up to the first zero are the head of the buffer, by `law_12`. The clauses of `decode_blocks_each` give the
 -- result and the buffer for this head.
+-- `law_12`: A stream's first piece, and its last.
 use Rattle.std.proofs.Common.{◌≡◌, ◌∙◌, ◌+◌, ◌<◌, ℕ, List, [], ◌∷◌, length, take, min, refl, sym, ap, arith, length-take-le}
 use Rattle.std.proofs.lemmas.Bool.{eqb-false, eqb-true}
 use Rattle.std.proofs.lemmas.List.{drop_all}
@@ -17,6 +18,7 @@ unfolding head
 empty [] e = record { returned = refl; buffer = sym (drop_all _ [] (omega arith)) }
 empty (x ∷ source) e = absurd (omega arith)
 
+-- the result for a buffer that isn't empty is that for its head
 result-equals : (source : List ℕ) → 0 < length source → result_in_place source ≡ head_result (head source)
 result-equals [] some = absurd (omega arith)
 result-equals (x ∷ source) some = refl

@@ -1,4 +1,5 @@
 -- If there is a zero among the bytes, they are no frame, by `law_1: only`.
+-- `law_1`: A frame reads as its output.
 use Rattle.std.proofs.Common.{◌≢◌, List, ℕ, arith, refl}
 use Rattle.std.proofs.lemmas.List.Elements.{All-get_or}
 use Rattle.cobs.specs.Grammar.{IsCanonical, IsFrame, message_of}

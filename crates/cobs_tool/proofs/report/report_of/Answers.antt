@@ -10,6 +10,7 @@ use Rattle.cobs_tool.proofs.ReportLemmas.{report-start, few_at_start, still_few,
 use Rattle.cobs_tool.proofs.report.report_of.Goals.{then-unfinished+in_ok-push_str-in-Ok-End, else-unfinished}
 use Rattle.cobs_tool.proofs.report.report_of.Goals as goal
 
+-- before the first piece
 pub by_piece-init : goal.by_piece-init
 by_piece-init c =
     let made = c.in_ok-decoder.ensures in
@@ -20,6 +21,7 @@ by_piece-init c =
       buffer = ap (λ d. length (owned_buffer d)) c.new-frames.ensures.decoder ∙ ap length made.buffer ∙ length-replicate {A = ℕ} 65536 0;
     }
 
+-- A MESSAGE is within the buffer
 pub slice_bounds-message-end : goal.slice_bounds-message-end
 slice_bounds-message-end c =
     let next = rw c.in-Ok-Message.field-0-is at c.in-Ok-Message.ensures.next in
@@ -28,12 +30,14 @@ slice_bounds-message-end c =
     let buffer = ap length (c.dest.ensures.value ∙ ap owned_buffer c.decoder.ensures.value) in
     sym (length-take-le c.in-Ok-Message.len c.dest.result.now (omega arith))
 
+-- after it, fewer bytes are left
 pub by_piece-smaller-in-Continue-branch-2 : goal.by_piece-smaller-in-Continue-branch-2
 by_piece-smaller-in-Continue-branch-2 c =
     let next = rw c.in-Ok-Message.field-0-is at c.in-Ok-Message.ensures.next in
     let stated = message_reported c.law_9.ensures _ _ _ _ _ next c.by_piece.invariant.idle (c.in-Ok-Message.ensures.len ∙ c.by_piece.invariant.buffer) in
     stated.0.fewer
 
+-- its line is added
 pub by_piece-preserved-in-Continue-branch-2 : goal.by_piece-preserved-in-Continue-branch-2
 by_piece-preserved-in-Continue-branch-2 c =
     let next = rw c.in-Ok-Message.field-0-is at c.in-Ok-Message.ensures.next in
@@ -48,12 +52,14 @@ by_piece-preserved-in-Continue-branch-2 c =
       buffer = len;
     }
 
+-- A BROKEN PIECE: after it, fewer bytes are left
 pub by_piece-smaller-in-Continue-branch-3 : goal.by_piece-smaller-in-Continue-branch-3
 by_piece-smaller-in-Continue-branch-3 c =
     let next = rw c.in-Ok-Broken.field-0-is at c.in-Ok-Broken.ensures.next in
     let stated = broken_reported c.law_9.ensures _ _ _ _ _ next c.by_piece.invariant.idle (c.in-Ok-Broken.ensures.len ∙ c.by_piece.invariant.buffer) in
     stated.fewer
 
+-- its line is added
 pub by_piece-preserved-in-Continue-branch-3 : goal.by_piece-preserved-in-Continue-branch-3
 by_piece-preserved-in-Continue-branch-3 c =
     let next = rw c.in-Ok-Broken.field-0-is at c.in-Ok-Broken.ensures.next in
@@ -66,12 +72,14 @@ by_piece-preserved-in-Continue-branch-3 c =
       buffer = len;
     }
 
+-- A PIECE THAT IS TOO LONG: after it, fewer bytes are left
 pub by_piece-smaller : goal.by_piece-smaller
 by_piece-smaller c =
     let next = rw c.in-Ok-TooLong.field-0-is at c.in-Ok-TooLong.ensures.next in
     let stated = too_long_reported c.law_9.ensures _ _ _ _ next c.by_piece.invariant.idle (c.in-Ok-TooLong.ensures.len ∙ c.by_piece.invariant.buffer) in
     stated.fewer
 
+-- its line is added
 pub by_piece-preserved : goal.by_piece-preserved
 by_piece-preserved c =
     let next = rw c.in-Ok-TooLong.field-0-is at c.in-Ok-TooLong.ensures.next in
@@ -84,6 +92,7 @@ by_piece-preserved c =
       buffer = len;
     }
 
+-- THE END of the stream
 pub returns-in-Ok-End : goal.returns-in-Ok-End
 returns-in-Ok-End c =
     let next = rw c.in-Ok-End.field-0-is at c.in-Ok-End.ensures.next in
@@ -98,5 +107,6 @@ returns-in-Ok-End c =
       ];
     }
 
+-- a fault is impossible
 pub unreachable-requires : goal.unreachable-requires
 unreachable-requires c = no_fault _ _ _ _ _ c.in-Err.ensures.next c.by_piece.invariant.idle c.by_piece.invariant.few

@@ -1,4 +1,5 @@
--- The formatted text of the byte is its two digits in the table (`hex_of_is`). `written` is what the write gave.
+-- The formatted text of the byte is its two digits in the table (`hex_of_is`). `written` is the clause of the write,
+-- with this text.
 use Rattle.cobs_tool.proofs.TextLemmas.{hex_of_is}
 use Rattle.cobs_tool.proofs.text.push_hex.Goals as goal
 

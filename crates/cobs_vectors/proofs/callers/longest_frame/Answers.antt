@@ -1,5 +1,7 @@
--- m has a message of this length with the longest frame, and facts about it (`everywhere` of `law_4`). f has the frame
--- of this message (`one` of `law_2`).
+-- `m` contains a message of this length with the longest frame, and facts about this message (`everywhere` of
+-- `law_4`). `f` contains the frame of this message (`one` of `law_2`).
+-- `law_2`: Each message has one encoded frame.
+-- `law_4`: The length of a frame, and its bound.
 use Rattle.std.proofs.Common.{◌∙◌}
 use Rattle.cobs_vectors.proofs.callers.longest_frame.Goals as goal
 

@@ -1,5 +1,6 @@
 -- A push reports the outcomes of the bytes that it consumed, which follow the outcomes of the earlier bytes (`law_9:
 -- cut`). A message is counted; an error and the end of the bytes aren't.
+-- `law_9`: A stream may be cut anywhere.
 use Rattle.std.proofs.Common.{◌≡◌, ◌≢◌, ◌≤◌, ◌+◌, ◌∙◌, ℕ, List, [], ◌∷◌, ◌++◌, length, take, drop, refl, sym, ap, arith, append_assoc, length-append, length-drop, take_all}
 use Rattle.std.specs.Prelude.{Option, Some, None, Result, Ok, Err}
 use Rattle.std.proofs.lemmas.List.{take_rest}
@@ -16,39 +17,48 @@ use Rattle.cobs.specs.declared.PushError.{PushError}
 use Rattle.cobs_vectors.specs.Relayed.{messages_of}
 use Rattle.cobs_vectors.proofs.clients.count_messages.Goals as goal
 
+-- the messages among outcomes in two parts
 messages_of-append : (first more : List Outcome) → messages_of (first ++ more) ≡ messages_of first ++ messages_of more
 messages_of-append [] more = refl
 messages_of-append (Message message ∷ first) more = grind (arith, (messages_of-append first more))
 messages_of-append (Broken count ∷ first) more = messages_of-append first more
 messages_of-append (TooLong ∷ first) more = messages_of-append first more
 
+-- an error isn't a message
 no_message : (error : DecodeError) → messages_of (error_outcomes error) ≡ []
 no_message EmptyFrame = refl
 no_message (InvalidFrame count) = refl
 no_message TargetBufTooSmall = refl
 
+-- so a push that returns an error has no message to count
 none_counted : (bytes buffer : List ℕ) (failure : PushError) → length (messages_of (pushed_outcomes bytes (Err failure) buffer)) ≡ 0
 none_counted bytes buffer failure = grind (arith, no_message)
 
+-- the last result of a push that returns a report isn't `Ok(None)`
 is_some : (report : DecodeReport) → last_result (Ok (Some report)) ≢ Ok None
 is_some report e = absurd cc
 
 -- a push of the bytes from `at` on, to a decoder that has taken p and the bytes before `at`
 module _ (law : StreamLaw) {buffer buffer' : List ℕ} {phase phase' : Phase} (bytes : List ℕ) (result : Result (Option DecodeReport) PushError) (at n : ℕ) (same : length buffer ≡ n)
     (t : PushesBytes buffer phase (drop at bytes) result buffer' phase') (p : List ℕ) (h : DecoderAfter buffer phase (unended (p ++ take at bytes))) where
+  -- the bytes that are taken after the push
   joined : p ++ take (at + consumed_size (drop at bytes) result) bytes ≡ (p ++ take at bytes) ++ consumed (drop at bytes) result
   joined = grind (arith, take-add, append_assoc)
 
+  -- the decoder has taken them
   after : DecoderAfter buffer' phase' (unended (p ++ take (at + consumed_size (drop at bytes) result) bytes))
   after = grind (arith, joined)
 
+  -- the number of messages in them
   counted : length (messages_of (stream_outcomes (p ++ take (at + consumed_size (drop at bytes) result) bytes) n))
       ≡ length (messages_of (stream_outcomes (p ++ take at bytes) n)) + length (messages_of (pushed_outcomes (drop at bytes) result buffer'))
   counted = grind (arith, joined, messages_of-append, length-append)
 
+-- the bytes before an index and those from it on are all bytes
 whole : (bytes : List ℕ) (at : ℕ) → at ≤ length bytes → take (at + length (drop at bytes)) bytes ≡ bytes
 whole bytes at within = grind (arith, length-drop, take_all)
 
+-- all bytes are consumed
 pub returns-in-Ok-None-clause-counted : goal.returns-in-Ok-None-clause-counted
 returns-in-Ok-None-clause-counted c p h =
     let inv = c.by_push.invariant in
@@ -65,6 +75,7 @@ returns-in-Ok-None-clause-after c p h =
     let t = rw (take_rest bytes at, c.in-Ok-None.field-0-is) at c.in-Ok-None.ensures.pushes in
     rw (whole bytes at inv.within) at (after c.law_9.ensures bytes _ at _ inv.len t p (inv.after p h))
 
+-- a message
 pub by_push-preserved-in-Ok-Some : goal.by_push-preserved-in-Ok-Some
 by_push-preserved-in-Ok-Some c =
     let inv = c.by_push.invariant in
@@ -82,6 +93,7 @@ by_push-preserved-in-Ok-Some c =
       counted = λ p h. rw size (ap (λ (k : ℕ). k + 1) (inv.counted p h) ∙ sym (counted c.law_9.ensures bytes _ at _ inv.len t p (inv.after p h)));
     }
 
+-- an error
 pub by_push-preserved : goal.by_push-preserved
 by_push-preserved c =
     let inv = c.by_push.invariant in

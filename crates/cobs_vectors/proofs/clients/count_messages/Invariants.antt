@@ -1,4 +1,5 @@
--- The messages among the outcomes of the first `at` bytes are counted, and the decoder has taken these bytes.
+-- The messages among the outcomes of the first `at` bytes are counted, and the decoder has taken these bytes. Each
+-- message needs at least one byte (`few`), so the count doesn't overflow.
 use Rattle.std.proofs.Common.{◌≡◌, ◌≤◌, ◌-◌, ◌++◌, ℕ, List, length, take}
 use Rattle.cobs.specs.Feed.{DecoderAfter}
 use Rattle.cobs.specs.Fields.Decoders.{owned_buffer, owned_phase}

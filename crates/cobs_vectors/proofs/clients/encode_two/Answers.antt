@@ -1,4 +1,4 @@
--- The encoder has taken both pieces, so `finalize` writes the frame of the whole message. No call changes the bytes
+-- The encoder has taken both chunks, so `finalize` writes the frame of the whole message. No call changes the bytes
 -- after the frame so far (`drop_later`).
 use Rattle.std.proofs.Common.{List, take, drop, ◌≤◌, ◌≡◌, ◌+◌, ◌-◌, ℕ, [], ◌++◌, ap, arith, sym, subst, ◌∙◌}
 use Rattle.std.proofs.lemmas.List.{drop-drop}

@@ -1,5 +1,6 @@
 -- The pieces and the begun bytes are those of the stream so far: one byte joins the begun piece (`joins`) or ends it
 -- (`ends_none`, `ends_one`), by the fields of `law_9`.
+-- `law_9`: A stream may be cut anywhere.
 use Rattle.std.proofs.Common.{◌≡◌, ◌≢◌, ℕ, ◌+◌, List, [], ◌∷◌, ◌++◌, get_or, length, take, take_all, sym, ap, ◌∙◌, append_assoc, append-nil, arith}
 use Rattle.std.proofs.lemmas.List.{length-map, map-append, nil_from_length, take_more}
 use Rattle.std.proofs.lemmas.List.Elements.{All-push}
@@ -21,11 +22,12 @@ module _ (law : StreamLaw) where
       let more : HasNoZero (unended t ++ b ∷ []) = All-push (λ x. x ≢ 0) (unended t) b (law.begun t) h in
       (sym (law.pieces t (b ∷ []) ∙ ap (λ x. ended_pieces t ++ x) (no_piece _ more) ∙ append-nil (ended_pieces t)), sym (law.left t (b ∷ []) ∙ law.same _ more))
 
-  -- a zero, without a piece before it, and with a piece before it
+  -- a zero, without a piece before it
   ends_none : (t : List ℕ) → unended t ≡ [] → ended_pieces t ≡ ended_pieces (t ++ 0 ∷ [])
   unfolding ended_pieces but_last
   ends_none t none = grind (arith, append-nil)
 
+  -- a zero, with a piece before it
   ends_one : (t : List ℕ) → unended t ≢ [] → ended_pieces t ++ unended t ∷ [] ≡ ended_pieces (t ++ 0 ∷ [])
   ends_one t some = grind arith
 

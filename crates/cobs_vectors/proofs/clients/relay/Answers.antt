@@ -1,16 +1,19 @@
 -- The messages that were sent, followed by the messages among the remaining outcomes, are all messages of the stream.
 -- Each piece moves its outcome from the remaining outcomes to the messages that were sent (`relayed`), by `law_21`.
+-- `law_21`: A loop over the pieces of a stream.
 use Rattle.std.proofs.Common.{◌≡◌, ◌-◌, ℕ, List, [], ◌∷◌, ◌++◌, length, drop, refl, ◌∙◌, arith, append_assoc, length-take, length-drop}
 use Rattle.std.proofs.lemmas.List.{drop-drop, take_rest}
 use Rattle.cobs.specs.Stream.{Outcome, Message, Broken, TooLong}
 use Rattle.cobs_vectors.specs.Relayed.{messages_of}
 use Rattle.cobs_vectors.proofs.clients.relay.Goals as goal
 
+-- the messages among an outcome and more outcomes
 first : (o : Outcome) (more : List Outcome) → messages_of (o ∷ []) ++ messages_of more ≡ messages_of (o ∷ more)
 first (Message message) more = refl
 first (Broken count) more = refl
 first TooLong more = refl
 
+-- one outcome is moved from the remaining outcomes to the messages that were sent
 relayed : (out out' found more all : List Outcome) (o : Outcome) → out ++ messages_of found ≡ all → found ≡ o ∷ more → out' ≡ out ++ messages_of (o ∷ []) → out' ++ messages_of more ≡ all
 relayed out out' found more all o so_far one reported = grind (arith, append_assoc, first)
 

@@ -1,5 +1,6 @@
 -- The rest of the piece is a block, and then more bytes if there are any (`Blocks`). So each iteration adds the bytes
 -- of one block to the output, by `law_20`.
+-- `law_20`: The output of a piece, block by block.
 use Rattle.std.proofs.Common.{◌≡◌, ◌≢◌, ◌∙◌, ◌++◌, ◌∷◌, ◌+◌, ◌-◌, ◌<◌, ◌≤◌, ◌==◌, [], false, true, ℕ, List, length, take, drop, get_or, refl, sym, ap, arith, append_assoc, append-nil}
 use Rattle.std.proofs.lemmas.Bool.{eq-eqb, ne_eqb, true≢false}
 use Rattle.std.proofs.lemmas.List.Elements.{All-from_get_or}
@@ -14,23 +15,28 @@ module _ (list : List ℕ) (read : ℕ) (nonzero : HasNoZero list) (within : rea
   abbrev code : ℕ
   code = get_or list read 0
 
+  -- the bytes at `read` are a block
   block : IsBlock (block_at list read)
   block = grind (arith, is_block)
 
   -- the block is the last one
   module _ (end : length list - read ≡ get_or list read 0) where
+    -- the rest is whole
     whole_end : is_whole (drop read list) ≡ true
     whole_end = grind (arith, last, block_at, block)
 
+    -- its kept output is the bytes of the block
     kept_end : ((block : List ℕ) → IsBlock block → output block ≡ bytes_of block) → ((p : List ℕ) → IsWhole p → kept_output p ≡ output p)
         → kept_output (drop read list) ≡ take (get_or list read 0 - 1) (drop (read + 1) list)
     kept_end one all_kept = grind (arith, last, block_at, block)
 
   -- more bytes follow the block
   module _ (far : get_or list read 0 < length list - read) where
+    -- the rest is whole exactly if the bytes after the block are
     whole_more : ((block p : List ℕ) → IsBlock block → p ≢ [] → is_whole (block ++ p) ≡ is_whole p) → is_whole (drop read list) ≡ is_whole (drop (read + get_or list read 0) list)
     whole_more whole = ap is_whole (split list read nonzero within) ∙ whole (block_at list read) (drop (read + code) list) block (more_some list read nonzero within far)
 
+    -- its kept output: the bytes of the block, the joint, and the kept output of the bytes after the block
     kept_more : ((block p : List ℕ) → IsBlock block → p ≢ [] → kept_output (block ++ p) ≡ bytes_of block ++ joint block ++ kept_output p)
         → kept_output (drop read list) ≡ take (get_or list read 0 - 1) (drop (read + 1) list) ++ joint (block_at list read) ++ kept_output (drop (read + get_or list read 0) list)
     kept_more kept = ap kept_output (split list read nonzero within) ∙ kept (block_at list read) (drop (read + code) list) block (more_some list read nonzero within far)
@@ -39,6 +45,7 @@ module _ (list : List ℕ) (read : ℕ) (nonzero : HasNoZero list) (within : rea
 copied : (list : List ℕ) (read code : ℕ) → take (read + code - (read + 1)) (drop (read + 1) list) ≡ take (code - 1) (drop (read + 1) list)
 copied list read code = grind arith
 
+-- the last block breaks off
 pub returns-then-left-code-clause-reads : goal.returns-then-left-code-clause-reads
 returns-then-left-code-clause-reads c = λ m.
     let none = broken c.args.piece.now c.by_block.read c.requires.1 c.by_block.invariant.within (λ p. is_whole p ≡ false) c.law_20.ensures.short c.if-left-code.true in (
@@ -46,6 +53,7 @@ returns-then-left-code-clause-reads c = λ m.
       λ reads. absurd (true≢false (sym (c.law_1.ensures.only c.args.piece.now m reads).2 ∙ (c.by_block.invariant.whole ∙ none))),
     )
 
+-- the last block is whole
 pub returns-then-left-code-2-clause-whole : goal.returns-then-left-code-2-clause-whole
 returns-then-left-code-2-clause-whole c = grind (arith, whole_end)
 
@@ -64,6 +72,7 @@ returns-then-left-code-2-clause-reads c = λ m.
       λ reads. (refl, kept ∙ sym (c.law_1.ensures.only piece m reads).3),
     )
 
+-- a block with more bytes after it
 pub by_block-preserved : goal.by_block-preserved
 by_block-preserved c =
     let list : List ℕ = c.args.piece.now in

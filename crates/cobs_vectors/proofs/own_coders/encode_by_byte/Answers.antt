@@ -1,5 +1,6 @@
 -- Each byte is one of the three steps of `law_16`. There is room for it, because the frame of the whole message fits
 -- (`room`).
+-- `law_16`: An encoder of your own, byte by byte.
 use Rattle.std.proofs.Common.{◌≡◌, ◌≢◌, ◌<◌, ◌≤◌, ◌+◌, ◌-◌, ◌∙◌, ℕ, false, List, [], ◌++◌, length, replicate, take, drop, get_or, slice_set, ap, arith, length-append, length-drop, take_all}
 use Rattle.std.proofs.lemmas.List.{length-replicate, length-set, take-append-drop, take_more}
 use Rattle.std.proofs.lemmas.List.Elements.{All-replicate}
@@ -28,6 +29,7 @@ room lower goes_on m slice reached i n taken place left len fits =
     let both = length-append a rest in
     omega (arith, on, whole, least, both, l, d)
 
+-- IN THE LOOP the indices are within `dest`
 pub overflow_add-next : goal.overflow_add-next
 overflow_add-next c = let r = room c.law_4.ensures.lower c.law_16.ensures.goes_on c.args.message.now c.by_byte.dest (place_at c.by_byte.index c.by_byte.code c.by_byte.full) _ _ c.by_byte.invariant.taken (c.law_16.ensures.place _ _ _ c.by_byte.invariant.taken) c.by_byte-test.true c.by_byte.invariant.len c.requires in omega arith
 
@@ -51,6 +53,7 @@ overflow_add-index c =
     let place = c.law_16.ensures.place _ _ _ c.by_byte.invariant.taken in
     omega (arith, place.not_full, r)
 
+-- the byte is one of the three steps
 pub by_byte-preserved : goal.by_byte-preserved
 by_byte-preserved c =
     let m : List ℕ = c.args.message.now in
@@ -76,13 +79,16 @@ by_byte-preserved c =
 whole : (dest m : List ℕ) (i n : ℕ) → length m ≤ i → IsEncodedFrame (take n dest) (take i m) → IsEncodedFrame (take n dest) m
 whole dest m i n end frame = grind (arith, take_all)
 
+-- if the last block isn't full, there is room for its code
 end_in : (n : ℕ) (reached : Reached) → IsPlaceIn n reached → reached.full ≡ false → (reached.block.index < n) × (next_of reached ≤ n)
 end_in n reached place short = grind arith
 
+-- the last block is full
 pub returns-then-full : goal.returns-then-full
 returns-then-full c =
     whole c.by_byte.dest c.args.message.now c.by_byte.byte-index c.by_byte.index c.by_byte-test.false (c.law_16.ensures.full_frame _ _ _ c.by_byte.invariant.taken c.if-full.true)
 
+-- the code of the open block is written
 pub returns : goal.returns
 returns c =
     whole (slice_set c.by_byte.dest c.by_byte.index c.by_byte.code) c.args.message.now c.by_byte.byte-index (c.by_byte.index + c.by_byte.code) c.by_byte-test.false (c.law_16.ensures.frame _ _ _ c.by_byte.invariant.taken c.if-full.false)

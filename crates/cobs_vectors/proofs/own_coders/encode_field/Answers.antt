@@ -1,10 +1,12 @@
--- A new encoder takes the field (`few`), so it has taken the field after the push (`after`), and the finish ends its frame.
+-- A new encoder accepts the field (`few`). So it has taken the field after the push (`after`), and `finalize` ends the
+-- field's frame.
 use Rattle.std.proofs.Common.{◌≡◌, [], ap, arith, length}
 use Rattle.cobs.specs.Fields.Encoders.{reached_by}
 use Rattle.cobs.specs.OpenBlock.{CobsEncoderAfter, IsFewFor, Reached}
 use Rattle.cobs_vectors.proofs.own_coders.encode_field.Goals.{After-push_few}
 use Rattle.cobs_vectors.proofs.own_coders.encode_field.Goals as goal
 
+-- the encoder has taken the field
 after : (c : After-push_few) → CobsEncoderAfter c.push_few.new.dest (reached_by c.push_few.new.self) c.args.field.now
 after c =
     let start = c.new-encoder.ensures.start in

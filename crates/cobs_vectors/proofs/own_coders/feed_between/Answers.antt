@@ -1,5 +1,6 @@
 -- If the byte is skipped, it is a zero, and the decoder is idle. By `step` of `law_17`, such a zero returns `Ok(None)`
 -- and changes nothing.
+-- `law_17`: A decoder of your own, byte by byte.
 use Rattle.std.proofs.Common.{None, Ok, subst, sym}
 use Rattle.cobs.specs.Feed.{Feeds, Idle, Phase}
 use Rattle.cobs_vectors.proofs.own_coders.feed_between.Goals as goal

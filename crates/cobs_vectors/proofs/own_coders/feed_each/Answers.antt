@@ -1,5 +1,6 @@
 -- A byte that ends no piece continues the loop, by `law_17: byte`, and a byte that ends a piece is the last one, by
 -- `law_17: end`.
+-- `law_17`: A decoder of your own, byte by byte.
 use Rattle.std.proofs.Common.{sym, ◌∙◌}
 use Rattle.cobs_vectors.proofs.own_coders.feed_each.Goals as goal
 use Rattle.cobs_vectors.proofs.own_coders.feed_each.Goals.{then-byte-eq0+in_default, else-byte-eq0}

@@ -1,5 +1,7 @@
 -- The bytes of the open block may be replaced by ones (`one_more`). So the length of the frame follows from the closed
 -- blocks and from the length of the open block, by `law_15`.
+-- `law_4`: The length of a frame, and its bound.
+-- `law_15`: The length of a frame, counted block by block.
 use Rattle.std.proofs.Common.{◌≡◌, ◌≢◌, ◌<◌, ◌≤◌, ◌+◌, ◌∙◌, ℕ, List, [], ◌∷◌, ◌++◌, length, replicate, drop, drop-cons, get_or, sym, ap, add-one, arith, append_assoc, length-append}
 use Rattle.std.proofs.lemmas.List.{length-replicate}
 use Rattle.std.proofs.lemmas.List.Elements.{All-append, All-cons, All-nil, All-replicate}
@@ -8,22 +10,25 @@ use Rattle.cobs.specs.Length.{encoded_len}
 use Rattle.cobs_vectors.proofs.own_coders.frame_len.Goals as goal
 use Rattle.cobs_vectors.proofs.own_coders.frame_len.Goals.{else-byte-eq0, else-run-eq254, then-byte-eq0, then-run-eq254}
 
--- the bytes of an open block may be replaced by ones
+-- ones contain no zero
 ones : (run : ℕ) → HasNoZero (replicate run 1)
 ones run = All-replicate (λ b. b ≢ 0) run 1 (λ e. absurd cc)
 
--- from `law_4` and `law_15`
+-- BY CLAUSES OF `law_4` AND `law_15`: the frame is longer than the open block
 least : ((m : List ℕ) → length m + 1 ≤ encoded_len m) → (run : ℕ) (rest : List ℕ) → run + 1 ≤ encoded_len (replicate run 1 ++ rest)
 least lower run rest = grind (arith, length-append, length-replicate)
 
+-- the open block has 254 bytes, and more bytes follow
 close_full : ((a m : List ℕ) → length a ≡ 254 → HasNoZero a → m ≢ [] → encoded_len (a ++ m) ≡ 255 + encoded_len m)
     → (closed run : ℕ) (rest : List ℕ) → run ≡ 254 → rest ≢ [] → closed + encoded_len (replicate run 1 ++ rest) ≡ closed + 255 + encoded_len rest
 close_full full closed run rest is some = grind (arith, length-replicate, ones)
 
+-- a zero ends the open block
 close_zero : ((a m : List ℕ) → length a < 254 → HasNoZero a → encoded_len (a ++ 0 ∷ m) ≡ length a + 1 + encoded_len m)
     → (closed run : ℕ) (rest : List ℕ) → run < 254 → closed + encoded_len (replicate run 1 ++ 0 ∷ rest) ≡ closed + (run + 1) + encoded_len rest
 close_zero zero closed run rest short = grind (arith, length-replicate, ones)
 
+-- a nonzero byte joins the open block, and may be replaced by a one
 one_more : ((a b m : List ℕ) → HasNoZero a → HasNoZero b → length a ≡ length b → encoded_len (a ++ m) ≡ encoded_len (b ++ m))
     → (run byte : ℕ) (rest : List ℕ) → byte ≢ 0 → encoded_len (replicate run 1 ++ byte ∷ rest) ≡ encoded_len (replicate (run + 1) 1 ++ rest)
 one_more same run byte rest nonzero =

@@ -1,5 +1,6 @@
 -- After each block, the kind of the piece depends only on the bytes after that block (`frame_left`, `canonical_left`),
 -- by `law_19`.
+-- `law_19`: The kind of a frame, block by block.
 use Rattle.std.proofs.Common.{◌≡◌, ◌≢◌, ◌↔◌, ◌++◌, ◌+◌, ◌-◌, ◌<◌, [], ℕ, List, length, drop, get_or, refl, sym, ap, subst, arith, length-drop}
 use Rattle.std.proofs.lemmas.Bool.{true≢false}
 use Rattle.std.proofs.lemmas.List.{drop_more}
@@ -16,25 +17,31 @@ module _ (list : List ℕ) (read : ℕ) (nonzero : HasNoZero list) (within : rea
   one_left : ((block : List ℕ) → IsBlock block → IsCanonical block) → length list - read ≡ get_or list read 0 → IsCanonical (drop read list)
   one_left one end = grind (arith, last, block_at, is_block)
 
+  -- if the rest is the lone block, the code is 1
   lone_left : drop read list ≡ lone_block → get_or list read 0 ≡ 1
   lone_left lone = grind (arith, drop_more)
 
   -- the rest is a block and more bytes
   module _ (far : get_or list read 0 < length list - read) where
+    -- the bytes at `read` are a block
     block : IsBlock (block_at list read)
     block = grind (arith, is_block)
 
+    -- the rest is a frame exactly if the bytes after the block are
     frame_left : ((block f : List ℕ) → IsBlock block → f ≢ [] → (IsFrame (block ++ f) ↔ IsFrame f)) → IsFrame (drop read list) ↔ IsFrame (drop (read + get_or list read 0) list)
     frame_left law = subst (λ (x : List ℕ). IsFrame x ↔ IsFrame (drop (read + get_or list read 0) list)) (sym (split list read nonzero within)) (law (block_at list read) (drop (read + get_or list read 0) list) block (more_some list read nonzero within far))
 
+    -- the rest is canonical exactly if the bytes after the block are, and aren't the lone block after a full block
     canonical_left : ((block f : List ℕ) → IsBlock block → f ≢ [] → (IsCanonical (block ++ f) ↔ (IsCanonical f × (IsFull block → f ≢ lone_block))))
         → IsCanonical (drop read list) ↔ (IsCanonical (drop (read + get_or list read 0) list) × (IsFull (block_at list read) → drop (read + get_or list read 0) list ≢ lone_block))
     canonical_left law = subst (λ (x : List ℕ). IsCanonical x ↔ (IsCanonical (drop (read + get_or list read 0) list) × (IsFull (block_at list read) → drop (read + get_or list read 0) list ≢ lone_block)))
         (sym (split list read nonzero within)) (law (block_at list read) (drop (read + get_or list read 0) list) block (more_some list read nonzero within far))
 
+    -- the rest isn't the lone block
     not_lone : drop read list ≢ lone_block
     not_lone lone = let l = length-drop read list in let e = ap length lone in let some = code_some list read nonzero within in omega arith
 
+-- the last block breaks off
 pub returns-then-left-code-clause-frame : goal.returns-then-left-code-clause-frame
 returns-then-left-code-clause-frame c =
     let none = broken c.args.piece.now c.by_block.read c.requires.1 c.by_block.invariant.within (λ f. IsFrame f → ⊥) c.law_19.ensures.short c.if-left-code.true in
@@ -45,15 +52,18 @@ returns-then-left-code-clause-canonical c =
     let none = broken c.args.piece.now c.by_block.read c.requires.1 c.by_block.invariant.within (λ f. IsFrame f → ⊥) c.law_19.ensures.short c.if-left-code.true in
     (λ same. absurd cc, λ is. absurd (none (frame_of (drop c.by_block.read c.args.piece.now) (c.by_block.invariant.canonical.0 is).0)))
 
+-- a full block and the lone block
 pub returns-then-code-eq1-clause-frame : goal.returns-then-code-eq1-clause-frame
 returns-then-code-eq1-clause-frame c = grind (arith, one_left, frame_of)
 
+-- any other last block
 pub returns-else-after_full-clause-frame : goal.returns-else-after_full-clause-frame
 returns-else-after_full-clause-frame c = grind (arith, one_left, frame_of)
 
 pub returns-else-after_full-clause-canonical : goal.returns-else-after_full-clause-canonical
 returns-else-after_full-clause-canonical c = grind (arith, one_left, lone_left, true≢false)
 
+-- a block with more bytes after it
 pub by_block-preserved : goal.by_block-preserved
 by_block-preserved c =
     let list : List ℕ = c.args.piece.now in

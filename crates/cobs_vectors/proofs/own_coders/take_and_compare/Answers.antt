@@ -1,4 +1,5 @@
 -- The byte is one step of the machine of `Step`, and `law_17: byte` says what this step means.
+-- `law_17`: A decoder of your own, byte by byte.
 use Rattle.std.proofs.Common.{[], ◌∷◌, arith}
 use Rattle.cobs.specs.Fields.Decoders.{phase_of}
 use Rattle.cobs_vectors.proofs.own_coders.take_and_compare.Goals as goal

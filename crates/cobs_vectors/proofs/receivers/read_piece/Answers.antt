@@ -1,5 +1,6 @@
--- The piece that ends is the piece that was fed, so its outcome is a message exactly if it reads as that message. By
--- `taken` and `taken_only` of `law_18`.
+-- The piece that ends is the piece that was fed. So by `taken` and `taken_only` of `law_18`, its outcome is a message
+-- exactly if it reads as that message.
+-- `law_18`: A frame is decoded as its message however it is streamed, and nothing else is.
 use Rattle.std.proofs.Common.{◌≡◌, ◌<◌, ◌≤◌, ◌∙◌, [], List, ℕ, Some, length, take, ap, subst, sym}
 use Rattle.std.proofs.lemmas.List.Elements.{All-from_get_or}
 use Rattle.cobs.specs.declared.PieceEnd.TheVariants.{Broken, Message, TooLong}
@@ -11,12 +12,15 @@ use Rattle.cobs_vectors.proofs.receivers.read_piece.Goals as goal
 same_end : (x y : PieceEnd × ℕ) → Some x ≡ Some y → x.0 ≡ y.0
 same_end x y e = let same : x ≡ y = cc in ap (λ z. z.0) same
 
+-- equal messages have the same length
 len_same : (len n : ℕ) → ◌≡◌ {A = PieceEnd} (Message len) (Message n) → len ≡ n
 len_same len n e = cc
 
+-- a broken piece isn't a message
 not_broken : (count n : ℕ) → ◌≡◌ {A = PieceEnd} (Broken count) (Message n) → ⊥
 not_broken count n e = absurd cc
 
+-- a piece that is too long isn't a message
 not_too_long : (n : ℕ) → ◌≡◌ {A = PieceEnd} TooLong (Message n) → ⊥
 not_too_long n e = absurd cc
 

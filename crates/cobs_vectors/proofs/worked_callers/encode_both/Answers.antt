@@ -1,4 +1,4 @@
--- After the first push the encoder has taken the first piece, and after the second push both pieces, by the clause
+-- After the first push the encoder has taken the first chunk, and after the second push both chunks, by the clause
 -- `taken`. So the clauses `fits` and `frame` of the last calls are about the whole message.
 use Rattle.std.proofs.Common.{List, take, ◌≤◌, ◌≡◌, ℕ, [], ◌++◌, length, refl, ap, arith, sym, subst}
 use Rattle.std.proofs.lemmas.Result.{err_from_is_err_and}

@@ -23,6 +23,7 @@ index_of-push_result state byte = go (byte == 0) (state.code == 254)
     go false true = omega arith
     go false false = omega arith
 
+-- so it is within the output
 within : (g : List ℕ) (state : OpenBlock) (byte : ℕ) (returned : PushResult) → state.index < length g → returned ≡ push_result state byte → index_of returned < length g
 within g state byte returned end is = grind (arith, index_of-push_result)
 

@@ -1,4 +1,4 @@
--- The table has the register's value after eight bits of each first byte, so one look-up is eight steps (`table_step`).
+-- For each byte, the table has the register after eight steps, so one look-up replaces eight steps (`table_step`).
 use Rattle.std.proofs.Common.{rules, ◌≡◌, ◌<◌, ℕ, ◌*◌, ◌/◌, ◌%◌, arith, ap, sym, ◌∙◌}
 use Rattle.std.specs.Prelude.{◌^◌, if◌then◌else◌}
 use Rattle.std.specs.Int.{reverse_bits, w8}

@@ -17,12 +17,14 @@ use Rattle.cobs_live.proofs.LineLemmas.{letters_of-gone, letters_of-more}
 use Rattle.cobs_live.proofs.RunLemmas.{flushed-Appends, more-ended, more-left, more-read, more-skips, more-tallied, more-timed, whole-message, given-bytes, given-next, given-hang_up, hung-up, next-failed, nothing-read, live-next, newly, opened, same-tallied, shown-all, shown-ended, takes-bytes, takes-hang_up}
 use Rattle.cobs_live.proofs.show.Watch.show_next.Goals as goal
 
+-- the read returned no bytes: the input has ended
 pub returns-then-count-eq0-clause-shown : goal.returns-then-count-eq0-clause-shown
 returns-then-count-eq0-clause-shown g c = λ settings from before s.
     let none : c.in-Bytes.count ≡ 0 = c.if-count-eq0.true in
     let takes = takes-bytes _ _ _ _ _ c.in-Bytes.is c.in-Ok.ensures.takes in
     shown-all (assumption c.law_9.ensures) s (rw none at takes.1) (takes.2 none (omega (arith, c.in-Ok.ensures.len, c.requires.some))) c.in_ok-end.ensures.shown
 
+-- the read returned bytes, and the pieces that end in them were shown
 pub returns-clause-shown : goal.returns-clause-shown
 returns-clause-shown g c = λ settings from before s.
     let law : StreamLaw = assumption c.law_9.ensures in
@@ -58,11 +60,13 @@ returns-clause-shown g c = λ settings from before s.
       skips = skips ∙ more-skips law s more;
     }
 
+-- the read failed
 pub returns-in-Err-clause-shown : goal.returns-in-Err-clause-shown
 returns-in-Err-clause-shown g c = λ settings from before s.
     next-failed (assumption c.law_9.ensures) s _ _ c.in-Err.fault c.in-Err.ensures.failed.0
     (shown-ended (assumption c.law_9.ensures) s (nothing-read (assumption c.law_9.ensures) s _ c.in-Err.ensures.failed.1) c.in_ok-end-in-Err.ensures.shown)
 
+-- after a read that returned bytes, the run goes on
 pub returns-clause-goes_on : goal.returns-clause-goes_on
 unfolding returns-clause-shown
 returns-clause-goes_on g c = λ yes settings start from before s. record {
@@ -73,6 +77,7 @@ returns-clause-goes_on g c = λ yes settings start from before s. record {
       ∙ sym (letters_of-more s.so_far.ended.gone s.so_far.ended.bytes (take c.in-Bytes.count c.read_chunk.new.chunk));
 }
 
+-- ON EVERY PATH the run is live after the read of this call
 pub returns-clause-live : goal.returns-clause-live
 returns-clause-live g c = λ settings start from before s. live-next s c.in-Ok.ensures.once
 
@@ -100,10 +105,12 @@ returns-in_err-hang_up-clause-live g c = λ settings start from before s. live-n
 pub returns-in_default-clause-live : goal.returns-in_default-clause-live
 returns-in_default-clause-live g c = λ settings start from before s. live-next s c.in-Ok.ensures.once
 
+-- THE LINE HUNG UP: this was shown
 pub returns-in_default-clause-shown : goal.returns-in_default-clause-shown
 returns-in_default-clause-shown g c = λ settings from before s.
     hung-up (assumption c.law_9.ensures) s (takes-hang_up _ _ _ _ c.in_default.is c.in-Ok.ensures.takes).0 c.in_ok-hang_up.ensures.shown c.in_ok-hang_up.ensures.anew
 
+-- after a hang-up, the run goes on
 pub returns-in_default-clause-goes_on : goal.returns-in_default-clause-goes_on
 unfolding returns-in_default-clause-shown
 returns-in_default-clause-goes_on g c = λ yes settings start from before s. record {
