@@ -81,11 +81,11 @@ pub record DecoderLaw : Type 0 where
   pub step : (buffer : List ℕ) (phase : Phase) (byte : ℕ) → let n = length buffer in Feeds buffer phase byte (next_result n phase byte) (next_buffer buffer phase byte) (next_phase n phase byte)
   -- the machine moves by the table of `DecoderState`, as `FeedsByTable` says
   pub by_table : (n : ℕ) (phase : Phase) (byte : ℕ) → FeedsByTable n phase byte (next_result n phase byte) (next_phase n phase byte)
-  -- no bytes end no piece, and change nothing
+  -- if no bytes are fed, no piece ends, and nothing changes
   pub nothing : (buffer : List ℕ) (phase : Phase) → TakesPiece buffer phase [] None buffer phase
-  -- if the first i bytes ended no piece, and the next byte ends none, the first i + 1 bytes ended no piece
+  -- if no piece ended in the first i bytes, and the next byte ends none, no piece ended in the first i + 1 bytes
   pub byte : (bytes buffer between buffer' : List ℕ) (phase phase_between phase' : Phase) (result : Result (Option ℕ) DecodeError) (i : ℕ) → i < length bytes → TakesPiece buffer phase (take i bytes) None between phase_between → Feeds between phase_between (slice_index bytes i) result buffer' phase' → (slice_index bytes i ≡ 0 → end_reported result ≡ None) → TakesPiece buffer phase (take (i + 1) bytes) None buffer' phase'
-  -- if the first i bytes ended no piece, and the next byte is a zero that ends one, `feed_piece` stops after this zero
+  -- if no piece ended in the first i bytes, and the next byte is a zero that ends one, `feed_piece` stops after this zero
   pub end : (bytes buffer between buffer' : List ℕ) (phase phase_between phase' : Phase) (result : Result (Option ℕ) DecodeError) (end : PieceEnd) (i : ℕ) → i < length bytes → TakesPiece buffer phase (take i bytes) None between phase_between → Feeds between phase_between (slice_index bytes i) result buffer' phase' → slice_index bytes i ≡ 0 → end_reported result ≡ Some end → TakesPiece buffer phase bytes (Some (end, i + 1)) buffer' phase'
 
 -- the clause of `law_18`: the results of the streaming decoders for a frame. In the fields about `feed_piece` and `push`

@@ -78,7 +78,8 @@ counted n (Ok DataComplete) = Ok (Some n)
 counted n (Err error) = Err (InvalidFrame n)
 
 -- `feed` of this byte to a decoder with a buffer of n bytes has this result, and changes the decoder's phase to
--- `phase'`, as the table says. This holds in every phase.
+-- `phase'`, as the table says. Nothing is stated for the phase `Overlong`, because no state of the table corresponds to
+-- it.
 pub record FeedsByTable (n : ℕ) (phase : Phase) (byte : ℕ) (result : Result (Option ℕ) DecodeError) (phase' : Phase) : Type 0 where
   -- the state changes as the table says, unless the output is now too long
   pub next : (state : DecoderState) → state_in phase ≡ Some state → phase' ≢ phases.Overlong → state_in phase' ≡ Some (table_state state byte)

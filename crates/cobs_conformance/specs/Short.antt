@@ -17,6 +17,6 @@ repeated (digits ∷ count ∷ more) = repeat (number_text count) digits
 abbrev pub part_text : List ℕ → List ℕ
 part_text part = repeated (slice_split (λ byte. byte == 42) part)
 
--- the digits that a word stands for; there is a plus sign (43) between each two of its parts
+-- the digits that a word stands for; a plus sign (43) separates its parts
 abbrev pub word_text : List ℕ → List ℕ
 word_text word = flat_map part_text (slice_split (λ byte. byte == 43) word)

@@ -37,7 +37,7 @@ after_byte p r byte = after_bits p.poly 8 (bit_xor r (2 ^ 24 * (if p.reflected t
 abbrev pub register : Params → List ℕ → ℕ
 register p bytes = fold (after_byte p) p.init bytes
 
--- THE CHECK of some bytes
+-- THE CHECKSUM of some bytes
 abbrev pub crc : Params → List ℕ → ℕ
 crc p bytes = bit_xor (if p.reflected then reverse_bits w32 (register p bytes) else register p bytes / 2 ^ (32 - 8 * p.size)) p.xorout
 

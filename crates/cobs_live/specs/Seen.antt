@@ -79,7 +79,7 @@ part_of Broken message decoded = decoded
 part_of TooLong message decoded = decoded
 part_of BadCrc message decoded = message
 
--- the piece; if the flag is set, a broken or too long piece gets these decoded bytes
+-- the piece; if the flag is set, and the piece is broken or too long, these decoded bytes are shown for it
 abbrev pub with_part : Bool → Seen → List ℕ → Seen
 with_part false seen decoded = seen
 with_part true seen decoded = record { kind = seen.kind; len = seen.len; bytes = part_of seen.kind seen.bytes decoded }
@@ -88,7 +88,8 @@ with_part true seen decoded = record { kind = seen.kind; len = seen.len; bytes =
 abbrev pub seen_piece : Option Checksum → Bool → Ended → Seen
 seen_piece checksum partial ended = with_part partial (seen_of checksum ended.outcome) ended.decoded
 
--- the part of a buffer that a piece of this kind fills if it decodes to `len` bytes
+-- the decoded bytes in a buffer, for a piece of this kind: the first `len` bytes if the piece is broken, and all bytes
+-- if it is too long. For the other kinds, `part_of` ignores these bytes.
 abbrev pub held : Kind → ℕ → List ℕ → List ℕ
 held Message len buffer = buffer
 held Broken len buffer = take (min len (length buffer)) buffer

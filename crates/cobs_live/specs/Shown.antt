@@ -90,7 +90,7 @@ abbrev pub numbered : Bool → ℕ → List ℕ
 numbered true number = decimal number ++ codes " "
 numbered false number = []
 
--- the kinds of pieces that a filter lets through
+-- whether a filter lets the pieces of a kind through
 abbrev pub has_kind : Filter → Kind → Bool
 has_kind filter Message = filter.messages
 has_kind filter Broken = filter.broken
