@@ -71,7 +71,8 @@
  *
  * A pointer to a state must be valid. The state may have any contents. Even if the state is corrupt, the call returns,
  * and accesses no memory outside the input, the buffer and the state. The result is still in range: consumed is at most
- * the number of bytes passed, and length is at most the buffer's size.
+ * the number of bytes passed, and length is at most the buffer's size. The rest of the description of a result is only
+ * for the initial state, and for states that a call of this header has left.
  *
  * While a call runs, nothing else may change its input, its buffer or its state: no other thread or process, no
  * interrupt or signal handler, no DMA transfer. A call may read a byte twice. If the byte changes between the two
