@@ -8,6 +8,8 @@
 //!
 //! # Switching from `cobs`
 //!
+//! Change one line of `Cargo.toml`:
+//!
 //! ```toml
 //! [dependencies]
 //! cobs = { package = "jcobs", path = "../jirompeka/bindings/rust" }
@@ -99,7 +101,7 @@
 //! - `heapless`: [`CobsDecoderHeapless::new_with_vec`] accepts a `heapless::Vec`.
 //! - `tokio-util`: the feature `std`, and `MessageCodec`, a codec for streams and sinks of tokio.
 //!
-//! Without the feature `std`, the crate is `no_std`.
+//! With `default-features = false`, the crate needs neither `std` nor an allocator.
 //!
 //! # Targets
 //!

@@ -7,8 +7,9 @@ use crate::dec::{DecodeError, PieceEnd, UnbufferedDecoder};
 
 /// Reads messages from a serial port, a socket, a file, or any other source that implements [`BufRead`].
 ///
-/// If the source implements only [`Read`](io::Read), wrap it in a [`BufReader`](std::io::BufReader). With one read, a
-/// `BufReader` gets all bytes that have arrived, up to its capacity. The crate `cobs` doesn't have this type.
+/// If the source implements only [`Read`](io::Read), wrap it in a [`BufReader`](std::io::BufReader). A `BufReader` asks
+/// the source for as many bytes as its capacity, and doesn't wait for more if one read returns fewer. The crate `cobs`
+/// doesn't have this type.
 ///
 /// ```
 /// use std::io::BufReader;
@@ -147,8 +148,8 @@ impl<R> MessageReader<R> {
         &self.inner
     }
 
-    /// Returns a mutable reference to the source, for example to set the timeout of a port. If you read bytes directly
-    /// from the source, these bytes are missing from the next message.
+    /// Returns a mutable reference to the source, for example to set the timeout of a port. The reader doesn't decode
+    /// bytes that you read directly from the source.
     pub fn get_mut(&mut self) -> &mut R {
         &mut self.inner
     }
