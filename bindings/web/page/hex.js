@@ -58,7 +58,7 @@ export function parseHex(text) {
     const start = at;
     while (signAt(text, at) >= 0) at++;
     if (at < text.length && signAt(text, at) !== SEPARATOR) {
-      return { error: `At ${placeOf(text, at)}: “${String.fromCodePoint(text.codePointAt(at))}” is no hexadecimal digit.`, at };
+      return { error: `At ${placeOf(text, at)}: “${String.fromCodePoint(text.codePointAt(at))}” isn't a hexadecimal digit.`, at };
     }
     if (at === start) return { error: `At ${placeOf(text, at - 2)}: “0x” has no digits after it.`, at: at - 2 };
     if ((at - start) % 2 === 1) return { error: `At ${placeOf(text, start)}: ${oddDigits(text.slice(start, at))}.`, at: start };
