@@ -68,6 +68,6 @@ export function parseHex(text) {
 }
 
 function oddDigits(digits) {
-  if (digits.length === 1) return `“${digits}” is one digit, and a byte has two, as “0${digits}”`;
+  if (digits.length === 1) return `“${digits}” is one digit, but a byte has two, such as “0${digits}”`;
   return `“${digits.length > 12 ? digits.slice(0, 12) + "…" : digits}” has an odd number of digits`;
 }
