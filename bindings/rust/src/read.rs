@@ -42,7 +42,7 @@ use crate::dec::{DecodeError, PieceEnd, UnbufferedDecoder};
 /// fn poll(messages: &mut MessageReader<impl BufRead>) -> io::Result<Option<usize>> {
 ///     match messages.read_message() {
 ///         Ok(Some(Ok(message))) => Ok(Some(message.len())),
-///         // A frame that is damaged or too long. The next frame isn't affected.
+///         // A frame that is broken or too long. The next frame isn't affected.
 ///         Ok(Some(Err(_))) => Ok(None),
 ///         Ok(None) => Err(io::Error::new(ErrorKind::UnexpectedEof, "the port was closed")),
 ///         // No frame has ended yet.
@@ -83,9 +83,9 @@ impl<R: BufRead> MessageReader<R> {
     /// Reads until a zero ends a frame, and returns the frame's message.
     ///
     /// - `Ok(Some(Ok(message)))`: a frame has ended, and this is its message.
-    /// - `Ok(Some(Err(error)))`: a frame has ended, but it is damaged ([`DecodeError::InvalidFrame`], which has the
+    /// - `Ok(Some(Err(error)))`: a frame has ended, but it is broken ([`DecodeError::InvalidFrame`], which has the
     ///   number of decoded bytes), or its message is longer than `max_len` ([`DecodeError::TargetBufTooSmall`]). Call
-    ///   again for the next message: a damaged frame never affects another frame.
+    ///   again for the next message: such a frame never affects another frame.
     /// - `Ok(None)`: the source has ended, and no frame is unfinished. If the source grows later, call again.
     ///
     /// Zeros without a frame between them are skipped. The call has no limit on the number of bytes that it reads

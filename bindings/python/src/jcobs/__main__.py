@@ -73,7 +73,7 @@ def text_of(message: bytes) -> str:
 def members_of(outcome: Outcome) -> Dict[str, Any]:
     """Returns the members of an outcome's JSON object, except the member `kind`.
 
-    For a damaged frame these members describe the bytes that were decoded.
+    For a broken or too long frame these members describe the bytes that were decoded.
     """
     members = {"length": len(outcome.data), "hex": outcome.data.hex()}
     if not isinstance(outcome, Message):

@@ -44,7 +44,7 @@ def closing(count: int, sentinel: int) -> bytes:
 
 
 def reply_of(outcome: Optional[Outcome]) -> bytes:
-    """Returns the message of a reply, or raises an error if there is no reply, or if the reply is damaged or too long."""
+    """Returns the message of a reply, or raises an error if there is no reply, or if the reply is broken or too long."""
     if outcome is None:
         raise TimeoutError("no reply came in time")
     if not isinstance(outcome, Message):
@@ -372,8 +372,8 @@ def frames(
     """Returns an iterator over the outcomes of the frames in bytes, or in a binary file such as a log.
 
     The bytes are read and decoded in chunks of up to 65536 bytes, when the outcomes are needed. The iterator is a
-    `FrameReader`. Its `messages` method skips damaged frames. At the end of the iteration, its `unfinished` property
-    says whether the last frame was cut off.
+    `FrameReader`. Its `messages` method skips broken and too long frames. At the end of the iteration, its `unfinished`
+    property says whether the last frame was cut off.
 
     >>> for outcome in jcobs.frames(b"\\x03hi\\x00\\x05a\\x00\\x06hello\\x00"):
     ...     print(outcome)
