@@ -244,13 +244,13 @@ class receiver
         return *this;
     }
 
-    // Decodes the next bytes of the stream. Calls on_message(view) for each message whose frame ends in these bytes,
-    // and on_error(jcobs_answer) for each frame that ends in these bytes and is broken, or whose message is too long
-    // for the buffer. A message is in the buffer while on_message runs; after that, the next frame may overwrite the
-    // message. The member consumed of the jcobs_answer counts only bytes of this push, from the end of the previous
-    // frame or the start of the push. If a callback throws, the push has processed the bytes up to and including the
-    // sentinel of the frame that the callback was called for, and no later bytes. The receiver is then idle, and the
-    // next push begins a new frame.
+    // Decodes the next bytes of the stream. For each message whose frame ends in these bytes, calls on_message(view).
+    // For each frame that ends in these bytes and is broken or too long for the buffer, calls on_error(jcobs_answer). A
+    // message is in the buffer while on_message runs; after that, the next frame may overwrite the message. The member
+    // consumed of the jcobs_answer counts only bytes of this push, from the end of the previous frame or the start of
+    // the push. If a callback throws, the push has processed the bytes up to and including the sentinel of the frame
+    // that the callback was called for, and no later bytes. The receiver is then idle, and the next push begins a new
+    // frame.
     template <class OnMessage, class OnError> void push(view bytes, OnMessage &&on_message, OnError &&on_error)
     {
         consumed_ = 0;
