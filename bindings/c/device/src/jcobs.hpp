@@ -355,9 +355,9 @@ class sender
 
     // finish ends the message and returns its frame, for the given sentinel. finish_terminated also writes the sentinel
     // after the frame, and returns the frame with the sentinel. The returned bytes are in the buffer until the next
-    // push or feed. If these bytes don't fit the buffer, the result is an empty view, and nothing has changed; you can
-    // then drop the message with reset. Pushes always leave room for the frame, so the result of finish is empty only
-    // if the size of the buffer is 0.
+    // push, feed or finish. If these bytes don't fit the buffer, the result is an empty view, and nothing has changed;
+    // you can then drop the message with reset. Pushes always leave room for the frame, so the result of finish is
+    // empty only if the size of the buffer is 0.
     [[nodiscard]] view finish(unsigned char sentinel = 0) noexcept
     {
         return for_sentinel(jcobs_encoder_finish(&encoder_, buffer_.data(), buffer_.size()), sentinel);
