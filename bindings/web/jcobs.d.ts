@@ -158,7 +158,7 @@ export class FrameEncoder {
    * @throws RangeError if the message would become longer than `maxLength`; in this case no byte is added
    * @throws Error if the encoder is closed
    */
-  push(piece: Bytes): void;
+  push(chunk: Bytes): void;
   /** The length of the message so far, in bytes. */
   get length(): number;
   /**

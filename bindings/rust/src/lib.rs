@@ -32,8 +32,8 @@
 //! # #[cfg(feature = "alloc")] {
 //! let mut decoder = jcobs::CobsDecoderOwned::new(64);
 //! let mut messages = Vec::new();
-//! for piece in [&b"\x06hel"[..], b"lo\0\x03h", b"i\0"] {
-//!     let mut rest = piece;
+//! for chunk in [&b"\x06hel"[..], b"lo\0\x03h", b"i\0"] {
+//!     let mut rest = chunk;
 //!     while !rest.is_empty() {
 //!         if let Ok(Some(report)) = decoder.push(rest) {
 //!             messages.push(decoder.dest()[..report.frame_size()].to_vec());

@@ -649,9 +649,9 @@ class FrameEncoder {
   }
 
   /** Adds bytes to the message. If the message would become longer than `maxLength`, throws a RangeError and adds no byte. */
-  push(piece) {
+  push(data) {
     this.#demandOpen();
-    const bytes = bytesOf(piece);
+    const bytes = bytesOf(data);
     if (bytes.length > this.#maxLength - this.#taken) throw new RangeError(`the message is longer than maxLength=${this.#maxLength}`);
     const { arena, chunk } = this.#held;
     for (let at = 0; at < bytes.length; at += CHUNK_SIZE) {
