@@ -355,7 +355,7 @@ export function bytesOf(source) {
     return new Uint8Array(source.buffer, source.byteOffset, source.byteLength);
   }
   if (isBuffer(source)) return new Uint8Array(source);
-  throw new TypeError("bytes are wanted: a Uint8Array, another view, or an ArrayBuffer");
+  throw new TypeError("bytes must be a Uint8Array, another view, or an ArrayBuffer");
 }
 
 /** Returns whether a view has lost its bytes. Its length is then 0, like the length of an empty view. */

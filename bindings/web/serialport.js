@@ -52,7 +52,7 @@ export class FrameEncoderTransform extends Transform {
 
   constructor({ sentinel = 0, ...others } = {}) {
     super({ writableObjectMode: true });
-    for (const name of Object.keys(others)) throw new TypeError(`there is no option “${name}” here, but sentinel`);
+    for (const name of Object.keys(others)) throw new TypeError(`this class has no option “${name}”, only sentinel`);
     this.#options = { sentinel, terminated: true };
   }
 

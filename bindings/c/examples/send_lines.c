@@ -1,6 +1,6 @@
 /* Encodes each line of standard input, without its newline, and writes the frame and a zero to standard output.
  *
- * Each piece of a line is encoded as soon as it is read, so the program keeps the frame in memory, but not the line. */
+ * The chunks of a line are encoded as soon as they are read, so the program keeps the frame in memory, but not the line. */
 #include <jcobs.h>
 
 #include <stdio.h>
@@ -24,18 +24,18 @@ static int send_frame(jcobs_encoder *encoder)
 int main(void)
 {
     jcobs_encoder encoder = JCOBS_ENCODER_INIT;
-    unsigned char piece[256];
+    unsigned char chunk[256];
     size_t begun = 0; /* how many bytes of the current line were encoded */
     size_t n;
 
-    while ((n = fread(piece, 1, sizeof piece, stdin)) > 0) {
+    while ((n = fread(chunk, 1, sizeof chunk, stdin)) > 0) {
         size_t at = 0;
 
         while (at < n) {
-            unsigned char *newline = memchr(piece + at, '\n', n - at);
-            size_t len = (newline != NULL ? (size_t)(newline - piece) : n) - at;
+            unsigned char *newline = memchr(chunk + at, '\n', n - at);
+            size_t len = (newline != NULL ? (size_t)(newline - chunk) : n) - at;
 
-            if (jcobs_encoder_push(&encoder, frame, MAX_FRAME, piece + at, len).status != JCOBS_OK) {
+            if (jcobs_encoder_push(&encoder, frame, MAX_FRAME, chunk + at, len).status != JCOBS_OK) {
                 fputs("send_lines: a line is too long\n", stderr);
                 return 1;
             }

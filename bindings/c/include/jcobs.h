@@ -71,7 +71,8 @@
  *
  * A pointer to a state must be valid. The state may have any contents. Even if the state is corrupt, the call returns,
  * and accesses no memory outside the input, the buffer and the state. The result is still in range: consumed is at most
- * the number of bytes passed, and length is at most the buffer's size.
+ * the number of bytes passed, and length is at most the buffer's size. The rest of the description of a result is only
+ * for the initial state, and for states that a call of this header has left.
  *
  * While a call runs, nothing else may change its input, its buffer or its state: no other thread or process, no
  * interrupt or signal handler, no DMA transfer. A call may read a byte twice. If the byte changes between the two
@@ -92,10 +93,10 @@
  * - length is the number of bytes at the front of the buffer that belong to the result.
  *
  * A call doesn't change the bytes of the buffer after the result. The only exception is
- * jcobs_decode_in_place_with_sentinel. The rule also holds for several calls with a jcobs_decoder that decode one
- * frame, and for several calls with a jcobs_encoder that encode one message: the bytes after the result are as they
- * were before the first of these calls. But if a call with a jcobs_encoder returns TOO_SMALL, the whole buffer is as it
- * was before this call.
+ * jcobs_decode_in_place_with_sentinel. The rule also holds for all calls that decode one frame with a jcobs_decoder,
+ * and for all calls that encode one message with a jcobs_encoder. The bytes after the result are then as they were
+ * before the first of these calls. But if a call with a jcobs_encoder returns TOO_SMALL, the whole buffer is as it was
+ * before this call.
  *
  * A frame is a sequence of blocks. A block is a code, from 1 to 255, followed by code - 1 nonzero bytes. A block with
  * the code 255 is full. The output of a frame is the bytes that the frame decodes to: the bytes after the code of each
@@ -111,11 +112,11 @@
  * call changes the sentinel or the bytes after it. The streaming decoder reports a frame only when its sentinel has
  * arrived. COBS has no checksum: damage that turns a frame into another frame isn't noticed.
  *
- * The built library, libjcobs.a, needs x86-64-v2 on x86-64 (SSE4.2 and POPCNT: Intel processors since 2009, AMD
- * processors since 2011), and ARMv8-A on aarch64. The library has call frame information for debuggers, but no unwind
- * tables, and no call throws or unwinds. Each call begins with a landing pad (endbr64 or bti c), so a program that is
- * hardened by IBT, SHSTK or BTI stays hardened. The library calls only memcpy and memmove. This paragraph doesn't apply
- * to jcobs.c, which your compiler builds.
+ * The built library, libjcobs.a, needs x86-64-v2 on x86-64 (SSE4.2 and POPCNT, which most Intel processors have since
+ * 2009, and most AMD processors since 2011), and ARMv8-A on aarch64. The library has call frame information for
+ * debuggers, but no unwind tables, and no call throws or unwinds. Each call begins with a landing pad (endbr64 or bti
+ * c), so a program that is hardened by IBT, SHSTK or BTI stays hardened. The library calls only memcpy and memmove.
+ * This paragraph doesn't apply to jcobs.c, which your compiler builds.
  */
 #ifndef JCOBS_H
 #define JCOBS_H
@@ -292,8 +293,8 @@ JCOBS_API jcobs_answer jcobs_decode(const void *source, size_t source_len, void 
 
 /* Decodes the frame at the front of the source, for the given sentinel, to the front of the buffer `message`. The frame
  * ends at the first sentinel or at the end of the source. No sentinel is skipped: if the source begins with a sentinel,
- * the message is empty. Even for the sentinel 0 the results may differ from those of jcobs_decode, because jcobs_decode
- * skips leading zeros, and includes the block that is cut off in the output of a broken frame. */
+ * the message is empty. Even for the sentinel 0 the results may differ from those of jcobs_decode: jcobs_decode skips
+ * leading zeros, and its output of a broken frame includes the block that is cut off. */
 JCOBS_API jcobs_answer jcobs_decode_with_sentinel(const void *source, size_t source_len, void *message,
                                                   size_t message_size, unsigned char sentinel) JCOBS_READS(1, 2)
     JCOBS_WRITES(3, 4) JCOBS_CHECKED;

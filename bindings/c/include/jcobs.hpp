@@ -183,7 +183,7 @@ constexpr std::size_t max_overhead(std::size_t message_len) noexcept
 }
 
 // Encodes a message in its own buffer. Before the call the message begins at index max_overhead(message_len) of the
-// buffer. After the call the frame begins at index 0.
+// buffer. If the status is JCOBS_OK, the frame begins at index 0 after the call. Otherwise the buffer is as it was.
 [[nodiscard]] inline jcobs_answer encode_in_place(buffer bytes, std::size_t message_len) noexcept
 {
     return jcobs_encode_in_place(bytes.data(), bytes.size(), message_len);
@@ -244,11 +244,13 @@ class receiver
         return *this;
     }
 
-    // Decodes the next bytes of the stream. Calls on_message(view) for each message whose frame ends in these bytes,
-    // and on_error(jcobs_answer) for each frame that ends in these bytes and is broken or too long for the buffer. A
-    // message is in the buffer while on_message runs; after that, the next frame may overwrite the message. If a
-    // callback throws, the push has processed the bytes up to and including the sentinel of the frame that the callback
-    // was called for, and no later bytes. The receiver is then idle, and the next push begins a new frame.
+    // Decodes the next bytes of the stream. For each message whose frame ends in these bytes, calls on_message(view).
+    // For each frame that ends in these bytes and is broken or too long for the buffer, calls on_error(jcobs_answer). A
+    // message is in the buffer while on_message runs; after that, the next frame may overwrite the message. The member
+    // consumed of the jcobs_answer counts only bytes of this push, from the end of the previous frame or the start of
+    // the push. If a callback throws, the push has processed the bytes up to and including the sentinel of the frame
+    // that the callback was called for, and no later bytes. The receiver is then idle, and the next push begins a new
+    // frame.
     template <class OnMessage, class OnError> void push(view bytes, OnMessage &&on_message, OnError &&on_error)
     {
         consumed_ = 0;
@@ -264,7 +266,7 @@ class receiver
     }
 
     // Decodes the next bytes of the stream. Calls on_message(view) for each message whose frame ends in these bytes,
-    // and ignores frames that are broken or too long.
+    // and ignores frames that are broken, or whose message is too long.
     template <class OnMessage> void push(view bytes, OnMessage &&on_message)
     {
         push(bytes, std::forward<OnMessage>(on_message), [](jcobs_answer) {});
@@ -353,9 +355,9 @@ class sender
 
     // finish ends the message and returns its frame, for the given sentinel. finish_terminated also writes the sentinel
     // after the frame, and returns the frame with the sentinel. The returned bytes are in the buffer until the next
-    // push or feed. If these bytes don't fit the buffer, the result is an empty view, and nothing has changed; you can
-    // then drop the message with reset. Pushes always leave room for the frame, so the result of finish is empty only
-    // if the size of the buffer is 0.
+    // push, feed or finish. If these bytes don't fit the buffer, the result is an empty view, and nothing has changed;
+    // you can then drop the message with reset. Pushes always leave room for the frame, so the result of finish is
+    // empty only if the size of the buffer is 0.
     [[nodiscard]] view finish(unsigned char sentinel = 0) noexcept
     {
         return for_sentinel(jcobs_encoder_finish(&encoder_, buffer_.data(), buffer_.size()), sentinel);

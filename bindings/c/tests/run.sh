@@ -294,8 +294,8 @@ fi
 if has arm-none-eabi-gcc gcc-arm-none-eabi 'header for ARM without a system'; then
     part 'header for ARM without a system' header arm-none-eabi-gcc c c90 c99
 fi
-part 'examples of the header, the README and the manual' tests/examples.sh \
-    include/jcobs.h include/jcobs.hpp README.md ../../README.md man/jcobs.3
+part 'examples of the headers, the READMEs and the manual' tests/examples.sh \
+    include/jcobs.h include/jcobs.hpp README.md ../../README.md device/README.md man/jcobs.3
 part 'versions' versions
 part 'symbols: those of the header alone' symbols
 part 'vectors' "$at/vectors" ../../conformance/*.txt

@@ -31,7 +31,7 @@ def test_a_user_at_a_terminal_is_told_what_it_waits_for(terminals):
             said = waiting.stderr.readline().decode()
         finally:
             waiting.kill()
-    assert said == f"jcobs {jcobs.__version__}, backend {jcobs.backend}: waits for frames, as typed\n"
+    assert said == f"jcobs {jcobs.__version__}, backend {jcobs.backend}: waits for frames from the terminal\n"
 
 
 def test_show():

@@ -26,7 +26,8 @@ impl<const N: usize> Queue<N> {
         }
     }
 
-    /// Adds a byte to the queue. If the queue is full, the byte is dropped, and the frame that contains it is damaged.
+    /// Adds a byte to the queue. If the queue is full, the byte is dropped. Then the frame that contains it is damaged,
+    /// and may be decoded to a wrong message. Put a checksum into your messages to notice this.
     fn put(&self, byte: u8) {
         let put = self.put.load(Ordering::Relaxed);
         if put.wrapping_sub(self.taken.load(Ordering::Acquire)) < N {
@@ -56,8 +57,8 @@ fn on_byte(byte: u8) {
 /// Runs one round of the main loop: decodes the bytes that have arrived, and calls `on_message` with each message.
 fn poll<const N: usize>(decoder: &mut CobsDecoderHeapless<N>, mut on_message: impl FnMut(&[u8])) {
     while let Some(byte) = RECEIVED.take() {
-        // `feed` returns an error if a frame is damaged or too long. This frame is dropped, and the next frame isn't
-        // affected.
+        // `feed` returns an error if a frame breaks off inside a block, or is too long. This frame is dropped, and the
+        // next frame isn't affected.
         if let Ok(Some(len)) = decoder.feed(byte) {
             on_message(&decoder.dest()[..len]);
         }

@@ -15,7 +15,7 @@ use crate::dec::{DecodeError, UnbufferedDecoder};
 /// longer.
 ///
 /// An item of the stream is a message, or the error that [`MessageReader`](crate::MessageReader) would return for a
-/// frame that is damaged or too long. Such a frame never affects another frame. If the source returns an error, the
+/// frame that is broken or too long. Such a frame never affects another frame. If the source returns an error, the
 /// stream returns this error and ends. If the source ends inside a frame, the stream returns
 /// [`UnexpectedEof`](ErrorKind::UnexpectedEof) and ends. The sink sends the frame of each message, and then a zero. The
 /// crate `cobs` doesn't have this type.

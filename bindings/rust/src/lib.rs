@@ -8,6 +8,8 @@
 //!
 //! # Switching from `cobs`
 //!
+//! Change one line of `Cargo.toml`:
+//!
 //! ```toml
 //! [dependencies]
 //! cobs = { package = "jcobs", path = "../jirompeka/bindings/rust" }
@@ -30,8 +32,8 @@
 //! # #[cfg(feature = "alloc")] {
 //! let mut decoder = jcobs::CobsDecoderOwned::new(64);
 //! let mut messages = Vec::new();
-//! for piece in [&b"\x06hel"[..], b"lo\0\x03h", b"i\0"] {
-//!     let mut rest = piece;
+//! for chunk in [&b"\x06hel"[..], b"lo\0\x03h", b"i\0"] {
+//!     let mut rest = chunk;
 //!     while !rest.is_empty() {
 //!         if let Ok(Some(report)) = decoder.push(rest) {
 //!             messages.push(decoder.dest()[..report.frame_size()].to_vec());
@@ -99,7 +101,7 @@
 //! - `heapless`: [`CobsDecoderHeapless::new_with_vec`] accepts a `heapless::Vec`.
 //! - `tokio-util`: the feature `std`, and `MessageCodec`, a codec for streams and sinks of tokio.
 //!
-//! Without the feature `std`, the crate is `no_std`.
+//! With `default-features = false`, the crate needs neither `std` nor an allocator.
 //!
 //! # Targets
 //!

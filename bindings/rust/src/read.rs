@@ -7,8 +7,9 @@ use crate::dec::{DecodeError, PieceEnd, UnbufferedDecoder};
 
 /// Reads messages from a serial port, a socket, a file, or any other source that implements [`BufRead`].
 ///
-/// If the source implements only [`Read`](io::Read), wrap it in a [`BufReader`](std::io::BufReader). With one read, a
-/// `BufReader` gets all bytes that have arrived, up to its capacity. The crate `cobs` doesn't have this type.
+/// If the source implements only [`Read`](io::Read), wrap it in a [`BufReader`](std::io::BufReader). A `BufReader` asks
+/// the source for as many bytes as its capacity, and doesn't wait for more if one read returns fewer. The crate `cobs`
+/// doesn't have this type.
 ///
 /// ```
 /// use std::io::BufReader;
@@ -41,7 +42,7 @@ use crate::dec::{DecodeError, PieceEnd, UnbufferedDecoder};
 /// fn poll(messages: &mut MessageReader<impl BufRead>) -> io::Result<Option<usize>> {
 ///     match messages.read_message() {
 ///         Ok(Some(Ok(message))) => Ok(Some(message.len())),
-///         // A frame that is damaged or too long. The next frame isn't affected.
+///         // A frame that is broken or too long. The next frame isn't affected.
 ///         Ok(Some(Err(_))) => Ok(None),
 ///         Ok(None) => Err(io::Error::new(ErrorKind::UnexpectedEof, "the port was closed")),
 ///         // No frame has ended yet.
@@ -82,9 +83,9 @@ impl<R: BufRead> MessageReader<R> {
     /// Reads until a zero ends a frame, and returns the frame's message.
     ///
     /// - `Ok(Some(Ok(message)))`: a frame has ended, and this is its message.
-    /// - `Ok(Some(Err(error)))`: a frame has ended, but it is damaged ([`DecodeError::InvalidFrame`], which has the
+    /// - `Ok(Some(Err(error)))`: a frame has ended, but it is broken ([`DecodeError::InvalidFrame`], which has the
     ///   number of decoded bytes), or its message is longer than `max_len` ([`DecodeError::TargetBufTooSmall`]). Call
-    ///   again for the next message: a damaged frame never affects another frame.
+    ///   again for the next message: such a frame never affects another frame.
     /// - `Ok(None)`: the source has ended, and no frame is unfinished. If the source grows later, call again.
     ///
     /// Zeros without a frame between them are skipped. The call has no limit on the number of bytes that it reads
@@ -147,8 +148,8 @@ impl<R> MessageReader<R> {
         &self.inner
     }
 
-    /// Returns a mutable reference to the source, for example to set the timeout of a port. If you read bytes directly
-    /// from the source, these bytes are missing from the next message.
+    /// Returns a mutable reference to the source, for example to set the timeout of a port. The reader doesn't decode
+    /// bytes that you read directly from the source.
     pub fn get_mut(&mut self) -> &mut R {
         &mut self.inner
     }

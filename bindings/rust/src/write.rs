@@ -56,9 +56,9 @@ impl<W: Write> MessageWriter<W> {
 
     /// Writes the frame of `message` and a zero. The call doesn't flush.
     ///
-    /// If the last write failed, a part of its frame may have been written. Then this call first writes 256 bytes, so
-    /// that no decoder decodes this part to a message. The receiver gets one frame that is broken, or too long for the
-    /// receiver's buffer.
+    /// If the last write failed, a part of its frame may have been written. Then this call writes 256 bytes before the
+    /// frame, so that no decoder decodes this part to a message. The receiver's decoder reports this part as one frame
+    /// that is broken, or too long for its buffer.
     ///
     /// # Errors
     ///

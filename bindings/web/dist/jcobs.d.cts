@@ -1,4 +1,10 @@
-/** Consistent Overhead Byte Stuffing (COBS), implemented by the proved code in cobs.wasm. */
+/**
+ * Consistent Overhead Byte Stuffing (COBS), implemented by the proved code in cobs.wasm.
+ *
+ * A call throws a TypeError if it expects `Bytes` and gets something else, and for an option that the call doesn't have. It throws a
+ * RangeError for a `sentinel`, a `maxLength` or a length that isn't one of the allowed numbers, and an Error if the module isn't
+ * loaded.
+ */
 
 // Not every `lib` of TypeScript declares these names. If `dom`, @types/node or a newer compiler declares them too, the
 // declarations here add nothing.
@@ -26,7 +32,7 @@ export type Bytes = ArrayBuffer | SharedArrayBuffer | ArrayBufferView;
 export type Source = string | URL | Response | PromiseLike<Response> | Bytes | WebAssembly.Module;
 
 export interface SentinelOptions {
-  /** The byte that a frame never contains, 0 to 255. Default 0. */
+  /** The byte that a frame never contains: an integer from 0 to 255. Default 0. */
   sentinel?: number;
 }
 
@@ -36,7 +42,7 @@ export interface EncodeOptions extends SentinelOptions {
 }
 
 export interface PieceOptions extends SentinelOptions {
-  /** The length of the longest message, in bytes. Default 65536. For `frames`, the default is the number of bytes that are passed. */
+  /** The length of the longest message, in bytes: an integer, 0 or more. Default 65536. For `frames`, the default is the number of bytes that are passed. */
   maxLength?: number;
 }
 
@@ -89,10 +95,13 @@ export function load(source?: Source): Promise<void>;
  */
 export function loadSync(source?: Bytes | WebAssembly.Module): void;
 
-/** Returns the length of the longest frame of a message of this many bytes, without sentinels. */
+/**
+ * Returns the length of the longest frame of a message of this many bytes, without sentinels.
+ * @throws RangeError if `length` isn't an integer, or is negative
+ */
 export function maxEncodedLength(length: number): number;
 
-/** Returns the frame of a message. */
+/** Returns the frame of a message, with a sentinel after it if `terminated` is true. */
 export function encode(message: Bytes, options?: EncodeOptions): Uint8Array;
 
 /**
@@ -128,6 +137,7 @@ export class FrameDecoder {
    * of the piece. If `visit` closes the decoder, `push` doesn't call `visit` again. If `visit` throws an error, `push` decodes the
    * rest of the chunk without calling `visit`, and then throws this error. So the next chunk is decoded as if `visit` had thrown
    * nothing.
+   * @throws Error if the decoder is closed, or if `visit` calls `push`
    */
   push(chunk: Bytes, visit: (outcome: Outcome, end: number) => void): void;
   /** Whether a frame has begun, and no sentinel has ended it yet. */
@@ -146,13 +156,17 @@ export class FrameEncoder {
   /**
    * Adds bytes to the message.
    * @throws RangeError if the message would become longer than `maxLength`; in this case no byte is added
+   * @throws Error if the encoder is closed
    */
-  push(piece: Bytes): void;
+  push(chunk: Bytes): void;
   /** The length of the message so far, in bytes. */
   get length(): number;
-  /** Ends the message and returns its frame. The next `push` begins another message. */
+  /**
+   * Ends the message and returns its frame, with a sentinel after it if `terminated` is true. The next `push` begins another message.
+   * @throws Error if the encoder is closed
+   */
   finish(options?: { terminated?: boolean }): Uint8Array;
-  /** Frees the encoder's memory. */
+  /** Frees the encoder's memory. Without this call, garbage collection frees the memory at some later time. */
   close(): void;
   /** Calls `close`. A `using` declaration calls this method at the end of its block. */
   [Symbol.dispose](): void;

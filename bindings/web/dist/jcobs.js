@@ -358,7 +358,7 @@ function bytesOf(source) {
     return new Uint8Array(source.buffer, source.byteOffset, source.byteLength);
   }
   if (isBuffer(source)) return new Uint8Array(source);
-  throw new TypeError("bytes are wanted: a Uint8Array, another view, or an ArrayBuffer");
+  throw new TypeError("bytes must be a Uint8Array, another view, or an ArrayBuffer");
 }
 
 /** Returns whether a view has lost its bytes. Its length is then 0, like the length of an empty view. */
@@ -388,10 +388,10 @@ function isGone(view) {
  */
 function optionsOf(given, defaults) {
   if (given === undefined) return defaults;
-  if (typeof given !== "object" || given === null) throw new TypeError(`options are wanted, as { ${Object.keys(defaults).join(", ")} }`);
+  if (typeof given !== "object" || given === null) throw new TypeError(`the options must be an object, such as { ${Object.keys(defaults).join(", ")} }`);
   const names = Object.keys(defaults);
   for (const name of Object.keys(given)) {
-    if (!names.includes(name)) throw new TypeError(`there is no option “${name}” here, but ${names.join(", ")}`);
+    if (!names.includes(name)) throw new TypeError(`this call has no option “${name}”, only ${names.join(", ")}`);
   }
   const options = { ...defaults };
   for (const name of names) if (given[name] !== undefined) options[name] = given[name];
@@ -400,9 +400,9 @@ function optionsOf(given, defaults) {
 
 function checked(options) {
   const { sentinel = 0, maxLength } = options;
-  if (!Number.isInteger(sentinel) || sentinel < 0 || sentinel > 255) throw new RangeError("the sentinel is a byte, 0 to 255");
+  if (!Number.isInteger(sentinel) || sentinel < 0 || sentinel > 255) throw new RangeError("the sentinel must be an integer from 0 to 255");
   if ("maxLength" in options && (!Number.isSafeInteger(maxLength) || maxLength < 0)) {
-    throw new RangeError("maxLength is a whole number, 0 or more");
+    throw new RangeError("maxLength must be an integer, 0 or more");
   }
   return options;
 }
@@ -414,7 +414,7 @@ const PIECEWISE = { maxLength: 65536, sentinel: 0 };
 
 /** Returns the length of the longest frame of a message of `length` bytes, without sentinels. */
 function maxEncodedLength(length) {
-  if (!Number.isSafeInteger(length) || length < 0) throw new RangeError("a length is a whole number, 0 or more");
+  if (!Number.isSafeInteger(length) || length < 0) throw new RangeError("the length must be an integer, 0 or more");
   return loaded().machine.maxLength(length);
 }
 
@@ -444,7 +444,7 @@ function encodeInto(message, dest, options) {
   const machine = machineFor(bytes.length + room + NEAR);
   const at = machine.placeAfter(bytes.length);
   const { status, length } = machine.encode(bytes, at, room, sentinel, terminated);
-  if (status === TOO_SMALL) throw new RangeError(`the frame is longer than the ${front.length} bytes that it may have`);
+  if (status === TOO_SMALL) throw new RangeError(`the frame doesn't fit the ${front.length} bytes of dest`);
   machine.readInto(front, at, length);
   return length;
 }
@@ -461,8 +461,8 @@ function decode(frame, options) {
   machine.write(bytes, machine.scratchAt, sentinel);
   const { status, length } = machine.decode(bytes.length, dest, bytes.length);
   if (status === OK) return machine.read(dest, length);
-  if (status === BROKEN) throw new CobsError("broken", `the frame breaks off inside a block; it decodes to ${length} bytes up to there`, length);
-  throw new CobsError("empty", "there is no frame to decode: no bytes, or sentinels alone");
+  if (status === BROKEN) throw new CobsError("broken", `the frame breaks off inside a block, after ${length} decoded bytes`, length);
+  throw new CobsError("empty", "there is no frame to decode: there are no bytes, or only sentinels");
 }
 
 /** Returns "canonical" for a frame that `encode` returns, "longer" for a frame with a needless last block 01, otherwise "notAFrame". */
@@ -543,7 +543,7 @@ class FrameDecoder {
   push(chunk, visit) {
     if (!this.#held.isOpen || this.#isClosing) throw new Error("the decoder is closed");
     if (this.#isPushing) throw new Error("a push is under way");
-    if (typeof visit !== "function") throw new TypeError("push takes a function, which is called with each outcome");
+    if (typeof visit !== "function") throw new TypeError("the second argument of push must be a function");
     const bytes = bytesOf(chunk);
     const fault = { thrown: undefined, isThrown: false };
     this.#isPushing = true;
@@ -647,10 +647,10 @@ class FrameEncoder {
   }
 
   /** Adds bytes to the message. If the message would become longer than `maxLength`, throws a RangeError and adds no byte. */
-  push(piece) {
+  push(data) {
     this.#demandOpen();
-    const bytes = bytesOf(piece);
-    if (bytes.length > this.#maxLength - this.#taken) throw new RangeError(`the message is longer than ${this.#maxLength} bytes`);
+    const bytes = bytesOf(data);
+    if (bytes.length > this.#maxLength - this.#taken) throw new RangeError(`the message is longer than maxLength=${this.#maxLength}`);
     const { arena, chunk } = this.#held;
     for (let at = 0; at < bytes.length; at += CHUNK_SIZE) {
       const some = bytes.subarray(at, at + CHUNK_SIZE);

@@ -1,7 +1,10 @@
 import { Transform } from "node:stream";
 import type { DecoderOptions, SentinelOptions } from "./jcobs.cjs";
 
-/** Turns a stream of bytes into a stream of outcomes, one for each piece that a sentinel ends. The class loads the module itself. */
+/**
+ * Turns a stream of bytes into a stream of outcomes, one for each piece that a sentinel ends. The class loads the module itself. If the
+ * module can't be loaded, or if an option is wrong, the stream emits `error`.
+ */
 export class FrameDecoderTransform extends Transform {
   constructor(options?: DecoderOptions);
   /** Whether a frame has begun, and no sentinel has ended it yet. */
@@ -10,7 +13,11 @@ export class FrameDecoderTransform extends Transform {
   get skipped(): number;
 }
 
-/** Turns messages into frames, each with a sentinel after it. The class loads the module itself. */
+/**
+ * Turns messages into frames, each with a sentinel after it. The class loads the module itself. If the module can't be loaded, or if
+ * the sentinel is wrong, the stream emits `error`.
+ * @throws TypeError for an option other than `sentinel`
+ */
 export class FrameEncoderTransform extends Transform {
   constructor(options?: SentinelOptions);
 }

@@ -48,7 +48,7 @@ function parseBuffer(text) {
   if (inside !== undefined) {
     if (/\.\.\.|…/.test(inside)) return { error: "Bytes are left out at the “...”." };
     const { bytes } = parseHex(inside);
-    if (bytes && length !== undefined && Number(length) !== bytes.length) return { error: `The buffer has ${length} bytes, and ${bytes.length} are here.` };
+    if (bytes && length !== undefined && Number(length) !== bytes.length) return { error: `The length is given as ${length}, but there are ${bytes.length} bytes.` };
     return bytes && { bytes, as: "a buffer" };
   }
   if (!/^\s*\{\s*"/.test(text)) return undefined;
@@ -59,7 +59,7 @@ function parseBuffer(text) {
     return undefined;
   }
   const data = value.type === "Buffer" ? value.data : Object.keys(value).every((key, at) => key === String(at)) && Object.values(value);
-  if (!Array.isArray(data) || !data.every((each) => Number.isInteger(each) && each >= 0 && each < 256)) return { error: "This JSON is no buffer: its numbers aren't bytes." };
+  if (!Array.isArray(data) || !data.every((each) => Number.isInteger(each) && each >= 0 && each < 256)) return { error: "This JSON isn't a buffer of bytes." };
   return { bytes: Uint8Array.from(data), as: "a buffer" };
 }
 
@@ -83,9 +83,9 @@ function parseWords(text, wanted) {
 /** Reads words of which some begin with `0x`. */
 function parsePrefixed(words, prefixed) {
   const long = prefixed.find((word) => /^0x[0-9a-f]{3,}$/i.test(word));
-  if (words.length > 1 && long) return { error: `“${long}” has several bytes, whose order isn't known: write each byte by itself.` };
+  if (words.length > 1 && long) return { error: `“${long}” has several bytes, whose order isn't known: write each byte separately.` };
   const others = words.filter((word) => !/^0x/i.test(word));
-  if (others.length > 0 && others.every((word) => /^(0|[1-9]\d*)$/.test(word))) return { error: `“${others[0]}” has no 0x, as others have: it is decimal or hexadecimal.` };
+  if (others.length > 0 && others.every((word) => /^(0|[1-9]\d*)$/.test(word))) return { error: `“${others[0]}” has no 0x, but other numbers have: it could be decimal or hexadecimal.` };
   if (others.length > 0 || !words.every((word) => /^0x[0-9a-f]{1,2}$/i.test(word))) return undefined;
   return { bytes: Uint8Array.from(words, (word) => parseInt(word, 16)), as: "hex" };
 }
@@ -101,7 +101,7 @@ function parseNumbers(text, wanted) {
   const hasCommas = text.includes(",");
   if (words.length < (hasCommas ? 1 : 2) || !words.every((word) => /^(0|[1-9]\d*)$/.test(word))) return undefined;
   const large = words.find((word) => Number(word) > 255);
-  const decimal = { as: "decimal numbers", ...(large ? { error: `“${large}” is no byte: it is more than 255.` } : { bytes: Uint8Array.from(words, Number) }) };
+  const decimal = { as: "decimal numbers", ...(large ? { error: `“${large}” isn't a byte: it is more than 255.` } : { bytes: Uint8Array.from(words, Number) }) };
   const hex = { ...parseHex(text), as: "hex" };
   return choice(hasCommas ? [decimal, hex] : [hex, decimal], wanted);
 }

@@ -343,7 +343,7 @@ export class Canvas {
     const spot = this.#box.querySelector(".active");
     if (spot) spot.textContent = digit && `${digit}_`;
     spot?.classList.toggle("typed", digit !== "");
-    if (digit) this.#part("explained").textContent = `${digit}_: a second digit writes the byte, Escape leaves it as it is.`;
+    if (digit) this.#part("explained").textContent = `${digit}_: a second digit changes the byte, and Escape leaves it as it is.`;
   }
 
   #write(byte, isGoingOn) {
@@ -366,7 +366,7 @@ export class Canvas {
   }
 
   #splice(at, index, removed, bytes) {
-    if (this.#pieces.kinds[at] !== MESSAGE) return `There is no message in ${this.#pieces.name(at)} to change; the bytes below can be changed.`;
+    if (this.#pieces.kinds[at] !== MESSAGE) return `There is no message in ${this.#pieces.name(at)} to change; you can change the bytes below.`;
     return this.#on.splice(at, index, removed, bytes);
   }
 

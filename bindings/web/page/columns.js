@@ -44,7 +44,7 @@ function readingsOf(lines, { as, cell, width, byteOf }) {
 function parseGdb(lines) {
   const rows = lines.map((line) => line.match(GDB)).map(([, digits, columns]) => ({ digits, groups: columns.trim().split("\t") }));
   const large = rows.flatMap(({ groups }) => groups).find((number) => Number(number) < -128 || Number(number) > 255);
-  if (large) return { error: `“${large}” is no byte: print each byte by itself, as by x/8xb.` };
+  if (large) return { error: `“${large}” isn't a byte: print each byte separately, for example with x/8xb.` };
   const bytes = unrolled(rows, 16, (groups) => groups.map((number) => Number(number) & 255));
   return bytes ? { bytes: Uint8Array.from(bytes), as: "decimal numbers of gdb" } : { error: "The addresses don't fit the bytes: bytes are missing, or there are too many." };
 }

@@ -29,7 +29,7 @@ export function parseDump(text) {
   const isZero = /^0+$/.test(first.digits);
   if (!isMarked && rows.length === 1) {
     if (!isWide) return undefined;
-    if (!isZero) return { error: `“${first.digits}” is an offset or bytes: leave it out, or the spaces after it.` };
+    if (!isZero) return { error: `“${first.digits}” could be an offset or bytes: leave it out, or leave out the spaces after it.` };
   }
   if (!isMarked && rows.length > 1 && !(rows.every((row) => row) && (isWide || isZero) && unrolled(rows, 16, bytesOf))) return undefined;
   const bad = rows.findIndex((row) => row === null || row.isCut);
@@ -43,7 +43,7 @@ function readRows(rows) {
   const isGdb = groups.some((group) => /^0x/i.test(group));
   const areWords = isShort && groups.every((group) => group.length === 4);
   const longest = groups.reduce((most, group) => Math.max(most, group.length), 0);
-  if (longest > (isGdb || areWords || !isShort ? 4 : 2)) return { error: `“${groups.find((group) => group.length === longest)}” has several bytes, whose order isn't known: print each byte by itself.` };
+  if (longest > (isGdb || areWords || !isShort ? 4 : 2)) return { error: `“${groups.find((group) => group.length === longest)}” has several bytes, whose order isn't known: print each byte separately.` };
   const bases = isShort ? (areWords ? [16, 8] : [8, 10]) : [16];
   const found = bases.map((base) => unrolled(rows, base, areWords ? wordsOf : bytesOf)).filter((bytes) => bytes);
   if (found.length === 0) return { error: "The offsets don't fit the bytes: bytes are missing, or there are too many." };
@@ -90,7 +90,7 @@ export function parseCan(text) {
   for (const [at, line] of lines.entries()) {
     const [, length, pairs] = line.match(CAN) ?? [];
     const data = (pairs ?? line.match(CAN_LOG)?.[1])?.match(/[0-9a-f]{2}/gi) ?? (line.match(CAN) || line.match(CAN_LOG) ? [] : null);
-    if (data === null || (length !== undefined && Number(length) !== data.length)) return { error: `Line ${at + 1} is no frame of candump with all of its bytes: “${line.trim().slice(0, 60)}”.` };
+    if (data === null || (length !== undefined && Number(length) !== data.length)) return { error: `Line ${at + 1} isn't a complete frame of candump: “${line.trim().slice(0, 60)}”.` };
     bytes.push(...data.map((pair) => parseInt(pair, 16)));
   }
   return { bytes: Uint8Array.from(bytes), as: "data of candump" };

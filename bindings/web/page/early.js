@@ -11,7 +11,7 @@
       if (root.dataset.ready || !place || !place.hidden) return;
       place.textContent =
         location.protocol === "file:"
-          ? "A browser doesn't run the scripts of a page that is opened as a file: serve its folder, as by bindings/web/build.sh serve."
+          ? "A browser doesn't run the scripts of a page that is opened as a file: serve its folder, for example with bindings/web/build.sh serve."
           : "This page could not be started. It needs Chrome or Edge 92, Firefox 102 or Safari 15.4, and all of its files.";
       place.hidden = false;
       document.getElementById("loading").hidden = true;

@@ -5,12 +5,12 @@ import { BADGES } from "./pieces.js";
 
 const OF = {
   message: "of the message",
-  broken: "of what decodes before the piece breaks off",
+  broken: "of the output of the broken piece",
   "too long": "of a message that is too long for the buffer",
-  unfinished: "of what has come of the message",
+  unfinished: "of the message so far",
 };
 
-const PAST = { broken: "the end of the piece, which is broken", unfinished: "what has come of the piece so far" };
+const PAST = { broken: "the end of the piece, which is broken", unfinished: "the bytes of the piece so far" };
 
 const pair = (byte) => printHex([byte]);
 
@@ -19,21 +19,21 @@ export function explainFrame(pieces, i) {
   const { sentinel, stream } = pieces;
   const { at, value, role, isFirst, isAfterFull, isPast, index } = pieces.about(i);
   const name = `Byte ${count(i)}, ${pair(stream[i])}${sentinel === 0 ? "" : ` (${pair(value)} XORed with the sentinel)`}`;
-  if (role === "sentinel") return `${name}: the sentinel. ${i >= pieces.fronts[at] ? `It ends ${pieces.name(at)}.` : "Nothing is before it."}`;
+  if (role === "sentinel") return `${name}: the sentinel. ${i >= pieces.fronts[at] ? `It ends ${pieces.name(at)}.` : "No piece ends here."}`;
   if (role === "data") return `${name}: byte ${count(index)} of the message${sentinel === 0 ? ", as it is" : ""}.`;
-  const here = isFirst ? "the first code" : isAfterFull ? "a code after a full block, for no zero of the message" : "a code, in place of a zero of the message";
+  const here = isFirst ? "the first code" : isAfterFull ? "a code after a full block, where the message has no zero" : "a code, in place of a zero of the message";
   if (isPast) return `${name}: ${here}. It leads past ${PAST[BADGES[pieces.kinds[at]]] ?? "the end of the piece"}.`;
-  return `${name}: ${here}. ${value === 255 ? "It marks a full block: the" : "The"} next code, or the end, is ${counted(value, "byte")} on.`;
+  return `${name}: ${here}. ${value === 255 ? "It marks a full block: the" : "The"} next code, or the end, is ${counted(value, "byte")} after it.`;
 }
 
 /** Returns a sentence about the byte of the message above byte `i` of a stream. */
 export function explainMessage(pieces, i) {
   const { at, value, role, isFirst, index } = pieces.about(i);
   if (index < 0) {
-    if (role === "sentinel") return "Nothing of a message is here.";
+    if (role === "sentinel") return "No byte of a message is here.";
     return isFirst ? "The first code stands for no byte of the message." : "After a full block a code stands for no byte of the message.";
   }
-  if (role === "sentinel") return `The message ends here, after ${counted(index, "byte")}. Two digits append a byte.`;
+  if (role === "sentinel") return `The message ends here, after ${counted(index, "byte")}. Type two digits to append a byte.`;
   const of = OF[BADGES[pieces.kinds[at]]];
   if (role === "code") return `Byte ${count(index)} ${of}, 00: a zero, which the frame replaces by a code.`;
   const sign = value > 32 && value < 127 ? ` “${printText([value])}”` : "";

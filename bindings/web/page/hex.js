@@ -58,7 +58,7 @@ export function parseHex(text) {
     const start = at;
     while (signAt(text, at) >= 0) at++;
     if (at < text.length && signAt(text, at) !== SEPARATOR) {
-      return { error: `At ${placeOf(text, at)}: “${String.fromCodePoint(text.codePointAt(at))}” is no hexadecimal digit.`, at };
+      return { error: `At ${placeOf(text, at)}: “${String.fromCodePoint(text.codePointAt(at))}” isn't a hexadecimal digit.`, at };
     }
     if (at === start) return { error: `At ${placeOf(text, at - 2)}: “0x” has no digits after it.`, at: at - 2 };
     if ((at - start) % 2 === 1) return { error: `At ${placeOf(text, start)}: ${oddDigits(text.slice(start, at))}.`, at: start };
@@ -68,6 +68,6 @@ export function parseHex(text) {
 }
 
 function oddDigits(digits) {
-  if (digits.length === 1) return `“${digits}” is one digit, and a byte has two, as “0${digits}”`;
+  if (digits.length === 1) return `“${digits}” is one digit, but a byte has two, such as “0${digits}”`;
   return `“${digits.length > 12 ? digits.slice(0, 12) + "…" : digits}” has an odd number of digits`;
 }

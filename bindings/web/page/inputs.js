@@ -22,7 +22,7 @@ export function complain(input, error, place) {
 export function readSentinel(input, place) {
   const { bytes } = parseHex(input.value);
   const isByte = bytes?.length === 1;
-  complain(input, isByte ? null : `“${input.value}” is no sentinel: one byte, as two hexadecimal digits, is wanted.`, place);
+  complain(input, isByte ? null : `“${input.value}” isn't a sentinel: type one byte, as two hexadecimal digits.`, place);
   return isByte ? bytes[0] : null;
 }
 
@@ -30,7 +30,7 @@ export function readSentinel(input, place) {
 export function readRoom(input, place) {
   const room = input.valueAsNumber;
   const isRoom = Number.isInteger(room) && room >= 0 && room <= 1 << 20;
-  complain(input, isRoom ? null : "The buffer's length is a whole number of bytes, 0 to 1,048,576.", place);
+  complain(input, isRoom ? null : "The buffer's length must be a whole number of bytes, from 0 to 1,048,576.", place);
   return isRoom ? room : null;
 }
 

@@ -101,7 +101,7 @@ function open(number) {
   const shown = message ?? raw ?? new Uint8Array();
   const more = shown.length > OPENED_BYTES ? `\n… and ${counted(shown.length - OPENED_BYTES, "more byte")}` : "";
   byId("line-opened").hidden = false;
-  byId("line-opened-title").textContent = `${way === "out" ? "Sent" : "Received"} at ${clock(time)}: ${message ? counted(message.length, "byte") : `${kind} ${note}${raw ? ". Its bytes as they came:" : ""}`}`;
+  byId("line-opened-title").textContent = `${way === "out" ? "Sent" : "Received"} at ${clock(time)}: ${message ? counted(message.length, "byte") : `${kind} ${note}${raw ? ". Its bytes as they arrived:" : ""}`}`;
   byId("line-opened-text").textContent = message ? printText(message.subarray(0, OPENED_BYTES)) : "";
   byId("line-opened-hex").textContent = printHex(shown.subarray(0, OPENED_BYTES)) + more;
   rows.refresh();
@@ -149,7 +149,7 @@ async function connect(choose, name, skipFirst) {
     await connectedPort.open(settings());
     connection = new Connection(connectedPort, { maxLength, sentinel, skipFirst }, {
       outcome: receive,
-      left: (bytes) => add({ way: "in", kind: "left out", note: `${counted(bytes, "byte")} through the first sentinel, where a frame may have begun before` }),
+      left: (bytes) => add({ way: "in", kind: "left out", note: `${counted(bytes, "byte")} up to and including the first sentinel, because they may be the rest of a frame` }),
       fault: (error) => fault(`The line reported: ${error.message}`),
     });
   } catch (error) {
@@ -275,7 +275,7 @@ export function setLine(values) {
 export function startLine() {
   rows = new Rows(byId("line-log"), { topOf: (index) => index * ROW_HEIGHT, fill: fillRow });
   byId("line-lacking").hidden = "serial" in navigator;
-  if (!isSecureContext) byId("line-lacking").textContent = "A browser connects devices for pages at https addresses and at localhost alone. The loop gives back what is sent.";
+  if (!isSecureContext) byId("line-lacking").textContent = "A browser lets a page connect to a device only if the address of the page begins with https, or is localhost. The loop returns the bytes that you send.";
   byId("line-connect").addEventListener("click", () => connect(choosePort, "the device", true));
   byId("line-loop").addEventListener("click", () => connect(async () => new LoopPort(() => byId("line-noise").checked), "the loop", false));
   byId("line-close").addEventListener("click", disconnect);

@@ -10,7 +10,7 @@ const LONGEST = 1 << 20;   // bytes of a value that is repeated
 const DEEPEST = 16;        // nested brackets
 const LONGEST_FRONT = 500; // how many characters of a declaration are read
 const ENDED = " with a final 00";
-const NONE = "This is no list of bytes, no string, and no call that gives bytes.";
+const NONE = "This isn't a list of bytes, a string, or a call that returns bytes.";
 const COMMENT = /("(?:\\[\s\S]|[^"\\])*"|'(?:\\[\s\S]|[^'\\])*')|\/\*[\s\S]*?\*\/|\/\/[^\n]*|#[^\n]*/g; // a string is matched too, so that no comment begins inside it
 
 // The patterns of the parts of a text, each with the space after it. No pattern can match a text in two ways, so no pattern is slow.
@@ -97,8 +97,8 @@ class Reader {
       if (front === "") demandCharacters(this.#strings);
     } else this.#value();
     const [end, length] = this.#take(END);
-    if (end === undefined) throw new Unreadable(this.#at < this.#text.length ? `What is before ${this.#rest()} is a whole value: this belongs to no list of bytes.` : NONE);
-    if (length && Number(length) !== this.#bytes.length) throw new Unreadable(`The length below is ${length}, and ${this.#bytes.length} bytes are here.`);
+    if (end === undefined) throw new Unreadable(this.#at < this.#text.length ? `The value ends before ${this.#rest()}, which isn't a part of a list of bytes.` : NONE);
+    if (length && Number(length) !== this.#bytes.length) throw new Unreadable(`The length is given as ${length}, but there are ${this.#bytes.length} bytes.`);
     demandOneReading(this.#strings, this.#isJoined || /\w\s*\[\d*\]\s*$|\*\s*\w+\s*$|^\$/.test(front));
     return this.#declared(front, wanted);
   }
@@ -110,7 +110,7 @@ class Reader {
     const sizes = [...front.matchAll(/[[;,]\s*(\d+)\s*[\]>]/g)].map(([, size]) => Number(size));
     const places = sizes.reduce((product, size) => product * size, 1);
     if (isString && sizes.length === 1 && /\w\s*\[\d+\]\s*$/.test(front)) this.#repeat([0], Math.max(0, places - this.#bytes.length));
-    if (sizes.length > 0 && places !== this.#bytes.length) throw new Unreadable(`The declaration is of ${places} bytes, and ${this.#bytes.length} are here.`);
+    if (sizes.length > 0 && places !== this.#bytes.length) throw new Unreadable(`The declaration is for ${places} bytes, but there are ${this.#bytes.length}.`);
     const bytes = Uint8Array.from(this.#bytes);
     if (!isString || !/\w\s*\[\]\s*$|^\$\d+\s*$/.test(front)) return { bytes, as };
     return choice([{ bytes, as }, { bytes: Uint8Array.of(...bytes, 0), as: as + ENDED }], wanted);
@@ -146,7 +146,7 @@ class Reader {
   /** Takes a list in brackets or a call, with the type or name before it. */
   #value() {
     const [, before, open] = this.#take(BEFORE);
-    if (open === undefined || ++this.#depth > DEEPEST) throw new Unreadable(open === undefined && this.#at < this.#text.length ? `${this.#rest()} is no byte, no string, and no list of bytes.` : NONE);
+    if (open === undefined || ++this.#depth > DEEPEST) throw new Unreadable(open === undefined && this.#at < this.#text.length ? `${this.#rest()} isn't a byte, a string, or a list of bytes.` : NONE);
     this.#demandBytes(before);
     const from = this.#bytes.length;
     const [name] = before.match(/[A-Za-z_$][\w.:]*!?(?=\s*$)/) ?? [];
@@ -154,14 +154,14 @@ class Reader {
     else this.#items(open);
     this.#depth--;
     const [, size = this.#bytes.length - from] = before.match(/[[(](\d+)[\])]/) ?? [];
-    if (Number(size) !== this.#bytes.length - from) throw new Unreadable(`${size} bytes are named, and ${this.#bytes.length - from} are here.`);
+    if (Number(size) !== this.#bytes.length - from) throw new Unreadable(`The length is given as ${size}, but there are ${this.#bytes.length - from} bytes.`);
   }
 
   /** Takes the items up to the closing bracket, and returns how many there are. */
   #items(open) {
     for (let count = 0; ; count++) {
       if (this.#take(CLOSING[open]).length > 0) return count;
-      if (count > 0 && this.#take(COMMA).length === 0) throw new Unreadable(this.#at < this.#text.length ? `${this.#rest()} is no byte: a comma belongs between two numbers.` : NONE);
+      if (count > 0 && this.#take(COMMA).length === 0) throw new Unreadable(this.#at < this.#text.length ? `${this.#rest()} isn't a byte: write a comma between two numbers.` : NONE);
       if (count > 0 && this.#take(CLOSING[open]).length > 0) return count;
       this.#item(open === "(");
     }
@@ -174,7 +174,7 @@ class Reader {
     if (number.length > 0) this.#bytes.push(byteOf(number, this.#kinds));
     else if (/[-\d,]/.test(this.#text[this.#at])) throw new Unreadable(faultOf(this.#text.slice(this.#at).match(/^[^\s,;()[\]{}]*/)[0]));
     else if (!this.#stringsHere()) this.#value();
-    else if (!isGroup && this.#bytes.length - from !== 1 && !/b/i.test(this.#strings.at(-1).prefix)) throw new Unreadable(`“${this.#strings.at(-1).content.slice(0, 40)}” is no byte.`);
+    else if (!isGroup && this.#bytes.length - from !== 1 && !/b/i.test(this.#strings.at(-1).prefix)) throw new Unreadable(`“${this.#strings.at(-1).content.slice(0, 40)}” isn't a byte.`);
     this.#demandBytes(cast);
     if (",)]}".includes(this.#text[this.#at])) return; // most items of long lists end here
     if (number.length > 0) this.#take(SIGN);
@@ -190,12 +190,12 @@ class Reader {
       this.#item(true);
       const [, type = "64 bits"] = this.#take(DTYPE);
       if (this.#take(CLOSING["("]).length === 0) throw new Unreadable(NONE);
-      if (code ? !/b/i.test(code) : type === "64 bits") throw new Unreadable(`The numbers of ${code ? `an array of “${code}”` : "an array without dtype=uint8"} have more than 8 bits: write each byte by itself.`);
+      if (code ? !/b/i.test(code) : type === "64 bits") throw new Unreadable(`The numbers of ${code ? `an array of “${code}”` : "an array without dtype=uint8"} have more than 8 bits: write each byte separately.`);
       this.#demandBytes(type);
       return;
     }
     const isAny = /(^|\.)of$|^array$/.test(name);
-    if (!isAny && /^\d+\s*\)/.test(this.#text.slice(this.#at, this.#at + 20))) throw new Unreadable(`${name}(${this.#rest().slice(1, -1)}) gives bytes that aren't written here.`);
+    if (!isAny && /^\d+\s*\)/.test(this.#text.slice(this.#at, this.#at + 20))) throw new Unreadable(`${name}(${this.#rest().slice(1, -1)}) returns bytes that this text doesn't have.`);
     const count = this.#items("(");
     if (!isAny && count > 1) throw new Unreadable(`${name}() with ${count} arguments can't be read.`);
   }
@@ -212,7 +212,7 @@ class Reader {
       this.#at = start;
       return false;
     }
-    const { bytes, error } = isHex ? parseHex(inside) : (parseBase64(inside) ?? { error: "What is in the quotes is no base64." });
+    const { bytes, error } = isHex ? parseHex(inside) : (parseBase64(inside) ?? { error: "The text in quotes isn't base64." });
     if (!bytes) throw new Unreadable(error);
     this.#kinds.add(isHex ? "digits" : "base64");
     this.#repeat(bytes, 1);
@@ -224,7 +224,7 @@ class Reader {
 function demandCharacters(strings) {
   const inside = strings.map(({ content }) => content).join("");
   const mayBeDigits = !inside.includes("\\") && !strings.some(({ prefix }) => /b/i.test(prefix)) && (parseHex(inside).bytes?.length > 0 || parseBase64(inside));
-  if (mayBeDigits) throw new Unreadable("In the quotes are characters, or digits for bytes: leave the quotes out, or put b before them.");
+  if (mayBeDigits) throw new Unreadable("The text in quotes can be characters, or digits of bytes. For digits leave out the quotes; for characters put b before the quotes.");
 }
 
 function nameOf(kinds) {
@@ -235,15 +235,15 @@ function nameOf(kinds) {
 }
 
 function byteOf([whole, minus, hex, binary, decimal], kinds) {
-  if (/^0\d/.test(decimal)) throw new Unreadable(`“${whole.trim()}” begins with 0: it is octal, decimal or hexadecimal.`);
+  if (/^0\d/.test(decimal)) throw new Unreadable(`“${whole.trim()}” begins with 0: it could be octal, decimal or hexadecimal.`);
   const number = parseInt((hex ?? binary ?? decimal).replaceAll("_", ""), hex ? 16 : binary ? 2 : 10);
-  if (number > (minus ? 128 : 255)) throw new Unreadable(`“${whole.trim()}” is no byte: it is ${minus ? "less than -128" : "more than 255"}.`);
+  if (number > (minus ? 128 : 255)) throw new Unreadable(`“${whole.trim()}” isn't a byte: it is ${minus ? "less than -128" : "more than 255"}.`);
   kinds.add(minus ? "signed" : hex ? "hex" : binary ? "binary" : "decimal");
   return minus ? (256 - number) & 255 : number;
 }
 
 /** Returns why a word that begins like a number isn't a byte. */
 function faultOf(word) {
-  if (word === "") return "Between two commas is nothing.";
-  return wideFault(word.replace(/^-?\d[\d_]*/, "")) ?? `“${word}” is no number: in a list, hexadecimal numbers begin with 0x.`;
+  if (word === "") return "There is nothing between two commas.";
+  return wideFault(word.replace(/^-?\d[\d_]*/, "")) ?? `“${word}” isn't a number: in a list, hexadecimal numbers begin with 0x.`;
 }

@@ -53,7 +53,7 @@ export function readLog(text) {
     const time = new Date(stamp);
     const [, kind, note, digits] = rest?.match(/^# ([a-z ]+): ([^:]*)(?:: ([0-9a-f ]+))?$/) ?? [];
     const { bytes } = parseHex(kind ? (digits ?? "") : rest === "-" ? "" : (rest ?? "?"));
-    if (Number.isNaN(time.getTime()) || !bytes) return { error: `Line ${at + 1} is no line of a log: “${line.slice(0, 60)}”.` };
+    if (Number.isNaN(time.getTime()) || !bytes) return { error: `Line ${at + 1} isn't a line of a log: “${line.slice(0, 60)}”.` };
     entries.push(kind ? { time, way, kind, note, ...(digits && { raw: bytes }) } : { time, way, kind: "message", message: bytes });
   }
   return { entries };

@@ -45,7 +45,7 @@ function readMessage() {
   byId("message-ends").closest("label").hidden = !isText || !field.text.includes("\n");
   byId("message-other").hidden = true;
   if (isText) {
-    readAs = endsNote + (/\p{Surrogate}/u.test(field.text) ? " A lone surrogate has no bytes in UTF-8; it became ef bf bd." : "");
+    readAs = endsNote + (/\p{Surrogate}/u.test(field.text) ? " A lone surrogate has no bytes in UTF-8; it was replaced by ef bf bd." : "");
     field.complain(null, byId("message-error"));
     byId("message-read").textContent = `Read as text (UTF-8)${field.text.includes(ZERO) ? `; each ${ZERO} is a byte 00` : ""}.`;
     return bytesOfText(field.text, byId("message-ends").value);
@@ -54,7 +54,7 @@ function readMessage() {
   readAs = "";
   byId("message-read").textContent = error ? "" : `Read as ${as}.`;
   showOther(byId("message-other"), other);
-  field.complain(error ? `${error} The drawing below is of the last good input.` : null, byId("message-error"));
+  field.complain(error ? `${error} The drawing below still shows the last valid input.` : null, byId("message-error"));
   return bytes ?? null;
 }
 
@@ -65,7 +65,7 @@ function notePasted(text, isWhole) {
   const ends = endsOf(text);
   if (kind() !== "text" || ends === "") return;
   byId("message-ends").value = ends ?? "LF";
-  endsNote = ends === null ? " The line ends that were pasted were of several kinds; each is LF now." : "";
+  endsNote = ends === null ? " The pasted text had several kinds of line ends; all are LF now." : "";
 }
 
 function choose(wanted) {
@@ -79,9 +79,9 @@ function say() {
   const blocks = byId("message-blocks").dataset.count;
   const fault = typed && faultOf(typed);
   const what = fault
-    ? `${counted(typed.length, "byte")} that are no frame`
+    ? `${counted(typed.length, "byte")} that aren't a frame`
     : `${counted(message.length, "byte")} in a frame of ${counted((typed ?? frame).length, "byte")}: ${blocks === "1" ? "one block" : `${count(Number(blocks))} blocks`}`;
-  const more = `${readAs}${sentinel === 0 ? "" : ` Each byte of the frame is XORed with ${printHex([sentinel])}, so that ${printHex([sentinel])} is in no frame.`}`;
+  const more = `${readAs}${sentinel === 0 ? "" : ` Each byte of the frame is XORed with ${printHex([sentinel])}, so no frame contains ${printHex([sentinel])}.`}`;
   status.show(`${what}.${more}`);
   byId("message-status").classList.toggle("spoken", more === "" && !fault); // the line above the drawing already says this
 }
@@ -138,7 +138,7 @@ function showFrame() {
   keepState("message", { hex: digitsOf(message), as: kind(), sentinel: printHex([sentinel]), ...(typed && { frame: digitsOf(typed) }) });
   pieces = new Pieces(joined([shown, [sentinel]]), { maxLength: shown.length, sentinel });
   const left = shown.length - HEX_SHOWN;
-  byId("message-frame").textContent = printHex(shown, 0, Math.min(shown.length, HEX_SHOWN)) + (left > 0 ? ` … and ${counted(left, "more byte")}, which Copy takes too` : "");
+  byId("message-frame").textContent = printHex(shown, 0, Math.min(shown.length, HEX_SHOWN)) + (left > 0 ? ` … and ${counted(left, "more byte")}, which are copied too` : "");
   byId("message-frame").hidden = shown.length <= EDITED;
   const input = byId("message-frame-edit");
   input.hidden = shown.length > EDITED;
@@ -155,8 +155,8 @@ function showFrame() {
 function faultOf(bytes) {
   if (frameKind(bytes, { sentinel }) !== "notAFrame") return null;
   if (bytes.length === 0) return "A frame has at least one byte.";
-  if (bytes.includes(sentinel)) return `These are several pieces, with the sentinel ${printHex([sentinel])} between them, and a frame is one. The message is still that of the last frame.`;
-  return "The frame breaks off inside a block. The message is still that of the last frame.";
+  if (bytes.includes(sentinel)) return `These are several pieces, with the sentinel ${printHex([sentinel])} between them. The message is still that of the last valid frame.`;
+  return "The frame breaks off inside a block. The message is still that of the last valid frame.";
 }
 
 function complainFrame(error, isStream = false) {
@@ -170,7 +170,7 @@ function takeFrame(bytes) {
   const kindOfFrame = frameKind(bytes, { sentinel });
   if (kindOfFrame !== "notAFrame") setBytes(decode(bytes, { sentinel }));
   update(kindOfFrame === "canonical" ? null : bytes);
-  byId("message-copied").textContent = kindOfFrame === "longer" ? "This is the longer of two frames of the message: encoders leave out its last 01." : "";
+  byId("message-copied").textContent = kindOfFrame === "longer" ? "The message has two frames, and this is the longer one: encoders leave out its last 01." : "";
 }
 
 /** Takes the bytes of the frame's field: a frame, a frame with sentinels around it (as it came over a line), or several frames. */
@@ -211,7 +211,7 @@ function write(i, byte) {
 
 /** Changes bytes of the message. */
 function splice(at, index, removed, bytes) {
-  if (pieces.ended > 1) return "These are several pieces: Stream shows them, and changes the message of each.";
+  if (pieces.ended > 1) return "These are several pieces: show them in Stream to change the message of one piece.";
   setBytes(joined([message.subarray(0, index), bytes, message.subarray(index + removed)]));
   update();
   return undefined;
@@ -310,7 +310,7 @@ async function copy() {
   else {
     if (!byId("message-frame-edit").hidden) byId("message-frame-edit").select();
     else getSelection().selectAllChildren(byId("message-frame"));
-    said.textContent = "The browser refused the clipboard: what is shown is selected, copy it by the keyboard.";
+    said.textContent = "The browser gives no access to the clipboard. The shown bytes are selected: copy them with the keyboard.";
   }
 }
 

@@ -97,7 +97,7 @@ if (await isLoaded()) {
     for (const start of [startMessage, startStream, startLine, startLinks, startEmbedded, startTabs]) start();
     document.documentElement.dataset.ready = "yes";
   } catch (error) {
-    complain(`This page has a fault: ${error.message}`);
+    complain(`An error has occurred in this page: ${error.message}`);
     throw error;
   }
 }

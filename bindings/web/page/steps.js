@@ -44,7 +44,7 @@ export function encoderSteps(message, sentinel = 0) {
     const stage = { frame: out.length, over: Infinity, arcs: isClosed ? at + 1 : at, open: isClosed ? -1 : at, count: code, fresh: isClosed ? at : -1, now, seen: now < 0 ? out.length - 1 : now, isOver: true, isPlain: true };
     steps.push({ line, out: out.slice(), said, stage });
   };
-  step(0, -1, "The first code is open: its place is kept.");
+  step(0, -1, "A place is kept for the first code.");
   for (const [i, byte] of message.entries()) {
     if (byte !== 0) {
       out.push(byte);
@@ -58,7 +58,7 @@ export function encoderSteps(message, sentinel = 0) {
       at = out.length;
       out.push(0);
       code = 1;
-      step(6, out.length - 1, byte === 0 ? "The place of the zero is that of the next code." : "The next code begins.");
+      step(6, out.length - 1, byte === 0 ? "The next code gets the place of the zero." : "A place is kept for the next code.");
     }
   }
   out[at] = code;
@@ -78,16 +78,16 @@ export function decoderSteps(given, sentinel = 0) {
     steps.push({ line: sentinel === 0 ? line : line + 1, out: out.slice(), said, stage });
   };
   if (sentinel !== 0) step(-1, -1, `Each byte is XORed with ${printHex([sentinel])}.`, { over: 0, arcs: 0 });
-  step(0, -1, "Nothing is out yet.", { over: 0, arcs: 0 });
+  step(0, -1, "The output is still empty.", { over: 0, arcs: 0 });
   while (at < frame.length) {
     const code = frame[at];
     step(2, at, `The code is ${code}.`, { over: at + 1, arcs: at });
     out.push(...frame.subarray(at + 1, at + code));
-    step(3, at, code === 1 ? "No bytes are before the next code." : `${code === 2 ? "One byte is" : `${code - 1} bytes are`} copied.`, { over: at + code, arcs: at + 1 });
+    step(3, at, code === 1 ? "There are no bytes before the next code." : `${code === 2 ? "One byte is" : `${code - 1} bytes are`} copied.`, { over: at + code, arcs: at + 1 });
     at += code;
     if (code < 255 && at < frame.length) {
       out.push(0);
-      step(6, at, "The place of the next code was a zero.", { over: at + 1, arcs: at });
+      step(6, at, "The next code is in the place of a zero of the message.", { over: at + 1, arcs: at });
     }
   }
   step(1, -1, "The end of the frame: this is the message.", { over: Infinity, arcs: Infinity });

@@ -146,7 +146,7 @@ async function copy() {
   const isLong = isLink && link === null;
   const isEmpty = !isLink && stream.length === 0;
   const isCopied = !isLong && !isEmpty && (await toClipboard(FORMS[form](stream, { name: "stream", link })));
-  const refused = `The browser refused the clipboard${isLink ? "; the address holds the link" : ""}.`;
+  const refused = `The browser gives no access to the clipboard${isLink ? "; the link is in the address bar" : ""}.`;
   byId("stream-copied").textContent = isEmpty ? "There is nothing to copy." : isLong ? `The stream${damage.size > 0 ? " with its damage" : ""} is too long for a link.` : !isCopied ? refused : isLink ? "The link is copied." : `${counted(stream.length, "byte")} copied.`;
 }
 
@@ -160,10 +160,10 @@ function say() {
   text += readAs;
   if (damage.size > 0) {
     const kept = before.ended - before.changedFrom(pieces, hurt).length;
-    const came = before.ended === 1 ? `the piece ${kept === 1 ? "came" : "didn't come"} through as before` : `${count(kept)} of the ${counted(before.ended, "piece")} came through as before`;
+    const came = before.ended === 1 ? `the piece has ${kept === 1 ? "the same" : "another"} outcome` : `${count(kept)} of the ${counted(before.ended, "piece")} still have the same outcome`;
     text += ` ${counted(damage.size, "byte")} damaged: ${came}.`;
     const altered = pieces.changedFrom(before, hurt).filter((at) => pieces.kinds[at] === MESSAGE).length;
-    if (altered > 0) text += ` ${counted(altered, "message")} that nobody sent: COBS doesn't notice such damage, a CRC in the message does.`;
+    if (altered > 0) text += ` ${counted(altered, "message")} that nobody sent: COBS doesn't notice such damage, but a CRC in the message shows it.`;
   }
   status.show(text);
 }
@@ -208,7 +208,7 @@ function toggle(at) {
 
 /** Changes the message of a piece that was sent. The damaged bytes of the other pieces stay damaged. */
 function splice(at, index, removed, bytes) {
-  if (!pieces.isIn(before, at, hurt)) return `What came of ${pieces.name(at)} isn't what was sent: mend its bytes first.`;
+  if (!pieces.isIn(before, at, hurt)) return `Damage has changed ${pieces.name(at)}: mend its bytes first.`;
   const message = pieces.message(at);
   const frame = encode(joined([message.subarray(0, index), bytes, message.subarray(index + removed)]), { sentinel: before.sentinel });
   const [front, back] = [pieces.fronts[at], pieces.back(at)];
@@ -231,13 +231,13 @@ function asLines(of) {
 async function takeFile(file) {
   if (!file) return;
   if (file.size > FILE_LIMIT) {
-    field.complain(`${file.name} has ${counted(file.size, "byte")}; the most that is shown is ${count(FILE_LIMIT)}. What was here stays.`, byId("stream-error"));
+    field.complain(`${file.name} has ${counted(file.size, "byte")}. The page shows at most ${count(FILE_LIMIT)}, so the stream stays as it was.`, byId("stream-error"));
     return;
   }
   const bytes = new Uint8Array(await file.arrayBuffer());
   const textOf = (part) => new TextDecoder().decode(part);
   const log = isLog(textOf(bytes.subarray(0, 200))) ? readLog(textOf(bytes)) : { bytes };
-  if (log.error) field.complain(`${file.name}: ${log.error} What was here stays.`, byId("stream-error"));
+  if (log.error) field.complain(`${file.name}: ${log.error} The stream stays as it was.`, byId("stream-error"));
   else setFile(log, `${file.name}, ${counted(bytes.length, "byte")}`);
 }
 

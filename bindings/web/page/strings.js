@@ -16,14 +16,14 @@ export class Unreadable extends Error {
 /** Returns the bytes of the text between quotes. A string of bytes (`isBytes`) has no escapes for characters. */
 export function unescaped(text, { isBytes = false, isRaw = false } = {}) {
   if (isRaw || !text.includes("\\")) return new TextEncoder().encode(text);
-  if (!isBytes && /\\x[0-9a-f]{3}/i.test(text)) throw new Unreadable("After \\x C takes all digits, other languages two: write the next one as an escape too.", ESCAPED);
+  if (!isBytes && /\\x[0-9a-f]{3}/i.test(text)) throw new Unreadable("After \\x, C reads all hexadecimal digits, and other languages read two: write the next character as an escape too.", ESCAPED);
   const found = [];
   for (const [whole, pair, octal, point, long, newline, escape, plain] of text.matchAll(PART)) {
     if (pair) found.push(parseInt(pair, 16));
     else if (octal) found.push(parseInt(octal, 8) & 255);
     else if (escape && escape in ESCAPES) found.push(ESCAPES[escape]);
     else if (plain || ((point || long) && !isBytes)) found.push(...new TextEncoder().encode(plain ?? String.fromCodePoint(parseInt(point ?? long, 16))));
-    else if (!newline) throw new Unreadable(`“${whole}” is no escape that is known here.`);
+    else if (!newline) throw new Unreadable(`“${whole}” isn't an escape that this page knows.`);
   }
   return Uint8Array.from(found);
 }
@@ -36,5 +36,5 @@ export function demandOneReading(strings, isOctal) {
   const escapes = strings.flatMap(({ content }) => content.match(/\\[\s\S][0-7]{0,2}/g) ?? []);
   const octal = escapes.find((escape) => /^\\0[0-7]/.test(escape));
   const isRust = strings.every(({ prefix, quote }) => /^b?$/.test(prefix) && quote === '"') && escapes.every((escape) => /^\\[0nrtxu\\'"\n]/.test(escape));
-  if (octal && isRust && !isOctal) throw new Unreadable(`“${octal}” is octal in C and Python, and a byte 00 before digits in Rust: write it by \\x.`, ESCAPED);
+  if (octal && isRust && !isOctal) throw new Unreadable(`“${octal}” is an octal escape in C and Python, and a byte 00 before digits in Rust: write the byte with \\x.`, ESCAPED);
 }

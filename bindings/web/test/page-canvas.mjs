@@ -22,9 +22,9 @@ for (const [sentinel, over, code] of [["00", "0b: the frame has it as it is.", "
     await page.fill("#message-sentinel", sentinel);
     await page.until(`document.getElementById("message-byte-5").getAttribute("aria-label").includes("${sentinel}, sentinel")`);
     for (const [place, words] of [
-      ["#message-byte-0", "the first code. The next code, or the end, is 3 bytes on."],
+      ["#message-byte-0", "the first code. The next code, or the end, is 3 bytes after it."],
       ["#message-byte-1", sentinel === "00" ? "Byte 1, 0a: byte 0 of the message, as it is." : "Byte 1, a0 (0a XORed with the sentinel): byte 0 of the message."],
-      ["#message-byte-3", `${code}, in place of a zero of the message. The next code, or the end, is 2 bytes on.`],
+      ["#message-byte-3", `${code}, in place of a zero of the message. The next code, or the end, is 2 bytes after it.`],
       ["#message-byte-5", "the sentinel. It ends piece 1."],
       ["#message-over-2", `Byte 1 of the message, ${over}`],
       ["#message-over-3", "Byte 2 of the message, 00: a zero, which the frame replaces by a code."],
@@ -48,14 +48,14 @@ for (const [name, options] of [["a phone", { width: 360, isPhone: true }], ["a s
     await said("");
     const before = await boxOf(page, "message-drawing");
     await page.fill("#message-sentinel", "aa");
-    await said(" Each byte of the frame is XORed with aa, so that aa is in no frame.");
+    await said(" Each byte of the frame is XORed with aa, so no frame contains aa.");
     equal(await boxOf(page, "message-drawing"), before, "the place of the drawing, after a longer status");
     const columns = await page.value('document.querySelectorAll("#message-drawing .row:first-child .frame .spot").length');
     for (const [line, place, words] of [
       [0, "#message-byte-0", "It marks a full block"],
       [0, "#message-over-1", "Byte 0 of the message, 09"],
       [0, "#message-drawing .spot.none", "The first code stands"],
-      [Math.floor(255 / columns), "#message-byte-255", "a code after a full block, for no zero of the message. It marks a full block"],
+      [Math.floor(255 / columns), "#message-byte-255", "a code after a full block, where the message has no zero. It marks a full block"],
     ]) {
       await page.value(`document.getElementById("message-drawing").scrollTop = ${93 * line}`);
       await point(page, place);
@@ -74,7 +74,7 @@ for (const [name, options] of [["a phone", { width: 360, isPhone: true }], ["a s
     await explained(page, "stream", "Byte 1, 0a: byte 0 of the message");
     const before = await boxOf(page, "stream-pieces");
     await page.clickAt(place);
-    await said(" 1 byte damaged: 4 of the 5 pieces came through as before. 1 message that nobody sent: COBS doesn't notice such damage, a CRC in the message does.");
+    await said(" 1 byte damaged: 4 of the 5 pieces still have the same outcome. 1 message that nobody sent: COBS doesn't notice such damage, but a CRC in the message shows it.");
     equal(await boxOf(page, "stream-pieces"), before, "the place of the pieces, after a longer status");
     await page.clickAt(place);
     await said("");
@@ -108,7 +108,7 @@ await check("canvas: the arrow keys go through frame and message", () => on("mes
   equal(await cursor(page, "message-drawing"), "message-over-254", "the byte before it");
   await page.press("ArrowDown");
   await page.press("ArrowRight");
-  await explained(page, "message", "Byte 255, 2f: a code after a full block, for no zero of the message.");
+  await explained(page, "message", "Byte 255, 2f: a code after a full block, where the message has no zero.");
 }));
 
 await check("canvas: Page Down and Page Up go as many lines as are in sight, to the same column", () => on("message", async (page) => {
@@ -157,7 +157,7 @@ await check("canvas: two digits write a byte of the message or of the frame", ()
   await point(page, "#message-over-1"); // where the mouse is: a browser says so again when the bytes under it change
   await explained(page, "message", "Byte 1 of the message, 0b");
   await page.type("4");
-  await explained(page, "message", "4_: a second digit writes the byte");
+  await explained(page, "message", "4_: a second digit changes the byte");
   equal(await page.text("#message-over-2"), "4_", "what the place shows");
   await page.press("Escape");
   await explained(page, "message", "Byte 1 of the message, 0b");
@@ -195,7 +195,7 @@ await check("canvas: a frame that is none is shown as it is, and the way back", 
   equal(await page.value('document.getElementById("message-input").value'), "0a 0b 00 0c", "the message");
   equal(await page.value('document.getElementById("message-frame-edit").value'), "03 0a 0b 09 0c", "the field of the frame");
   await point(page, "#message-over-4");
-  await explained(page, "message", "Byte 3 of what decodes before the piece breaks off, 0c");
+  await explained(page, "message", "Byte 3 of the output of the broken piece, 0c");
   await page.click("#message-over-4");
   await page.type("01");
   await page.until('document.getElementById("message-fault").textContent.startsWith("There is no message in piece 1 to change")');
@@ -219,10 +219,10 @@ await check("canvas: the longer frame of a message is shown, and said to be so",
   await page.value('document.getElementById("message-drawing").focus()');
   await page.press("End"); // the sentinel
   await page.type("01");
-  await page.until('document.getElementById("message-copied").textContent.includes("the longer of two frames")');
+  await page.until('document.getElementById("message-copied").textContent.includes("this is the longer one")');
   await page.until('document.getElementById("message-byte-256") !== null && document.querySelector("#message-drawing .badge") === null');
   equal(await page.value('document.getElementById("message-length").dataset.bytes'), "254", "the message's length");
-  await page.until(`document.getElementById("message-copied").textContent.includes("the longer of two frames")`);
+  await page.until(`document.getElementById("message-copied").textContent.includes("this is the longer one")`);
 }));
 
 await check("canvas: what is text stays text, if it can", () => on("message", async (page) => {
@@ -269,7 +269,7 @@ await check("canvas: in a stream, digits in a frame are damage, and in a message
   equal((await page.value('document.getElementById("stream-input").value')).split("\n")[0], "01 02 0b 01 00", "the first line of the field");
   await page.click("#stream-over-12");
   await page.type("01");
-  await page.until('document.getElementById("stream-fault").textContent === "What came of piece 3 isn\'t what was sent: mend its bytes first."');
+  await page.until('document.getElementById("stream-fault").textContent === "Damage has changed piece 3: mend its bytes first."');
   await page.press("ArrowDown");
   await page.type("05"); // what was sent
   await summary(page, "27 bytes, 5 pieces: 4 messages, 1 broken. The last bytes have no sentinel after them yet.");

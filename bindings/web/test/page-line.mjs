@@ -87,7 +87,7 @@ for (const sentinel of [0, 0x55]) {
     await counter(page, "sent", 1);
     await page.until('document.querySelectorAll("#line-log .row").length === 4');
     equal((await logged(page)).map((row) => row.slice(1)), [
-      ["←", "left out", "3 bytes through the first sentinel, where a frame may have begun before"],
+      ["←", "left out", "3 bytes up to and including the first sentinel, because they may be the rest of a frame"],
       ["←", "hi", "68 69"],
       ["←", "broken", "after 1 byte of output"],
       ["→", "hi", "68 69"],
@@ -257,7 +257,7 @@ await check("line: a row opens, UTF-8 is text, and a log is saved and loaded", (
     equal((await logged(page))[4].slice(1), ["←", "broken", "after 3 bytes of output"], "the last");
     await writeFile(join(folder, "line.log"), "nonsense\n");
     await page.send("DOM.setFileInputFiles", { files: [join(folder, "line.log")], nodeId });
-    await page.until('document.getElementById("line-error").textContent.includes("Line 1 is no line of a log")');
+    await page.until('document.getElementById("line-error").textContent.includes("Line 1 isn\'t a line of a log")');
   } finally {
     await rm(folder, { recursive: true });
   }
@@ -314,5 +314,5 @@ await check("line: what came in is shown in Stream, from the view, from a saved 
   await fillStream(page, log);
   await isShown();
   await fillStream(page, `${log}2026-11-23T10:00:00.000Z in 0g\n`);
-  await page.until('document.getElementById("stream-error").textContent.includes("Line 7 is no line of a log")');
+  await page.until('document.getElementById("stream-error").textContent.includes("Line 7 isn\'t a line of a log")');
 }, { ...withDevice, height: 1600 }));

@@ -224,7 +224,7 @@ await check("message: the link of a frame that was written by hand leads to it",
   await page.fill("#message-frame-edit", "05 0a 0b");
   await page.until('document.getElementById("message-frame-error").textContent.includes("breaks off")');
   holds(!/[0-9]/.test(await page.text("#message-blocks")), "no number of blocks is given of a broken frame");
-  holds((await page.text("#message-status")).startsWith("3 bytes that are no frame"), "the status");
+  holds((await page.text("#message-status")).startsWith("3 bytes that aren't a frame"), "the status");
   const other = await browser.open(await link());
   await other.until(READY);
   await other.until('document.getElementById("message-frame").textContent === "05 0a 0b"');
@@ -232,7 +232,7 @@ await check("message: the link of a frame that was written by hand leads to it",
   await other.close();
   const full = `ff ${"01 ".repeat(254)}01`;
   await page.fill("#message-frame-edit", full);
-  await page.until('document.getElementById("message-copied").textContent.includes("the longer of two frames")');
+  await page.until('document.getElementById("message-copied").textContent.includes("this is the longer one")');
   const longer = await browser.open(await link());
   await longer.until(READY);
   await longer.until(`document.getElementById("message-frame").textContent === "${full}"`);
@@ -272,7 +272,7 @@ await check("message: step by step, on the drawing", () => on("message", async (
   const whole = { codes: ["03", "02"], open: [], zeros: ["0"], todo: 0, arcs: 2 };
   equal(await drawn(), whole, "the whole drawing");
   await page.click("#steps-open");
-  equal([await drawn(), await said(), await page.value("document.activeElement.id")], [{ codes: [], open: ["01"], zeros: [], todo: 4, arcs: 0 }, "Step 1 of 7: The first code is open: its place is kept.", "steps-next"], "the first step");
+  equal([await drawn(), await said(), await page.value("document.activeElement.id")], [{ codes: [], open: ["01"], zeros: [], todo: 4, arcs: 0 }, "Step 1 of 7: A place is kept for the first code.", "steps-next"], "the first step");
   await steps(2);
   equal([await drawn(), await line()], [{ codes: [], open: ["03"], zeros: [], todo: 2, arcs: 0 }, "    out.push(byte); code += 1"], "after two bytes");
   await steps(1);
@@ -285,7 +285,7 @@ await check("message: step by step, on the drawing", () => on("message", async (
   await steps(3);
   equal([await drawn(), await page.value('[document.getElementById("steps-next").disabled, document.getElementById("steps-at").value]')], [whole, [true, "6"]], "the last step");
   await choose("decoder");
-  equal([await drawn(), await said()], [{ codes: ["03", "02"], open: [], zeros: [], todo: 0, arcs: 0 }, "Step 1 of 7: Nothing is out yet."], "the decoder");
+  equal([await drawn(), await said()], [{ codes: ["03", "02"], open: [], zeros: [], todo: 0, arcs: 0 }, "Step 1 of 7: The output is still empty."], "the decoder");
   const over = () => page.value('[...document.querySelectorAll("#message-drawing text:is(.over, .zero)")].map((each) => each.textContent).slice(0, -1)'); // and the sentinel
   await steps(2);
   equal([await over(), await said()], [["0a", "0b"], "Step 3 of 7: 2 bytes are copied."], "what has come out");
@@ -335,7 +335,7 @@ await check("message: the line ends of pasted text are kept, whatever its length
   await isFrame("a\rb\r");
   await paste("a\r\nb\nc");
   await isFrame("a\nb\nc");
-  await page.until('document.getElementById("message-status").textContent.includes("line ends that were pasted were of several kinds")');
+  await page.until('document.getElementById("message-status").textContent.includes("pasted text had several kinds of line ends")');
   await paste("x\r\n".repeat(12_000));
   await isLong(36_000);
   await page.click(".held button:nth-of-type(2)");
@@ -355,7 +355,7 @@ await check("message: the line ends of pasted text are kept, whatever its length
   equal(await other.text("#message-frame"), hex(plainEncode(Buffer.from("a\r\nb"))), "the frame behind the link");
   await other.close();
   await page.value('(() => { const input = document.getElementById("message-input"); input.value = "a\\ud800"; input.dispatchEvent(new Event("input")); })()');
-  await page.until('document.getElementById("message-status").textContent.includes("A lone surrogate has no bytes in UTF-8; it became ef bf bd.")');
+  await page.until('document.getElementById("message-status").textContent.includes("A lone surrogate has no bytes in UTF-8; it was replaced by ef bf bd.")');
 }));
 
 await check("message: a long frame is copied with its sentinel, and a picture of one that breaks off", () => on("message", async (page) => {

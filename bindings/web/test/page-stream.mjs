@@ -24,7 +24,7 @@ await check("stream: a damaged byte changes its piece alone, and is mended", () 
   await summary(page, "5 pieces: 4 messages, 1 broken");
   const before = await outcomes(page);
   await page.click("#stream-byte-8");
-  await summary(page, "1 byte damaged: 4 of the 5 pieces came through as before");
+  await summary(page, "1 byte damaged: 4 of the 5 pieces still have the same outcome");
   const after = await outcomes(page);
   equal(after.filter((row, i) => row !== before[i]).length, 1, "changed rows");
   holds(after[1].includes("broken"), "a code that is one too great breaks its piece");
@@ -34,7 +34,7 @@ await check("stream: a damaged byte changes its piece alone, and is mended", () 
   equal(await outcomes(page), before, "all is as before");
   await page.value('document.getElementById("stream-damage").value = "zero"');
   await page.click("#stream-byte-3");
-  await summary(page, "4 of the 5 pieces came through as before");
+  await summary(page, "4 of the 5 pieces still have the same outcome");
   await page.click("#stream-mend");
   await page.until('document.getElementById("stream-mend").disabled');
   equal(await outcomes(page), before, "all is mended");
@@ -44,7 +44,7 @@ await check("stream: a damaged sentinel joins two pieces", () => on("stream", as
   await fillStream(page, STREAM);
   await summary(page, "5 pieces");
   await page.click("#stream-byte-5");
-  await summary(page, "1 byte damaged: 3 of the 5 pieces came through as before");
+  await summary(page, "1 byte damaged: 3 of the 5 pieces still have the same outcome");
 }));
 
 await check("stream: another sentinel", () => on("stream", async (page) => {
@@ -102,12 +102,12 @@ await check("stream: damage that makes another message is called so", () => on("
   await fillStream(page, STREAM);
   await summary(page, "5 pieces");
   await page.click("#stream-byte-1");
-  await summary(page, "4 of the 5 pieces came through as before. 1 message that nobody sent");
+  await summary(page, "4 of the 5 pieces still have the same outcome. 1 message that nobody sent");
   equal(await badges(page), ["altered message", "message", "message", "broken", "message", "unfinished"], "the badges");
   await page.click("#stream-byte-1");
   await summary(page, "4 messages, 1 broken");
   await page.click("#stream-byte-5"); // a sentinel becomes 01: two frames become one message
-  await summary(page, "3 of the 5 pieces came through as before. 1 message that nobody sent");
+  await summary(page, "3 of the 5 pieces still have the same outcome. 1 message that nobody sent");
   equal((await badges(page))[0], "altered message", "the first badge");
 }));
 
@@ -167,8 +167,8 @@ await check("stream: a link that was cut or changed has its complaint, and the p
   for (const [link, words] of [
     ["hex=030a0b020", "“0” is one digit"],
     ["hex=<img src=x onerror=alert(1)>", "list of bytes"],
-    ["hex=030a0b00&sentinel=zz", "“zz” is no sentinel"],
-    ["hex=030a0b00&sentinel=0", "“0” is no sentinel"],
+    ["hex=030a0b00&sentinel=zz", "“zz” isn't a sentinel"],
+    ["hex=030a0b00&sentinel=0", "“0” isn't a sentinel"],
     ["hex=030a0b00&room=abc", "whole number"],
     ["hex=030a0b00&room=-1", "whole number"],
     ["hex=030a0b00&room=99999999&damage=1:ff,9:00,x", "whole number"],
@@ -190,7 +190,7 @@ await check("stream: damage of a piece's first byte leaves the piece before it a
   await fillStream(page, STREAM);
   await summary(page, "5 pieces");
   await page.click("#stream-byte-6"); // the first byte of the second piece
-  await summary(page, "1 byte damaged: 4 of the 5 pieces came through as before");
+  await summary(page, "1 byte damaged: 4 of the 5 pieces still have the same outcome");
   equal((await badges(page)).slice(0, 2), ["message", "broken"], "the badges");
 }));
 
@@ -212,12 +212,12 @@ await check("stream: arcs lead from code to code, and each byte is explained", (
     await page.until(`JSON.stringify(${arcs}.filter(([good, bad]) => good + bad > 0)) === ${JSON.stringify(wanted)}`);
     await page.value('document.getElementById("stream-pieces").focus()');
     await page.press("Home");
-    for (const words of ["the first code. The next code, or the end, is 3 bytes on.", "byte 0 of the message", "byte 1 of the message", "a code, in place of a zero of the message. The next code, or the end, is 2 bytes on.", "byte 3 of the message", "the sentinel. It ends piece 1."]) {
+    for (const words of ["the first code. The next code, or the end, is 3 bytes after it.", "byte 0 of the message", "byte 1 of the message", "a code, in place of a zero of the message. The next code, or the end, is 2 bytes after it.", "byte 3 of the message", "the sentinel. It ends piece 1."]) {
       await page.until(`document.getElementById("stream-explained").textContent.includes(${JSON.stringify(words)})`);
       await page.press("ArrowRight");
     }
     await page.press("End");
-    await page.until('document.getElementById("stream-explained").textContent.includes("It leads past what has come of the piece so far.")');
+    await page.until('document.getElementById("stream-explained").textContent.includes("It leads past the bytes of the piece so far.")');
     for (let i = 0; i < 11; i++) await page.press("ArrowLeft");
     await page.until('document.getElementById("stream-explained").textContent.includes("It leads past the end of the piece, which is broken.")');
   }
@@ -250,7 +250,7 @@ await check("stream: bad hex is named, and nothing is lost", () => on("stream", 
   await page.click("#stream-input");
   await page.press("End", 2);
   await page.type(" 0q");
-  await page.until('document.getElementById("stream-error").textContent.includes("“q” is no hexadecimal digit")');
+  await page.until('document.getElementById("stream-error").textContent.includes("“q” isn\'t a hexadecimal digit")');
   equal(await page.value('document.getElementById("stream-input").value'), `${STREAM} 0q`, "what the field holds");
   equal(await outcomes(page), before, "the pieces, damage too, stand as before");
   await page.press("Backspace");

@@ -91,7 +91,7 @@ await check("page: an engine that is too old is told so", async () => {
 await check("page: a fault of the page isn't called one of loading", async () => {
   const page = await browser.open(address, { before: "ResizeObserver = class { constructor() { throw new Error('planted'); } }" });
   await page.until('!document.getElementById("unsupported").hidden');
-  equal(await page.text("#unsupported"), "This page has a fault: planted", "what it says");
+  equal(await page.text("#unsupported"), "An error has occurred in this page: planted", "what it says");
   await page.close();
 });
 
@@ -175,7 +175,7 @@ await check("page: the site links to the repository's files if it is told their 
     holds(files.length >= 12 && files.every((file) => existsSync(new URL(`../../../${file}`, import.meta.url))), `each is a file of the repository: ${files}`);
     equal(await page.text("#message-frame"), "06 48 65 6c 6c 6f 06 57 6f 72 6c 64", "the frame");
     await page.click("#message-copy");
-    await page.until('document.getElementById("message-copied").textContent.includes("refused the clipboard")');
+    await page.until('document.getElementById("message-copied").textContent.includes("no access to the clipboard")');
     await page.click("#tab-line");
     holds((await page.text("#line-lacking")).includes("https"), "why there is no Web Serial");
     equal(page.faults, [], "what the page complained of on its console");

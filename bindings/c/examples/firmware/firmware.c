@@ -6,10 +6,11 @@
  *
  *     'e' bytes..   echo: sends the bytes back
  *     'a' bytes..   add: adds the bytes up, and sends the sum in two bytes
- *     's'           statistics: sends how many frames were received, broken, and too long, and how often the ring was full
+ *     's'           statistics: sends how many frames were decoded, broken, and too long, and how often the ring was
+ *                   full. Each count is sent in one byte, and continues with 0 after 255
  *
- * A damaged frame is counted, and never affects another frame. If the ring is full and bytes of a frame are lost, the
- * frame is dropped. */
+ * A frame that is broken or too long is counted, and never affects another frame. If the ring is full and bytes of a
+ * frame are lost, the frame is dropped. */
 #include <jcobs.h>
 
 #include "board.h"
@@ -82,7 +83,7 @@ static void send(const unsigned char *bytes, size_t len)
 
 /* ---------------------------------------------------------------- */
 
-static unsigned char counts[3]; /* of frames that were received, broken, too long */
+static unsigned char counts[3]; /* of frames that were decoded, broken, too long */
 
 static void handle(const unsigned char *bytes, size_t len)
 {

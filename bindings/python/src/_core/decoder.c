@@ -87,6 +87,8 @@ static PyObject *decoder_outcomes(Decoder *self, PyObject *chunk, PyObject *clas
     const unsigned char *bytes = start_of(chunk);
     PyObject *list = PyList_New(0);
 
+    if (list == NULL)
+        jcobs_decoder_reset(&self->state);
     while (at < len && list != NULL) {
         jcobs_answer answer = decoder_step(self, bytes + at, len - at);
         int done = answer.status == JCOBS_MORE ? 0 : decoder_append(self, list, classes, answer);
@@ -102,9 +104,9 @@ static PyObject *decoder_outcomes(Decoder *self, PyObject *chunk, PyObject *clas
     return list;
 }
 
-/* feed(chunk, classes): a list of objects of the three classes. An error occurs only at the end of a frame, so the
- * decoder is then in its initial state; the rest of the chunk is dropped. The decoder is also reset if there is no
- * memory for a copy of the chunk. */
+/* feed(chunk, classes): returns a list of objects of the three classes. While the chunk is decoded, an error occurs only
+ * at the end of a frame, so the decoder is then in its initial state; the rest of the chunk is dropped. The decoder is
+ * also reset if there is no memory for a copy of the chunk, or for the list. */
 static PyObject *decoder_feed(PyObject *object, PyObject *const *args, Py_ssize_t count)
 {
     Decoder *self = (Decoder *)object;

@@ -33,10 +33,18 @@ def arguments() -> argparse.ArgumentParser:
     common.add_argument("--sentinel", metavar="B", type=int, default=0, help="the byte that ends frames (default: 0)")
     style = common.add_mutually_exclusive_group()
     style.add_argument("--hex", action="store_true", help="show or read messages as hexadecimal digits")
-    style.add_argument("--json", action="store_true", help="show or read JSON objects, with the digits as member hex")
+    style.add_argument(
+        "--json", action="store_true", help="show or read JSON objects, whose member hex has the message as digits"
+    )
     parser = argparse.ArgumentParser("python -m jcobs", description=__doc__, parents=[common])
     parser.add_argument("--version", action="version", version=f"jcobs {jcobs.__version__}, backend {jcobs.backend}")
-    parser.add_argument("--length", metavar="N", type=int, default=65536, help="the longest message's length, in bytes")
+    parser.add_argument(
+        "--length",
+        metavar="N",
+        type=int,
+        default=65536,
+        help="the length of the longest message, in bytes (default: %(default)s)",
+    )
     parser.add_argument("--max-length", dest="length", metavar="N", type=int, help=argparse.SUPPRESS)
     parser.add_argument("command", nargs="?", choices=["show", "send"], default="show", help="(default: %(default)s)")
     return parser
@@ -65,7 +73,7 @@ def text_of(message: bytes) -> str:
 def members_of(outcome: Outcome) -> Dict[str, Any]:
     """Returns the members of an outcome's JSON object, except the member `kind`.
 
-    For a damaged frame these members describe the bytes that were decoded.
+    For a broken or too long frame these members describe the bytes that were decoded.
     """
     members = {"length": len(outcome.data), "hex": outcome.data.hex()}
     if not isinstance(outcome, Message):
@@ -125,7 +133,8 @@ def run(options: argparse.Namespace) -> None:
         if isinstance(sys.stdout, io.TextIOWrapper):
             sys.stdout.reconfigure(errors="backslashreplace")  # for characters that the terminal can't show
         if port is None and sys.stdin.isatty():
-            print(f"jcobs {jcobs.__version__}, backend {jcobs.backend}: waits for frames, as typed", file=sys.stderr)
+            version = f"jcobs {jcobs.__version__}, backend {jcobs.backend}"
+            print(f"{version}: waits for frames from the terminal", file=sys.stderr)
         show(port or cast("Readable", sys.stdin.buffer), sys.stdout, options)
 
 

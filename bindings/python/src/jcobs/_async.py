@@ -39,9 +39,10 @@ class Receives(Protocol):
 class AsyncFrameReader(Frames):
     """Reads frames from a stream of asyncio, trio or anyio, and sends messages.
 
-    `read` returns the outcome of one frame: a `Message`, `Broken` or `TooLong`. `async for` yields each outcome as soon
-    as its frame ends, until the stream ends. If a read is cancelled, for example by a timeout, no byte is lost, and the
-    next call continues where the cancelled read stopped.
+    `read` returns the outcome of one frame: a `Message`, `Broken` or `TooLong`. `max_length` is the length in bytes of
+    the longest message that can be read. `async for` yields each outcome as soon as its frame ends, until the stream
+    ends. If a read is cancelled, for example by a timeout, no byte is lost, and the next call continues where the
+    cancelled read stopped.
 
     The stream is an `asyncio.StreamReader`, an object with `receive_some` (such as a stream of trio) or an object with
     `receive` (such as a stream of anyio). For asyncio, `writer` is the `StreamWriter`. For trio and anyio, messages are
@@ -230,9 +231,9 @@ class AsyncFrameReader(Frames):
     async def request(self, message: ReadableBuffer, timeout: Optional[float], *, discard: bool = False) -> bytes:
         """Sends a message, and returns the reply, which is the next message that is read.
 
-        Raises TimeoutError if no message has arrived after `timeout` seconds, and `DecodeError` if the reply is damaged
-        or too long. If `discard` is true, the bytes that have already arrived, such as a late reply to an earlier
-        request, are dropped before the message is sent.
+        Raises TimeoutError if no frame has ended after `timeout` seconds, `DecodeError` if the next frame is broken or
+        too long, and EOFError at the end of the stream. If `discard` is true, the bytes that have already arrived, such
+        as a late reply to an earlier request, are dropped before the message is sent.
         """
         Deadline(timeout)
         if discard:

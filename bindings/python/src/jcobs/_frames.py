@@ -15,7 +15,8 @@ FrameKind = Literal["not_a_frame", "canonical", "longer"]
 
 
 class DecodeError(ValueError):
-    """Raised by `decode` if the bytes aren't a frame, and by a reader's `request` if the reply is damaged or too long.
+    """Raised by `decode` if the frame is broken or there is no frame, and by `request` of a reader if the reply is broken
+    or too long.
 
     `kind` is "broken" if the frame breaks off inside a block, and "empty" if there are no bytes, or only sentinels. In
     the error of a reader, `kind` is "too_long" if the reply is longer than the reader's `max_length`. `data` is the

@@ -44,7 +44,7 @@ def closing(count: int, sentinel: int) -> bytes:
 
 
 def reply_of(outcome: Optional[Outcome]) -> bytes:
-    """Returns the message of a reply, or raises an error if there is no reply, or if the reply is damaged or too long."""
+    """Returns the message of a reply, or raises an error if there is no reply, or if the reply is broken or too long."""
     if outcome is None:
         raise TimeoutError("no reply came in time")
     if not isinstance(outcome, Message):
@@ -157,9 +157,10 @@ class Frames(Coder):
 class FrameReader(Frames):
     """Reads frames from a serial port, a socket, a pipe or a file, and sends messages to it.
 
-    `read` returns the outcome of one frame: a `Message`, `Broken` or `TooLong`. Iterating over the reader yields each
-    outcome as soon as its frame ends, until the stream ends or a timeout of the port or socket passes. After a timeout,
-    reading can continue. No byte is lost if the read of the file raises an exception.
+    `read` returns the outcome of one frame: a `Message`, `Broken` or `TooLong`. `max_length` is the length in bytes of
+    the longest message that can be read. Iterating over the reader yields each outcome as soon as its frame ends, until
+    the stream ends or a timeout of the port or socket passes. After a timeout, reading can continue. No byte is lost if
+    the read of the file raises an exception.
 
     A signal handler may raise an exception during a read, as the handler for Ctrl-C does. With the extension, on
     CPython 3.11 or later, no byte of a socket, a pipe or a file is lost even then. Bytes may be lost in plain Python,
@@ -349,9 +350,10 @@ class FrameReader(Frames):
     def request(self, message: ReadableBuffer, timeout: Optional[float], *, discard: bool = False) -> bytes:
         """Sends a message, and returns the reply, which is the next message that is read.
 
-        Raises TimeoutError if no message has arrived after `timeout` seconds, and `DecodeError` if the reply is damaged
-        or too long. After such an error the reply, or the rest of it, may still arrive. If `discard` is true, the bytes
-        that have already arrived are dropped before the message is sent, so that they aren't mistaken for the reply.
+        Raises TimeoutError if no frame has ended after `timeout` seconds, `DecodeError` if the next frame is broken or
+        too long, and EOFError at the end of the stream. After a TimeoutError the reply may still arrive. If `discard`
+        is true, the bytes that have already arrived are dropped before the message is sent, so that they aren't
+        mistaken for the reply.
 
         A late reply to an earlier request may arrive after this message is sent. The late reply is mistaken for the
         reply to this message, because a frame doesn't say which request it replies to. If that can happen, number the
@@ -370,8 +372,8 @@ def frames(
     """Returns an iterator over the outcomes of the frames in bytes, or in a binary file such as a log.
 
     The bytes are read and decoded in chunks of up to 65536 bytes, when the outcomes are needed. The iterator is a
-    `FrameReader`. Its `messages` method skips damaged frames. At the end of the iteration, its `unfinished` property
-    says whether the last frame was cut off.
+    `FrameReader`. Its `messages` method skips broken and too long frames. At the end of the iteration, its `unfinished`
+    property says whether the last frame was cut off.
 
     >>> for outcome in jcobs.frames(b"\\x03hi\\x00\\x05a\\x00\\x06hello\\x00"):
     ...     print(outcome)
