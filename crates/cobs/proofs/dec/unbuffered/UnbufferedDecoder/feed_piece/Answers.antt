@@ -1,13 +1,11 @@
 -- Either the bytes before a zero are fed quietly (`take_front`, `take_short`), and the zero after them ends the piece,
 -- or no byte was taken (`kept`), and the other functions feed the bytes.
-use Rattle.std.proofs.Common.{◌≡◌, ◌≢◌, ◌∙◌, ◌<◌, ◌+◌, List, ℕ, zero, suc, Bool, true, false, Option, Result, None, refl, sym, ap, arith, get_or, length, take, take_all}
-use Rattle.std.proofs.Math.Seq.{take-length}
+use Rattle.std.proofs.Common.{◌≡◌, ◌≢◌, ◌∙◌, ◌<◌, List, ℕ, zero, suc, Bool, true, false, Option, Result, None, refl, sym, ap, arith, get_or, length, take, take_all}
 use Rattle.cobs.specs.Feed.{Feeds, Phase, Idle, Within, Overlong}
 use Rattle.cobs.specs.Fields.Decoders.{phase_of, phase_with}
 use Rattle.cobs.specs.FeedPiece.{TakesPiece, end_reported}
 use Rattle.cobs.specs.Step.{end_result}
 use Rattle.cobs.specs.Table.{FeedsByTable}
-use Rattle.cobs.specs.Internal.FeedsQuietly.{FeedsQuietly}
 use Rattle.cobs.specs.declared.dec.state.DecoderState.TheVariants.{Grab, GrabChain}
 use Rattle.cobs.specs.declared.error.DecodeError.{DecodeError}
 use Rattle.cobs.proofs.streaming.ByByteLemmas.{piece-ended}
