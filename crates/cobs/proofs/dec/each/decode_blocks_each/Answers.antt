@@ -5,7 +5,7 @@ use Rattle.std.proofs.lemmas.List.Elements.{All-take}
 use Rattle.cobs.proofs.decoding.HeadlineLemmas.{bytes_below}
 use Rattle.cobs.proofs.decoding.WrittenLemmas.{BlockLeft, Left, block-behind, block-last, block-long, block-more, block-zero, code-some, decoded-in_place, left-all, left-behind, left-block, left-broken, left-none}
 use Rattle.cobs.proofs.dec.each.decode_blocks_each.Goals as goal
-use Rattle.cobs.proofs.dec.each.decode_blocks_each.Goals.{Joined-read-next, then-read-next+then-read-next-2, else-read-next}
+use Rattle.cobs.proofs.dec.each.decode_blocks_each.Goals.{Joined-read-next}
 
 module _ (old : List ℕ) (end : ℕ) (fits : end ≤ length old) where
   abbrev h : List ℕ
@@ -88,10 +88,10 @@ moved : (c : Joined-read-next) → let code = get_or c.by_block.buffer c.by_bloc
 moved c =
     let i = c.by_block.invariant in
     elim c.if-read-next.branch [
-      | then-read-next+then-read-next-2 w ↦ (let s = w.by_byte.invariant in
+      | goal.then-read-next+then-read-next-2 w ↦ (let s = w.by_byte.invariant in
           let last = byte-moved _ _ c.requires.within _ _ s.left s.order s.inside (omega (arith, s.inside, c.if-end-read.false)) in
           grind arith)
-      | else-read-next w ↦ (let begun = block-begun _ _ c.requires.within _ i.left i.order c.by_block-test.true c.if-end-read.false in
+      | goal.else-read-next w ↦ (let begun = block-begun _ _ c.requires.within _ i.left i.order c.by_block-test.true c.if-end-read.false in
           grind arith)
     ]
 

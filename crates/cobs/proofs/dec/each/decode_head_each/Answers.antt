@@ -17,7 +17,6 @@ use Rattle.cobs.proofs.decoding.SourceSteps.{nothing_kept, result_of_sentinel_de
 use Rattle.cobs.proofs.decoding.WrittenLemmas.{block-full, block-last, block-more, block-zero, code-some, left-all, left-block, left-broken, left-none, zero-full}
 use Rattle.cobs.proofs.format.SentinelLemmas.{front_xored, rest_xored}
 use Rattle.cobs.proofs.dec.each.decode_head_each.Goals as goal
-use Rattle.cobs.proofs.dec.each.decode_head_each.Goals.{else-code-ne-FULL_CODE-via-then-code-ne-FULL_CODE+else-not-is_empty, else-code-ne-FULL_CODE-via-else-code-ne-FULL_CODE}
 
 -- no byte is left, or at least one
 none-left : (rest : List ℕ) (empty : Bool) → empty ≡ eqb (length rest) 0 → empty ≡ true → length rest ≡ 0
@@ -120,8 +119,8 @@ by_block-preserved c =
     let rest : List ℕ = c.by_block.rest.now in
     let s : ℕ = c.args.sentinel in
     let last : (length (drop (code rest s) (xor_each s rest)) ≡ 0) ⊎ (code rest s ≡ 255) = elim c.else-code-ne-FULL_CODE.branch [
-      | else-code-ne-FULL_CODE-via-then-code-ne-FULL_CODE+else-not-is_empty w ↦ inl (next-long rest s ∙ none-left _ _ w.is_empty-then-code-ne-FULL_CODE.ensures w.if-not-is_empty.false)
-      | else-code-ne-FULL_CODE-via-else-code-ne-FULL_CODE w ↦ inr w.if-code-ne-FULL_CODE.false
+      | goal.else-code-ne-FULL_CODE-via-then-code-ne-FULL_CODE+else-not-is_empty w ↦ inl (next-long rest s ∙ none-left _ _ w.is_empty-then-code-ne-FULL_CODE.ensures w.if-not-is_empty.false)
+      | goal.else-code-ne-FULL_CODE-via-else-code-ne-FULL_CODE w ↦ inr w.if-code-ne-FULL_CODE.false
     ] in
     rw (next-is rest s) (block-last (bytes-ended _ _ _ c.by_byte-test.false) c.by_byte.invariant last)
 
