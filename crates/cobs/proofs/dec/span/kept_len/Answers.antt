@@ -52,23 +52,31 @@ by_block-init c = grind (arith, ends-start, length-map)
 pub by_block-preserved : goal.by_block-preserved
 by_block-preserved c = record {
   within = omega arith;
-  ends = λ h start is missed. next _ _ _ c.by_block-test.true h start is (c.by_block.invariant.ends h start is missed) (some _ _ _ c.by_block-test.true c.requires.nonzero) (omega arith);
+  ends = λ h start is missed.
+      let ends = c.by_block.invariant.ends h start is missed in
+      next _ _ _ c.by_block-test.true h start is ends (some _ _ _ c.by_block-test.true c.requires.nonzero) (omega arith);
 }
 
 pub by_block-preserved-then-is_all : goal.by_block-preserved-then-is_all
 by_block-preserved-then-is_all c = record {
   within = omega arith;
-  ends = λ h start is missed. row _ _ _ c.by_block-test.true h start is (c.by_block.invariant.ends h start is missed) (omega arith) (c.is_all.ensures c.if-is_all.true);
+  ends = λ h start is missed.
+      let ends = c.by_block.invariant.ends h start is missed in
+      row _ _ _ c.by_block-test.true h start is ends (omega arith) (c.is_all.ensures c.if-is_all.true);
 }
 
 pub by_block-smaller : goal.by_block-smaller
 by_block-smaller c = grind (arith, some)
 
-pub returns-then-rest-code-clause-kept : goal.returns-then-rest-code-clause-kept
-returns-then-rest-code-clause-kept c h start is missed = kept _ _ _ c.by_block-test.true h start is (c.by_block.invariant.ends h start is missed) (omega arith)
-
-pub returns-then-rest-code-clause-whole : goal.returns-then-rest-code-clause-whole
-returns-then-rest-code-clause-whole c h start is missed = let no = broken _ _ _ c.by_block-test.true h start is (c.by_block.invariant.ends h start is missed) (omega arith) in grind arith
+pub returns-then-rest-code : goal.returns-then-rest-code
+returns-then-rest-code c =
+    let ends = c.by_block.invariant.ends in
+    let here = c.by_block-test.true in
+    record {
+      within = omega arith;
+      kept = λ h start is missed. kept _ _ _ here h start is (ends h start is missed) (omega arith);
+      whole = λ h start is missed. let no = broken _ _ _ here h start is (ends h start is missed) (omega arith) in grind arith;
+    }
 
 pub returns-clause-kept : goal.returns-clause-kept
 returns-clause-kept c h start is missed = grind (arith, take_all, length-map, length-drop, whole-kept)
