@@ -33,17 +33,17 @@ by_piece-preserved g c = record {
 pub by_piece-smaller : goal.by_piece-smaller
 by_piece-smaller g c = grind (arith, piece_count)
 
-pub returns : goal.returns
-returns g c =
-    let t = takes-all _ _ c.by_piece.invariant.so_far c.in_default.ensures.takes in
-    record {
-      outcomes = t.outcomes;
-      after = t.after;
-      succeeds = λ p h none. refl;
-      alike = t.alike;
-      phase_after = phase_so_far t;
-      after_zero = t.after_zero;
-      out_of_memory = tt;
-      len = t.len;
-      same_loan = c.feed_piece.ensures.same_loan ∙ c.by_piece.invariant.same_loan;
-    }
+pub returns-clause-outcomes : goal.returns-clause-outcomes
+returns-clause-outcomes g c = (takes-all _ _ c.by_piece.invariant.so_far c.in_default.ensures.takes).outcomes
+
+pub returns-clause-after : goal.returns-clause-after
+returns-clause-after g c = (takes-all _ _ c.by_piece.invariant.so_far c.in_default.ensures.takes).after
+
+pub returns-clause-alike : goal.returns-clause-alike
+returns-clause-alike g c = (takes-all _ _ c.by_piece.invariant.so_far c.in_default.ensures.takes).alike
+
+pub returns-clause-phase_after : goal.returns-clause-phase_after
+returns-clause-phase_after g c = phase_so_far (takes-all _ _ c.by_piece.invariant.so_far c.in_default.ensures.takes)
+
+pub returns-clause-after_zero : goal.returns-clause-after_zero
+returns-clause-after_zero g c = (takes-all _ _ c.by_piece.invariant.so_far c.in_default.ensures.takes).after_zero

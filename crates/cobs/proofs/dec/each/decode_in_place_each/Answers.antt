@@ -6,14 +6,14 @@ use Rattle.cobs.proofs.decoding.HeadLemmas.{front_is_head}
 use Rattle.cobs.proofs.decoding.OutcomeSteps.{in_place_report-rejected, in_place_report-decoded}
 use Rattle.cobs.proofs.dec.each.decode_in_place_each.Goals as goal
 
-pub returns-in_err-frame_size : goal.returns-in_err-frame_size
-returns-in_err-frame_size c = record {
-  returned = grind (arith, eqb-false, front_is_head, in_place_report-rejected);
-  buffer = grind (arith, front_is_head);
-}
+pub returns-in_err-frame_size-clause-returned : goal.returns-in_err-frame_size-clause-returned
+returns-in_err-frame_size-clause-returned c = grind (arith, eqb-false, front_is_head, in_place_report-rejected)
 
-pub returns : goal.returns
-returns c = record {
-  returned = grind (arith, eqb-false, front_is_head, in_place_report-decoded, length-take-le);
-  buffer = grind (arith, front_is_head);
-}
+pub returns-in_err-frame_size-clause-buffer : goal.returns-in_err-frame_size-clause-buffer
+returns-in_err-frame_size-clause-buffer c = grind (arith, front_is_head)
+
+pub returns-clause-returned : goal.returns-clause-returned
+returns-clause-returned c = grind (arith, eqb-false, front_is_head, in_place_report-decoded, length-take-le)
+
+pub returns-clause-buffer : goal.returns-clause-buffer
+returns-clause-buffer c = grind (arith, front_is_head)

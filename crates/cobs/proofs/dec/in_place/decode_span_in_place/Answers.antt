@@ -86,29 +86,24 @@ returns-then-not-copy_xored_short-clause-taken c few nz ends =
 pub write_zeros_at_codes-left-requires-clause-nonzero : goal.write_zeros_at_codes-left-requires-clause-nonzero
 write_zeros_at_codes-left-requires-clause-nonzero c = let m = moved (goal.at.write_zeros_at_codes-left-requires-clause-nonzero c).After-move_to_front in rw (front m) (nonzero m)
 
-pub returns-then-left-ne0 : goal.returns-then-left-ne0
-returns-then-left-ne0 c =
-    let m = moved (goal.at.returns-then-left-ne0 c).After-move_to_front in
-    let w = c.write_zeros_at_codes-left.ensures in
-    let copied = front-is c.args.buffer.now _ _ c.args.len m.some m.most m.within (c.if-not-copy_xored_short.ensures.copied refl) in
-    record {
-      taken = λ few nz ends. absurd (c.if-left-ne0.true ((piece m w).1 ∙ ends));
-      nonzero = λ no. absurd cc;
-      some = λ no. absurd cc;
-      returned = λ no. absurd cc;
-      buffer = λ no. absurd cc;
-      kept = λ _. put_back m w _ (c.copy_from_slice.ensures.after ∙ copied);
-    }
+pub returns-then-left-ne0-clause-taken : goal.returns-then-left-ne0-clause-taken
+returns-then-left-ne0-clause-taken c few nz ends =
+    let m = moved (goal.at.returns-then-left-ne0-clause-taken c).After-move_to_front in
+    absurd (c.if-left-ne0.true ((piece m c.write_zeros_at_codes-left.ensures).1 ∙ ends))
 
-pub returns : goal.returns
-returns c =
-    let m = moved (goal.at.returns c).After-move_to_front in
-    let w = c.write_zeros_at_codes-left.ensures in
-    record {
-      taken = λ few nz ends. refl;
-      nonzero = λ _. frame-nonzero m;
-      some = λ _. omega arith;
-      returned = λ _. returned m w (omega (arith, c.if-left-ne0.false));
-      buffer = λ _. buffer m w (omega (arith, c.if-left-ne0.false));
-      kept = λ no. absurd cc;
-    }
+pub returns-then-left-ne0-clause-kept : goal.returns-then-left-ne0-clause-kept
+returns-then-left-ne0-clause-kept c _ =
+    let m = moved (goal.at.returns-then-left-ne0-clause-kept c).After-move_to_front in
+    let copied = front-is c.args.buffer.now _ _ c.args.len m.some m.most m.within (c.if-not-copy_xored_short.ensures.copied refl) in
+    put_back m c.write_zeros_at_codes-left.ensures _ (c.copy_from_slice.ensures.after ∙ copied)
+
+pub returns-clause-nonzero : goal.returns-clause-nonzero
+returns-clause-nonzero c _ = frame-nonzero (moved (goal.at.returns-clause-nonzero c).After-move_to_front)
+
+pub returns-clause-returned : goal.returns-clause-returned
+returns-clause-returned c _ =
+    returned (moved (goal.at.returns-clause-returned c).After-move_to_front) c.write_zeros_at_codes-left.ensures (omega (arith, c.if-left-ne0.false))
+
+pub returns-clause-buffer : goal.returns-clause-buffer
+returns-clause-buffer c _ =
+    buffer (moved (goal.at.returns-clause-buffer c).After-move_to_front) c.write_zeros_at_codes-left.ensures (omega (arith, c.if-left-ne0.false))

@@ -68,15 +68,14 @@ by_block-preserved-then-is_all c = record {
 pub by_block-smaller : goal.by_block-smaller
 by_block-smaller c = grind (arith, some)
 
-pub returns-then-rest-code : goal.returns-then-rest-code
-returns-then-rest-code c =
-    let ends = c.by_block.invariant.ends in
-    let here = c.by_block-test.true in
-    record {
-      within = omega arith;
-      kept = λ h start is missed. kept _ _ _ here h start is (ends h start is missed) (omega arith);
-      whole = λ h start is missed. let no = broken _ _ _ here h start is (ends h start is missed) (omega arith) in grind arith;
-    }
+pub returns-then-rest-code-clause-kept : goal.returns-then-rest-code-clause-kept
+returns-then-rest-code-clause-kept c h start is missed =
+    kept _ _ _ c.by_block-test.true h start is (c.by_block.invariant.ends h start is missed) (omega arith)
+
+pub returns-then-rest-code-clause-whole : goal.returns-then-rest-code-clause-whole
+returns-then-rest-code-clause-whole c h start is missed =
+    let no = broken _ _ _ c.by_block-test.true h start is (c.by_block.invariant.ends h start is missed) (omega arith) in
+    grind arith
 
 pub returns-clause-kept : goal.returns-clause-kept
 returns-clause-kept c h start is missed = grind (arith, take_all, length-map, length-drop, whole-kept)

@@ -61,31 +61,36 @@ pub returns-then-is_empty-clause-buffer : goal.returns-then-is_empty-clause-buff
 returns-then-is_empty-clause-buffer c = grind (arith, first_piece_empty, eqb-true, overwritten-none)
 
 -- a source of zeros only has no piece
-pub returns-then-start-source : goal.returns-then-start-source
-returns-then-start-source c = record {
-  returned = grind (arith, first_piece_none, length-drop, result_of_decode-none, eqb-false);
-  buffer = grind (arith, first_piece_none, length-drop, overwritten-none);
-}
+pub returns-then-start-source-clause-returned : goal.returns-then-start-source-clause-returned
+returns-then-start-source-clause-returned c = grind (arith, first_piece_none, length-drop, result_of_decode-none, eqb-false)
 
-pub returns-then-rest-len-ne0 : goal.returns-then-rest-len-ne0
-returns-then-rest-len-ne0 c =
-    let at = (goal.at.returns-then-rest-len-ne0 c).After-take_run-len in
+pub returns-then-start-source-clause-buffer : goal.returns-then-start-source-clause-buffer
+returns-then-start-source-clause-buffer c = grind (arith, first_piece_none, length-drop, overwritten-none)
+
+pub returns-then-rest-len-ne0-clause-returned : goal.returns-then-rest-len-ne0-clause-returned
+returns-then-rest-len-ne0-clause-returned c =
+    let at = (goal.at.returns-then-rest-len-ne0-clause-returned c).After-take_run-len in
     let long = too-long at c.if-len-rest.true c.if-rest-len-ne0.true in
-    record {
-      returned = answer-by _ _ _ _ 0 _ (omega arith) (found at) refl (sym (ap outcome_result (outcome_of_long _ _ long.0))) tt;
-      buffer = rw (found at) long.1;
-    }
+    answer-by _ _ _ _ 0 _ (omega arith) (found at) refl (sym (ap outcome_result (outcome_of_long _ _ long.0))) tt
 
-pub returns : goal.returns
-returns c =
-    let at = (goal.at.returns c).After-take_run-len in
+pub returns-then-rest-len-ne0-clause-buffer : goal.returns-then-rest-len-ne0-clause-buffer
+returns-then-rest-len-ne0-clause-buffer c =
+    let at = (goal.at.returns-then-rest-len-ne0-clause-buffer c).After-take_run-len in
+    rw (found at) (too-long at c.if-len-rest.true c.if-rest-len-ne0.true).1
+
+pub returns-clause-returned : goal.returns-clause-returned
+returns-clause-returned c =
+    let at = (goal.at.returns-clause-returned c).After-take_run-len in
     let end : c.take_run-len.result < length (slice at) → get_or (slice at) c.take_run-len.result 0 ≡ 0 = grind arith in
     let w = decoded at end in
     let counts = quiet-at _ _ _ _ w c.take_run-len.new.self refl in
     let is : c.map.result ≡ report_result c.min-parsed_size.result c.message_len-result.result = search rules in
     let m = c.message_len-result.ensures in
-    let result = result-by _ _ _ _ _ (front at).begins w.fits counts.0 counts.1 m.whole m.broken in
-    record {
-      returned = is ∙ answer-by _ _ _ _ _ _ (omega arith) (found at) (omega (arith, c.leading_zeros-start.ensures.count)) result (always _ (count at end));
-      buffer = rw (found at) (quiet-written _ _ _ _ w);
-    }
+    is ∙ answer-by _ _ _ _ _ _ (omega arith) (found at) (omega (arith, c.leading_zeros-start.ensures.count))
+    (result-by _ _ _ _ _ (front at).begins w.fits counts.0 counts.1 m.whole m.broken) (always _ (count at end))
+
+pub returns-clause-buffer : goal.returns-clause-buffer
+returns-clause-buffer c =
+    let at = (goal.at.returns-clause-buffer c).After-take_run-len in
+    let end : c.take_run-len.result < length (slice at) → get_or (slice at) c.take_run-len.result 0 ≡ 0 = grind arith in
+    rw (found at) (quiet-written _ _ _ _ (decoded at end))
