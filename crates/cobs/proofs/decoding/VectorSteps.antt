@@ -29,6 +29,11 @@ outcome_result-fits : (p : List ℕ) (n : ℕ) → length (output p) ≤ n → o
 unfolding outcome_of
 outcome_result-fits p n fits = grind (arith, le-leb)
 
+-- a kept output is no longer than the output
+pub kept_within : (p : List ℕ) → length (kept_output p) ≤ length p
+unfolding kept_output
+kept_within p = grind (arith, output_within, length-take)
+
 -- THE FIRST PIECE
 
 module _ (source : List ℕ) (n : ℕ) (room : n ≡ length source) where
@@ -54,23 +59,17 @@ module _ (source : List ℕ) (n : ℕ) (room : n ≡ length source) where
       → decoded source ≡ Ok (take (frame_size_of report) new)
   decoded-message report old new some long e is = grind (arith, decoded-is, piece-message, result-equals)
 
--- THE BYTES BEFORE THE FIRST ZERO
+  -- THE BYTES BEFORE THE FIRST ZERO
 
--- a kept output is no longer than the output
-pub kept_within : (p : List ℕ) → length (kept_output p) ≤ length p
-unfolding kept_output
-kept_within p = grind (arith, output_within, length-take)
-
-module _ (source : List ℕ) (n : ℕ) (room : n ≡ length source) where
   -- the message of a source is that of the bytes before its first zero
   head-is : 0 < length source → decoded_head source ≡ message_of_head (head source)
   head-is some = grind arith
 
   -- an error isn't `TargetBufTooSmall`, and a message is the front of the buffer
-  rejected : (error : DecodeError) (h : List ℕ) → Err error ≡ head_result h → (message_of_head h ≡ Err error) × (error ≢ TargetBufTooSmall)
+  rejected : (error : DecodeError) (h : List ℕ) → Err error ≡ head_result h → Rejected (message_of_head h) error
   rejected error h e = grind arith
 
-  pub decoded_head-rejected : (error : DecodeError) → 0 < length source → Err error ≡ result_of_sentinel_decode source n → (decoded_head source ≡ Err error) × (error ≢ TargetBufTooSmall)
+  pub decoded_head-rejected : (error : DecodeError) → 0 < length source → Err error ≡ result_of_sentinel_decode source n → Rejected (decoded_head source) error
   decoded_head-rejected error some e = grind (arith, kept_within, length-head, result-fits, head-is, rejected)
 
   message : (size : ℕ) (old : List ℕ) (h : List ℕ) → length h ≤ length old → Ok size ≡ head_result h → message_of_head h ≡ Ok (take size (overwritten old (kept_output h)))

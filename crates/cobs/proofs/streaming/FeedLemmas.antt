@@ -43,14 +43,11 @@ next_buffer-zero buffer phase = grind arith
 grows-is : (n : ℕ) (full : Bool) (left count : ℕ) → grows n full left count ≡ cond (leb (count + 1) n) (Within full left (count + 1)) Overlong
 grows-is n full left count = rw add-one refl
 
-nonzero : (b : ℕ) → 0 < b → eqb b 0 ≡ false
-nonzero b h = grind (arith, ne_eqb)
-
 -- within a part
-within_step : (n c : ℕ) (q : List ℕ) (b : ℕ) (full : Bool) (left : ℕ) → EndsIn (c ∷ q) full left → 0 < b → length (output (c ∷ q)) ≤ n
+within_step : (n c : ℕ) (q : List ℕ) (b : ℕ) (full : Bool) (left : ℕ) → EndsIn (c ∷ q) full left → b ≢ 0 → length (output (c ∷ q)) ≤ n
     → next_phase n (Within full left (length (output (c ∷ q)))) b ≡ phase_after (c ∷ q ++ b ∷ []) n
-within_step n c q b full (suc left) is h fits = grind (arith, nonzero, grows-is, phase_after-is, is_full-push_more (c ∷ q) b, missing-push_more (c ∷ q) b, output-push_more (c ∷ q) b, length_push)
-within_step n c q b full zero is h fits = grind (arith, cases_Bool, nonzero, grows-is, phase_after-is, last_part-push_next (c ∷ q) b, output-push_next, append-nil, length_push, cond-true, le-leb)
+within_step n c q b full (suc left) is h fits = grind (arith, ne_eqb, grows-is, phase_after-is, is_full-push_more (c ∷ q) b, missing-push_more (c ∷ q) b, output-push_more (c ∷ q) b, length_push)
+within_step n c q b full zero is h fits = grind (arith, cases_Bool, ne_eqb, grows-is, phase_after-is, last_part-push_next (c ∷ q) b, output-push_next, append-nil, length_push, cond-true, le-leb)
 
 -- the phase after a piece whose output fits, and after one whose output is too long
 fits_phase : (c : ℕ) (q : List ℕ) (n : ℕ) → length (output (c ∷ q)) ≤ n → phase_after (c ∷ q) n ≡ Within (is_full (last_part (c ∷ q))) (missing (last_part (c ∷ q))) (length (output (c ∷ q)))
@@ -60,10 +57,10 @@ over_phase : (c : ℕ) (q : List ℕ) (n : ℕ) → n < length (output (c ∷ q)
 over_phase c q n h = grind (arith, phase_after-is, cond-false, lt-leb)
 
 -- the phase after one more byte
-nonzero_step : (n : ℕ) (p : List ℕ) (b : ℕ) → 0 < b → next_phase n (phase_after p n) b ≡ phase_after (p ++ b ∷ []) n
+nonzero_step : (n : ℕ) (p : List ℕ) (b : ℕ) → b ≢ 0 → next_phase n (phase_after p n) b ≡ phase_after (p ++ b ∷ []) n
 unfolding phase_after
-nonzero_step n [] b h = grind (arith, nonzero, phase_after-is, last_part-one, output-one, cond-true, le-leb)
-nonzero_step n (c ∷ q) b h = grind (arith, cases_lt, over_phase, nonzero, output-longer (c ∷ q) b, fits_phase, within_step)
+nonzero_step n [] b h = grind (arith, ne_eqb, phase_after-is, last_part-one, output-one, cond-true, le-leb)
+nonzero_step n (c ∷ q) b h = grind (arith, cases_lt, over_phase, ne_eqb, output-longer (c ∷ q) b, fits_phase, within_step)
 
 -- RESULTS
 
@@ -71,7 +68,7 @@ nonzero_step n (c ∷ q) b h = grind (arith, cases_lt, over_phase, nonzero, outp
 result_within : (n c : ℕ) (q : List ℕ) (left : ℕ) → missing (last_part (c ∷ q)) ≡ left → length (output (c ∷ q)) ≤ n
     → end_result n (Within (is_full (last_part (c ∷ q))) left (length (output (c ∷ q)))) ≡ result_at_end (c ∷ q) n
 unfolding result_at_end outcome_of is_whole
-result_within n c q left h e = grind (arith, cond-true, le-leb, nonzero)
+result_within n c q left h e = grind (arith, cond-true, le-leb, ne_eqb)
 
 end_result-is : (n : ℕ) (p : List ℕ) → end_result n (phase_after p n) ≡ result_at_end p n
 unfolding phase_after result_at_end
@@ -100,14 +97,14 @@ begins-push : (buffer o : List ℕ) (w : ℕ) → Begins buffer o → Begins (se
 begins-push buffer o w e = grind (arith, cases_lt, length_push, take_more_set, take_all, length-set, set_past, begins-over)
 
 -- a byte of a piece changes neither the output nor the buffer, or it adds the same byte to both
-adds_same : (buffer : List ℕ) (c : ℕ) (q : List ℕ) (b : ℕ) (full : Bool) (left : ℕ) → EndsIn (c ∷ q) full left → 0 < b
+adds_same : (buffer : List ℕ) (c : ℕ) (q : List ℕ) (b : ℕ) (full : Bool) (left : ℕ) → EndsIn (c ∷ q) full left → b ≢ 0
     → let o = output (c ∷ q) in let o' = output (c ∷ q ++ b ∷ []) in let buffer' = next_buffer buffer (Within full left (length o)) b in
     ((o' ≡ o) × (buffer' ≡ buffer)) ⊎ ((w : ℕ) × (o' ≡ o ++ w ∷ []) × (buffer' ≡ set buffer (length o) w))
-adds_same buffer c q b full (suc left) is h = inr (b, grind (arith, output-push_more (c ∷ q) b), grind (arith, nonzero))
+adds_same buffer c q b full (suc left) is h = inr (b, grind (arith, output-push_more (c ∷ q) b), grind (arith, ne_eqb))
 adds_same buffer c q b true zero is h = inl (grind (arith, output-push_next, append-nil), grind arith)
-adds_same buffer c q b false zero is h = inr (0, grind (arith, output-push_next), grind (arith, nonzero))
+adds_same buffer c q b false zero is h = inr (0, grind (arith, output-push_next), grind (arith, ne_eqb))
 
-begins-nonzero : (buffer p : List ℕ) (b : ℕ) → 0 < b → Begins buffer (output p) → Begins (next_buffer buffer (phase_after p (length buffer)) b) (output (p ++ b ∷ []))
+begins-nonzero : (buffer p : List ℕ) (b : ℕ) → b ≢ 0 → Begins buffer (output p) → Begins (next_buffer buffer (phase_after p (length buffer)) b) (output (p ++ b ∷ []))
 unfolding phase_after
 begins-nonzero buffer [] b h e = rw (output-one b) (begins-nil buffer)
 begins-nonzero buffer (c ∷ q) b h e = grind (arith, cases_lt, over_phase, fits_phase, begins-over, begins-push, adds_same, output-push c q b)
@@ -131,7 +128,7 @@ PhaseAfter-step n phase b p h = grind (arith, piece-fed, next_phase-zero, nonzer
 
 PhaseAfter-result_for : (n : ℕ) (phase : Phase) (b : ℕ) (p : List ℕ) → PhaseAfter n phase p → next_result n phase b ≡ result_for p b n
 unfolding result_for
-PhaseAfter-result_for n phase b p h = grind (arith, end_result-is, nonzero, nonzero_step, error_if_overlong-push)
+PhaseAfter-result_for n phase b p h = grind (arith, end_result-is, ne_eqb, nonzero_step, error_if_overlong-push)
 
 DecoderAfter-step : (buffer : List ℕ) (phase : Phase) (b : ℕ) (p : List ℕ) → DecoderAfter buffer phase p → DecoderAfter (next_buffer buffer phase b) (next_phase (length buffer) phase b) (fed p b)
 DecoderAfter-step buffer phase b p h = grind (arith, common_steps, length-next_buffer, PhaseAfter-step, begins-step)

@@ -48,11 +48,6 @@ module _ (h old new : List ℕ) (inner : UnbufferedDecoder) (tail : ℕ) (nonzer
     | inr some ↦ omega (arith, missed, few_missing (take tail h) (All-take (λ b. b < 256) tail h small))
   ]
 
--- the result for the bytes before a zero
-head_by : (h : List ℕ) (n : ℕ) (whole : Bool) (result : Result ℕ DecodeError) → (IsTrue whole → result ≡ Ok n) → (whole ≡ false → result ≡ Err (InvalidFrame n)) → n ≡ length (kept_output h)
-    → (IsTrue whole ↔ (missing (last_part h) ≡ 0)) → result ≡ head_result h
-head_by h n whole result ok broken count is = grind (arith, head_result-is, cases_eq, eq-eqb, ne_eqb)
-
 -- the result and the buffer for whole blocks
 pub whole_result : (h : List ℕ) → missing (last_part h) ≡ 0 → head_result h ≡ Ok (length (output h))
 whole_result h whole = grind (arith, head_result-is, whole-kept, eq-eqb)
@@ -67,9 +62,13 @@ module _ (h old new : List ℕ) (inner : UnbufferedDecoder) (k : ℕ) (whole : B
   run : Quiet old new (phase_of inner) (take k h)
   run = quiet (take k h) old new (phase_of inner) (All-take (λ b. b ≢ 0) k h nonzero) fed
 
+  -- the length of the kept output is written
+  counted : inner.written ≡ length (kept_output h)
+  counted = (quiet-at old new (take k h) (phase_of inner) run inner refl).0 ∙ ap length kept
+
   pub kept_fed : DecodedInPlace h old new result
   kept_fed = record {
-    returned = head_by h inner.written whole result ok broken ((quiet-at old new (take k h) (phase_of inner) run inner refl).0 ∙ ap length kept) is;
+    returned = grind (arith, counted, head_result-is, cases_eq, eq-eqb, ne_eqb);
     buffer = quiet-written old new (take k h) (phase_of inner) run ∙ ap (overwritten old) kept;
   }
 
